@@ -21,10 +21,10 @@ import tempfile
 from concurrent.futures import ThreadPoolExecutor
 
 from program import EXAMPLES, SECONDS, TOP, Held
+from cases import runs
 
 HEADER = TOP / "include" / "nagsched.h"
 TESTS = TOP / "tests"
-CONFORMANCE = TOP / "conformance"
 BINDING = TOP / "bindings" / "python"
 STRICT = ["-std=c11", "-Wall", "-Wextra", "-Werror", "-O2"]
 MINUTE, MINUTES = 60_000, (3, 2_000)
@@ -265,24 +265,15 @@ def words_of(call):
     return " ".join([word, *numbers, *(member for member in members if isinstance(member, str))])
 
 
-def start_of(case):
-    """The start that a case of a run has, or nothing where it is no such case."""
-    file = case.with_name(case.name + ".args")
-    words = file.read_text(encoding="utf-8").splitlines() if file.exists() else []
-    found = re.fullmatch(r"(run)?( --start[ =]\+?(\d+))?( --)?", " ".join(["run", *words] if not words else words))
-    return int(found[3] or 0) if found and "".join(words[:1]) in ("", "run") else None
-
-
 def cases():
-    """The cases of a run that isn't refused: its name, what the C program reads, and what is wanted."""
-    for line in (CONFORMANCE / "STATUS.tsv").read_text(encoding="utf-8").splitlines():
-        folder, name, status = line.split("\t")
-        case = CONFORMANCE / folder / name
-        if status != "0" or start_of(case) is None:
+    """The cases of a run from an opening: its name, what the C program reads, and what is wanted."""
+    for case in runs():
+        found = re.fullmatch(r"run( --start[ =]\+?(\d+))?( --)?", " ".join(case.arguments))
+        if found is None:
             continue
-        setup, *calls = case.read_bytes().split(b"\n")
-        lines = [str(start_of(case)).encode(), setup, *(words_of(call).encode() for call in calls if call.strip(b" \t\r"))]
-        yield f"{folder}/{name}", b"".join(line + b"\n" for line in lines), case.with_name(name + ".stdout").read_bytes()
+        setup, *calls = case.given.split(b"\n")
+        lines = [(found[2] or "0").encode(), setup, *(words_of(call).encode() for call in calls if call.strip(b" \t\r"))]
+        yield case.name, b"".join(line + b"\n" for line in lines), case.wanted
 
 
 def conformance(held, library):

@@ -71,7 +71,7 @@ IN_THE_GATE = {
     "monitor/nagsched-monitor --page 127.0.0.1:8080 office": ".ci/monitor.py",
     'monitor/nagsched-monitor --on-change "examples/mail_change.py monitor@example.org oncall@example.org" office': ".ci/monitor.py",
     'monitor/nagsched-monitor --on-change "examples/alert_change.py http://localhost:9093" office': ".ci/monitor.py",
-    "monitor/nagsched-gearman-worker --slots 32 --only /usr/lib/nagios/plugins 10.0.0.1:4730 dmz": ".ci/monitor.py",
+    "monitor/nagsched-gearman-worker --slots 32 --key /etc/nagsched/gearman.key --only /etc/nagsched/allowed 10.0.0.1:4730 dmz": ".ci/monitor.py",
     "tools/from_nagios.py --site office /etc/nagios4/nagios.cfg /var/lib/nagios4/objects.precache": ".ci/monitor.py",
     ".ci/map.py": ".ci/pages.py",
     ".ci/commands.py": ".ci/pages.py",

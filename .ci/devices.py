@@ -20,7 +20,9 @@ from concurrent.futures import ThreadPoolExecutor
 from typing import Iterator, NamedTuple
 
 HERE = pathlib.Path(__file__).resolve().parent
-CASES = HERE.parent / "conformance"
+sys.path.append(str(HERE.parent / "conformance"))
+from cases import cases  # noqa: E402
+
 SECONDS = 60
 WHOLE = 1 << 20
 PIECE = 7
@@ -117,14 +119,10 @@ class Shim:
             return Ran(ran.stdout, ran.returncode, calls.read().decode())
 
 
-def case(folder: str, name: str, reads: bool = True) -> Job:
+def case(name: str, reads: bool = True) -> Job:
     """A case of conformance/."""
-    rows = (CASES / "STATUS.tsv").read_text(encoding="utf-8").splitlines()
-    status = next(int(row.split("\t")[2]) for row in rows if row.startswith(f"{folder}\t{name}\t"))
-    path = CASES / folder / name
-    args = path.with_name(f"{name}.args")
-    words = args.read_text(encoding="utf-8").splitlines() if args.exists() else []
-    return Job(f"{folder}/{name}", words, path.read_bytes(), path.with_name(f"{name}.stdout").read_bytes(), status, reads)
+    found = next(each for each in cases() if each.name == name)
+    return Job(name, found.arguments, found.given, found.wanted, found.status, reads)
 
 
 def conversation(name: str, setup: bytes, answers: dict[bytes, bytes], status: int) -> Job:
@@ -135,16 +133,16 @@ def conversation(name: str, setup: bytes, answers: dict[bytes, bytes], status: i
 
 def jobs() -> Iterator[Job]:
     """Each kind of run, good ones and refused ones."""
-    yield case("rows/results", "eleven-results-of-a-service")
-    yield case("rows/results", "code-four")
-    yield case("rows/first-path", "duplicate-host")
-    yield case("rows/drill", "one-worker")
-    yield case("rows/drill", "plugin-without-codes")
-    yield case("checks", "a-line")
-    yield case("checks", "a-refused-setup")
-    yield case("changes", "the-same-setup")
-    yield case("words", "help-of-live", reads=False)
-    yield case("words", "another-subcommand", reads=False)
+    yield case("rows/results/eleven-results-of-a-service")
+    yield case("rows/results/code-four")
+    yield case("rows/first-path/duplicate-host")
+    yield case("rows/drill/one-worker")
+    yield case("rows/drill/plugin-without-codes")
+    yield case("checks/a-line")
+    yield case("checks/a-refused-setup")
+    yield case("changes/the-same-setup")
+    yield case("words/help-of-live", reads=False)
+    yield case("words/another-subcommand", reads=False)
     yield conversation("a conversation", HOST, CONVERSATION, 0)
     yield conversation("a conversation that is refused", b"", {b"{\n": b"refused L1 NotJson\n", b'["take",0]\n': b""}, 1)
 

@@ -45,6 +45,9 @@ def installed(program, prefix, work):
     (work / "site/commands.json").write_text(json.dumps({"gateway": {"line": "true"}}))
     tested = output(prefix / "bin/nagsched-monitor", "--program", prefix / "bin/nagsched", work / "site", "test")
     yield "the monitor", tested, ("1 objects, 1 parts\n", 0)
+    job = '{"job":1,"words":["echo","fine"],"limit":9}'
+    ran = output("sh", "-c", f"(echo '{job}'; sleep 1) | {prefix}/bin/nagsched-runner")
+    yield "the runner", ran, ('{"job":1,"code":0,"end":"exited","output":"fine\\u000a"}\n', 0)
     yield "the worker", output(prefix / "bin/nagsched-gearman-worker", "--help")[1], 0
     yield "from Nagios", output(prefix / "bin/nagsched-from-nagios", "--help")[1], 0
     yield "the manual pages", sorted(manual), ["nagsched-from-nagios.1", "nagsched-monitor.1", "nagsched.1", "nagsched.5"]
@@ -55,13 +58,23 @@ def installed(program, prefix, work):
     first_page = (prefix / "share/doc/nagsched/README.md").read_text().split("## Ask it")[0]
     yield "the trial of the installed page", ("nagsched < examples/office.txt" in first_page, bool(re.search(r"\brt\b", first_page))), (True, False)
     yield "the completion for bash", output("bash", "-n", prefix / "share/bash-completion/completions/nagsched"), ("", 0)
-    yield "the unit", f"ExecStart={prefix}/bin/nagsched-monitor" in (prefix / "lib/systemd/system/nagsched-monitor@.service").read_text(), True
+    unit = prefix / "lib/systemd/system/nagsched-monitor@.service"
+    yield "the unit", f"ExecStart={prefix}/bin/nagsched-monitor" in unit.read_text(), True
+    if shutil.which("systemd-analyze"):
+        site = unit.with_name("nagsched-monitor@office.service")
+        site.write_text(re.sub("^(User|Group|Documentation)=.*\n", "", unit.read_text(), flags=re.MULTILINE))
+        yield "what systemd says of the unit", output("systemd-analyze", "verify", site), ("", 0)
+        yield "its exposure", output("systemd-analyze", "security", "--offline=true", "--threshold=40", unit)[1], 0
+    if shutil.which("systemd-sysusers"):
+        made = output("systemd-sysusers", f"--root={work}", "--dry-run", prefix / "lib/sysusers.d/nagsched-monitor.conf")[0]
+        yield "the user", "Creating user 'nagsched'" in made, True
 
 
 def main():
     passed, wrong = 0, 0
     with tempfile.TemporaryDirectory() as folder:
         work = pathlib.Path(folder)
+        output(TOP / "monitor/build_runner.sh")
         told, status = output("bash", TOP / "tools/install.sh", "--without-library", work / "prefix")
         rows = [("installing", (told, status), ("", 0))] if status else installed(sys.argv[1], work / "prefix", work)
         for what, came, wanted in rows:

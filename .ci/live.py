@@ -20,8 +20,9 @@ import termios
 import threading
 import time
 
-TOP = pathlib.Path(__file__).resolve().parent.parent
-CASES = TOP / "conformance"
+sys.path.append(str(pathlib.Path(__file__).resolve().parent.parent / "conformance"))
+from cases import runs  # noqa: E402
+
 SECONDS = 20
 SETUP = b'{"hosts":[{"name":"gateway","max_check_attempts":3}]}\n'
 TAKE = b'["take",0]\n'
@@ -32,22 +33,11 @@ MEGABYTE = 1 << 20
 ADDRESSES = 64 * MEGABYTE
 
 
-def cases():
-    """The cases that `run` accepts, but for its help: the words of `live` in its words' place, its input, and what it writes."""
-    for row in (CASES / "STATUS.tsv").read_text(encoding="utf-8").splitlines():
-        folder, name, status = row.split("\t")
-        case = CASES / folder / name
-        args = case.with_name(name + ".args")
-        words = args.read_text(encoding="utf-8").splitlines() if args.exists() else ["run"]
-        if status == "0" and words[0] == "run" and "--help" not in words:
-            yield f"{folder}/{name}", ["live", *words[1:]], case.read_bytes(), case.with_name(name + ".stdout").read_bytes()
-
-
 def as_run(program):
     """The cases in which `live` writes something else than `run`."""
-    for name, words, given, wanted in cases():
-        ran = subprocess.run([program, *words], input=given, capture_output=True, timeout=SECONDS)
-        yield None if (ran.returncode, ran.stdout) == (0, wanted) else f"{name}: live writes {ran.stdout[:200]!r}"
+    for case in runs():
+        ran = subprocess.run([program, "live", *case.arguments[1:]], input=case.given, capture_output=True, timeout=SECONDS)
+        yield None if (ran.returncode, ran.stdout) == (0, case.wanted) else f"{case.name}: live writes {ran.stdout[:200]!r}"
 
 
 def talk(program, **how):

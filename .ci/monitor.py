@@ -54,11 +54,11 @@ def site(program):
 
 
 def complaints():
-    """What mypy says of the monitor, of the Python module and of its loop; nothing where it isn't here."""
+    """What mypy says of the monitor, of from_nagios.py, of the Python module and of its loop; nothing where it isn't here."""
     if not shutil.which("mypy"):
         print("monitor: passed over what mypy says of the types, which isn't here")
         return ""
-    checks = [(["nagsched_monitor", "tests"], TOP / "monitor", ""), (["bindings/python/nagsched", "examples/loop.py"], TOP, "bindings/python")]
+    checks = [(["nagsched_monitor", "tests"], TOP / "monitor", ""), (["from_nagios.py"], TOP / "tools", ""), (["bindings/python/nagsched", "examples/loop.py"], TOP, "bindings/python")]
     told = ""
     with tempfile.TemporaryDirectory() as cache:
         for files, folder, path in checks:
@@ -85,6 +85,8 @@ def tests_of(module):
 def main():
     program = str(pathlib.Path(sys.argv[1]).resolve())
     os.environ["NAGSCHED"] = program
+    subprocess.run([TOP / "monitor/build_runner.sh"], check=True)
+    os.environ["NAGSCHED_RUNNER"] = str(TOP / "monitor/out/nagsched-runner")
     modules = sorted(file.stem for file in (TOP / "monitor/tests").glob("test_*.py"))
     with ThreadPoolExecutor(os.cpu_count()) as several:
         counts = list(several.map(tests_of, modules))

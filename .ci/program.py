@@ -5,6 +5,8 @@ import sys
 
 TOP = pathlib.Path(__file__).resolve().parent.parent
 EXAMPLES = TOP / "examples"
+# Where the module `cases` is.
+sys.path.append(str(TOP / "conformance"))
 SECONDS = 120
 REFUSED_WORDS = b"refused words\n"
 

@@ -16,8 +16,9 @@ import sys
 from concurrent.futures import ThreadPoolExecutor
 from typing import Iterator, NamedTuple, Optional
 
-TOP = pathlib.Path(__file__).resolve().parent.parent
-CASES = TOP / "conformance"
+from program import TOP
+from cases import runs
+
 PLACES = 40
 SECONDS = 30
 BLANK = b" \t\r"
@@ -34,14 +35,8 @@ class Case(NamedTuple):
 
 def cases() -> Iterator[Case]:
     """The cases that `run` accepts, except for its help, and the office."""
-    for row in (CASES / "STATUS.tsv").read_text(encoding="utf-8").splitlines():
-        folder, name, status = row.split("\t")
-        case = CASES / folder / name
-        args = case.with_name(name + ".args")
-        words = args.read_text(encoding="utf-8").splitlines() if args.exists() else ["run"]
-        if status == "0" and words[0] == "run" and "--help" not in words:
-            wanted = case.with_name(name + ".stdout").read_bytes()
-            yield Case(f"{folder}/{name}", words[1:], case.read_bytes().split(b"\n"), wanted)
+    for case in runs():
+        yield Case(case.name, case.arguments[1:], case.given.split(b"\n"), case.wanted)
     office = TOP / "examples" / "office.txt"
     yield Case("office", [], office.read_bytes().split(b"\n"), office.with_suffix(".out").read_bytes())
 

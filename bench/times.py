@@ -1,10 +1,11 @@
 #!/usr/bin/env python3
-"""Prints where the gate's time goes: the processor minutes of each crate's proofs, of its tests and of each must-fail edit.
+"""Measures where the gate's time goes: the processor minutes of each crate's proofs, of its tests and of each must-fail edit.
 
-    bench/times.py [COMMAND..]     bash .ci/run where no command is named
+    bench/times.py [COMMAND..]     runs `bash .ci/run` if no command is named
 
-By hand, and no part of the gate. It runs the command, looks at its processes twice a second, and sums what each check used,
-with all that it started. What is listed as no crate's check is programs and tests that run, links, and what ended between two looks.
+It writes the table to bench/results/gate.md. Run it by hand, in a fresh clone; it is no part of the gate. It looks at the command's
+processes twice a second, and sums what each check used, with everything that the check started. The rest, which no check used, is
+programs and tests that run, links, and what ended between two looks.
 """
 import collections
 import os
@@ -15,7 +16,9 @@ import subprocess
 import sys
 import time
 
-CRATES = pathlib.Path(__file__).resolve().parent.parent / "crates"
+TOP = pathlib.Path(__file__).resolve().parent.parent
+CRATES = TOP / "crates"
+RESULT = TOP / "bench" / "results" / "gate.md"
 EVERY = 0.5
 TICKS = os.sysconf("SC_CLK_TCK")
 # A try of an edit runs in a folder of this name, on a copy of the crate.
@@ -42,7 +45,7 @@ def edit_pairs(edit):
 
 def edit_in(crate, folder):
     """The edit that was made in a copy of the crate, or the copy as it stands, which its edits begin with."""
-    for edit in sorted((CRATES / crate / "must-fail").glob("*.edit")):
+    for edit in sorted((CRATES / crate).glob("*/*.edit")):
         file, pairs = edit_pairs(edit)
         text = (CRATES / crate / file).read_text(encoding="utf-8")
         for old, new in pairs:
@@ -107,21 +110,23 @@ class Times:
         return sums
 
 
-def tell(minutes, whole):
-    """Prints the table of crates, and then each edit."""
-    print("| Crate | Proofs | Tests | Edits | All |\n|---|---|---|---|---|")
+def report(minutes, whole, by_clock):
+    """The page: the sums, the table of crates, and each edit."""
+    yield "# Where the gate's time goes\n\nThis page is written by `bench/times.py`. All figures are processor minutes, user and system.\n"
     of_edits = {work: used for work, used in minutes.items() if work[1] not in ("proofs", "tests")}
     sums = {crate: [minutes[crate, "proofs"], minutes[crate, "tests"], 0.0] for crate, _ in minutes}
     for (crate, _), used in of_edits.items():
         sums[crate][2] += used
-    for crate, parts in sorted(sums.items(), key=lambda row: -sum(row[1])):
-        print(f"| {crate} |" + "".join(f" {part:.1f} |" for part in (*parts, sum(parts))))
     every = [sum(column) for column in zip(*sums.values())] or [0.0] * 3
-    print("| all |" + "".join(f" {part:.1f} |" for part in (*every, sum(every))))
-    print("\n| Edit | Minutes |\n|---|---|")
+    yield (f"The run took {whole:.1f} processor minutes, {whole - sum(every):.1f} of them outside every crate's checks, and {by_clock:.1f} minutes "
+           f"by the clock on {len(os.sched_getaffinity(0))} processors.\n")
+    yield "Each row is a crate.\n\n| Crate | Proofs | Tests | Edits | All |\n|---|---|---|---|---|"
+    for crate, parts in sorted(sums.items(), key=lambda row: -sum(row[1])):
+        yield f"| {crate} |" + "".join(f" {part:.1f} |" for part in (*parts, sum(parts)))
+    yield "| all |" + "".join(f" {part:.1f} |" for part in (*every, sum(every)))
+    yield "\nEach row is a must-fail edit.\n\n| Edit | Minutes |\n|---|---|"
     for (crate, edit), used in sorted(of_edits.items(), key=lambda row: -row[1]):
-        print(f"| {crate}/{edit} | {used:.2f} |")
-    print(f"\n{whole:.1f} processor minutes, {whole - sum(every):.1f} of them in no crate's check")
+        yield f"| {crate}/{edit} | {used:.2f} |"
 
 
 def main():
@@ -133,8 +138,10 @@ def main():
             times.look()
             time.sleep(EVERY)
     children = resource.getrusage(resource.RUSAGE_CHILDREN)
-    tell(times.minutes(), (children.ru_utime + children.ru_stime) / 60)
-    print(f"{(time.monotonic() - began) / 60:.1f} minutes by the clock")
+    whole, by_clock = (children.ru_utime + children.ru_stime) / 60, (time.monotonic() - began) / 60
+    RESULT.parent.mkdir(exist_ok=True)
+    RESULT.write_text("\n".join(report(times.minutes(), whole, by_clock)) + "\n", encoding="utf-8")
+    print(f"{whole:.1f} processor minutes, {by_clock:.1f} minutes by the clock: {RESULT.relative_to(TOP)}")
     return running.returncode
 
 

@@ -18,7 +18,8 @@ passwords. An object that has no such line is named on standard error; it is dis
 as checked that isn't.
 
 With --site DIRECTORY gets the files of a site, as nagsched-monitor reads them: the setup, or few of them, the command lines, time
-periods, passive objects and the monitor's options. The limit of concurrent checks is the monitor's then, over all parts. Parts have
+periods, passive objects, the groups of each object and the monitor's options. They take their places together. Of monitor.json the
+members stay that nagios.cfg says nothing of. The limit of concurrent checks is the monitor's then, over all parts. Parts have
 mirrors: a host, a parent or a master that stands in another part stands there too, never checked, and the monitor hands it the results
 of its original. What is left out is named with the objects that it matters to: a few of them, or with --all each.
 """
@@ -31,8 +32,10 @@ import math
 import os
 import pathlib
 import sys
+from typing import Any, Callable, Collection, Counter, Dict, Iterator, List, Mapping, NoReturn, Optional, Sequence, Set, Tuple, Union
 
 import nagios_commands
+import nagios_groups
 import nagios_parts
 import nagios_periods
 import nagios_site
@@ -50,13 +53,21 @@ class CannotTakeOver(Exception):
 class Value(str):
     """The text of a member, with the place where it stands."""
 
-    def __new__(cls, text, place):
+    place: str
+
+    def __new__(cls, text: str, place: str) -> "Value":
         value = super().__new__(cls, text)
         value.place = place
         return value
 
-    def refuse(self, why):
+    def refuse(self, why: str) -> NoReturn:
         raise CannotTakeOver(f"{self.place}: {why}")
+
+
+Members = Dict[str, Value]
+# An object of a file: its kind, its place and its members.
+Definition = Tuple[str, str, Members]
+Setup = Dict[str, Any]
 
 
 class LeftOut:
@@ -64,32 +75,32 @@ class LeftOut:
 
     # The kinds by harm: what changes which checks are made and what counts as a problem, then who hears of it, then the rest by name.
     WORST = (
-        "parents of services", "is_volatile", "passive results of hosts", "dependency_period", "flap thresholds of an object", "flap_detection_enabled 0",
+        "parents of services", "passive_checks_enabled 0", "is_volatile", "passive results of hosts", "dependency_period", "flap thresholds of an object", "flap_detection_enabled 0",
         "flap_detection_options", "initial_state", "event_handler", "dependencies of notifications", "hostescalation definitions",
         "serviceescalation definitions", "contact definitions", "contactgroup definitions",
     )
 
-    def __init__(self):
-        self.kinds = collections.Counter()
-        self.meanings = {}
-        self.names = collections.defaultdict(list)
+    def __init__(self) -> None:
+        self.kinds: Counter[str] = collections.Counter()
+        self.meanings: Dict[str, str] = {}
+        self.names: Dict[str, List[str]] = collections.defaultdict(list)
         # The time periods that include each time: an object that has one loses nothing.
-        self.always = set()
+        self.always: Set[str] = set()
 
-    def add(self, kind, meaning, name=None):
+    def add(self, kind: str, meaning: str, name: Optional[str] = None) -> None:
         self.kinds[kind] += 1
         self.meanings[kind] = meaning
         if name is not None:
             self.names[kind].append(name)
 
-    def tell(self, without=(), named=0):
+    def tell(self, without: Collection[str] = (), named: int = 0) -> None:
         """Names each kind that isn't one of these, the worst first, with so many of its objects."""
         for kind in sorted(self.kinds, key=lambda kind: (self.WORST.index(kind) if kind in self.WORST else len(self.WORST), kind)):
             if kind not in without:
                 count = len(set(self.names[kind])) or self.kinds[kind]
                 print(f"left out: {kind} ({count}): {self.meanings[kind]}{self.some(kind, named)}", file=sys.stderr)
 
-    def some(self, kind, named):
+    def some(self, kind: str, named: int) -> str:
         names = list(dict.fromkeys(self.names[kind]))
         more = f" and {len(names) - named} more" if len(names) > named else ""
         return f": {', '.join(names[:named])}{more}" if named and names else ""
@@ -98,7 +109,7 @@ class LeftOut:
 # ---- reading
 
 
-def lines_of(path):
+def lines_of(path: pathlib.Path) -> Iterator[Tuple[str, str]]:
     """The lines of a file that say something, each with its place."""
     try:
         lines = path.read_bytes().split(b"\n")
@@ -113,7 +124,7 @@ def lines_of(path):
             yield f"{path}:{number}", text
 
 
-def read_options(path):
+def read_options(path: pathlib.Path) -> Members:
     """The options of nagios.cfg; of one that stands twice the last counts."""
     options = {}
     for place, line in lines_of(path):
@@ -124,9 +135,10 @@ def read_options(path):
     return options
 
 
-def read_objects(path):
+def read_objects(path: pathlib.Path) -> List[Definition]:
     """The definitions of an object file: the kind of each, its place and its members."""
-    objects, members = [], None
+    objects: List[Definition] = []
+    members: Optional[Members] = None
     for place, line in lines_of(path):
         if members is None:
             words = line.replace("{", " { ").split()
@@ -144,7 +156,7 @@ def read_objects(path):
     return objects
 
 
-def required(members, name, place):
+def required(members: Members, name: str, place: str) -> Value:
     if name not in members:
         raise CannotTakeOver(f"{place}: no {name}")
     return members[name]
@@ -153,7 +165,7 @@ def required(members, name, place):
 exactly = functools.lru_cache(maxsize=1_024)(fractions.Fraction)
 
 
-def number(value):
+def number(value: Value) -> fractions.Fraction:
     """A number that is written with or without a point, exactly. Few are different among those of many objects."""
     try:
         return exactly(str(value))
@@ -161,14 +173,14 @@ def number(value):
         value.refuse(f"no number: {value}")
 
 
-def whole(value, of, least, most):
+def whole(value: Value, of: fractions.Fraction, least: int, most: int) -> int:
     """That number, where it is whole and within its limits."""
     if of.denominator != 1 or not least <= of <= most:
         value.refuse(f"{value} is {float(of):g} here; it can be a whole number from {least} to {most}")
     return int(of)
 
 
-def switch(value):
+def switch(value: Value) -> bool:
     if value not in ("0", "1"):
         value.refuse(f"no switch: {value}")
     return value == "1"
@@ -177,26 +189,26 @@ def switch(value):
 # ---- options
 
 
-def delay(value):
+def delay(value: Value) -> Union[str, int]:
     """A delay method: a letter, or seconds there and milliseconds here."""
     return str(value) if value in ("n", "d", "s") else whole(value, number(value) * 1000, 0, MILLISECONDS)
 
 
-def factor(value):
+def factor(value: Value) -> Union[str, int]:
     return "s" if value == "s" else whole(value, number(value), 1, nagios_parts.MOST_OBJECTS)
 
 
-def percent(value):
+def percent(value: Value) -> int:
     """A percent, rounded up: they are whole here."""
     return whole(value, fractions.Fraction(math.ceil(number(value))), 0, 100)
 
 
-def between(least, most):
+def between(least: int, most: int) -> Callable[[Value], int]:
     return lambda value: whole(value, number(value), least, most)
 
 
 # Each option with a counterpart: how it is read, and what Nagios takes where it isn't there.
-OPTIONS = {
+OPTIONS: Dict[str, Tuple[Callable[[Value], object], str]] = {
     "interval_length": (between(1, 86_400), "60"),
     "service_inter_check_delay_method": (delay, "s"),
     "max_service_check_spread": (between(1, MINUTES), "30"),
@@ -222,13 +234,21 @@ TELLING = {
     "service_skip_check_parent_status": ("-1", "services have no parents"),
     "service_skip_check_host_down_status": ("-1", "services of a host that is down are checked all the same"),
     "host_skip_check_dependency_status": ("-1", "a check that a dependency holds back is put off, and its state stays"),
+    "enable_environment_macros": ("0", "plugins get no variables such as NAGIOS_HOSTNAME"),
+    "accept_passive_service_checks": ("1", "passive results of services are taken"),
+    "accept_passive_host_checks": ("1", "passive results of hosts are taken"),
+    "log_passive_checks": ("1", "changes are logged however their results came"),
 }
+# Options that a site has, and a setup alone doesn't.
+OF_A_SITE = {"use_timezone": "times are those of the machine's zone"}
 
 
-def options_of(read, left_out):
+def options_of(read: Members, left_out: LeftOut) -> Dict[str, object]:
     for name, value in read.items():
         if name in TELLING and value != TELLING[name][0]:
             left_out.add(f"{name}={value}", TELLING[name][1])
+        elif name in OF_A_SITE:
+            left_out.add(name, OF_A_SITE[name])
         elif name not in OPTIONS and name not in TELLING:
             left_out.add("other options of nagios.cfg", "files, logs, commands and other parts of Nagios", name)
     return {name: how(read.get(name, Value(default, f"the default of {name}"))) for name, (how, default) in OPTIONS.items()}
@@ -238,10 +258,10 @@ def options_of(read, left_out):
 
 TAKEN = {"host_name", "service_description", "parents", "check_interval", "retry_interval", "max_check_attempts", "active_checks_enabled"}
 # Members without a counterpart: the values at which they change nothing, their kind, and what that means here.
-MEMBERS = {
+MEMBERS: Dict[str, Tuple[Tuple[str, ...], str, str]] = {
     "check_period": ((), "check_period", "a check is due at any time of the day"),
     "check_command": ((), "check_command", "whoever takes a check runs its plugin"),
-    "passive_checks_enabled": (("0", "1"), "", ""),
+    "passive_checks_enabled": (("1",), "passive_checks_enabled 0", "a passive result of it is taken all the same"),
     "initial_state": (("o",), "initial_state", "an object begins as OK or UP, never checked"),
     "flap_detection_enabled": (("1",), "flap_detection_enabled 0", "flapping is reported of every object"),
     "flap_detection_options": (("a",), "flap_detection_options", "every result counts"),
@@ -257,7 +277,7 @@ MEMBERS = {
 OTHER = ("other members of hosts and services", "names, addresses, contacts, notifications, events and what is shown")
 
 
-def tell_members(members, left_out, of):
+def tell_members(members: Members, left_out: LeftOut, of: str) -> None:
     for name, value in members.items():
         if name in ("use", "register", "name"):
             value.refuse("a template; let Nagios write them out: nagios4 -vp nagios.cfg")
@@ -269,18 +289,18 @@ def tell_members(members, left_out, of):
             left_out.add(*OTHER, name)
 
 
-def name_of(value):
+def name_of(value: Value) -> str:
     size = len(value.encode())
     if not 1 <= size <= 255 or ";" in value or any(ord(letter) < 32 or ord(letter) == 127 for letter in value):
         value.refuse("a name has 1 to 255 bytes, no `;` and no control character")
     return str(value)
 
 
-def timing(members, place, left_out, of):
+def timing(members: Members, place: str, left_out: LeftOut, of: str) -> Setup:
     """What hosts and services have alike; intervals are still those of Nagios."""
     tell_members(members, left_out, of)
     attempts = required(members, "max_check_attempts", place)
-    taken = {
+    taken: Setup = {
         "check_interval": members.get("check_interval", Value("5", place)),
         "retry_interval": members.get("retry_interval", Value("1", place)),
         "max_check_attempts": whole(attempts, number(attempts), 1, 255),
@@ -291,15 +311,15 @@ def timing(members, place, left_out, of):
     return taken
 
 
-def host_of(members, place, left_out):
-    host = {"name": name_of(required(members, "host_name", place))}
+def host_of(members: Members, place: str, left_out: LeftOut) -> Setup:
+    host: Setup = {"name": name_of(required(members, "host_name", place))}
     parents = [parent.strip() for parent in members.get("parents", "").split(",") if parent.strip()]
     if parents:
         host["parents"] = parents
     return host | timing(members, place, left_out, host["name"])
 
 
-def service_of(members, place, left_out):
+def service_of(members: Members, place: str, left_out: LeftOut) -> Setup:
     host = required(members, "host_name", place)
     description = name_of(required(members, "service_description", place))
     if members.get("parents"):
@@ -310,13 +330,13 @@ def service_of(members, place, left_out):
 # ---- dependencies
 
 
-def end_of(members, place, before, service):
+def end_of(members: Members, place: str, before: str, service: bool) -> str:
     """The full name of the dependent (before is `dependent_`) or of the master."""
     host = required(members, before + "host_name", place)
     return f"{host};{required(members, before + 'service_description', place)}" if service else str(host)
 
 
-def dependency_of(members, place, service, left_out):
+def dependency_of(members: Members, place: str, service: bool, left_out: LeftOut) -> Optional[Setup]:
     """A dependency of execution; none where it is one of notifications only."""
     letters = "owucpn" if service else "odupn"
     criteria = members.get("execution_failure_options", members.get("execution_failure_criteria"))
@@ -332,7 +352,7 @@ def dependency_of(members, place, service, left_out):
     for letter in named:
         if len(letter) != 1 or letter not in letters:
             criteria.refuse(f"no criteria: {criteria}")
-    dependency = {"dependent": end_of(members, place, "dependent_", service), "master": end_of(members, place, "", service)}
+    dependency: Setup = {"dependent": end_of(members, place, "dependent_", service), "master": end_of(members, place, "", service)}
     dependency["criteria"] = ",".join(named)
     if switch(members.get("inherits_parent", Value("0", place))):
         dependency["inherits_parent"] = True
@@ -355,9 +375,9 @@ NOTHING_HERE = {
 }
 
 
-def documents_of(options, objects, left_out):
+def documents_of(options: Members, objects: Sequence[Definition], left_out: LeftOut) -> Setup:
     """One setup of all: its options, and each object and dependency in the order of the file."""
-    setup = {"options": options_of(options, left_out), "hosts": [], "services": [], "service_dependencies": [], "host_dependencies": []}
+    setup: Setup = {"options": options_of(options, left_out), "hosts": [], "services": [], "service_dependencies": [], "host_dependencies": []}
     left_out.always = nagios_periods.always(objects)
     for kind, place, members in objects:
         if kind == "host":
@@ -378,7 +398,7 @@ def documents_of(options, objects, left_out):
     return setup
 
 
-def in_whole_units(setup):
+def in_whole_units(setup: Setup) -> None:
     """Makes every interval whole: where one isn't, the unit becomes the longest that divides them all."""
     timed = setup["hosts"] + setup["services"]
     length = setup["options"]["interval_length"]
@@ -399,12 +419,12 @@ def in_whole_units(setup):
 # ---- parts
 
 
-def is_one(setup):
+def is_one(setup: Setup) -> bool:
     """Whether one setup can have all of it."""
     return nagios_parts.Limits().hold(nagios_parts.sizes_of(setup))
 
 
-def parts_of(setup, with_mirrors):
+def parts_of(setup: Setup, with_mirrors: bool) -> Tuple[List[Setup], Dict[str, Dict[str, str]]]:
     """Few setups, and their mirrors where they may have some."""
     try:
         return nagios_parts.parts_of(setup, with_mirrors=with_mirrors)
@@ -415,7 +435,7 @@ def parts_of(setup, with_mirrors):
 # ---- command lines
 
 
-def macros_of_file(words, options):
+def macros_of_file(words: argparse.Namespace, options: Members) -> Dict[str, str]:
     """The macros of the resource file, where there is one."""
     path = nagios_commands.resource_file(options, words.options, words.resource)
     try:
@@ -424,7 +444,7 @@ def macros_of_file(words, options):
         raise CannotTakeOver(str(error)) from None
 
 
-def take_commands(words, options, objects, setup):
+def take_commands(words: argparse.Namespace, options: Members, objects: Sequence[Definition], setup: Setup) -> None:
     """Writes the command line of each object, and disables those that have none."""
     resource = macros_of_file(words, options)
     lines, without = nagios_commands.commands_of(objects, resource)
@@ -436,7 +456,7 @@ def take_commands(words, options, objects, setup):
         commands.write("\n")
 
 
-def disable(setup, without):
+def disable(setup: Setup, without: Mapping[str, str]) -> None:
     """Disables the objects that have no command line, and says why they have none."""
     for host in setup["hosts"]:
         if host["name"] in without:
@@ -451,7 +471,7 @@ def disable(setup, without):
 # ---- a whole site
 
 
-def take_site(words, options, objects, setup, left_out):
+def take_site(words: argparse.Namespace, options: Members, objects: Sequence[Definition], setup: Setup, left_out: LeftOut) -> None:
     """Writes the files of a site, and says what is left out."""
     unit = setup["options"]["interval_length"]
     interval_of = {it["name"]: it["check_interval"] * unit for it in setup["hosts"]}
@@ -464,8 +484,12 @@ def take_site(words, options, objects, setup, left_out):
     periods, unsaid = nagios_site.periods_of(objects)
     setup["options"]["max_concurrent_checks"] = 0
     setups, mirrors = ([setup], {}) if is_one(setup) else parts_of(setup, True)
-    files = {"commands": commands, "periods": periods, "passive": passive, "monitor": nagios_site.monitor_of(options)}
-    nagios_site.write_site(words.site, setups, mirrors, files)
+    files = {"commands": commands, "periods": periods, "passive": passive, "groups": nagios_groups.Groups(objects).document(objects)}
+    try:
+        files["monitor"] = nagios_site.monitor_of(options, nagios_site.options_before(words.site))
+        nagios_site.write_site(words.site, setups, {**files, **({"mirrors": mirrors} if mirrors else {})})
+    except (nagios_site.CannotWrite, OSError) as error:
+        raise CannotTakeOver(str(error)) from None
     for dates, names in sorted(unsaid.items()):
         for name in names:
             left_out.add(f"dates of the period {dates}", "a site's periods can't say them", name)
@@ -473,18 +497,18 @@ def take_site(words, options, objects, setup, left_out):
         for host in setup["hosts"]:
             if passive.get(host["name"], {}).get("only") and host["max_check_attempts"] > 1:
                 left_out.add("passive results of hosts", "a problem is soft until its last attempt, where Nagios makes it hard at once", host["name"])
-    left_out.tell(nagios_site.DONE, len(setup["hosts"]) + len(setup["services"]) if words.all else FEW)
+    left_out.tell({*nagios_site.DONE, *OF_A_SITE}, len(setup["hosts"]) + len(setup["services"]) if words.all else FEW)
     if len(setups) > 1:
         count = sum(map(len, mirrors.values()))
         print(f"{len(setups)} parts with {count} mirrors: the spread of first checks holds for each apart, and the limit for all", file=sys.stderr)
     print(f"{len(interval_of)} objects, {len(commands)} commands, {len(setups)} parts", file=sys.stderr)
 
 
-def written(setup):
+def written(setup: Setup) -> str:
     return json.dumps(setup, ensure_ascii=False, separators=(",", ":")) + "\n"
 
 
-def main():
+def main() -> int:
     arguments = argparse.ArgumentParser(description=__doc__, formatter_class=argparse.RawDescriptionHelpFormatter)
     arguments.add_argument("--parts", metavar="DIRECTORY", type=pathlib.Path, help="write few setups into this folder")
     arguments.add_argument("--commands", metavar="FILE", type=pathlib.Path, help="write the command line of each object into this file")

@@ -1,5 +1,5 @@
 #!/usr/bin/env bash
-# Installs what was built: the program, the C library, the Python module, the monitor, manual pages, the unit of systemd, completions.
+# Installs what was built: the program, the C library, the Python module, the monitor, manual pages, the unit of systemd and its user, completions.
 #   tools/install.sh [PREFIX]     /usr/local where no folder is named; DESTDIR is put before it
 # It builds and proves nothing. What wasn't built is named, with the command that builds it, and then nothing is installed.
 # --without-library leaves the C library and the Python module out.
@@ -14,10 +14,12 @@ prefix=${1:-/usr/local}
 case $prefix in /*) ;; *) prefix=$PWD/$prefix ;; esac
 root=${DESTDIR:-}$prefix
 program=$top/crates/nagsched/out/nagsched
+runner=$top/monitor/out/nagsched-runner
 built=${NAGSCHED_BUILT:-$top/out/c}
 
 missing=
 [ -x "$program" ] || { echo "install: nagsched isn't built: (cd crates/nagsched && rt run < ../../examples/office.txt)" >&2; missing=yes; }
+[ -x "$runner" ] || { echo "install: nagsched-runner isn't built: monitor/build_runner.sh" >&2; missing=yes; }
 [ -z "$library" ] || [ -e "$built/lib/libnagsched.so" ] || { echo "install: the C library isn't built: tools/build_c.sh" >&2; missing=yes; }
 [ -z "$missing" ] || exit 1
 
@@ -32,13 +34,10 @@ for script in nagsched-monitor nagsched-gearman-worker; do
     place 755 "$top/monitor/$script" "lib/nagsched/$script"
     ln -sf "../lib/nagsched/$script" "$root/bin/$script"
 done
-runner=$top/monitor/out/nagsched-runner
-if [ -x "$runner" ]; then
-    place 755 "$runner" lib/nagsched/nagsched-runner
-else
-    echo "install: the runner in C isn't built, and the monitor uses the one in Python: monitor/build_runner.sh" >&2
-fi
-for script in from_nagios nagios_commands nagios_parts nagios_periods nagios_site; do
+place 755 "$top/monitor/nagsched-gearman-runner" lib/nagsched/nagsched-gearman-runner
+place 755 "$runner" lib/nagsched/nagsched-runner
+ln -sf ../lib/nagsched/nagsched-runner "$root/bin/nagsched-runner"
+for script in from_nagios nagios_commands nagios_groups nagios_parts nagios_periods nagios_site; do
     place 644 "$top/tools/$script.py" "lib/nagsched/$script.py"
 done
 chmod 755 "$root/lib/nagsched/from_nagios.py"
@@ -49,6 +48,7 @@ pages=$(mktemp -d)
 trap 'rm -rf "$unit" "$manual" "$pages"' EXIT
 sed "s#/usr/local/bin#$prefix/bin#g" "$top/monitor/nagsched-monitor@.service" > "$unit"
 place 644 "$unit" lib/systemd/system/nagsched-monitor@.service
+place 644 "$top/monitor/nagsched-monitor.sysusers" lib/sysusers.d/nagsched-monitor.conf
 python3 "$top/tools/manual.py" "$manual"
 for page in "$manual"/*; do
     place 644 "$page" "share/man/man${page##*.}/$(basename "$page")"

@@ -26,7 +26,6 @@ INSTALLED = {
     "tools/from_nagios.py": "nagsched-from-nagios",
     "monitor/nagsched-monitor": "nagsched-monitor",
     "crates/nagsched/out/nagsched": "nagsched",
-    "monitor/nagsched_monitor/plugins.py": "lib/nagsched/nagsched_monitor/plugins.py",
     "examples/": "share/doc/nagsched/examples/",
     "docs/": "share/doc/nagsched/",
 }

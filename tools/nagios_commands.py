@@ -1,24 +1,33 @@
-"""The command lines of a configuration of Nagios Core 4, with macros written out. For from_nagios.py --commands."""
+"""The command lines of a configuration of Nagios Core 4, with macros written out. For from_nagios.py --commands and --site."""
 import pathlib
 import re
 import shlex
 import sys
+import urllib.parse
+from typing import Callable, Dict, Iterable, List, Mapping, Optional, Sequence, Tuple
 
-# What can be known of an object before Nagios runs; every other macro of capital letters has a value only then.
-HOST_MACROS = {"HOSTNAME": "host_name", "HOSTALIAS": "alias", "HOSTDISPLAYNAME": "display_name", "HOSTADDRESS": "address"}
-SERVICE_MACROS = {"SERVICEDESC": "service_description", "SERVICEDISPLAYNAME": "display_name"}
+from nagios_groups import Definition, Groups, Members, listed
+
+# What can be known of an object before Nagios runs; every other macro of capital letters has a value only then. Of each the member that it stands for.
+HOST_MACROS = {"NAME": "host_name", "ALIAS": "alias", "DISPLAYNAME": "display_name", "ADDRESS": "address", "CHECKCOMMAND": "check_command"}
+SERVICE_MACROS = {"DESC": "service_description", "DISPLAYNAME": "display_name", "CHECKCOMMAND": "check_command"}
+GROUP_MACROS = {"NAME": "{}group_name", "ALIAS": "alias"}
+# Members in which macros are written out too, and whether what is written out is encoded for an URL.
+NOTES = {"NOTES": ("notes", False), "NOTESURL": ("notes_url", True), "ACTIONURL": ("action_url", True)}
 MACRO = re.compile(r"\$([^$\n]*)\$")
 AT_RUN_TIME = re.compile(r"[A-Z]+\d*(:.*)?")
 # What only a shell understands, outside quotes: Nagios gives such a line to one.
 QUOTED = re.compile(r"""'[^']*'|"[^"$`\\]*\"""")
 FOR_A_SHELL = re.compile(r"""[|&;<>()$`\\"'*?\[\]#~{}!]""")
 
+Lookup = Callable[[str], Optional[str]]
+
 
 class NoCommand(Exception):
     """Why an object has no command line that can be run."""
 
 
-def read_resource(lines):
+def read_resource(lines: Iterable[Tuple[str, str]]) -> Dict[str, str]:
     """The macros of a resource file, such as `$USER1$=/usr/lib/nagios/plugins`, from its lines."""
     macros = {}
     for place, line in lines:
@@ -29,54 +38,123 @@ def read_resource(lines):
     return macros
 
 
-def custom(members, prefix):
-    """The custom variables of an object: `_OID` of a service is `_SERVICEOID`."""
-    return {prefix + name[1:].upper(): str(value) for name, value in members.items() if name.startswith("_")}
-
-
-def known(members, names):
-    """Each macro that stands for a member; one that is missing is the first of them, the object's own name."""
-    own = members[next(iter(names.values()))]
-    return {macro: str(members.get(member, own)) for macro, member in names.items()}
-
-
-def macros_of(resource, host, service):
-    """What is known for a check of a host, or of a service on it."""
-    macros = {**resource, **known(host, HOST_MACROS), **custom(host, "_HOST")}
-    if service is not None:
-        macros |= {**known(service, SERVICE_MACROS), **custom(service, "_SERVICE")}
-    return macros
-
-
-def written_out(text, macros):
+def written_out(text: str, lookup: Lookup, encoded: bool = False) -> str:
     """The text with its macros written out; `$$` is one dollar. A custom variable that the object doesn't have stays as it is, as does
     any other text between two dollars: so Nagios does too."""
-    def value(match):
+    def value(match: "re.Match[str]") -> str:
         name = match[1]
-        if AT_RUN_TIME.fullmatch(name) and name not in macros:
+        found = lookup(name) if name else "$"
+        if found is None and AT_RUN_TIME.fullmatch(name):
             raise NoCommand(f"${name}$ has no value before Nagios runs")
-        return macros.get(name, match[0] if name else "$")
+        return match[0] if found is None else urllib.parse.quote(found, safe="") if encoded and name else found
 
     return MACRO.sub(value, text)
 
 
-def arguments_of(check_command):
+class Macros:
+    """The values that macros have before Nagios runs, for a check of a host or of a service on it."""
+
+    def __init__(self, network: "Network", host: Members, service: Optional[Members]) -> None:
+        self._network, self._host, self._service = network, host, service
+
+    def lookup(self, name: str) -> Optional[str]:
+        """The value of a macro; None if it has none that is known here."""
+        name, colon, of = name.partition(":")
+        if name in self._network.resource and not colon:
+            return self._network.resource[name]
+        for prefix, find in (("_HOST", self._of_host), ("_SERVICE", self._of_service), ("HOSTGROUP", self._host_group), ("SERVICEGROUP", self._service_group),
+                             ("HOST", self._of_host), ("SERVICE", self._of_service)):
+            if name.startswith(prefix):
+                return find(("_" if prefix.startswith("_") else "") + name[len(prefix) :], of)
+        return None
+
+    def _of_host(self, name: str, of: str) -> Optional[str]:
+        """A macro of the host, of another one, or, with a delimiter, of each host of a group."""
+        group, colon, delimiter = of.partition(":")
+        if colon:
+            members = listed(self._network.groups.hosts.get(group, {}).get("members", ""))
+            values = [value for value in (self._of_host(name, member) for member in members) if value is not None]
+            return delimiter.join(values) if values and len(values) == len(members) else None
+        host = self._network.hosts.get(of) if of else self._host
+        if host is None:
+            return None
+        if name == "GROUPNAMES":
+            return ",".join(self._network.groups.of_host.get(host["host_name"], []))
+        return Macros(self._network, host, None).of_member(host, name, HOST_MACROS)
+
+    def _of_service(self, name: str, of: str) -> Optional[str]:
+        """A macro of the service, or of another one: of the same host where none is named."""
+        host, colon, description = of.partition(":")
+        service = self._network.services.get(f"{host or self._host['host_name']};{description}") if colon else None if of else self._service
+        if service is None:
+            return None
+        if name == "GROUPNAMES":
+            return ",".join(self._network.groups.of_service.get(f"{service['host_name']};{service['service_description']}", []))
+        own_host = self._network.hosts.get(service["host_name"], service)
+        return Macros(self._network, own_host, service).of_member(service, name, SERVICE_MACROS)
+
+    def _host_group(self, name: str, of: str) -> Optional[str]:
+        return self._of_host("GROUPNAMES", of) if name == "NAMES" else self._of_group("host", name, of, self._network.groups.of_host.get(self._host["host_name"], []))
+
+    def _service_group(self, name: str, of: str) -> Optional[str]:
+        if name == "NAMES":
+            return self._of_service("GROUPNAMES", of)
+        own = "" if self._service is None else f"{self._host['host_name']};{self._service['service_description']}"
+        return self._of_group("service", name, of, self._network.groups.of_service.get(own, []))
+
+    def _of_group(self, kind: str, name: str, of: str, own: Sequence[str]) -> Optional[str]:
+        """A macro of a group, or of the object's first one; as text where it is in none, as Nagios leaves it."""
+        groups = self._network.groups.hosts if kind == "host" else self._network.groups.services
+        if not of and not own:
+            return f"${kind.upper()}GROUP{name}$"
+        group = groups.get(of or own[0])
+        if group is None:
+            return None
+        if name == "MEMBERS":
+            return ",".join(listed(group.get("members", "")))
+        return self.of_member(group, name, {macro: member.format(kind) for macro, member in GROUP_MACROS.items()})
+
+    def of_member(self, members: Members, name: str, names: Mapping[str, str]) -> Optional[str]:
+        """What a macro stands for in an object's members. One that is missing is the first of the names, the object's own."""
+        if name.startswith("_"):
+            return {key.upper(): str(value) for key, value in members.items() if key.startswith("_")}.get(name)
+        if name in NOTES:
+            member, encoded = NOTES[name]
+            return written_out(members.get(member, ""), self.lookup, encoded)
+        if name not in names:
+            return None
+        return str(members.get(names[name], "" if name == "CHECKCOMMAND" else members[next(iter(names.values()))]))
+
+
+class Network:
+    """The objects of a configuration, by name."""
+
+    def __init__(self, objects: Sequence[Definition], resource: Mapping[str, str]) -> None:
+        self.resource, self.groups = resource, Groups(objects)
+        self.commands = {members["command_name"]: str(members["command_line"]) for kind, _, members in objects if kind == "command"}
+        self.hosts = {str(members["host_name"]): members for kind, _, members in objects if kind == "host"}
+        self.services = {f"{members['host_name']};{members['service_description']}": members for kind, _, members in objects if kind == "service"}
+
+    def line_of(self, members: Members, service: Optional[Members]) -> Tuple[str, bool]:
+        """The command line of one object, and whether a shell has to run it."""
+        if "check_command" not in members:
+            raise NoCommand("no check_command")
+        name, arguments = arguments_of(members["check_command"])
+        if name not in self.commands:
+            raise NoCommand(f"no command {name}")
+        macros = Macros(self, self.hosts.get(members["host_name"], members), service)
+        given = {f"ARG{number}": "" for number in range(1, 33)}
+        given.update({f"ARG{number}": written_out(argument, macros.lookup) for number, argument in enumerate(arguments, 1)})
+        return runnable(written_out(self.commands[name], lambda macro: given[macro] if macro in given else macros.lookup(macro)))
+
+
+def arguments_of(check_command: str) -> Tuple[str, List[str]]:
     """The name of a command and its arguments, which exclamation marks part; behind a backslash one is a letter."""
     name, *rest = re.split(r"(?<!\\)!", check_command)
     return name.strip(), [argument.replace("\\!", "!") for argument in rest]
 
 
-def line_of(check_command, commands, macros):
-    """The command line of one object, and whether a shell has to run it."""
-    name, arguments = arguments_of(check_command)
-    if name not in commands:
-        raise NoCommand(f"no command {name}")
-    given = {f"ARG{number}": "" for number in range(1, 33)}
-    given |= {f"ARG{number}": written_out(argument, macros) for number, argument in enumerate(arguments, 1)}
-    return runnable(written_out(commands[name], {**macros, **given}))
-
-
-def runnable(line):
+def runnable(line: str) -> Tuple[str, bool]:
     """A line that can be split into words, and whether it needs a shell."""
     try:
         words = shlex.split(line)
@@ -87,12 +165,12 @@ def runnable(line):
     return line, bool(FOR_A_SHELL.search(QUOTED.sub("", line))) or "=" in line.split(" ", 1)[0]
 
 
-def without_shell(line, needs_shell):
+def without_shell(line: str, needs_shell: bool) -> str:
     """The line as one that no shell has to run: one that needs a shell begins with it."""
     return shlex.join(["/bin/sh", "-c", line]) if needs_shell else line
 
 
-def resource_file(options, beside, named):
+def resource_file(options: Mapping[str, str], beside: pathlib.Path, named: Optional[pathlib.Path]) -> Optional[pathlib.Path]:
     """Where the resource file is: where it was said, where nagios.cfg says, or, of copied files, beside that; it says so then."""
     if named is not None:
         return named
@@ -106,21 +184,18 @@ def resource_file(options, beside, named):
     return copy
 
 
-def commands_of(objects, resource):
+def commands_of(objects: Sequence[Definition], resource: Mapping[str, str]) -> Tuple[Dict[str, Tuple[str, bool]], Dict[str, str]]:
     """The command line of each host and service by its full name, each with whether a shell has to run it; and why others have none, by name."""
-    commands = {members["command_name"]: str(members["command_line"]) for kind, _, members in objects if kind == "command"}
-    hosts = {members["host_name"]: members for kind, _, members in objects if kind == "host"}
-    lines, without = {}, {}
+    network = Network(objects, resource)
+    lines: Dict[str, Tuple[str, bool]] = {}
+    without: Dict[str, str] = {}
     for kind, place, members in objects:
         if kind not in ("host", "service"):
             continue
-        host = hosts.get(members["host_name"], members)
         service = members if kind == "service" else None
         name = f"{members['host_name']};{members['service_description']}" if service is not None else str(members["host_name"])
         try:
-            if "check_command" not in members:
-                raise NoCommand("no check_command")
-            lines[name] = line_of(members["check_command"], commands, macros_of(resource, host, service))
+            lines[name] = network.line_of(members, service)
         except NoCommand as why:
             without[name] = f"{place}: {name}: {why}"
     return lines, without

@@ -1,6 +1,9 @@
 """Time periods of Nagios Core 4, as a site of nagsched-monitor has them. For from_nagios.py --site."""
 import calendar
 import re
+from typing import Any, Callable, Dict, List, Mapping, Optional, Sequence, Set, Tuple
+
+from nagios_groups import Definition
 
 WEEKDAYS = ("monday", "tuesday", "wednesday", "thursday", "friday", "saturday", "sunday")
 MONTHS = [month.lower() for month in calendar.month_name[1:]]
@@ -10,19 +13,23 @@ ALL_DAY = ["00:00-24:00"]
 # Members of a time period that say no times.
 OTHER = {"timeperiod_name", "alias", "exclude"}
 
+# Days with other times, and a period, as a site has them.
+Dates = List[Dict[str, Any]]
+Period = Dict[str, Any]
+
 
 class CannotSay(Exception):
     """Dates that a site's periods can't say."""
 
 
-def days_between(first, last):
+def days_between(first: Tuple[int, int], last: Tuple[int, int]) -> List[Tuple[int, int]]:
     """Each month and day from one to another, over the end of the year where the second comes before the first."""
     days = [(month, day) for month in range(1, 13) for day in range(1, calendar.monthrange(2024, month)[1] + 1)]
     begin, end = days.index(first), days.index(last)
     return days[begin : end + 1] if begin <= end else days[begin:] + days[: end + 1]
 
 
-def month_days(first_month, first_day, last_month, last_day, times):
+def month_days(first_month: str, first_day: str, last_month: str, last_day: str, times: List[str]) -> Dates:
     try:
         days = days_between((MONTHS.index(first_month) + 1, int(first_day)), (MONTHS.index(last_month) + 1, int(last_day)))
     except ValueError:
@@ -30,19 +37,19 @@ def month_days(first_month, first_day, last_month, last_day, times):
     return [{"month": month, "day": day, "times": times} for month, day in days]
 
 
-def every_month(first, last, times):
+def every_month(first: str, last: str, times: List[str]) -> Dates:
     if not 1 <= int(first) <= int(last) <= 31:
         raise CannotSay
     return [{"day": day, "times": times} for day in range(int(first), int(last) + 1)]
 
 
-def nth(weekday, number, month, times):
-    date = {"weekday": weekday, "nth": int(number), "times": times}
+def nth(weekday: str, number: str, month: Optional[str], times: List[str]) -> Dates:
+    date: Dict[str, Any] = {"weekday": weekday, "nth": int(number), "times": times}
     return [date if month is None else {"month": MONTHS.index(month) + 1, **date}]
 
 
 # Each form of dates, and what is made of its parts and the times.
-FORMS = [
+FORMS: List[Tuple[str, Callable[..., Dates]]] = [
     (DATE, lambda times, day: [{"first": day, "last": day, "times": times}]),
     (f"{DATE} - {DATE}", lambda times, first, last: [{"first": first, "last": last, "times": times}]),
     (f"{MONTH} {NUMBER}", lambda times, month, day: [{"month": MONTHS.index(month) + 1, "day": int(day), "times": times}]),
@@ -55,12 +62,12 @@ FORMS = [
 ]
 
 
-def times_of(value):
+def times_of(value: str) -> List[str]:
     """Times such as 09:00-17:00, of which several may stand with a comma between two."""
     return [times.strip() for times in value.split(",") if times.strip()]
 
 
-def dates_of(name, times):
+def dates_of(name: str, times: List[str]) -> Dates:
     for form, made in FORMS:
         match = re.fullmatch(form, name)
         if match is not None:
@@ -68,9 +75,11 @@ def dates_of(name, times):
     raise CannotSay
 
 
-def period_of(members):
+def period_of(members: Mapping[str, str]) -> Tuple[Period, List[str]]:
     """A period as a site has it, and the members that it can't say."""
-    weekdays, dates, unsaid = {}, [], []
+    weekdays: Dict[str, List[str]] = {}
+    dates: Dates = []
+    unsaid = []
     for name, value in members.items():
         if name in WEEKDAYS:
             weekdays[name] = times_of(value)
@@ -83,11 +92,11 @@ def period_of(members):
     return {"weekdays": weekdays, "dates": dates, "exclude": excluded}, unsaid
 
 
-def is_always(period):
+def is_always(period: Period) -> bool:
     """Whether a period includes each time, such as the usual 24x7."""
     return all(period["weekdays"].get(day) == ALL_DAY for day in WEEKDAYS) and not period["dates"] and not period["exclude"]
 
 
-def always(objects):
+def always(objects: Sequence[Definition]) -> Set[str]:
     """The names of the periods that include each time."""
     return {str(members["timeperiod_name"]) for kind, _, members in objects if kind == "timeperiod" and is_always(period_of(members)[0])}

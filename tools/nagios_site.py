@@ -1,9 +1,16 @@
 """The folder of a site, as nagsched-monitor reads it, of a configuration of Nagios Core 4. For from_nagios.py --site."""
+import contextlib
+import fcntl
 import json
 import os
+import pathlib
+import time
+import zoneinfo
+from typing import Any, Dict, Iterator, List, Mapping, Sequence, Set, Tuple
 
 import nagios_commands
 import nagios_periods
+from nagios_groups import Definition, Members
 
 # What Nagios takes where nagios.cfg doesn't say.
 DEFAULTS = {
@@ -12,30 +19,39 @@ DEFAULTS = {
     "cached_host_check_horizon": "15",
     "service_check_timeout_state": "c",
     "additional_freshness_latency": "15",
-    "max_concurrent_checks": "0",
 }
 # How many plugins may run at once where the site has no limit.
 SLOTS = 200
 # What the monitor does, and so isn't left out: kinds of from_nagios.py.
-DONE = {"check_period", "check_command", "check_freshness", "objects without active checks", "timeperiod definitions", "command definitions"}
+DONE = {"check_period", "check_command", "check_freshness", "objects without active checks", "timeperiod definitions", "command definitions",
+        "hostgroup definitions", "servicegroup definitions"}
+# How long a reload that reads the site is waited for, in seconds.
+PATIENCE = 30.0
+
+Options = Mapping[str, str]
 
 
-def option(options, name):
+class CannotWrite(Exception):
+    """Why the site can't be written. What was there is as it was."""
+
+
+def option(options: Options, name: str) -> str:
     return options.get(name, DEFAULTS[name])
 
 
-def full_name(kind, members):
+def full_name(kind: str, members: Members) -> str:
     return f"{members['host_name']};{members['service_description']}" if kind == "service" else str(members["host_name"])
 
 
-def checked(objects):
+def checked(objects: Sequence[Definition]) -> List[Tuple[str, str, Members]]:
     """Each host and service: its full name, its kind and its members."""
     return [(full_name(kind, members), kind, members) for kind, _, members in objects if kind in ("host", "service")]
 
 
-def periods_of(objects):
+def periods_of(objects: Sequence[Definition]) -> Tuple[Dict[str, Any], Dict[str, List[str]]]:
     """The periods, which objects go by which, and what can't be said, by the objects that it matters to."""
-    periods, unsaid = {}, {}
+    periods: Dict[str, nagios_periods.Period] = {}
+    unsaid: Dict[str, List[str]] = {}
     for kind, _, members in objects:
         if kind == "timeperiod":
             name = str(members["timeperiod_name"])
@@ -51,9 +67,10 @@ def periods_of(objects):
     return {"periods": {name: periods[name] for name in sorted(used)}, "objects": period_of}, matters
 
 
-def with_excluded(periods, names):
+def with_excluded(periods: Mapping[str, nagios_periods.Period], names: Set[str]) -> Set[str]:
     """These periods, and those that they exclude, and so on."""
-    found, left = set(), list(names)
+    found: Set[str] = set()
+    left = list(names)
     while left:
         name = left.pop()
         if name in periods and name not in found:
@@ -62,11 +79,11 @@ def with_excluded(periods, names):
     return found
 
 
-def passive_of(options, objects, interval_of):
+def passive_of(options: Options, objects: Sequence[Definition], interval_of: Mapping[str, int]) -> Dict[str, Dict[str, Any]]:
     """Which objects are passive only, and how fresh the results of which have to be."""
     passive = {}
     for name, _, members in checked(objects):
-        entry = {}
+        entry: Dict[str, Any] = {}
         if members.get("active_checks_enabled", "1") == "0":
             entry["only"] = True
         if members.get("check_freshness", "0") == "1":
@@ -77,10 +94,10 @@ def passive_of(options, objects, interval_of):
     return passive
 
 
-def commands_of(options, objects, resource):
+def commands_of(options: Options, objects: Sequence[Definition], resource: Mapping[str, str]) -> Tuple[Dict[str, Dict[str, Any]], Dict[str, str]]:
     """The command of each object, and why others have none."""
     lines, without = nagios_commands.commands_of(objects, resource)
-    commands = {}
+    commands: Dict[str, Dict[str, Any]] = {}
     for name, kind, _ in checked(objects):
         if name in lines:
             line, needs_shell = lines[name]
@@ -90,37 +107,92 @@ def commands_of(options, objects, resource):
     return commands, without
 
 
-def monitor_of(options):
-    limit = int(option(options, "max_concurrent_checks"))
-    return {
-        "slots": limit or SLOTS,
-        "cached_host_check_horizon": int(option(options, "cached_host_check_horizon")),
-        "service_check_timeout_state": option(options, "service_check_timeout_state"),
-    }
+def monitor_of(options: Options, before: Mapping[str, Any]) -> Dict[str, Any]:
+    """The monitor's options: what nagios.cfg says, else what the site had before, else what Nagios takes. Other members stay."""
+    said: Dict[str, Any] = {}
+    if int(options.get("max_concurrent_checks", "0")):
+        said["slots"] = int(options["max_concurrent_checks"])
+    if "cached_host_check_horizon" in options:
+        said["cached_host_check_horizon"] = int(options["cached_host_check_horizon"])
+    if "service_check_timeout_state" in options:
+        said["service_check_timeout_state"] = str(options["service_check_timeout_state"])
+    if "use_timezone" in options:
+        said["zone"] = zone_of(options["use_timezone"])
+    defaults = {"slots": SLOTS, "cached_host_check_horizon": int(DEFAULTS["cached_host_check_horizon"]), "service_check_timeout_state": DEFAULTS["service_check_timeout_state"]}
+    return {**defaults, **before, **said}
 
 
-def write(path, document, mode=0o644):
-    """Writes a file as a whole, or leaves the one that is there."""
+def zone_of(name: str) -> str:
+    """A zone as the monitor knows it."""
+    zone = str(name).removeprefix(":")
+    try:
+        zoneinfo.ZoneInfo(zone)
+    except (ValueError, OSError, zoneinfo.ZoneInfoNotFoundError):
+        raise CannotWrite(f"use_timezone={name}: no zone of that name is known here") from None
+    return zone
+
+
+# ---- files
+
+
+def options_before(folder: pathlib.Path) -> Dict[str, Any]:
+    """The members of the site's monitor.json, where there is one."""
+    path = folder / "monitor.json"
+    try:
+        members = json.loads(path.read_text(encoding="utf-8")) if path.exists() else {}
+    except (OSError, ValueError) as error:
+        raise CannotWrite(f"{path}: {error}: its members would be lost") from None
+    if not isinstance(members, dict):
+        raise CannotWrite(f"{path}: it is no object")
+    return members
+
+
+def write_new(path: pathlib.Path, document: Any, mode: int) -> pathlib.Path:
+    """Writes a file beside the one that it is to replace."""
     new = path.with_name(path.name + ".new")
     file = os.open(new, os.O_WRONLY | os.O_CREAT | os.O_TRUNC, mode)
-    os.fchmod(file, mode)
     with open(file, "w", encoding="utf-8") as written:
+        os.fchmod(file, mode)
         json.dump(document, written, ensure_ascii=False, indent=1)
         written.write("\n")
-    os.replace(new, path)
+        written.flush()
+        os.fsync(file)
+    return new
 
 
-def write_site(folder, setups, mirrors, files):
-    """Writes the files of a site; those of a site that was there before and has no counterpart now are gone.
+@contextlib.contextmanager
+def alone(folder: pathlib.Path) -> Iterator[int]:
+    """While nobody reads the site: the monitor holds its folder locked while it reads."""
+    lock = os.open(folder, os.O_RDONLY)
+    end = time.monotonic() + PATIENCE
+    try:
+        while True:
+            try:
+                fcntl.flock(lock, fcntl.LOCK_EX | fcntl.LOCK_NB)
+                break
+            except BlockingIOError:
+                if time.monotonic() >= end:
+                    raise CannotWrite(f"{folder}: somebody has been reading it for {PATIENCE:g} seconds") from None
+                time.sleep(0.05)
+        yield lock
+    finally:
+        os.close(lock)
+
+
+def write_site(folder: pathlib.Path, setups: Sequence[Any], files: Mapping[str, Any]) -> None:
+    """Writes the files of a site, all beside the old ones first; then they take their places together, so that no reload sees half of them. Files of the site
+    that was there before and have no counterpart now are gone; others stay.
 
     Command lines may hold passwords: their file is for its owner only."""
     folder.mkdir(parents=True, exist_ok=True)
-    names = ["setup.json"] if len(setups) == 1 else [f"part-{number}.json" for number in range(1, len(setups) + 1)]
-    files = files | ({"mirrors": mirrors} if mirrors else {})
-    for path in [*folder.glob("part-*.json"), folder / "setup.json", folder / "mirrors.json"]:
-        if path.name not in names and path.stem not in files:
-            path.unlink(missing_ok=True)
-    for name, setup in zip(names, setups):
-        write(folder / name, setup)
-    for name, document in files.items():
-        write(folder / f"{name}.json", document, 0o600 if name == "commands" else 0o644)
+    names = ["setup"] if len(setups) == 1 else [f"part-{number}" for number in range(1, len(setups) + 1)]
+    documents = {**dict(zip(names, setups)), **files}
+    paths = {name: folder / f"{name}.json" for name in documents}
+    new = {name: write_new(paths[name], document, 0o600 if name == "commands" else 0o644) for name, document in documents.items()}
+    with alone(folder) as file:
+        for name, path in paths.items():
+            os.replace(new[name], path)
+        for path in [*folder.glob("part-*.json"), folder / "setup.json", folder / "mirrors.json"]:
+            if path.stem not in documents:
+                path.unlink(missing_ok=True)
+        os.fsync(file)

@@ -14,12 +14,40 @@ work=$(mktemp -d)
 trap 'rm -rf "$work"' EXIT
 DESTDIR=$work/all "$top/tools/install.sh" /usr
 all=$work/all/usr
-strip --strip-unneeded "$all/bin/nagsched" "$all/lib/libnagsched.so.$surface"
-# The monitor has a program of its own where the runner in C was built.
-runner=$all/lib/nagsched/nagsched-runner
-monitor=all needs=
-[ ! -x "$runner" ] || { strip --strip-unneeded "$runner"; monitor=amd64 needs=", libc6 (>= 2.34)"; }
+strip --strip-unneeded "$all/bin/nagsched" "$all/lib/libnagsched.so.$surface" "$all/lib/nagsched/nagsched-runner"
 glibc=$(objdump -T "$all/bin/nagsched" "$all/lib/libnagsched.so" | grep -o 'GLIBC_[0-9.]*' | sort -V | tail -n 1 | cut -d_ -f2)
+
+# The scripts by which the monitor's package makes its user, and has systemd know the unit: they run where it is installed.
+scripts_of_the_service() {
+    cat > "$1/postinst" <<'END'
+#!/bin/sh
+set -e
+if [ "$1" = configure ]; then
+    systemd-sysusers nagsched-monitor.conf
+    if [ -d /run/systemd/system ]; then
+        systemctl daemon-reload
+        # After an upgrade the sites that run go on with the new program.
+        [ -z "$2" ] || systemctl try-restart 'nagsched-monitor@*.service'
+    fi
+fi
+END
+    cat > "$1/prerm" <<'END'
+#!/bin/sh
+set -e
+if [ "$1" = remove ] && [ -d /run/systemd/system ]; then
+    systemctl stop 'nagsched-monitor@*.service'
+fi
+END
+    cat > "$1/postrm" <<'END'
+#!/bin/sh
+set -e
+# The user and /var/lib/nagsched stay: they hold the sites.
+if [ -d /run/systemd/system ]; then
+    systemctl daemon-reload
+fi
+END
+    chmod 755 "$1/postinst" "$1/prerm" "$1/postrm"
+}
 
 # Makes a package: NAME ARCHITECTURE SECTION DEPENDS SUMMARY FILE.. Each file is moved out of the whole.
 package() {
@@ -47,6 +75,9 @@ Description: $summary
  nagsched decides which host or service check is due, and what each result
  means, by the rules of Nagios Core 4. Its code is proved.
 END
+    if [ "$name" = nagsched-monitor ]; then
+        scripts_of_the_service "$folder/DEBIAN"
+    fi
     if [ "$section" = libs ]; then
         echo "activate-noawait ldconfig" > "$folder/DEBIAN/triggers"
         echo "libnagsched $surface $name (>= $version)" > "$folder/DEBIAN/shlibs"
@@ -61,7 +92,7 @@ package libnagsched-dev amd64 libdevel "libnagsched$surface (= $version)" "sched
     lib/libnagsched.so lib/libnagsched.a include/nagsched.h lib/pkgconfig/nagsched.pc
 package python3-nagsched all python "python3 (>= 3.9), libnagsched$surface (= $version)" "scheduler of active checks, for Python" \
     lib/python3/dist-packages/nagsched
-package nagsched-monitor "$monitor" net "python3 (>= 3.9), nagsched (= $version)$needs" "monitor of a site's hosts and services" \
-    bin/nagsched-monitor bin/nagsched-gearman-worker bin/nagsched-from-nagios lib/nagsched lib/systemd share/man/man1/nagsched-monitor.1 share/man/man1/nagsched-from-nagios.1 \
+package nagsched-monitor amd64 net "python3 (>= 3.9), nagsched (= $version), systemd | systemd-standalone-sysusers" "monitor of a site's hosts and services" \
+    bin/nagsched-monitor bin/nagsched-runner bin/nagsched-gearman-worker bin/nagsched-from-nagios lib/nagsched lib/systemd lib/sysusers.d share/man/man1/nagsched-monitor.1 share/man/man1/nagsched-from-nagios.1 \
     share/bash-completion/completions/nagsched-monitor share/doc/nagsched/MONITOR.md
 package nagsched amd64 net "libc6 (>= $glibc)" "scheduler of active checks, the program" bin/nagsched share

@@ -14,7 +14,7 @@ Modules, lowest first:
     known        what the answers say of each object
     mirroring    results that are reported to mirrors
     moving       the states of all schedulers put together, for another site
-    plugins      one runner process: it runs the jobs that it reads
+    runner_program the commands of runners
     runners      the runner processes of a monitor
     standings    the table of how each object stands
     spreading    the times of checks that are overdue

@@ -5,7 +5,7 @@ import sys
 import time
 from typing import Callable, Optional, Sequence
 
-from .runners import FOLDER
+from .runner_program import FOLDER
 
 # From one beginning to the next at least, and how long it may take to end, in seconds. The pause is twice as long each time, up to the longest, where a
 # process ends sooner than that.

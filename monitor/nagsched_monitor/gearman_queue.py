@@ -5,20 +5,19 @@ can't come any more. Where no worker takes anything the queue is closed: what wa
 once, until a worker takes that one.
 """
 import collections
-import json
+import time
 from dataclasses import dataclass
 from typing import Any, Callable, Deque, Dict, List, Optional
 
 from .gearman import Client, Happening, Kind, ServerFault
+from .gearman_seal import JOB, RESULT, Seal
 
 # How many jobs may wait at the server for a worker. More of them wait here, where nothing is left of one that is given up.
 MOST_WAITING = 200
 # How long the server may take to say that it has a job, in seconds; when a lost one is tried again; how much later than its limit a result may come.
 SILENCE, RETRY, GRACE = 10.0, 1.0, 15.0
 UNKNOWN = 3
-# How a job may have ended: as a plugin does, or so that it is to be made again.
-LOST = "lost"
-ENDS = ("exited", "signal", "limit", "failed", LOST)
+ENDS = ("exited", "signal", "limit", "failed")
 
 Answer = Callable[[Dict[str, Any]], None]
 
@@ -46,8 +45,8 @@ class Out:
 class Queue:
     """One queue, over a connection of its own. By `mark` its jobs differ from those of every other runner."""
 
-    def __init__(self, name: str, mark: str, wait: float, connect: Callable[[], Client], answer: Answer, log: Callable[[str], None]) -> None:
-        self.name, self._mark, self._wait = name, mark, wait
+    def __init__(self, name: str, mark: str, wait: float, connect: Callable[[], Client], answer: Answer, log: Callable[[str], None], seal: Seal) -> None:
+        self.name, self._mark, self._wait, self._seal = name, mark, wait, seal
         self._connect, self._answer, self._log = connect, answer, log
         self._client: Optional[Client] = None
         self._not_before = 0.0
@@ -95,8 +94,12 @@ class Queue:
         self._out.update({number: Out(job, now) for number, job in batch.items()})
         self._last += len(batch)
         for number in sorted(batch, reverse=True):  # the library sends the one first that it was handed last
-            workload = {"job": f"{self._mark}-{number}", "words": batch[number].words, "limit": batch[number].limit}
-            self._client.submit(number, self.name, json.dumps(workload).encode())
+            self._client.submit(number, self.name, self._seal.sign(JOB, self._workload(number, batch[number])))
+
+    def _workload(self, number: int, job: Handed) -> Dict[str, Any]:
+        """What a worker is told: the job, and for which queue and how long it holds, by the wall clock."""
+        begin = time.time()
+        return {"job": f"{self._mark}-{number}", "words": job.words, "limit": job.limit, "queue": self.name, "time": begin, "until": begin + self._wait}
 
     def _lose(self, why: str, now: float) -> None:
         """The connection is lost: what is out waits again, in its order."""
@@ -136,11 +139,14 @@ class Queue:
         """Answers a job that a worker has answered or that failed, where it wasn't given up."""
         if job is None:
             return
-        result = result_of(happening.data, f"{self._mark}-{happening.number}") if happening.kind is Kind.COMPLETE else None
+        document = self._seal.open(RESULT, happening.data) if happening.kind is Kind.COMPLETE else None
+        result = None if document is None else result_of(document, f"{self._mark}-{happening.number}")
         if result is not None:
             self._answer({**result, "job": job.number})
+        elif happening.kind is Kind.FAILED:
+            self._lost(job, "its worker failed")
         else:
-            self._lost(job, "its worker failed" if happening.kind is Kind.FAILED else "its worker's answer was no result")
+            self._lost(job, "its worker's answer isn't signed with this site's key" if document is None and self._seal.is_signing() else "its worker's answer was no result")
 
     def _serve(self, now: float) -> None:
         """A worker gave a sign of life."""
@@ -191,21 +197,21 @@ class Queue:
         return f"no worker took it from the queue {self.name}" if self._trouble is None else f"the server of the queue {self.name} wasn't reached"
 
     def _lost(self, job: Handed, why: str) -> None:
-        self._answer({"job": job.number, "code": 0, "end": LOST, "output": why})
+        self._answer({"job": job.number, "lost": why})
 
     def close(self) -> None:
         self._disconnect()
 
 
-def result_of(data: bytes, mark: str) -> Optional[Dict[str, Any]]:
-    """A worker's answer to the job of this mark, or None where it is no result of that job."""
-    try:
-        result = json.loads(data)
-    except ValueError:
+def result_of(document: Dict[str, Any], mark: str) -> Optional[Dict[str, Any]]:
+    """A worker's answer to the job of this mark, or None if it is no result of that job."""
+    if document.get("job") != mark:
         return None
-    if not isinstance(result, dict) or result.get("job") != mark or result.get("end") not in ENDS:
+    if isinstance(document.get("lost"), str):
+        return {"lost": document["lost"]}
+    code, output, errors = document.get("code"), document.get("output"), document.get("stderr", "")
+    if document.get("end") not in ENDS or isinstance(code, bool) or not isinstance(code, int) or not 0 <= code <= 255:
         return None
-    code, output = result.get("code"), result.get("output")
-    if isinstance(code, bool) or not isinstance(code, int) or not 0 <= code <= 255 or not isinstance(output, str):
+    if not isinstance(output, str) or not isinstance(errors, str):
         return None
-    return {"code": code, "end": result["end"], "output": output}
+    return {"code": code, "end": document["end"], "output": output, "stderr": errors}

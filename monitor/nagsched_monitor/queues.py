@@ -8,6 +8,7 @@ from typing import Any, Collection, Dict, Iterable, List, Optional, Pattern, Seq
 from . import gearman
 from .documents import only_known, only_object, read_object, seconds
 from .faults import MonitorFault, SiteFault
+from .gearman_seal import read_key
 from .places import place_of
 
 FILE = "queues.json"
@@ -39,6 +40,8 @@ class Queues:
     server: str
     wait: float
     patterns: Sequence[Patterns]
+    # How jobs and results are signed, as options of the runner for these queues.
+    options: Sequence[str] = ()
 
     def queue_of(self, name: str) -> Optional[str]:
         """The queue of an object; None where its plugin runs beside the monitor."""
@@ -49,7 +52,7 @@ def read_queues(folder: pathlib.Path, names: Collection[str]) -> Optional[Queues
     """The queues of a site whose objects have these names; None where it has none."""
     if not (folder / FILE).exists():
         return None
-    members = only_known(read_object(folder, FILE, required=True), ("server", "wait", "queues"), FILE)
+    members = only_known(read_object(folder, FILE, required=True), ("server", "wait", "queues", "key", "unsigned"), FILE)
     server = members.get("server")
     try:
         gearman.Library()
@@ -58,7 +61,24 @@ def read_queues(folder: pathlib.Path, names: Collection[str]) -> Optional[Queues
         raise SiteFault(f"{FILE}: {fault}") from None
     queues = only_object(members.get("queues", {}), f"{FILE}: queues")
     everything = set(names) | {name.partition(";")[0] for name in names}
-    return Queues(str(server), seconds(members.get("wait", WAIT), f"{FILE}: wait"), [read_patterns(queue, queues[queue], everything) for queue in queues])
+    patterns = [read_patterns(queue, queues[queue], everything) for queue in queues]
+    return Queues(str(server), seconds(members.get("wait", WAIT), f"{FILE}: wait"), patterns, read_seal(folder, members))
+
+
+def read_seal(folder: pathlib.Path, members: Dict[str, Any]) -> List[str]:
+    """How jobs are signed: by the key of a file, or, where `unsigned` says so, not at all."""
+    key, unsigned = members.get("key"), members.get("unsigned", False)
+    if not isinstance(unsigned, bool) or not isinstance(key, (str, type(None))):
+        raise SiteFault(f"{FILE}: `key` has to be the name of a file, and `unsigned` true or false")
+    if (key is not None) == unsigned:
+        raise SiteFault(f'{FILE}: it has to have either "key", the file of a key, or "unsigned":true')
+    if key is None:
+        return ["--unsigned"]
+    try:
+        read_key(folder / key)
+    except MonitorFault as fault:
+        raise SiteFault(f"{FILE}: {fault}") from None
+    return ["--key", str((folder / key).resolve())]
 
 
 def read_patterns(queue: str, given: Any, everything: Set[str]) -> Patterns:

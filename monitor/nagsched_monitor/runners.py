@@ -2,20 +2,15 @@
 import functools
 import json
 import os
-import pathlib
 import subprocess
-import sys
 from dataclasses import dataclass, field
 from typing import Any, Callable, Dict, List, NamedTuple, Optional, Protocol, Sequence, Tuple, Union
 
 from .queues import Queues
+from .runner_program import queue_runner_words, runner_words
 
 READ_BYTES = 65_536
 READER = json.JSONDecoder()
-MODULE, QUEUE_MODULE = "nagsched_monitor.plugins", "nagsched_monitor.gearman_runner"
-# The folder of the package, and where the runner in C may lie: installed, or built in the tree.
-FOLDER = pathlib.Path(__file__).resolve().parent.parent
-COMPILED = (FOLDER / "nagsched-runner", FOLDER / "out/nagsched-runner")
 
 
 class Job(NamedTuple):
@@ -79,15 +74,6 @@ class Process:
         self.reads_from, self.writes_to = self.process.stdin.fileno(), self.process.stdout.fileno()
 
 
-def runner_words() -> List[str]:
-    """The command of a runner: the one in C where it was built, else the one in Python. The two answer alike."""
-    given = os.environ.get("NAGSCHED_RUNNER")
-    if given is not None:
-        return [given]
-    built = [str(file) for file in COMPILED if os.access(file, os.X_OK)]
-    return built[:1] or [sys.executable, "-m", MODULE]
-
-
 @functools.lru_cache(maxsize=None)
 def command_line(words: Tuple[str, ...], limit: float, queue: Optional[str]) -> bytes:
     """The members of a job behind its number."""
@@ -112,8 +98,7 @@ class RunnerProcesses:
             self._begin(self._words)
 
     def _begin(self, words: Sequence[str]) -> Process:
-        environment = {**os.environ, "PYTHONPATH": str(FOLDER)}
-        process = Process(subprocess.Popen(words, stdin=subprocess.PIPE, stdout=subprocess.PIPE, env=environment, bufsize=0), words)
+        process = Process(subprocess.Popen(words, stdin=subprocess.PIPE, stdout=subprocess.PIPE, bufsize=0), words)
         os.set_blocking(process.writes_to, False)
         os.set_blocking(process.reads_from, False)  # what it doesn't read at once doesn't hold up the monitor
         self._processes[process.writes_to] = process
@@ -122,7 +107,7 @@ class RunnerProcesses:
 
     def serve(self, queues: Optional[Queues]) -> None:
         """Has the jobs of queues handed to their server from now on; what is out at another one is lost."""
-        self._queue_words = [] if queues is None else [sys.executable, "-m", QUEUE_MODULE, queues.server, str(queues.wait)]
+        self._queue_words = [] if queues is None else queue_runner_words(queues.server, queues.wait, queues.options)
         if self._queued is not None and self._queued.words != self._queue_words:
             self._end(self._queued)
         self._begin_missing()
@@ -188,11 +173,11 @@ class RunnerProcesses:
             self._hear(process, READER.raw_decode(line.decode())[0])
 
     def _hear(self, process: Process, result: Dict[str, Any]) -> None:
-        job = process.jobs.pop(result["job"], None)
+        job = process.jobs.pop(result.get("job", 0), None)
         if job is None:
-            return
-        output = result["output"].encode(errors="replace").decode()  # half a character, which a worker may have sent, can't be kept
-        if result["end"] == "lost":
+            return  # it was answered, or the line is of none
+        output = result.get("lost", result.get("output")).encode(errors="replace").decode()  # half a character, which a worker may have sent, can't be kept
+        if "lost" in result:
             self._log(f"{job.name}: run {job.run} is given up: {output}")
             self._events.append(Lost(job, output))
         else:

@@ -1,37 +1,14 @@
-#define _POSIX_C_SOURCE 200809L
+#define _GNU_SOURCE
 #include "lines.h"
 
+#include <math.h>
 #include <stdio.h>
 #include <stdlib.h>
 #include <string.h>
 
 #define REPLACEMENT "\\ufffd"
-
-/* ---- texts */
-
-void text_add(struct text *text, const char *bytes, size_t length) {
-    if (text->length + length + 1 > text->room) {
-        text->room = 2 * (text->length + length + 1);
-        text->bytes = realloc(text->bytes, text->room);
-        if (text->bytes == NULL)
-            abort(); /* the monitor starts another runner, and has lost nothing */
-    }
-    memcpy(text->bytes + text->length, bytes, length);
-    text->length += length;
-    text->bytes[text->length] = '\0';
-}
-
-void text_drop_front(struct text *text, size_t length) {
-    if (length == 0)
-        return;
-    text->length -= length;
-    memmove(text->bytes, text->bytes + length, text->length + 1);
-}
-
-void text_free(struct text *text) {
-    free(text->bytes);
-    *text = (struct text){0};
-}
+/* The longest limit, in seconds: a day. */
+static const double LONGEST = 86400.0;
 
 /* ---- UTF-8 */
 
@@ -54,9 +31,14 @@ static char *put_character(char *to, unsigned point) {
     return to;
 }
 
-/* How many bytes the character has that begins here; 0 where none does. */
+/* How many bytes the character has that this byte begins; 0 if it begins none. */
+static size_t length_by_lead(unsigned char lead) {
+    return lead < 0x80 ? 1 : lead >= 0xC2 && lead < 0xE0 ? 2 : lead >= 0xE0 && lead < 0xF0 ? 3 : lead >= 0xF0 && lead < 0xF5 ? 4 : 0;
+}
+
+/* How many bytes the character at `at` has; 0 if there is none. */
 static size_t character_length(const unsigned char *at, size_t left) {
-    size_t length = *at < 0x80 ? 1 : *at >= 0xC2 && *at < 0xE0 ? 2 : *at >= 0xE0 && *at < 0xF0 ? 3 : *at >= 0xF0 && *at < 0xF5 ? 4 : 0;
+    size_t length = length_by_lead(*at);
     if (length == 0 || length > left)
         return 0;
     for (size_t i = 1; i < length; i++)
@@ -67,13 +49,23 @@ static size_t character_length(const unsigned char *at, size_t left) {
     return is_overlong || is_none ? 0 : length;
 }
 
+/* How much of these bytes is left without a character that the cut has split. */
+static size_t whole_length(struct kept kept) {
+    if (kept.length < MOST_KEPT)
+        return kept.length;
+    size_t lead = MOST_KEPT - 1;
+    while (lead > MOST_KEPT - 4 && ((unsigned char)kept.bytes[lead] & 0xC0) == 0x80)
+        lead--;
+    return length_by_lead((unsigned char)kept.bytes[lead]) > MOST_KEPT - lead ? lead : MOST_KEPT;
+}
+
 /* ---- jobs */
 
 static char *skip_spaces(char *at) {
     return at + strspn(at, " \t\r\n");
 }
 
-/* The four digits of `\uXXXX`; -1 where they aren't. */
+/* The four digits of `\uXXXX`; -1 if they aren't there. */
 static long hexadecimal(const char *at) {
     char digits[5] = {0}, *rest;
     memcpy(digits, at, strnlen(at, 4));
@@ -81,7 +73,7 @@ static long hexadecimal(const char *at) {
     return rest == digits + 4 && strspn(digits, "0123456789abcdefABCDEF") == 4 ? value : -1;
 }
 
-/* Reads the character behind a backslash into `to`, and returns where the text goes on; NULL where it is none. A NUL can't stand in a word. */
+/* Reads the character after a backslash into `to`, and returns where the text continues; NULL if it is none. No word can have a NUL. */
 static char *read_escape(char *at, char **to) {
     static const char letters[] = "\"\\/bfnrt", meant[] = "\"\\/\b\f\n\r\t";
     const char *letter = *at == '\0' ? NULL : strchr(letters, *at);
@@ -90,7 +82,7 @@ static char *read_escape(char *at, char **to) {
         return at + 1;
     }
     long point = *at == 'u' ? hexadecimal(at + 1) : -1;
-    if (point <= 0)
+    if (point <= 0 || (point >= 0xDC00 && point < 0xE000))
         return NULL;
     at += 5;
     if (point >= 0xD800 && point < 0xDC00) {
@@ -104,7 +96,7 @@ static char *read_escape(char *at, char **to) {
     return at;
 }
 
-/* Reads a text in place: `*word` is its first byte, NUL its last. Returns what is behind it, or NULL. */
+/* Reads a text in place: `*word` is its first byte, and a NUL ends it. Returns where the line continues, or NULL. */
 static char *read_text(char *at, char **word) {
     at = skip_spaces(at);
     if (*at++ != '"')
@@ -125,34 +117,26 @@ static char *read_text(char *at, char **word) {
     return at + 1;
 }
 
-/* Reads a list of texts. */
-static char *read_words(char *at, char ***words) {
-    size_t count = 0, room = 8;
-    char **list = calloc(room, sizeof *list);
+/* Reads a list of one or more texts into `list`, which has room for each comma's, and NULL after them. */
+static char *read_list(char *at, char **list) {
     at = skip_spaces(at);
-    if (list == NULL || *at++ != '[')
-        goto refused;
+    if (*at++ != '[')
+        return NULL;
     do {
-        if (count + 2 > room) {
-            char **longer = realloc(list, 2 * room * sizeof *list);
-            if (longer == NULL)
-                goto refused;
-            list = longer;
-            room *= 2;
-        }
-        at = read_text(at, &list[count++]);
+        at = read_text(at, list++);
         if (at == NULL)
-            goto refused;
+            return NULL;
         at = skip_spaces(at);
     } while (*at++ == ',');
-    if (at[-1] != ']')
-        goto refused;
-    list[count] = NULL;
-    *words = list;
-    return at;
-refused:
-    free(list);
-    return NULL;
+    return at[-1] == ']' ? at : NULL;
+}
+
+static char *read_words(char *at, char ***words) {
+    size_t most = 2;
+    for (const char *comma = strchr(at, ','); comma != NULL; comma = strchr(comma + 1, ','))
+        most++;
+    *words = calloc(most, sizeof **words);
+    return *words == NULL ? NULL : read_list(at, *words);
 }
 
 /* Reads one member of a job. */
@@ -167,15 +151,15 @@ static char *read_member(char *at, struct job *job) {
     if (strcmp(name, "words") == 0 && job->words == NULL)
         return read_words(at, &job->words);
     char *rest = at;
-    if (strcmp(name, "job") == 0)
-        job->number = strtoll(at, &rest, 10);
-    else if (strcmp(name, "limit") == 0)
+    long long number = strcmp(name, "job") == 0 ? strtoll(at, &rest, 10) : -1;
+    if (strcmp(name, "limit") == 0)
         job->limit = strtod(at, &rest);
+    else if (rest != at)
+        job->number = number;
     return rest == at ? NULL : rest;
 }
 
-bool job_read(char *line, struct job *job) {
-    *job = (struct job){.number = -1, .limit = -1};
+static bool read_members(char *line, struct job *job) {
     char *at = skip_spaces(line);
     if (*at++ != '{')
         return false;
@@ -185,7 +169,15 @@ bool job_read(char *line, struct job *job) {
             return false;
         at = skip_spaces(at);
     } while (*at++ == ',');
-    return at[-1] == '}' && job->number >= 0 && job->limit >= 0 && job->words != NULL;
+    return at[-1] == '}' && *skip_spaces(at) == '\0';
+}
+
+bool job_read(char *line, struct job *job) {
+    *job = (struct job){.number = -1, .limit = NAN};
+    bool is_read = read_members(line, job);
+    if (job->number < 0)
+        job->number = -1;
+    return is_read && job->number >= 0 && job->limit > 0 && job->limit <= LONGEST && job->words != NULL;
 }
 
 void job_free(struct job *job) {
@@ -195,28 +187,44 @@ void job_free(struct job *job) {
 
 /* ---- results */
 
-static void write_escaped(struct text *to, const char *bytes, size_t length) {
-    char escape[8];
+/* Writes bytes as a text of JSON. */
+static char *write_text(char *to, struct kept text) {
+    size_t length = whole_length(text);
+    *to++ = '"';
     for (size_t at = 0; at < length;) {
-        unsigned char byte = (unsigned char)bytes[at];
-        size_t size = character_length((const unsigned char *)bytes + at, length - at);
+        unsigned char byte = (unsigned char)text.bytes[at];
+        size_t size = character_length((const unsigned char *)text.bytes + at, length - at);
         if (size == 0) {
-            text_add(to, REPLACEMENT, sizeof REPLACEMENT - 1);
+            to = stpcpy(to, REPLACEMENT);
             size = 1;
         } else if (byte == '"' || byte == '\\' || byte < 0x20) {
-            int written = snprintf(escape, sizeof escape, byte < 0x20 ? "\\u%04x" : "\\%c", byte);
-            text_add(to, escape, (size_t)written);
+            to += sprintf(to, byte < 0x20 ? "\\u%04x" : "\\%c", byte);
         } else {
-            text_add(to, bytes + at, size);
+            to = mempcpy(to, text.bytes + at, size);
         }
         at += size;
     }
+    *to++ = '"';
+    return to;
 }
 
-void result_write(struct text *to, long long job, int code, const char *end, const char *output, size_t length) {
-    char front[128];
-    int written = snprintf(front, sizeof front, "{\"job\":%lld,\"code\":%d,\"end\":\"%s\",\"output\":\"", job, code, end);
-    text_add(to, front, (size_t)written);
-    write_escaped(to, output, length);
-    text_add(to, "\"}\n", 3);
+char *write_result(char *to, long long job, struct ending ending, struct kept output, struct kept errors) {
+    to += sprintf(to, "{\"job\":%lld,\"code\":%d,\"end\":\"%s\",\"output\":", job, ending.code, ending.end);
+    to = write_text(to, output);
+    if (errors.length > 0)
+        to = write_text(stpcpy(to, ",\"stderr\":"), errors);
+    return stpcpy(to, ending.is_stuck ? ",\"stuck\":true}\n" : "}\n");
+}
+
+char *write_lost(char *to, long long job, struct kept why) {
+    to += sprintf(to, "{\"job\":%lld,\"lost\":", job);
+    return stpcpy(write_text(to, why), "}\n");
+}
+
+char *write_gone(char *to, long long job) {
+    return to + sprintf(to, "{\"job\":%lld,\"gone\":true}\n", job);
+}
+
+char *write_error(char *to, struct kept why) {
+    return stpcpy(write_text(stpcpy(to, "{\"error\":"), why), "}\n");
 }

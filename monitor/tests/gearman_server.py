@@ -1,9 +1,9 @@
 """A stand-in for libgearman: a server of one queue, its clients, and workers that do what a test says. No process, no socket, no time of its own."""
-import json
 from dataclasses import dataclass, field
 from typing import Any, Dict, List, Optional
 
 from nagsched_monitor.gearman import Happening, Kind, ServerFault
+from nagsched_monitor.gearman_seal import JOB, RESULT, Seal
 
 
 @dataclass
@@ -24,6 +24,7 @@ class StandInServer:
     is_there: bool = True
     # It takes what is sent, and answers nothing.
     is_silent: bool = False
+    seal: Seal = Seal(b"the key of the test's site")
 
     def connect(self) -> "StandInClient":
         client = StandInClient(self)
@@ -41,7 +42,7 @@ class StandInServer:
     def answer(self, job: ServedJob, /, **members: Any) -> None:
         """A worker answers a job."""
         result = {"job": job.workload["job"], "code": 0, "end": "exited", "output": "fine", **members}
-        job.client.come.append(Happening(Kind.COMPLETE, job.number, json.dumps(result).encode()))
+        job.client.come.append(Happening(Kind.COMPLETE, job.number, self.seal.sign(RESULT, result)))
 
     def lose_worker(self, job: ServedJob) -> None:
         """A worker ends with a job: it waits again, in front."""
@@ -65,7 +66,7 @@ class StandInClient:
     is_lost: bool = False
 
     def submit(self, number: int, queue: str, workload: bytes) -> None:
-        self.sent.append(ServedJob(self, number, json.loads(workload)))
+        self.sent.append(ServedJob(self, number, self.server.seal.open(JOB, workload) or {}))
 
     def work(self) -> List[Happening]:
         if self.is_lost or not self.server.is_there:

@@ -8,11 +8,13 @@ import signal
 import socket
 import subprocess
 import sys
+import tempfile
 import threading
 import time
 from typing import Dict, List, Optional, Sequence
 
 from nagsched_monitor.gearman import LIBRARY
+from nagsched_monitor.runner_program import queue_runner_words
 
 HERE = pathlib.Path(__file__).resolve().parent.parent
 WORKER = HERE / "nagsched-gearman-worker"
@@ -48,6 +50,11 @@ class GearmanTrial:
             free.bind((address, 0))
             self.address, self.port = address, int(free.getsockname()[1])
         self._server: Optional["subprocess.Popen[bytes]"] = None
+        # What the monitor and the workers sign with.
+        self._holder = tempfile.TemporaryDirectory()
+        self.key = pathlib.Path(self._holder.name, "gearman.key")
+        self.key.touch(0o600)
+        self.key.write_text("a key for trials alone\n")
         self.workers: List["subprocess.Popen[bytes]"] = []
 
     def place(self) -> str:
@@ -84,7 +91,7 @@ class GearmanTrial:
         self._server = None
 
     def begin_worker(self, *queues: str, slots: int = 16, before: Sequence[str] = (), options: Sequence[str] = ()) -> "subprocess.Popen[bytes]":
-        words = [*before, sys.executable, str(WORKER), "--slots", str(slots), *options, self.place(), *queues]
+        words = [*before, sys.executable, str(WORKER), "--slots", str(slots), "--key", str(self.key), *options, self.place(), *queues]
         worker = subprocess.Popen(words, stdout=subprocess.DEVNULL, start_new_session=True)
         self.workers.append(worker)
         return worker
@@ -107,14 +114,15 @@ class GearmanTrial:
         self.workers.clear()
         self.kill_server()
         pathlib.Path(f"/tmp/gearmand.{self.port}").unlink(missing_ok=True)
+        self._holder.cleanup()
 
 
 class HandedJobs:
     """A runner for queues, that is handed jobs; each answer is kept by the number of its job."""
 
-    def __init__(self, place: str, wait: float) -> None:
-        words = [sys.executable, "-m", "nagsched_monitor.gearman_runner", place, str(wait)]
-        self.runner = subprocess.Popen(words, cwd=HERE, stdin=subprocess.PIPE, stdout=subprocess.PIPE, stderr=subprocess.DEVNULL, bufsize=0)
+    def __init__(self, trial: GearmanTrial, wait: float) -> None:
+        words = queue_runner_words(trial.place(), wait, ["--key", str(trial.key)])
+        self.runner = subprocess.Popen(words, stdin=subprocess.PIPE, stdout=subprocess.PIPE, stderr=subprocess.DEVNULL, bufsize=0)
         self.answers: Dict[int, List[Dict[str, object]]] = {}
         self.sent = 0
         self._reader = threading.Thread(target=self._read, daemon=True)
@@ -165,7 +173,7 @@ class HandedJobs:
         """How many jobs ended in each way; `twice` are those with more than one answer."""
         found: Dict[str, int] = {}
         for answers in list(self.answers.values()):
-            end = str(answers[0]["end"]) if len(answers) == 1 else "twice"
+            end = str(answers[0].get("end", "lost")) if len(answers) == 1 else "twice"
             found[end] = found.get(end, 0) + 1
         return found
 

@@ -1,4 +1,5 @@
 """Trials of plugins that reach behind walls: a worker in a network namespace of its own, NRPE, and check_by_ssh."""
+import contextlib
 import getpass
 import grp
 import json
@@ -7,14 +8,15 @@ import pathlib
 import pwd
 import re
 import shutil
-import socket
 import subprocess
 import sys
 import tempfile
 import time
 from typing import Any, Dict, List, Optional
 
-from .gearman_trial import GearmanTrial, search_path
+from .gearman_trial import GearmanTrial, is_open, search_path
+from .ssh_server import SshServer, free_port
+from .waiting import comes
 
 MONITOR = pathlib.Path(__file__).resolve().parent.parent / "nagsched-monitor"
 PLUGINS = pathlib.Path("/usr/lib/nagios/plugins")
@@ -22,12 +24,6 @@ SPACE, NEAR, FAR = "nagsched-wall", "10.213.90.1", "10.213.90.2"
 # A program that listens behind the wall only, and one that asks it.
 LISTEN = "import socket; it = socket.create_server(('127.0.0.1', {port})); print(flush=True)\nwhile True: it.accept()[0].close()"
 ASK = "import socket, sys\ntry:\n socket.create_connection(('127.0.0.1', {port}), 2)\nexcept OSError as error:\n print(error); sys.exit(2)\nprint('it listens')"
-
-
-def free_port() -> int:
-    with socket.socket() as free:
-        free.bind(("127.0.0.1", 0))
-        return int(free.getsockname()[1])
 
 
 def states_of(folder: pathlib.Path, program: str, count: int, seconds: float = 120) -> Dict[str, List[str]]:
@@ -92,7 +88,7 @@ def behind_the_wall(program: str) -> List[str]:
             folder = pathlib.Path(holder)
             (folder / "ask.py").write_text(ASK.format(port=port))
             line = f"{sys.executable} {folder}/ask.py"
-            write_site(folder, {"behind": line, "before": line}, queues={"server": trial.place(), "queues": {"wall": ["far;behind"]}})
+            write_site(folder, {"behind": line, "before": line}, queues={"server": trial.place(), "key": str(trial.key), "queues": {"wall": ["far;behind"]}})
             found = states_of(folder, program, 2)
     finally:
         listening.kill()
@@ -106,39 +102,24 @@ def behind_the_wall(program: str) -> List[str]:
 # ---- NRPE and SSH
 
 
-def is_listening(port: int) -> bool:
-    for _ in range(100):
-        with socket.socket() as tried:
-            if tried.connect_ex(("127.0.0.1", port)) == 0:
-                return True
-        time.sleep(0.05)
-    return False
-
-
 def remote(program: str) -> List[str]:
     """Plugins that have another machine run a plugin: NRPE's, and check_by_ssh."""
     wrong = []
-    with tempfile.TemporaryDirectory() as holder:
+    with tempfile.TemporaryDirectory() as holder, contextlib.ExitStack() as ends:
         folder = pathlib.Path(holder)
         folder.chmod(0o755)
-        daemons: List["subprocess.Popen[bytes]"] = []
         commands: Dict[str, str] = {}
-        try:
-            for name, begin, wants in (("nrpe", begin_nrpe, ["nrpe", "check_nrpe"]), ("ssh", begin_sshd, ["sshd", "ssh", "ssh-keygen", "check_by_ssh"])):
-                lacking = [each for each in wants if found_program(each) is None]
-                if lacking:
-                    print(f"packages: passed over {name}: {', '.join(lacking)} isn't here")
-                    continue
-                commands[name] = begin(folder, daemons)
-            if commands:
-                write_site(folder, commands)
-                found = states_of(folder, program, len(commands))
-                print(f"remote: {found}")
-                wrong = [f"{name}: wanted WARNING, came {found.get(f'far;{name}')}" for name in commands if found.get(f"far;{name}", [""])[0] != "WARNING"]
-        finally:
-            for daemon in daemons:
-                daemon.terminate()
-                daemon.wait(timeout=20)
+        for name, begin, wants in (("nrpe", begin_nrpe, ["nrpe", "check_nrpe"]), ("ssh", begin_sshd, ["sshd", "ssh", "ssh-keygen", "check_by_ssh"])):
+            lacking = [each for each in wants if found_program(each) is None]
+            if lacking:
+                print(f"packages: passed over {name}: {', '.join(lacking)} isn't here")
+                continue
+            commands[name] = begin(folder, ends)
+        if commands:
+            write_site(folder, commands)
+            found = states_of(folder, program, len(commands))
+            print(f"remote: {found}")
+            wrong = [f"{name}: wanted WARNING, came {found.get(f'far;{name}')}" for name in commands if found.get(f"far;{name}", [""])[0] != "WARNING"]
     return wrong
 
 
@@ -153,7 +134,7 @@ def warning_plugin(folder: pathlib.Path) -> pathlib.Path:
     return plugin
 
 
-def begin_nrpe(folder: pathlib.Path, daemons: List["subprocess.Popen[bytes]"]) -> str:
+def begin_nrpe(folder: pathlib.Path, ends: contextlib.ExitStack) -> str:
     """Starts NRPE's daemon, and returns the line that asks it."""
     # It doesn't run as root.
     port, user = free_port(), "nobody" if os.geteuid() == 0 else getpass.getuser()
@@ -162,25 +143,16 @@ def begin_nrpe(folder: pathlib.Path, daemons: List["subprocess.Popen[bytes]"]) -
         f"server_address=127.0.0.1\nserver_port={port}\nallowed_hosts=127.0.0.1\nnrpe_user={user}\nnrpe_group={group}\n"
         f"pid_file={folder}/nrpe.pid\ncommand[warns]={warning_plugin(folder)} NRPE\n"
     )
-    daemons.append(subprocess.Popen([str(found_program("nrpe")), "-c", str(folder / "nrpe.cfg"), "-f"], stdout=subprocess.DEVNULL, stderr=subprocess.DEVNULL))
-    is_listening(port)
+    daemon = subprocess.Popen([str(found_program("nrpe")), "-c", str(folder / "nrpe.cfg"), "-f"], stdout=subprocess.DEVNULL, stderr=subprocess.DEVNULL)
+    ends.callback(daemon.wait, timeout=20)
+    ends.callback(daemon.terminate)
+    comes(lambda: is_open("127.0.0.1", port), 10)
     return f"{found_program('check_nrpe')} -t 50 -H 127.0.0.1 -p {port} -c warns"
 
 
-def begin_sshd(folder: pathlib.Path, daemons: List["subprocess.Popen[bytes]"]) -> str:
-    """Starts a server of SSH with keys of its own, and returns the line that asks it."""
-    port, user = free_port(), getpass.getuser()
-    for name in ("host_key", "user_key"):
-        subprocess.run(["ssh-keygen", "-q", "-t", "ed25519", "-N", "", "-f", str(folder / name)], check=True)
-    shutil.copy(folder / "user_key.pub", folder / "authorized")
-    (folder / "known").write_text(f"[127.0.0.1]:{port} {(folder / 'host_key.pub').read_text()}")
-    (folder / "sshd.cfg").write_text(
-        f"Port {port}\nListenAddress 127.0.0.1\nHostKey {folder}/host_key\nAuthorizedKeysFile {folder}/authorized\nStrictModes no\n"
-        f"PidFile {folder}/sshd.pid\nUsePAM no\nPermitRootLogin prohibit-password\n"
-    )
-    if os.geteuid() == 0:
-        pathlib.Path("/run/sshd").mkdir(exist_ok=True)
-    daemons.append(subprocess.Popen([str(found_program("sshd")), "-D", "-f", str(folder / "sshd.cfg")], stdout=subprocess.DEVNULL, stderr=subprocess.DEVNULL))
-    is_listening(port)
-    return (f"{found_program('check_by_ssh')} -t 50 -H 127.0.0.1 -p {port} -l {user} -i {folder}/user_key -o UserKnownHostsFile={folder}/known "
-            f"-C '{warning_plugin(folder)} SSH'")
+def begin_sshd(folder: pathlib.Path, ends: contextlib.ExitStack) -> str:
+    """Starts a server of SSH, and returns the line that asks it."""
+    server = SshServer()
+    ends.callback(server.close)
+    options = " ".join(server.options())
+    return f"{found_program('check_by_ssh')} -t 50 -H 127.0.0.1 {options} -C '{warning_plugin(folder)} SSH'"

@@ -59,7 +59,7 @@ def usage(*processes: int) -> Tuple[float, float]:
     return ticks / os.sysconf("SC_CLK_TCK"), pages * os.sysconf("SC_PAGE_SIZE") / 1e6
 
 
-def write_site(folder: pathlib.Path, place: str) -> None:
+def write_site(folder: pathlib.Path, trial: GearmanTrial) -> None:
     """A site of that many checks a second, in two parts, whose checks all go to one queue."""
     commands: Dict[str, Any] = {}
     count = RATE * INTERVAL // 2
@@ -71,7 +71,7 @@ def write_site(folder: pathlib.Path, place: str) -> None:
         commands.update({f"h{part}": {"line": "/bin/true"}, **{f"h{part};{it['description']}": {"line": "/bin/true"} for it in services}})
     (folder / "commands.json").write_text(json.dumps(commands))
     (folder / "monitor.json").write_text(json.dumps({"slots": 500}))
-    (folder / "queues.json").write_text(json.dumps({"server": place, "queues": {"checks": ["*"]}}))
+    (folder / "queues.json").write_text(json.dumps({"server": trial.place(), "key": str(trial.key), "queues": {"checks": ["*"]}}))
 
 
 class RunningSite:
@@ -79,7 +79,7 @@ class RunningSite:
 
     def __init__(self, folder: pathlib.Path, program: str, trial: GearmanTrial) -> None:
         self.folder, self.trial, self.log = folder, trial, folder / "log"
-        write_site(folder, trial.place())
+        write_site(folder, trial)
         trial.begin_server()
         for _ in range(WORKERS):
             trial.begin_worker("checks", slots=SLOTS)
@@ -152,7 +152,7 @@ def kills_of_jobs() -> List[str]:
     trial.begin_server()
     for _ in range(WORKERS):
         trial.begin_worker("checks", slots=SLOTS)
-    jobs = HandedJobs(trial.place(), 60)
+    jobs = HandedJobs(trial, 60)
     try:
         killing = threading.Thread(target=mishaps, args=(trial, "checks", KILLING))
         killing.start()

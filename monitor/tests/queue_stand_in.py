@@ -6,4 +6,4 @@ for line in sys.stdin:
     job = json.loads(line)
     if job["words"] == ["end"]:
         sys.exit(3)
-    print(json.dumps({"job": job["job"], "code": 0, "end": "lost", "output": f"no worker took it from the queue {job['queue']}"}), flush=True)
+    print(json.dumps({"job": job["job"], "lost": f"no worker took it from the queue {job['queue']}"}), flush=True)

@@ -190,7 +190,7 @@ class Faults(SiteTest):
 
     def test_a_queue_that_nobody_serves(self) -> None:
         """What became of its jobs is said, and each has its queue."""
-        self.write_site([host("web")], [], queues={"server": "10.0.0.1:4730", "queues": {"dmz": ["web"]}})
+        self.write_site([host("web")], [], queues={"server": "10.0.0.1:4730", "unsigned": True, "queues": {"dmz": ["web"]}})
         with mock.patch.object(gearman, "Library"):
             monitor = self.monitor(fine)
         events = monitor.runners.events

@@ -1,10 +1,12 @@
 """A queue of a Gearman server: each job is answered once, or given up within its limit, whatever server and workers do."""
+import json
 import random
 import unittest
 from typing import Any, Dict, List
 
 from nagsched_monitor.gearman import Happening, Kind
 from nagsched_monitor.gearman_queue import GRACE, MOST_WAITING, RETRY, SILENCE, Queue
+from nagsched_monitor.gearman_seal import JOB, RESULT, Seal
 
 from .gearman_server import ServedJob, StandInServer
 
@@ -18,7 +20,7 @@ class OneQueue(unittest.TestCase):
         self.lines: List[str] = []
         self.now = 1000.0
         self.last = 0
-        self.queue = Queue("dmz", "mark", WAIT, self.server.connect, self.answers.append, self.lines.append)
+        self.queue = Queue("dmz", "mark", WAIT, self.server.connect, self.answers.append, self.lines.append, self.server.seal)
 
     def add(self, count: int = 1) -> None:
         for _ in range(count):
@@ -37,7 +39,7 @@ class OneQueue(unittest.TestCase):
         return job
 
     def ends(self) -> List[Any]:
-        return [(it["job"], it["end"], it["output"]) for it in self.answers]
+        return [(it["job"], it.get("end", "lost"), it.get("lost", it.get("output"))) for it in self.answers]
 
     def test_jobs_in_their_order(self) -> None:
         self.add(5)
@@ -82,7 +84,7 @@ class OneQueue(unittest.TestCase):
         for _ in range(int(WAIT) + 2):
             self.pass_by(1)
         self.assertEqual({end for _, end, _ in self.ends()}, {"lost"})
-        self.assertIn("the server of the queue dmz wasn't reached", self.answers[0]["output"])
+        self.assertIn("the server of the queue dmz wasn't reached", self.answers[0]["lost"])
         self.add(2)
         self.assertEqual(self.ends()[2:], [(4, "exited", "the server of the queue dmz isn't reached")])
         self.server.is_there = True
@@ -177,21 +179,50 @@ class OneQueue(unittest.TestCase):
         self.assertEqual(len(self.server.waiting), MOST_WAITING)
 
     def test_an_answer_that_is_no_result(self) -> None:
-        several: List[Dict[str, Any]] = [{"job": "another"}, {"code": "0"}, {"code": True}, {"code": 256}, {"end": "fine"}, {"output": None}]
+        several: List[Dict[str, Any]] = [{"job": "another"}, {"code": "0"}, {"code": True}, {"code": 256}, {"end": "fine"}, {"output": None}, {"stderr": 1}, {"lost": 1, "end": 1}]
         for wrong in several:
             self.add()
             self.pass_by()
             self.server.answer(self.take(), **wrong)
             self.pass_by()
-        job_data = (b"", b"[]", b"fine", b"\xff")
-        for data in job_data:
+        self.assertEqual({(end, output) for _, end, output in self.ends()}, {("lost", "its worker's answer was no result")})
+        self.assertEqual(len(self.answers), len(several))
+
+    def answer_with(self, data: bytes) -> None:
+        job = self.take()
+        job.client.come.append(Happening(Kind.COMPLETE, job.number, data))
+        self.pass_by()
+
+    def test_answers_that_are_not_signed(self) -> None:
+        """Neither are damaged ones, those of another key, and those of jobs before taken."""
+        result = {"job": "mark-1", "code": 0, "end": "exited", "output": "forged"}
+        good = self.server.seal.sign(RESULT, result)
+        bad = [b"", b"[]", b"\xff", b"[" * 100_000, json.dumps(result).encode(), Seal(b"another key of the network").sign(RESULT, result), self.server.seal.sign(JOB, result),
+               good[:-1], good.replace(b"forged", b"folded")]
+        for data in bad:
             self.add()
             self.pass_by()
-            job = self.take()
-            job.client.come.append(Happening(Kind.COMPLETE, job.number, data))
-            self.pass_by()
-        self.assertEqual({(end, output) for _, end, output in self.ends()}, {("lost", "its worker's answer was no result")})
-        self.assertEqual(len(self.answers), 6 + len(job_data))
+            self.answer_with(data)
+        self.assertEqual({(end, words) for _, end, words in self.ends()}, {("lost", "its worker's answer isn't signed with this site's key")})
+        self.add()
+        self.pass_by()
+        self.answer_with(good)
+        self.assertEqual(self.ends()[-1], (len(bad) + 1, "lost", "its worker's answer was no result"))
+
+    def test_a_site_without_signatures(self) -> None:
+        self.server.seal = Seal(None)
+        self.queue = Queue("dmz", "mark", WAIT, self.server.connect, self.answers.append, self.lines.append, self.server.seal)
+        self.add(2)
+        self.pass_by()
+        self.answer_with(b'{"job":"mark-1","code":1,"end":"exited","output":"fine","stderr":"words"}')
+        self.answer_with(b"[" * 100_000)
+        self.assertEqual(self.answers, [{"job": 1, "code": 1, "end": "exited", "output": "fine", "stderr": "words"}, {"job": 2, "lost": "its worker's answer was no result"}])
+
+    def test_a_result_that_a_worker_lost(self) -> None:
+        self.add()
+        self.pass_by()
+        self.answer_with(self.server.seal.sign(RESULT, {"job": "mark-1", "lost": "no room"}))
+        self.assertEqual(self.ends(), [(1, "lost", "no room")])
 
     def test_a_job_that_the_server_gives_up(self) -> None:
         self.add()
@@ -246,4 +277,4 @@ class OneQueue(unittest.TestCase):
         self.assertGreater(len(begun), 10_000)
         self.assertEqual({number: len(times) for number, times in ended.items()}, {number: 1 for number in begun})
         self.assertLessEqual(max(ended[number][0] - begun[number] for number in begun), WAIT + LIMIT + GRACE + 2)
-        self.assertGreater(sum(answer["end"] == "exited" and answer["code"] == 0 for answer in self.answers), 1000)
+        self.assertGreater(sum(answer.get("code") == 0 for answer in self.answers), 1000)

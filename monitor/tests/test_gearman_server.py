@@ -16,7 +16,7 @@ class OverAServer(unittest.TestCase):
         self.trial.begin_server()
 
     def jobs(self, wait: float) -> HandedJobs:
-        jobs = HandedJobs(self.trial.place(), wait)
+        jobs = HandedJobs(self.trial, wait)
         self.addCleanup(jobs.close)
         return jobs
 
@@ -45,7 +45,7 @@ class OverAServer(unittest.TestCase):
         jobs.hand(20, "nobody", ["true"])
         jobs.hand(20, "checks", ["true"])
         self.assertTrue(jobs.wait(LONG), jobs.ends())
-        self.assertEqual([answers[0]["end"] for number, answers in sorted(jobs.answers.items()) if number > before], ["lost"] * 20 + ["exited"] * 20)
+        self.assertEqual([answers[0].get("end", "lost") for number, answers in sorted(jobs.answers.items()) if number > before], ["lost"] * 20 + ["exited"] * 20)
         before = jobs.sent
         jobs.hand(3, "nobody", ["true"])
         comes(lambda: len(jobs.answers) >= before + 2)
@@ -68,16 +68,16 @@ class OverAServer(unittest.TestCase):
         is_answered = jobs.wait(LONG)
         self.trial.continue_server()
         self.assertTrue(is_answered, jobs.ends())
-        self.assertEqual({answers[0]["end"] for number, answers in jobs.answers.items() if number > before}, {"lost"})
+        self.assertEqual({answers[0].get("end", "lost") for number, answers in jobs.answers.items() if number > before}, {"lost"})
         self.assertTrue(jobs.wait_until_one_is_made("dmz", LONG))
 
-    def test_a_result_of_another_program(self) -> None:
-        """What isn't a worker of ours answers what is no result: the job is given up."""
+    def test_a_job_that_is_refused(self) -> None:
+        """A job that no worker takes is lost, and its worker goes on."""
         jobs = self.jobs(60)
         worker = self.trial.begin_worker("other")
         jobs.hand(1, "other", [])
         self.assertTrue(jobs.wait(LONG))
-        self.assertEqual(jobs.ends(), {"failed": 1})
+        self.assertEqual(jobs.ends(), {"lost": 1})
         self.assertIsNone(worker.poll())
 
 
@@ -105,7 +105,7 @@ class ASite(ProcessTest):
         self.write_site(self.objects(1), [{"host": "h00", "description": "far", "check_interval": 1, "max_check_attempts": 1}])
         line = f"{sys.executable} -c \"import os; print('queue' if os.getppid() != {os.getpid()} else 'none')\""
         self.write("commands.json", {"h00": {"line": "echo here"}, "h00;far": {"line": line}})
-        self.write("queues.json", {"server": self.trial.place(), "wait": 2, "queues": {"far": ["h00;far"]}})
+        self.write("queues.json", {"server": self.trial.place(), "key": str(self.trial.key), "wait": 2, "queues": {"far": ["h00;far"]}})
         running = self.begin()
         self.await_words("h00;far", "UNKNOWN no worker took it from the queue far 3 times")
         self.assertEqual(self.words_of("h00"), "UP here")

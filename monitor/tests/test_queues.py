@@ -1,12 +1,14 @@
 """Queues of a site: which object goes to which, each way in which the file can be wrong, and the runner that has their jobs."""
 import json
+import pathlib
 import select
 import unittest
 from typing import Any, Dict, List, Tuple
 from unittest import mock
 
-from nagsched_monitor import gearman, runners
+from nagsched_monitor import gearman, runner_program
 from nagsched_monitor.faults import MonitorFault, SiteFault
+from nagsched_monitor.gearman_seal import read_key
 from nagsched_monitor.queues import Queues, read_queues
 from nagsched_monitor.runners import Finished, Job, Lost, RunnerProcesses
 from nagsched_monitor.site import read_site
@@ -25,7 +27,7 @@ class Reading(SiteTest):
         self.addCleanup(self.library.stop)
 
     def read(self, **members: Any) -> Queues:
-        self.write("queues.json", {"server": SERVER, **members})
+        self.write("queues.json", {"server": SERVER, "unsigned": True, **members})
         found = read_queues(self.folder, NAMES)
         assert found is not None
         return found
@@ -58,6 +60,23 @@ class Reading(SiteTest):
             self.assertIn("queues.json", str(caught.exception))
             self.assertIn(word, str(caught.exception))
 
+    def test_signatures(self) -> None:
+        """A file of a key that is its owner's alone, or the word that messages are unsigned."""
+        key = self.folder / "gearman.key"
+        for text, mode in (("sixteen bytes or more\n", 0o600), ("sixteen bytes or more\n", 0o640), ("sixteen bytes or more\n", 0o604), ("  too short \n", 0o600)):
+            key.write_text(text)
+            key.chmod(mode)
+            if (text[0], mode) == ("s", 0o600):
+                self.assertEqual(self.read(unsigned=False, key="gearman.key").options, ["--key", str(key.resolve())])
+                self.assertEqual(read_key(key), b"sixteen bytes or more")
+            else:
+                self.assertRaises(SiteFault, self.read, unsigned=False, key="gearman.key")
+        key.unlink()
+        several: List[Dict[str, Any]] = [{"unsigned": False}, {"unsigned": False, "key": "gearman.key"}, {"key": "gearman.key"}, {"unsigned": 1}, {"unsigned": False, "key": 1}]
+        for members in several:
+            self.assertRaises(SiteFault, self.read, **members)
+        self.assertEqual(self.read().options, ["--unsigned"])
+
     def test_no_library(self) -> None:
         with mock.patch.object(gearman, "Library", side_effect=MonitorFault("there is no library")):
             with self.assertRaises(SiteFault) as caught:
@@ -70,7 +89,7 @@ class Reading(SiteTest):
         self.write("commands.json", {"web": {"line": "true"}, "dmz-1": {"line": "/only/there -H dmz-1"}})
         with self.assertRaises(SiteFault):
             read_site(self.folder, PROGRAM)
-        self.write("queues.json", {"server": SERVER, "queues": {"dmz": ["dmz-*"]}})
+        self.write("queues.json", {"server": SERVER, "unsigned": True, "queues": {"dmz": ["dmz-*"]}})
         site = read_site(self.folder, PROGRAM)
         self.assertEqual({name: watched.queue for name, watched in site.objects.items()}, {"web": None, "dmz-1": "dmz"})
 
@@ -83,7 +102,7 @@ class Handing(unittest.TestCase):
         self.files: List[int] = []
         self.runners = RunnerProcesses(1, self.lines.append, self.files.append, self.files.remove)
         self.addCleanup(self.runners.close)
-        stand_in = mock.patch.object(runners, "QUEUE_MODULE", "tests.queue_stand_in")
+        stand_in = mock.patch.object(runner_program, "QUEUE_RUNNER", pathlib.Path(__file__).with_name("queue_stand_in.py"))
         stand_in.start()
         self.addCleanup(stand_in.stop)
 

@@ -1,34 +1,25 @@
 -- A run that is cut behind some of its lines, saved there, and gone on from over the same setup.
-use Rattle.std.proofs.Common.{◌≡◌, ℕ, ◌+◌, ◌*◌, ◌<◌, ◌≤◌, ◌^◌, Bool, true, false, cond, List, [], ◌∷◌, ◌++◌, length, map, Option, Some, None, Result, Ok, Err}
-use Rattle.std.proofs.Common.{zero, suc, refl, sym, subst, ap, ◌∙◌, arith, append_assoc, append-nil, length-append, mul-le-mul}
-use Rattle.std.proofs.lemmas.List.{length-map}
-use Rattle.std.specs.List.{enumerate_from}
+use Rattle.std.proofs.Common.{◌≡◌, ℕ, ◌+◌, ◌≤◌, ◌^◌, Bool, true, false, cond, List, [], ◌∷◌, ◌++◌, length, Option, Some, None, Result, Ok, Err}
+use Rattle.std.proofs.Common.{refl, sym, subst, ap, ◌∙◌, arith, append_assoc, append-nil}
 use Rattle.std.proofs.lemmas.Str.{is_utf8-from_IsUtf8}
 use Rattle.json.proofs.Printed.Utf8.{IsUtf8-are_ascii}
 use Rattle.json.specs.Print.{escape_byte}
-use Rattle.std.specs.Prelude.{codes, nat_lt, ok_or, slice_get}
+use Rattle.std.specs.Prelude.{codes, nat_lt, ok_or}
 use Rattle.std.proofs.lemmas.Bool.Decides.{nat_tests}
 use Rattle.serde_json.specs.Data.{Data, Items, array, item, no_items, string}
 use Rattle.serde_json.specs.Read.{read}
 use Rattle.serde_json.specs.Written.{compact_text}
-use Rattle.check_objects.specs.Configuration.{Configuration, IsSetup, Named, named_host, named_service, object_count, objects_of}
+use Rattle.check_objects.specs.Configuration.{Configuration, objects_of}
 use Rattle.check_objects.specs.Setup.{setup_of}
 use Rattle.check_objects.specs.Tree.{tree_of}
-use Rattle.check_spread.specs.Spread.{first_times, host_objects, host_spread, initial_times, service_objects, service_spread}
-use Rattle.check_spread.proofs.BoundLemmas.{first_times_below}
-use Rattle.check_spread.proofs.TimesLemmas.{length-first_times}
 use Rattle.check_drafts.specs.Agreement.{◌>>=◌}
-use Rattle.check_saved.specs.Saved.{Saved, SavedObject}
+use Rattle.check_saved.specs.Saved.{Saved}
 use Rattle.check_saved.specs.Text.{saved_of_text, saved_text}
-use Rattle.check_saved.specs.Written.{IsWritable, IsWritableObject}
 use Rattle.check_saved.proofs.InverseLemmas.{inverse}
 use Rattle.check_saved.proofs.PlainLemmas.{read_compact}
-use Rattle.check_sched.specs.Report.{milliseconds}
-use Rattle.check_sched.specs.Saved.{resumed, saved_object, saved_of}
+use Rattle.check_sched.specs.Saved.{resumed, saved_of}
 use Rattle.check_sched.specs.State.{IsState, State, opening}
-use Rattle.check_sched.proofs.KeepingLaws.{saved_of_state}
-use Rattle.check_sched.proofs.OpeningLaws.{opening_is_state}
-use Rattle.check_sched.proofs.ReportLaws.{check_in_range, object_in_range}
+use Rattle.check_sched.proofs.PublicLaws.{opening_can_be, saved_is_writable, saved_of_state}
 use Rattle.check_sched.proofs.SavedLaws.{resumed_same}
 use Rattle.check_sched.proofs.StateLaws.{step_is_state}
 use Rattle.check_script.specs.declared.command.RunCommand.{RunCommand}
@@ -158,46 +149,6 @@ through_keeps s (c ∷ a) = through_keeps (state_by s c) a ∙ command_keeps s c
 goes_on_there : (c : Configuration) (t : State) → IsState t → t.setup ≡ c → resumed_from c (saved_of t) None ≡ t
 goes_on_there c t is same = ap (λ d. resumed d (saved_of t) t.start) (sym same) ∙ resumed_same t t.start is
 
-interval_fits : (c : Configuration) (interval : ℕ) → c.options.interval_length ≤ 86400 → interval ≤ 525600 → milliseconds c interval < 2 ^ 64
-interval_fits c interval length few =
-    let units : interval * c.options.interval_length ≤ 525600 * 86400 = mul-le-mul few length in
-    omega (arith, units)
-
-writable_from : (s : State) (k : ℕ) (os : List Named) → s.setup.options.interval_length ≤ 86400
-    → ((n : ℕ) (o : Named) → slice_get os n ≡ Some o → o.object.check_interval ≤ 525600) → AreTexts os
-    → (place : ℕ) (o : SavedObject) → slice_get (map (saved_object s) (enumerate_from k os)) place ≡ Some o → IsWritableObject o
-writable_from s k [] length few names place o e = cc
-writable_from s k (x ∷ os) length few names zero o e =
-    let is : saved_object s (k, x) ≡ o = cc in
-    subst IsWritableObject is (record { name = names 0; interval = interval_fits s.setup x.object.check_interval length (few 0 x refl) })
-writable_from s k (x ∷ os) length few names (suc place) o e =
-    writable_from s (k + 1) os length (λ n y f. few (suc n) y f) (λ n. names (suc n)) place o e
-
--- what is saved over a setup whose names are UTF-8 can be written
-writable : (s : State) → IsSetup s.setup → AreTexts (objects_of s.setup) → IsWritable (saved_of s)
-writable s valid names = record {
-  each = writable_from s 0 (objects_of s.setup) valid.interval_length (λ n o e. check_in_range o.object (object_in_range s.setup n o valid e)) names;
-}
-
--- ---- a setup that was read
-
--- over a setup that was read a scheduler opens in a state that one can be in
-first_counted : (c : Configuration) (start : ℕ) → length (initial_times c start) ≡ object_count c
-unfolding initial_times
-first_counted c start =
-    let both = length-append (first_times (host_spread c start) (host_objects c)) (first_times (service_spread c start) (service_objects c)) in
-    let hosts = length-first_times (host_spread c start) (host_objects c) in
-    let services = length-first_times (service_spread c start) (service_objects c) in
-    let objects = length-append (map named_host c.hosts) (map named_service c.services) in
-    let named_hosts = length-map c.hosts named_host in
-    let named_services = length-map c.services named_service in
-    let host_bodies = length-map c.hosts (λ h. h.object) in
-    let service_bodies = length-map c.services (λ s. s.object) in
-    omega (arith, both, hosts, services, objects, named_hosts, named_services, host_bodies, service_bodies)
-
-opened_is : (c : Configuration) (start : ℕ) → IsSetup c → start ≤ 2 ^ 60 → IsState (opening c start)
-opened_is c start valid moment = opening_is_state c start valid moment (first_counted c start) (first_times_below c start valid moment)
-
 -- ---- the line that saves
 
 abbrev save_text : List ℕ
@@ -266,10 +217,10 @@ cut_lines start document first later script moment e =
     let read = setup_by document c (setup_is (setup_of document) c p.2) in
     let opened = opening c start in
     let s = through opened a in
-    let there = through_is opened a (opened_is c start read.setup moment) in
+    let there = through_is opened a (opening_can_be c start read.setup moment) in
     let keeps = through_keeps opened a in
     let texts : AreTexts (objects_of s.setup) = subst (λ d. AreTexts (objects_of d)) (sym keeps) read.texts in
-    let text_is = inverse (saved_of s) (saved_of_state s there) (writable s there.valid_setup texts) in
+    let text_is = inverse (saved_of s) (saved_of_state s there) (saved_is_writable s there.valid_setup texts) in
     let with_save = over_back document c (first ++ save_text ∷ []) (a ++ command.Save ∷ []) p.2
     (join (command_by c) first (save_text ∷ []) a (command.Save ∷ []) q.2 (save_line c) 2) in
     let all = over_back document c (first ++ later) (a ++ b) p.2 (join (command_by c) first later a b q.2 q.3 2) in

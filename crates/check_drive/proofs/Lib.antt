@@ -1,7 +1,6 @@
 pub mod DriveLemmas
 pub mod FeedLemmas
 pub mod NameTextLemmas
-pub mod Utf8Lemmas
 pub mod LiveLemmas
 pub mod LiveLinesLemmas
 pub mod WentOnLemmas

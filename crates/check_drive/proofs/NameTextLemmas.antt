@@ -31,7 +31,7 @@ use Rattle.check_numbers.proofs.NameLemmas.{all_moved}
 use Rattle.check_objects.specs.Setup.{setup_of, setup_of_drafts, setup_of_tree, without_cycles, without_parent_cycle}
 use Rattle.check_objects.proofs.OrderLemmas.{hosts_all, services_all}
 use Rattle.check_objects.proofs.SetupLemmas.{configuration_is_setup}
-use Rattle.check_drive.proofs.Utf8Lemmas.{GoodIf, GoodItems, GoodTree, array_good, get_good, good_then, on_test, one_ascii, read_good, str_good}
+use Rattle.check_saved.proofs.Utf8Lemmas.{GoodIf, GoodItems, GoodTree, array_good, get_good, good_then, on_test, one_ascii, read_good, str_good}
 
 -- ---- drafts
 

@@ -1,7 +1,8 @@
 //! The dependencies of each object by number, and an order of the objects that they agree with.
 ghost use Rattle.std.specs.Prelude.{◌≡◌, ◌≤◌, ◌+◌, ◌++◌, ℕ, List, length, map, nat_lt, true, false, if◌then◌else◌, Some, None, IfOk, OnOk, IsOkUnless, MatchOption};
 ghost use Rattle.std.specs.List.{list_all};
-ghost use Rattle.link_order.specs.Cycles.{are_within, has_cycle};
+ghost use Rattle.link_order.specs.Cycles.{are_within};
+ghost use Rattle.link_order.specs.Ordering.{IsAnswer};
 ghost use Rattle.link_order.specs.Orders.{IsOrder};
 ghost use Rattle.check_numbers.specs.Configuration.{masters_in};
 ghost use Rattle.check_drafts.specs.Drafted.{dependency, drafts_view};
@@ -13,7 +14,7 @@ ghost use Rattle.check_numbers.specs.Numbering.{number_in, numbered_behind, list
 use crate::numbering::{Host, Service};
 use check_drafts::{Dependency, DependencyDraft, Drafts, LoadError, Part, Place};
 use indexmap::IndexMap;
-use link_order::{empty_lists, order_by_links, push_at};
+use link_order::{OrderOrCycle, empty_lists, order_by_links, push_at};
 use smallvec::SmallVec;
 use std::alloc::{AllocError, Global};
 
@@ -135,19 +136,18 @@ fn list_by_dependent(
 
 // ---- the order
 
-/// The numbers of the objects in an order in which each stands behind all that it depends on. None
-/// where some object depends on itself through one dependency or more. `Memory` where it can't be made.
+/// The numbers of the objects in an order in which each comes after all that it depends on; or the
+/// objects of a cycle, each of which depends on the next one, and the last on the first. The only
+/// error is `Memory`.
 pub fn order_by_masters(
     alloc: Global,
     dependencies: &[Dependencies],
-) -> Result<Option<Vec<u32>>, LoadError>
+) -> Result<OrderOrCycle, LoadError>
     requires few { length dependencies.now ≤ 4096 }
     requires within { are_within (length dependencies.now)
         (map masters_in (map (λ list. list.items) dependencies.now)) ≡ true }
-    ensures order { IfOk result (λ answer. MatchOption answer
-        (has_cycle (map masters_in (map (λ list. list.items) dependencies.now)) ≡ true)
-        (λ order. IsOrder (map masters_in (map (λ list. list.items) dependencies.now))
-        order.items)) }
+    ensures order { IfOk result
+        (IsAnswer (map masters_in (map (λ list. list.items) dependencies.now))) }
     ensures memory { IsOkUnless result LoadError.Memory }
 {
     let links = master_links(alloc, dependencies)?;

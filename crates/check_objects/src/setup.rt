@@ -22,7 +22,7 @@ use check_numbers::{
     object_number, order_by_masters,
 };
 use indexmap::IndexMap;
-use link_order::order_by_links;
+use link_order::{OrderOrCycle, order_by_links};
 use serde_json::Value;
 use smallvec::SmallVec;
 use std::alloc::{AllocError, Global};
@@ -144,7 +144,7 @@ impl Setup {
             (without_cycles (configuration (drafts_view drafts.now))) }
     {
         match order_by_masters(alloc, &dependencies)? {
-            Some(order) => {
+            OrderOrCycle::Order(order) => {
                 verify_no_parent_cycle(alloc, &hosts)?;
                 Ok(Setup {
                     options: drafts.options,
@@ -154,7 +154,7 @@ impl Setup {
                     order,
                 })
             }
-            None => Err(LoadError::DependencyCycle),
+            OrderOrCycle::Cycle(_) => Err(LoadError::DependencyCycle),
         }
     }
 
@@ -309,8 +309,8 @@ fn verify_no_parent_cycle(alloc: Global, hosts: &IndexMap<String, Host>) -> Resu
 {
     let links = parent_links(alloc, hosts)?;
     match order_by_links(alloc, &links)? {
-        Some(_) => Ok(()),
-        None => Err(LoadError::ParentCycle),
+        OrderOrCycle::Order(_) => Ok(()),
+        OrderOrCycle::Cycle(_) => Err(LoadError::ParentCycle),
     }
 }
 

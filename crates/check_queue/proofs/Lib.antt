@@ -1,6 +1,6 @@
 pub mod LeastLaws
 pub mod TimesLaws
 pub mod EntryLaws
-pub mod TournamentLaws
-pub mod LeafLaws
-pub mod FirstLaws
+pub mod PositionLaws
+pub mod HeapLaws
+pub mod QueueLaws

@@ -1,5 +1,6 @@
 pub mod Order
 pub mod Times
 pub mod Entries
-pub mod Tournament
+pub mod Positions
+pub mod Heap
 pub mod Kept

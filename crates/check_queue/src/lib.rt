@@ -1,17 +1,17 @@
-//! A queue of numbers by time: what is put in at any time comes out by time, and of equal times by
-//! number.
+//! A queue of numbers by time: the number with the least time comes out first, and of equal times
+//! the least number.
 //!
-//! A [`Queue`] is a tournament: each number has a leaf with its entry, and above each two nodes
-//! stands the one of their entries that comes first, up to the first of all. Only [`Queue::new`]
-//! takes memory; a call that writes takes at most the logarithm of how many numbers there are, and
-//! the others a fixed time.
+//! A [`Queue`] is a binary heap of entries, each a time and its number, with the position of each
+//! number, so that any number can be moved or removed. Only [`Queue::new`] allocates memory. A call
+//! that writes takes time logarithmic in how many numbers have a time; the other calls take constant
+//! time.
 //!
-//! The modules: `entry` has an entry and the order of entries, `tournament` puts an entry at a
-//! leaf, `queue` is the queue.
+//! The modules: `entry` has an entry and the order of entries, `sift` moves an entry up and down the
+//! heap, `queue` is the queue.
 #![tactic(auto)]
 
 mod entry;
 mod queue;
-mod tournament;
+mod sift;
 
 pub use queue::Queue;

@@ -2,10 +2,11 @@
 
 ghost use Rattle.std.specs.Prelude.{◌≡◌, ◌<◌, ℕ, IfOk, IfSome, MatchOption, Some, None, is_some, replicate, length, slice_set, slice_index_or};
 ghost use Rattle.check_queue.specs.Order.{least};
+ghost use Rattle.check_queue.specs.Positions.{position_of};
 ghost use Rattle.check_queue.specs.Times.{pairs_of};
 
-use crate::entry::{Entry, time_of};
-use crate::tournament::put_leaf;
+use crate::entry::Entry;
+use crate::sift::{sift_down, sift_up};
 use std::alloc::{AllocError, Global};
 use std::marker::Model;
 
@@ -13,9 +14,17 @@ use std::marker::Model;
 /// list of these times, by number. (Our own profile.)
 #[derive(Drop)]
 pub struct Queue {
-    /// The tournament of the entries. That of number k is at place k of the second half.
-    nodes: Vec<Entry>,
+    /// The heap: the entries of the numbers that have a time are the first `len`.
+    entries: Vec<Entry>,
+    /// The position in the heap of each number, by number; ABSENT where it has no time.
+    positions: Vec<u32>,
+    /// How many numbers have a time.
+    len: usize,
 }
+
+/// The position of a number without a time. No heap reaches so far, since there are at most
+/// `u32::MAX` numbers.
+const ABSENT: u32 = u32::MAX;
 
 impl Model for Queue {
     ghost use Rattle.std.specs.Prelude.{ℕ, List, Option};
@@ -36,16 +45,21 @@ impl Queue {
     pub fn new(alloc: Global, n: u32) -> Result<Queue, AllocError>
         ensures { IfOk result (λ queue. queue ≡ replicate n None) }
     {
-        let nodes = vec![in alloc; Entry::BLANK; 2 * n as usize]?;
-        Ok(Queue { nodes })
+        let entries = vec![in alloc; Entry { time: 0, number: 0 }; n as usize]?;
+        let positions = vec![in alloc; ABSENT; n as usize]?;
+        Ok(Queue {
+            entries,
+            positions,
+            len: 0,
+        })
     }
 
     /// The time of a number; None where it has none, or isn't below the bound.
     pub fn time_of(&self, number: u32) -> Option<u64>
         ensures { result ≡ slice_index_or self.now number None }
     {
-        let leaf = self.nodes.len() / 2 + number as usize;
-        time_of(*self.nodes.get(leaf)?)
+        let position = position_of(&self.positions, number)?;
+        Some(self.entries[position].time)
     }
 
     /// The least time with its number, and of equal times the one with the least number. None where
@@ -57,9 +71,11 @@ impl Queue {
             (λ first. slice_index_or self.now first.1 None ≡ Some first.0) }
         ensures within { IfSome result (λ first. first.1 < length self.now) }
     {
-        let first = *self.nodes.get(1)?;
-        let time = time_of(first)?;
-        Some((time, first.number as u32))
+        if self.len == 0 {
+            return None;
+        }
+        let first = self.entries[0];
+        Some((first.time, first.number as u32))
     }
 
     /// Gives a number this time, in place of one that it may have. All others stay as they are.
@@ -71,7 +87,10 @@ impl Queue {
             time,
             number: number as u64,
         };
-        put_leaf(&mut self.nodes, number, entry);
+        self.remove(number);
+        let end = self.len;
+        self.len += 1;
+        sift_up(&mut self.entries, &mut self.positions, self.len, end, entry);
     }
 
     /// Takes the time of a number away, and returns whether it had one. All others stay as they are;
@@ -80,10 +99,28 @@ impl Queue {
         ensures had { result ≡ is_some (slice_index_or self.old number None) }
         ensures after { self.new ≡ slice_set self.old number None }
     {
-        let had = self.time_of(number).is_some();
-        if had {
-            put_leaf(&mut self.nodes, number, Entry::BLANK);
+        let Some(hole) = position_of(&self.positions, number) else {
+            return false;
+        };
+        self.positions[number as usize] = ABSENT;
+        self.len -= 1;
+        if hole < self.len {
+            let last = self.entries[self.len];
+            self.positions[last.number as usize] = ABSENT;
+            sift_down(&mut self.entries, &mut self.positions, self.len, hole, last);
         }
-        had
+        true
+    }
+}
+
+/// The position of a number; None where it isn't in the heap, or isn't below the bound.
+fn position_of(positions: &[u32], number: u32) -> Option<usize>
+    ensures { result ≡ position_of positions.now number }
+{
+    let position = *positions.get(number as usize)?;
+    if position == ABSENT {
+        None
+    } else {
+        Some(position as usize)
     }
 }

@@ -1,30 +1,66 @@
--- The changes among results, with one more of them.
-use Rattle.std.proofs.Common.{◌≡◌, ◌≢◌, ℕ, ◌+◌, ◌-◌, ◌*◌, ◌≤◌, ◌/◌, ◌==◌, suc, Bool, true, false, cond, List, [], ◌∷◌, ◌++◌, length, replicate}
-use Rattle.std.proofs.Common.{refl, sym, ap, ◌∙◌, arith, length-append}
-use Rattle.std.proofs.lemmas.Bool.{eqb-true, eqb-false, not-false}
+-- The changes among 21 results, with one more of them.
+use Rattle.std.proofs.Common.{◌≡◌, ℕ, ◌+◌, ◌-◌, ◌*◌, ◌≤◌, ◌==◌, zero, suc, Bool, true, false, cond, List, [], ◌∷◌, ◌++◌, length, drop, replicate}
+use Rattle.std.proofs.Common.{refl, sym, ap, ◌∙◌, arith, length-append, length-drop}
+use Rattle.std.specs.Prelude.{None, Some, nat_lt, slice_get, unwrap_or}
+use Rattle.std.proofs.lemmas.Bool.{eqb-true, not-false}
 use Rattle.std.proofs.lemmas.Bool.Decides.{nat_tests}
+use Rattle.circular_buffer.specs.Buffer.{keep_last}
 use Rattle.check_rules.specs.declared.state.State.{State}
 use Rattle.check_rules.specs.Board.{flag}
+use Rattle.check_rules.specs.Changes.{changes_after, changes_in, last_after, weight_after}
 use Rattle.check_rules.specs.Flapping.{changes_weight, kept_after, percent_of}
-use Rattle.check_rules.specs.FlappingWalk.{weight_after}
-use Rattle.check_rules.specs.LastResults.{changes_after, changes_in, is_change, last_after, loses_change, state_of_digit, weight_to}
-use Rattle.check_rules.specs.Numbers.{state_number}
+use Rattle.check_rules.specs.declared.state.State.TheVariants as state
+use Rattle.check_rules.specs.Numbers.{numbered_state, state_number}
 use Rattle.check_rules.specs.State.{is_another_state}
-use Rattle.check_rules.proofs.DigitLemmas.{full_kept, number_read, short_kept}
-use Rattle.check_rules.proofs.FlappingLemmas.{in_two, pairs_are_walked}
+use Rattle.check_rules.proofs.Cases.{each_state}
+use Rattle.check_rules.proofs.FlappingLemmas.{few_changes, in_two, last_read, pairs_are_walked, within_all}
 
--- ---- among 21
+-- ---- one more result
 
--- the weight of the changes among 21 results, where the newest weighs 95, is that of the definition
-pub full_weight : (results : List State) → length results ≡ 21 → weight_to 95 results ≡ changes_weight results
-full_weight [] e = omega (arith, e)
-full_weight (oldest ∷ rest) e =
-    let first : 95 + 2 - 2 * length rest ≡ 57 = omega (arith, e) in
-    ap (λ w. weight_after oldest rest w) first ∙ sym (pairs_are_walked 0 oldest rest)
+-- where 21 are there, the oldest goes
+full_kept : (oldest : State) (newer : List State) (found : State) → length newer ≡ 20 → kept_after (oldest ∷ newer) found ≡ newer ++ found ∷ []
+full_kept oldest newer found e =
+    let all = newer ++ found ∷ [] in
+    let long = length-append newer (found ∷ []) in
+    let one : length (oldest ∷ all) - 21 ≡ 1 = omega (arith, long, e) in
+    ap (λ place. drop place (oldest ∷ all)) one
 
--- where there aren't 21, the percent is 0
-pub other_percent : (results : List State) → length results ≢ 21 → 0 ≡ percent_of results
-other_percent results other = grind (arith, nat_tests, other)
+-- no more are kept than can be
+pub few_kept : (results : List State) (found : State) → length (kept_after results found) ≤ 21
+few_kept results found =
+    let all = results ++ found ∷ [] in
+    omega (arith, length-drop (length all - 21) all)
+
+-- up to 21 are all kept
+pub all_kept : (results : List State) → length results ≤ 21 → keep_last 21 results ≡ results
+all_kept results few = let none : length results - 21 ≡ 0 = omega (arith, few) in ap (λ place. drop place results) none
+
+last_dropped : (n : ℕ) (before : State) (results : List State) (newest : State) → n ≤ length results
+    → last_after before (drop n (results ++ newest ∷ [])) ≡ newest
+last_dropped zero before [] newest few = refl
+last_dropped zero before (next ∷ rest) newest few = last_dropped zero next rest newest (omega arith)
+last_dropped (suc n) before [] newest few = absurd (omega (arith, few))
+last_dropped (suc n) before (next ∷ rest) newest few = last_dropped n before rest newest (omega (arith, few))
+
+-- the last of those that are kept is the new one
+pub last_kept : (before : State) (results : List State) (found : State) → last_after before (kept_after results found) ≡ found
+last_kept before results found =
+    let long = length-append results (found ∷ []) in
+    last_dropped (length (results ++ found ∷ []) - 21) before results found (omega (arith, long))
+
+-- a full ring hands out its oldest result where it takes one more
+replaced_by : (few : Bool) (results : List State) (found oldest : State) (room : ℕ) → nat_lt (length results) room ≡ few
+    → Some oldest ≡ cond few None (slice_get (results ++ found ∷ []) 0) → length results ≤ room
+    → (length results ≡ room) × (slice_get (results ++ found ∷ []) 0 ≡ Some oldest)
+replaced_by true results found oldest room e out within = cc
+replaced_by false results found oldest room e out within =
+    let most : room ≤ length results = grind (arith, nat_tests, e) in
+    (omega (arith, most, within), sym out)
+
+pub replaced : (results : List State) (found oldest : State) (room : ℕ)
+    → Some oldest ≡ cond (nat_lt (length results) room) None (slice_get (results ++ found ∷ []) 0) → length results ≤ room
+    → (length results ≡ room) × (slice_get (results ++ found ∷ []) 0 ≡ Some oldest)
+replaced results found oldest room out within = replaced_by (nat_lt (length results) room) results found oldest room refl out within
 
 -- ---- each 2 more
 
@@ -40,7 +76,7 @@ each_more before (found ∷ rest) weight =
     two_more (is_another_state found before) weight (weight_after found rest (weight + 2 + 2)) (weight_after found rest (weight + 2)) (changes_after found rest)
     (each_more found rest (weight + 2))
 
--- ---- one more result
+-- ---- one comes, and one goes
 
 one_counted : (b : Bool) (a n m : ℕ) → n ≡ m + a → flag b + n ≡ flag b + m + a
 one_counted b a n m e = omega (arith, e)
@@ -52,151 +88,85 @@ counted_after before (next ∷ rest) found =
     one_counted (is_another_state next before) (flag (is_another_state found (last_after next rest)))
     (changes_after next (rest ++ found ∷ [])) (changes_after next rest) (counted_after next rest found)
 
-newest_weighs : (b : Bool) (weight all : ℕ) → weight ≡ 95 → all ≡ cond b weight 0 + 0 → all ≡ 95 * flag b
-newest_weighs true weight all e h = omega (arith, e, h)
-newest_weighs false weight all e h = omega (arith, h)
+-- a change weighs this much, or nothing where there is none
+weighs : (b : Bool) (weight by more all : ℕ) → weight ≡ by → all ≡ cond b weight 0 + more → all ≡ by * flag b + more
+weighs true weight by more all e h = omega (arith, e, h)
+weighs false weight by more all e h = omega (arith, h)
 
-few_counted : (b : Bool) (n k : ℕ) → n ≤ k → flag b + n ≤ suc k
-few_counted true n k h = omega (arith, h)
-few_counted false n k h = omega (arith, h)
+small_flag : (b : Bool) → flag b ≤ 1
+small_flag true = omega arith
+small_flag false = omega arith
 
--- there is at most a change a result
-few_changes : (before : State) (rest : List State) → changes_after before rest ≤ length rest
-few_changes before [] = omega arith
-few_changes before (found ∷ rest) = few_counted (is_another_state found before) (changes_after found rest) (length rest) (few_changes found rest)
-
-light_first : (b : Bool) (weight rest k : ℕ) → weight + 2 * suc k ≤ 99 → rest ≤ 97 * k → cond b weight 0 + rest ≤ 97 * suc k
-light_first true weight rest k h e = omega (arith, h, e)
-light_first false weight rest k h e = omega (arith, h, e)
-
-next_light : (weight k : ℕ) → weight + 2 * suc k ≤ 99 → weight + 2 + 2 * k ≤ 99
-next_light weight k h = omega (arith, h)
-
--- no change weighs over 97
-light_changes : (before : State) (rest : List State) (weight : ℕ) → weight + 2 * length rest ≤ 99 → weight_after before rest weight ≤ 97 * length rest
-light_changes before [] weight h = omega arith
-light_changes before (found ∷ rest) weight h =
-    light_first (is_another_state found before) weight (weight_after found rest (weight + 2)) (length rest) h
-    (light_changes found rest (weight + 2) (next_light weight (length rest) h))
-
--- what holds of at most 20 results and one more of them
-abbrev Grows : List State → State → Type 0
-Grows results found =
-    (weight_to 95 (results ++ found ∷ []) + 2 * changes_in results ≡ weight_to 95 results + 95 * flag (is_change results found))
-    × (changes_in (results ++ found ∷ []) ≡ changes_in results + flag (is_change results found))
-    × (2 * changes_in results ≤ weight_to 95 results) × (changes_in results ≤ 19) × (weight_to 95 results ≤ 1843)
-
-summed : (old less new count comes : ℕ) → old ≡ less + 2 * count → new ≡ less + 95 * comes → new + 2 * count ≡ old + 95 * comes
-summed old less new count comes e f = omega (arith, e, f)
-
-grows : (results : List State) (found : State) → length results ≤ 20 → Grows results found
-grows [] found few = (omega arith, omega arith, omega arith, omega arith, omega arith)
-grows (oldest ∷ rest) found few =
-    let k = length rest in
-    let first = 95 - 2 * k in
-    let less = weight_after oldest rest first in
-    let count = changes_after oldest rest in
-    let last = last_after oldest rest in
-    let old : weight_after oldest rest (95 + 2 - 2 * k) ≡ less + 2 * count =
-    ap (λ w. weight_after oldest rest w) (omega (arith, few)) ∙ each_more oldest rest first in
-    let long = length-append rest (found ∷ []) in
-    let second : 95 + 2 - 2 * length (rest ++ found ∷ []) ≡ first = omega (arith, long, few) in
-    let newest = newest_weighs (is_another_state found last) (first + 2 * k) (weight_after last (found ∷ []) (first + 2 * k)) (omega (arith, few)) refl in
-    let new : weight_after oldest (rest ++ found ∷ []) (95 + 2 - 2 * length (rest ++ found ∷ [])) ≡ less + 95 * flag (is_another_state found last) =
-    ap (λ w. weight_after oldest (rest ++ found ∷ []) w) second ∙ in_two oldest rest (found ∷ []) first ∙ ap (λ n. less + n) newest in
-    let most = few_changes oldest rest in
-    let light = light_changes oldest rest (95 + 2 - 2 * k) (omega (arith, few)) in (
-      summed (weight_to 95 (oldest ∷ rest)) less (weight_to 95 (oldest ∷ (rest ++ found ∷ []))) count (flag (is_another_state found last)) old new,
-      counted_after oldest rest found,
-      omega (arith, old),
-      omega (arith, most, few),
-      omega (arith, light, few),
-    )
-
--- ---- the oldest result goes
-
--- what holds of results, of which 21 are kept, with one more of them
-pub record IsOneLater (results : List State) (found : State) : Type 0 where
-  pub there : flag (loses_change results) ≤ changes_in results
+-- What holds of 21 results with one more of them: whether a change goes with the oldest, and whether the new one is a change.
+pub record IsOneLater (results : List State) (found : State) (goes comes : Bool) : Type 0 where
+  pub full : length results ≡ 21
+  pub there : flag goes ≤ changes_in results
   pub few : changes_in results ≤ 20
-  pub heavy : 57 * flag (loses_change results) + 2 * (changes_in results - flag (loses_change results)) ≤ weight_to 95 results
-  pub light : weight_to 95 results ≤ 1940
-  pub weight : weight_to 95 (kept_after results found) + 57 * flag (loses_change results) + 2 * (changes_in results - flag (loses_change results))
-      ≡ weight_to 95 results + 95 * flag (is_change results found)
-  pub count : changes_in (kept_after results found) + flag (loses_change results) ≡ changes_in results + flag (is_change results found)
+  pub heavy : 57 * flag goes + 2 * (changes_in results - flag goes) ≤ changes_weight results
+  pub light : changes_weight results ≤ 1520
+  pub weight : changes_weight (kept_after results found) + 57 * flag goes + 2 * (changes_in results - flag goes) ≡ changes_weight results + 95 * flag comes
+  pub count : changes_in (kept_after results found) + flag goes ≡ changes_in results + flag comes
+  pub long : length (kept_after results found) ≡ 21
+  pub lighter : changes_weight (kept_after results found) ≤ 1520
 
--- with at most 20 results, none goes
-not_full : (k : ℕ) → k ≤ 18 → (k == 19) ≡ false
-not_full k few = grind (arith, nat_tests, few)
-
-pub none_lost : (results : List State) → length results ≤ 20 → loses_change results ≡ false
-none_lost [] few = refl
-none_lost (oldest ∷ []) few = refl
-none_lost (oldest ∷ second ∷ rest) few = rw (not_full (length rest) (omega (arith, few))) refl
-
--- the oldest change goes
-first_lost : (b : Bool) (weight more all : ℕ) → weight ≡ 57 → all ≡ cond b weight 0 + more → all ≡ 57 * flag b + more
-first_lost true weight more all e h = omega (arith, e, h)
-first_lost false weight more all e h = omega (arith, h)
-
--- one more result, where these stay of the results before it: all of them, or all but the oldest
-one_later_where : (results newer : List State) (found : State) → length newer ≤ 20 → kept_after results found ≡ newer ++ found ∷ []
-    → changes_in results ≡ flag (loses_change results) + changes_in newer → weight_to 95 results ≡ 57 * flag (loses_change results) + weight_to 95 newer
-    → is_change results found ≡ is_change newer found → IsOneLater results found
-one_later_where results newer found few kept counted weighed same =
-    let g = grows newer found few in
-    let weight = ap (weight_to 95) kept in
-    let count = ap changes_in kept in
-    let new = ap flag same in
-    let small = few_counted (loses_change results) 0 0 (omega arith) in
-    let g0 = g.0 in
-    let g1 = g.1 in
-    let g2 = g.2 in
-    let g3 = g.3 in
-    let g4 = g.4 in
+one_later_of : (oldest second : State) (rest : List State) (found : State) → length rest ≡ 19
+    → IsOneLater (oldest ∷ second ∷ rest) found (is_another_state second oldest) (is_another_state found (last_after second rest))
+one_later_of oldest second rest found e =
+    let goes = is_another_state second oldest in
+    let comes = is_another_state found (last_after second rest) in
+    let stay = changes_after second rest in
+    let all = changes_weight (oldest ∷ second ∷ rest) in
+    let kept : kept_after (oldest ∷ second ∷ rest) found ≡ second ∷ (rest ++ found ∷ []) = full_kept oldest (second ∷ rest) found (omega (arith, e)) in
+    let more = length-append rest (found ∷ []) in
+    let long : length (kept_after (oldest ∷ second ∷ rest) found) ≡ 21 = ap length kept ∙ omega (arith, more, e) in
+    let old : all ≡ 57 * flag goes + weight_after second rest 59 =
+    weighs goes 57 57 (weight_after second rest 59) all refl (pairs_are_walked 0 oldest (second ∷ rest)) in
+    let heavier : weight_after second rest 59 ≡ weight_after second rest 57 + 2 * stay = each_more second rest 57 in
+    let last = last_after second rest in
+    let newest = weighs comes (57 + 2 * length rest) 95 0 (weight_after last (found ∷ []) (57 + 2 * length rest)) (omega (arith, e)) refl in
+    let new : changes_weight (kept_after (oldest ∷ second ∷ rest) found) ≡ weight_after second rest 57 + weight_after last (found ∷ []) (57 + 2 * length rest) =
+    ap changes_weight kept ∙ pairs_are_walked 0 second (rest ++ found ∷ []) ∙ in_two second rest (found ∷ []) 57 in
+    let counted : changes_in (kept_after (oldest ∷ second ∷ rest) found) ≡ stay + flag comes = ap changes_in kept ∙ counted_after second rest found in
+    let most = few_changes second rest in
+    let small = small_flag goes in
+    let light = within_all (oldest ∷ second ∷ rest) (omega (arith, e)) in
+    let lighter = within_all (kept_after (oldest ∷ second ∷ rest) found) (omega (arith, long)) in
     record {
-      there = omega (arith, counted);
-      few = omega (arith, counted, small, g3);
-      heavy = omega (arith, counted, weighed, g2);
-      light = omega (arith, weighed, small, g4);
-      weight = omega (arith, counted, weighed, weight, new, g0);
-      count = omega (arith, counted, count, new, g1);
+      full = omega (arith, e);
+      there = omega arith;
+      few = omega (arith, most, small, e);
+      heavy = omega (arith, old, heavier);
+      light = light;
+      weight = omega (arith, old, heavier, newest, new);
+      count = omega (arith, counted);
+      long = long;
+      lighter = lighter;
     }
 
-one_later_short : (results : List State) (found : State) → length results ≤ 20 → IsOneLater results found
-one_later_short results found few =
-    let none : flag (loses_change results) ≡ 0 = ap flag (none_lost results few) in
-    one_later_where results results found few (short_kept results found few) (omega (arith, none)) (omega (arith, none)) refl
-
-one_later_full : (oldest second : State) (rest : List State) (found : State) → length rest ≡ 19 → (length rest == 19) ≡ true
-    → IsOneLater (oldest ∷ second ∷ rest) found
-one_later_full oldest second rest found e full =
-    let newer = second ∷ rest in
-    let b = is_another_state second oldest in
-    let lost : flag (loses_change (oldest ∷ newer)) ≡ flag b = rw full refl in
-    let next : weight_after second rest (95 + 2 - 2 * length newer + 2) ≡ weight_to 95 newer = ap (λ w. weight_after second rest w) (omega (arith, e)) in
-    let all = first_lost b (95 + 2 - 2 * length newer) (weight_after second rest (95 + 2 - 2 * length newer + 2)) (weight_to 95 (oldest ∷ newer))
-    (omega (arith, e)) refl in
-    one_later_where (oldest ∷ newer) newer found (omega (arith, e)) (full_kept oldest newer found (omega (arith, e))) (omega (arith, lost))
-    (omega (arith, lost, all, next)) refl
-
-one_later_by : (full : Bool) (oldest second : State) (rest : List State) (found : State) → (length rest == 19) ≡ full → length rest ≤ 19
-    → IsOneLater (oldest ∷ second ∷ rest) found
-one_later_by true oldest second rest found e few = one_later_full oldest second rest found (eqb-true (length rest) 19 e) e
-one_later_by false oldest second rest found e few =
-    let other = eqb-false (length rest) 19 e in one_later_short (oldest ∷ second ∷ rest) found (omega (arith, other, few))
-
-pub one_later : (results : List State) (found : State) → length results ≤ 21 → IsOneLater results found
-one_later [] found few = one_later_short [] found (omega arith)
-one_later (oldest ∷ []) found few = one_later_short (oldest ∷ []) found (omega arith)
-one_later (oldest ∷ second ∷ rest) found few = one_later_by (length rest == 19) oldest second rest found refl (omega (arith, few))
+-- the same by what is read of the results: the oldest, the one that is the oldest then, and the newest
+pub one_later : (results : List State) (found oldest second newest : State) → length results ≡ 21 → slice_get (results ++ found ∷ []) 0 ≡ Some oldest
+    → second ≡ unwrap_or (slice_get (kept_after results found) 0) oldest → last_after newest results ≡ newest
+    → IsOneLater results found (is_another_state second oldest) (is_another_state found newest)
+one_later [] found oldest second newest e front next last = absurd (omega (arith, e))
+one_later (first ∷ []) found oldest second newest e front next last = absurd (omega (arith, e))
+one_later (first ∷ after ∷ rest) found oldest second newest e front next last =
+    let is_first : oldest ≡ first = sym (ap (λ read. unwrap_or read oldest) front) in
+    let kept = full_kept first (after ∷ rest) found (omega (arith, e)) in
+    let is_after : second ≡ after = next ∙ ap (λ results. unwrap_or (slice_get results 0) oldest) kept in
+    rw (is_first, is_after, ← last) (one_later_of first after rest found (omega (arith, e)))
 
 -- ---- no change
+
+abbrev state_numbered : ℕ → State
+state_numbered n = unwrap_or (numbered_state n) state.Ok
+
+number_read : (s : State) → state_numbered (state_number s) ≡ s
+number_read = each_state (λ s. state_numbered (state_number s) ≡ s) refl refl refl refl refl refl refl
 
 same_state_found : (found before : State) → is_another_state found before ≡ false → found ≡ before
 same_state_found found before e =
     let same : state_number found ≡ state_number before = eqb-true (state_number found) (state_number before) (not-false (state_number found == state_number before) e) in
-    sym (number_read found).0 ∙ ap state_of_digit same ∙ (number_read before).0
+    sym (number_read found) ∙ ap state_numbered same ∙ number_read before
 
 none_of_sum : (b : Bool) (n : ℕ) → flag b + n ≡ 0 → (b ≡ false) × (n ≡ 0)
 none_of_sum true n e = absurd (let more : 1 + n ≡ 0 = e in omega (arith, more))
@@ -210,26 +180,36 @@ no_change before (found ∷ rest) e =
     let same = same_state_found found before none.0 in
     ap (λ more. found ∷ more) (no_change found rest none.1) ∙ ap (λ s. s ∷ replicate (length rest) s) same
 
-settled_by : (oldest : State) (rest : List State) (found : State) → length rest ≡ 20 → changes_after oldest rest ≡ 0
-    → is_another_state found (last_after oldest rest) ≡ false → kept_after (oldest ∷ rest) found ≡ oldest ∷ rest
-settled_by oldest rest found e none same =
-    let all : rest ≡ replicate 20 oldest = no_change oldest rest none ∙ ap (λ n. replicate n oldest) e in
-    let last : last_after oldest rest ≡ oldest = ap (last_after oldest) all in
-    let last_found : found ≡ oldest = same_state_found found (last_after oldest rest) same ∙ last in
-    full_kept oldest rest found e ∙ ap (λ s. rest ++ s ∷ []) last_found ∙ ap (λ more. more ++ oldest ∷ []) all ∙ ap (λ more. oldest ∷ more) (sym all)
+-- what is kept of 21 results among which nothing changed, with one more that is no change: as it was, and its percent is 0
+pub record IsSettled (results : List State) (found : State) : Type 0 where
+  pub kept : kept_after results found ≡ results
+  pub percent : percent_of results ≡ 0
 
--- where 21 results weigh nothing, and one more is no change, it leaves them as they are
-pub settled : (results : List State) (found : State) → length results ≡ 21 → weight_to 95 results ≡ 0 → is_change results found ≡ false
-    → kept_after results found ≡ results
-settled [] found e none same = absurd (omega (arith, e))
-settled (oldest ∷ rest) found e none same =
-    let l = one_later (oldest ∷ rest) found (omega (arith, e)) in
-    let there = l.there in
-    let heavy = l.heavy in
-    settled_by oldest rest found (omega (arith, e)) (omega (arith, there, heavy, none)) same
+-- 21 results that are one state
+no_percent : (s : State) → percent_of (replicate 21 s) ≡ 0
+no_percent = each_state (λ s. percent_of (replicate 21 s) ≡ 0) refl refl refl refl refl refl refl
 
--- where they weigh nothing, the percent is 0
-pub no_percent : (results : List State) → length results ≡ 21 → weight_to 95 results ≡ 0 → percent_of results ≡ 0
-no_percent results e none =
-    let weight : changes_weight results ≡ 0 = sym (full_weight results e) ∙ none in
-    ap (λ n. cond (n == 21) (100 * changes_weight results / 1520) 0) e ∙ ap (λ n. 100 * n / 1520) weight
+-- the last of some results, where it is read with another state for none
+pub last_where : (results : List State) (default newest : State) → newest ≡ unwrap_or (slice_get results (length results - 1)) default
+    → last_after newest results ≡ newest
+last_where results default newest e =
+    let last = e ∙ last_read default results in
+    last_of results default newest last
+  where
+    last_of : (results : List State) (default newest : State) → newest ≡ last_after default results → last_after newest results ≡ newest
+    last_of [] default newest e = refl
+    last_of (first ∷ rest) default newest e = sym e
+
+pub settled : (results : List State) (found newest : State) → length results ≡ 21 → changes_in results ≡ 0 → last_after newest results ≡ newest
+    → is_another_state found newest ≡ false → IsSettled results found
+settled [] found newest e none last same = absurd (omega (arith, e))
+settled (oldest ∷ rest) found newest e none last same =
+    let long : length rest ≡ 20 = omega (arith, e) in
+    let all : rest ≡ replicate 20 oldest = no_change oldest rest none ∙ ap (λ n. replicate n oldest) long in
+    let is_newest : newest ≡ oldest = sym last ∙ ap (last_after oldest) all in
+    let is_found : found ≡ oldest = same_state_found found newest same ∙ is_newest in
+    record {
+      kept = full_kept oldest rest found long ∙ ap (λ s. rest ++ s ∷ []) is_found ∙ ap (λ more. more ++ oldest ∷ []) all
+          ∙ ap (λ more. oldest ∷ more) (sym all);
+      percent = ap (λ more. percent_of (oldest ∷ more)) all ∙ no_percent oldest;
+    }

@@ -2,8 +2,6 @@ pub mod Cases
 pub mod BoardLemmas
 pub mod BlockedLaws
 pub mod ChangeLemmas
-pub mod DigitLemmas
 pub mod FlappingLemmas
 pub mod MarkLemmas
-pub mod ResultsLemmas
 pub mod VerdictLaws

@@ -5,7 +5,7 @@ pub mod Standing
 pub mod Reachability
 pub mod Verdict
 pub mod Flapping
-pub mod FlappingWalk
+pub mod Changes
 pub mod LastResults
 pub mod Board
 pub mod Dependencies

@@ -10,7 +10,7 @@ use crate::state::State;
 /// that is hard, bits 5 to 12 the attempt, bits 13 to 15 the last hard state, bit 16 whether it flaps.
 /// OK, WARNING, CRITICAL, UNKNOWN, UP, DOWN, UNREACHABLE are 0 to 6. [`decode`] reads it. (Our own
 /// profile.)
-pub fn encode(standing: Standing) -> u64
+pub fn code(standing: Standing) -> u64
     ensures value { result ≡ encoded standing }
     ensures read { decoded result ≡ Some standing }
     ensures within { result < 2 ^ 17 }

@@ -7,15 +7,17 @@
 //! "Determining Status and Reachability of Network Hosts", "State Types", "Detection and Handling of
 //! State Flapping" and "Host and Service Dependencies"; where the manual leaves a choice, the profile
 //! of this project makes it, and the item says so. Every function changes nothing but what it is handed
-//! for that, and takes no memory except for a copy of results.
+//! for that. None takes memory, except [`LastResults::none`], [`LastResults::of`] and
+//! [`LastResults::to_vec`].
 //!
 //! The modules: `state` has return codes and states, `standing` what is known of an object, `numbers`
 //! and `words` their numbers and words, `verdicts` the verdict on a result, `flapping` whether a state
-//! keeps changing, `last_results` the results that this goes by, `reachability` the state of a host by
-//! its parents, `dependencies` whether a dependency holds a check back, `board` a standing as one word,
-//! `laws` what it is worth.
+//! keeps changing, `last_results` the results that this goes by, `changes` the changes among them,
+//! `reachability` the state of a host by its parents, `dependencies` whether a dependency holds a check
+//! back, `board` a standing as one word, `laws` what it is worth.
 
 mod board;
+mod changes;
 mod dependencies;
 mod flapping;
 mod last_results;
@@ -27,9 +29,9 @@ mod state;
 mod verdicts;
 mod words;
 
-pub use board::{decode, encode};
+pub use board::{code, decode};
 pub use dependencies::blocked;
-pub use flapping::{KEPT_RESULTS, flaps, flaps_at, percent};
+pub use flapping::{KEPT_RESULTS, flaps, percent};
 pub use last_results::LastResults;
 pub use reachability::host_state;
 pub use standing::{Kind, Standing, lawful, pending};

@@ -28,7 +28,7 @@ pub enum State {
 
 impl State {
     ghost use Rattle.std.specs.Prelude.{◌≡◌};
-    ghost use Rattle.check_rules.specs.State.{fine_state, is_down_state, is_host_state, is_problem};
+    ghost use Rattle.check_rules.specs.State.{fine_state, is_another_state, is_down_state, is_host_state, is_problem};
 
     /// Whether this is a state of hosts, and not one of services.
     pub fn is_host(self) -> bool
@@ -49,6 +49,13 @@ impl State {
         ensures { result ≡ is_down_state self }
     {
         matches!(self, State::Down | State::Unreachable)
+    }
+
+    /// Whether this is another state than that one.
+    pub(crate) fn is_another(self, other: State) -> bool
+        ensures { result ≡ is_another_state self other }
+    {
+        self != other
     }
 
     /// `Up` for a host, `Ok` for a service.

@@ -7,4 +7,6 @@ pub mod SavedLemmas
 pub mod SizeLemmas
 pub mod TextLemmas
 pub mod TreeLemmas
+pub mod Utf8Lemmas
 pub mod VerifiedLemmas
+pub mod WritableLemmas

@@ -278,25 +278,30 @@ saved_by saved tested lawful =
 
 -- ---- what is read
 
-next : {A B E : Type 0} (r : Result A E) (f : A → Result B E) (b : B) (P : Type 0) → ((a : A) → r ≡ Ok a → f a ≡ Ok b → P) → (r >>= f) ≡ Ok b → P
+pub next : {A B E : Type 0} (r : Result A E) (f : A → Result B E) (b : B) (P : Type 0) → ((a : A) → r ≡ Ok a → f a ≡ Ok b → P) → (r >>= f) ≡ Ok b → P
 next (Ok a) f b P h e = h a refl e
 next (Err x) f b P h e = cc
+
+-- what passes the tests stays as it is
+pub verified_same : (draft saved : Saved) → verified draft ≡ Ok saved → draft ≡ saved
+verified_same draft saved e =
+    let more = rest_ok (tests_of_draft draft) (λ _. lawful_objects draft.runs draft.objects >>= λ _. Ok draft) saved e in
+    let last = rest_ok (lawful_objects draft.runs draft.objects) (λ _. Ok draft) saved more in
+    cc
 
 verified_by : (draft saved : Saved) → verified draft ≡ Ok saved → IsSaved saved
 verified_by draft saved e =
     let tested = first_ok (tests_of_draft draft) (λ _. lawful_objects draft.runs draft.objects >>= λ _. Ok draft) saved e in
     let more = rest_ok (tests_of_draft draft) (λ _. lawful_objects draft.runs draft.objects >>= λ _. Ok draft) saved e in
     let lawful = first_ok (lawful_objects draft.runs draft.objects) (λ _. Ok draft) saved more in
-    let last = rest_ok (lawful_objects draft.runs draft.objects) (λ _. Ok draft) saved more in
-    let same : draft ≡ saved = cc in
-    subst IsSaved same (saved_by draft tested lawful)
+    subst IsSaved (verified_same draft saved e) (saved_by draft tested lawful)
 
 tree_by : (tree : Data) (saved : Saved) → saved_of_tree tree ≡ Ok saved → IsSaved saved
 tree_by tree saved e =
     next (in_this_format tree) (λ _. draft_of tree >>= verified) saved (IsSaved saved) (λ u f more.
     next (draft_of tree) verified saved (IsSaved saved) (λ draft d last. verified_by draft saved last) more) e
 
-short_by : (b : Bool) (r : Result Saved SavedFault) (saved : Saved) → cond b (Err faults.TooLong) r ≡ Ok saved → r ≡ Ok saved
+pub short_by : (b : Bool) (r : Result Saved SavedFault) (saved : Saved) → cond b (Err faults.TooLong) r ≡ Ok saved → r ≡ Ok saved
 short_by true r saved e = cc
 short_by false r saved e = e
 

@@ -20,13 +20,16 @@ pub fn what_is_read_is_what_can_be_saved()
 {}
 
 /// The text of what is saved is within the limit of a text (`fits`) and is read as the same
-/// (`inverse`); so whatever a text says, what is written of it says the same (`again`). Each name is
-/// UTF-8 and each interval a number of 64 bits, as in every [`Saved`](crate::Saved).
+/// (`inverse`), where each name is UTF-8 and each interval a number of 64 bits, as in every
+/// [`Saved`](crate::Saved). Whatever a text is read as is so (`writable`); so what is written of it says
+/// what the text said (`again`).
 pub fn what_is_written_is_read()
     ensures fits { (saved : Saved) → IsSaved saved → IsWritable saved
         → length (saved_text saved) ≤ 16777216 }
     ensures inverse { (saved : Saved) → IsSaved saved → IsWritable saved
         → saved_of_text (saved_text saved) ≡ Ok saved }
+    ensures writable { (text : List ℕ) → (saved : Saved) → saved_of_text text ≡ Ok saved
+        → IsWritable saved }
     ensures again { (text : List ℕ) → (saved : Saved) → saved_of_text text ≡ Ok saved
-        → IsWritable saved → saved_of_text (saved_text saved) ≡ Ok saved }
+        → saved_of_text (saved_text saved) ≡ Ok saved }
 {}

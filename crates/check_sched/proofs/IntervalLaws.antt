@@ -12,21 +12,22 @@ use Rattle.check_objects.specs.Configuration.{Configuration, IsSetup, Named, is_
 use Rattle.check_rules.specs.declared.standing.Standing.{Standing}
 use Rattle.check_rules.specs.Standing.{is_soft_problem}
 use Rattle.check_sched.specs.declared.intervals.Intervals.{Intervals}
-use Rattle.check_sched.specs.Intervals.{AreFew, interval_by, intervals_for, intervals_of, next_by, time_past}
+use Rattle.check_sched.specs.Intervals.{AreFew, intervals_for, intervals_of, next_by, time_past}
 use Rattle.check_sched.specs.Report.{interval_after, milliseconds, next_after, time_after}
 use Rattle.check_sched.proofs.EachLaws.{object_is}
 use Rattle.check_sched.proofs.ReportLaws.{check_in_range, object_in_range, read_at, retry_in_range}
 
 -- ---- one object
 
-few_by : (setup : Configuration) (interval : ℕ) → IsSetup setup → interval ≤ 525600 → milliseconds setup interval ≤ 45411840000000
-few_by setup interval valid few =
+-- the check intervals of a setup are few milliseconds
+pub few_milliseconds : (setup : Configuration) (interval : ℕ) → IsSetup setup → interval ≤ 525600 → milliseconds setup interval ≤ 45411840000000
+few_milliseconds setup interval valid few =
     let units : interval * setup.options.interval_length ≤ 525600 * 86400 = mul-le-mul few valid.interval_length in omega (arith, units)
 
 intervals_few : (setup : Configuration) (o : Object) → IsSetup setup → is_object_in_range o ≡ true → AreFew (intervals_for setup o)
 intervals_few setup o valid range = record {
-  check = few_by setup o.check_interval valid (check_in_range o range);
-  retry = few_by setup o.retry_interval valid (retry_in_range o range);
+  check = few_milliseconds setup o.check_interval valid (check_in_range o range);
+  retry = few_milliseconds setup o.retry_interval valid (retry_in_range o range);
 }
 
 some_by : (n : ℕ) (none : Bool) → (n == 0) ≡ none → 1 ≤ n → (n == 0) ≡ false

@@ -8,6 +8,7 @@ pub mod IntervalLaws
 pub mod KeepingLaws
 pub mod KeptLaws
 pub mod LimitLaws
+pub mod NewLaws
 pub mod OpeningLaws
 pub mod OperatorLaws
 pub mod OrderedLaws

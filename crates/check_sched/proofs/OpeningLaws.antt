@@ -91,7 +91,7 @@ opening_none setup start n r e =
     none_out (λ (p : Option ℕ × Named). opening_object p.0 p.1.object.enabled) (zip (initial_times setup start) (objects_of setup)) n r (λ p. refl) e
 
 -- and no result of any is kept
-none_kept : (count n : ℕ) (rs : List rules.State) → slice_get (replicate count []) n ≡ Some rs → [] ≡ rs
+pub none_kept : (count n : ℕ) (rs : List rules.State) → slice_get (replicate count []) n ≡ Some rs → [] ≡ rs
 none_kept zero n rs e = cc
 none_kept (suc count) zero rs e = cc
 none_kept (suc count) (suc n) rs e = none_kept count n rs e

@@ -6,3 +6,7 @@ pub use Rattle.check_sched.proofs.RunLaws.{taken_next, taken_once}
 pub use Rattle.check_sched.proofs.StandingLaws.{opened_standing}
 -- runs_from_any_state: out, numbers
 pub use Rattle.check_sched.proofs.RunLaws.{taken_after, taken_number}
+-- opening_states
+pub use Rattle.check_sched.proofs.NewLaws.{opening_can_be}
+-- resumed_states: saved, writable
+pub use Rattle.check_sched.proofs.KeepingLaws.{saved_is_writable, saved_of_state}

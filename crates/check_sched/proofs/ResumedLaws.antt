@@ -190,7 +190,7 @@ within_by P setup now objects true e stay give = rw e (stay e)
 within_by P setup now objects false e stay give = rw e give
 
 -- what is true of the objects as they are, where they keep to the limit, and of those whose runs are given up
-within_cases : (P : List Scheduling → Type 0) (setup : Configuration) (now : ℕ) (objects : List Scheduling)
+pub within_cases : (P : List Scheduling → Type 0) (setup : Configuration) (now : ℕ) (objects : List Scheduling)
     → ((limit_of setup == 0 || not (nat_lt (limit_of setup) (running_among (drop (host_count setup) objects)))) ≡ true → P objects)
     → P (freed (host_count setup) now objects) → P (within_limit setup now objects)
 within_cases P setup now objects stay give = within_by P setup now objects _ refl stay give

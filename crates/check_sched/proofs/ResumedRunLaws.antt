@@ -17,7 +17,6 @@ use Rattle.check_saved.specs.Saved.{Saved, SavedObject, saved_named}
 use Rattle.check_saved.specs.Scheduling.{Scheduling}
 use Rattle.check_sched.specs.declared.call.Call.{Call}
 use Rattle.check_sched.specs.declared.call.Reply.{Reply}
-use Rattle.check_sched.specs.declared.call.Reply.TheVariants as reply
 use Rattle.check_sched.specs.Runs.{begins, begins_by, ends, takes_by}
 use Rattle.check_sched.specs.Saved.{keeps_limit, objects_kept, resumed, run_saved_of, scheduling_of, standing_kept, standing_of}
 use Rattle.check_sched.specs.Saved.{standings_resumed, stays_out, time_among, within_limit}

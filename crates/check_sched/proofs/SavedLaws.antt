@@ -74,7 +74,7 @@ found_saved s n o valid e =
 -- ---- what is made of each object
 
 -- so many as there are objects, each what it is made of its object
-made_each : {X : Type 0} (made : ℕ × Named → X) (k : ℕ) (os : List Named) (xs : List X) → length xs ≡ length os
+pub made_each : {X : Type 0} (made : ℕ × Named → X) (k : ℕ) (os : List Named) (xs : List X) → length xs ≡ length os
     → ((n : ℕ) (o : Named) (x : X) → slice_get os n ≡ Some o → slice_get xs n ≡ Some x → made (k + n, o) ≡ x)
     → map made (enumerate_from k os) ≡ xs
 made_each made k [] [] l h = refl
@@ -134,7 +134,7 @@ limit_by : (setup : Configuration) (start : ℕ) (objects : List Scheduling)
     → (limit_of setup == 0 || not (nat_lt (limit_of setup) (running_among (drop (host_count setup) objects)))) ≡ true → within_limit setup start objects ≡ objects
 limit_by setup start objects e = rw e refl
 
-limit_stays : (s : State) (start : ℕ) → IsWithinLimit s → within_limit s.setup start s.objects ≡ s.objects
+pub limit_stays : (s : State) (start : ℕ) → IsWithinLimit s → within_limit s.setup start s.objects ≡ s.objects
 limit_stays s start within = limit_by s.setup start s.objects (open_by (limit_of s.setup) (running_services s) within)
   where
     open_by : (limit running : ℕ) → (0 < limit → running ≤ limit) → (limit == 0 || not (nat_lt limit running)) ≡ true

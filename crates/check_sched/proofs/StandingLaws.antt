@@ -127,7 +127,7 @@ replay_setup s (e ∷ history) = replay_setup (step s e.call).0 history ∙ (ste
 
 -- ---- the opening
 
-length-initial_times : (setup : Configuration) (start : ℕ) → length (initial_times setup start) ≡ object_count setup
+pub length-initial_times : (setup : Configuration) (start : ℕ) → length (initial_times setup start) ≡ object_count setup
 unfolding initial_times
 length-initial_times setup start =
     let hosts = length-first_times (host_spread setup start) (host_objects setup) in

@@ -7,7 +7,7 @@ use Rattle.std.proofs.lemmas.Bool.Decides.{nat_tests}
 use Rattle.std.proofs.lemmas.Bool.{and_from, and_parts}
 use Rattle.ticket_steps.specs.declared.kept.Entry.{Entry}
 use Rattle.ticket_steps.specs.History.{replay, IsLegal}
-use Rattle.check_objects.specs.Configuration.{Configuration, IsSetup, Named, objects_of, object_count}
+use Rattle.check_objects.specs.Configuration.{Configuration, IsSetup, Named, objects_of}
 use Rattle.check_queue.specs.Order.{least}
 use Rattle.check_rules.specs.declared.standing.Standing.{Standing}
 use Rattle.check_sched.specs.Candidate.{Candidate}

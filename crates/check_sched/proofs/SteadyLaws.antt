@@ -14,7 +14,6 @@ use Rattle.check_rules.specs.Standing.{is_soft_problem, pending_standing}
 use Rattle.check_rules.specs.State.{fine_state, is_another_state, is_host_state, is_problem}
 use Rattle.check_rules.specs.Verdict.{verdict_on}
 use Rattle.check_saved.specs.Scheduling.{Scheduling, is_timed, is_timed_if_forced}
-use Rattle.check_sched.specs.declared.call.Call.TheVariants as call
 use Rattle.check_sched.specs.declared.call.Reply.{Reply}
 use Rattle.check_sched.specs.declared.call.Reply.TheVariants as reply
 use Rattle.check_sched.specs.declared.intervals.Intervals.{Intervals}

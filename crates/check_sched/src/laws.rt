@@ -1,6 +1,6 @@
 //! Laws of the definitions, each the contract of a function without parameters and code.
 
-ghost use Rattle.std.specs.Prelude.{ℕ, ◌≡◌, ◌≢◌, ◌+◌, ◌^◌, ◌<◌, ◌≤◌, true, false, List, ◌∷◌, ◌++◌, Some, slice_get};
+ghost use Rattle.std.specs.Prelude.{ℕ, ◌≡◌, ◌≢◌, ◌+◌, ◌^◌, ◌<◌, ◌≤◌, true, false, IsUtf8, List, [], ◌∷◌, ◌++◌, None, Some, slice_get};
 ghost use Rattle.std.specs.List.{list_any};
 ghost use Rattle.std.specs.List.Sorted.{IsPermutation};
 ghost use Rattle.ticket_steps.specs.declared.kept.Entry.{Entry};
@@ -13,8 +13,9 @@ ghost use Rattle.check_rules.specs.Standing.{is_soft_problem, pending_standing};
 ghost use Rattle.check_sched.specs.declared.sched.TheConstants.{MAX_RUNS};
 ghost use Rattle.check_sched.specs.declared.call.Call.{Call};
 ghost use Rattle.check_saved.specs.Saved.{IsSaved, Saved, SavedObject, saved_named};
+ghost use Rattle.check_saved.specs.Written.{IsWritable};
 ghost use Rattle.check_sched.specs.Saved.{resumed, run_saved_of, saved_of, stays_out};
-ghost use Rattle.check_sched.specs.State.{IsStandingOf, IsState, IsWithinLimit, State, flap_thresholds_of, is_host, max_attempts_of, opening, results_at, run_number_of, standing_at};
+ghost use Rattle.check_sched.specs.State.{IsStandingOf, IsState, IsWithinLimit, State, flap_thresholds_of, is_host, max_attempts_of, opening, results_at, run_number_of, scheduling_at, standing_at};
 ghost use Rattle.check_sched.specs.Step.{after, step};
 ghost use Rattle.check_sched.specs.Runs.{begins, ends, runs_begun, runs_under};
 ghost use Rattle.check_sched.specs.Flapping.{flapping_in, never_checked, states_told, with_results};
@@ -95,11 +96,41 @@ pub fn resumed_over_the_same()
 
 /// Whatever was saved, and whatever setup a scheduler goes on over from whatever moment, it goes on in a
 /// state that one can be in (`resumed`). What is saved of a scheduler, in whatever state it can be, is
-/// well formed (`saved`).
+/// well formed (`saved`), and it can be written where the names of its objects are UTF-8, as in every
+/// setup that was read (`writable`).
 pub fn resumed_states()
     ensures resumed { (setup : Configuration) → (saved : Saved) → (start : ℕ) → IsSetup setup
         → IsSaved saved → start ≤ LAST_MOMENT → IsState (resumed setup saved start) }
     ensures saved { (s : State) → IsState s → IsSaved (saved_of s) }
+    ensures writable { (s : State) → IsState s → ((number : ℕ) → IsUtf8 (name_of s.setup number))
+        → IsWritable (saved_of s) }
+{}
+
+/// The state that a scheduler opens with is one that a scheduler can be in.
+pub fn opening_states()
+    ensures { (setup : Configuration) → (start : ℕ) → IsSetup setup → start ≤ LAST_MOMENT
+        → IsState (opening setup start) }
+{}
+
+/// Where no object was saved and no run was handed out, a scheduler goes on in the state that one opens
+/// with (`nothing`). An object whose full name wasn't saved has the scheduling, the standing and the
+/// results that it has at an opening from the same moment, whatever was saved of others (`scheduling`,
+/// `standing`, `results`).
+pub fn new_objects()
+    ensures nothing { (setup : Configuration) → (before start : ℕ)
+        → resumed setup (record { start = before; runs = 0; objects = [] }) start ≡ opening setup start }
+    ensures scheduling { (setup : Configuration) → (saved : Saved) → (start object : ℕ)
+        → object < object_count setup → saved_named saved (name_of setup object) ≡ None
+        → scheduling_at (resumed setup saved start).objects object
+        ≡ scheduling_at (opening setup start).objects object }
+    ensures standing { (setup : Configuration) → (saved : Saved) → (start object : ℕ)
+        → object < object_count setup → saved_named saved (name_of setup object) ≡ None
+        → standing_at (resumed setup saved start).standings object
+        ≡ standing_at (opening setup start).standings object }
+    ensures results { (setup : Configuration) → (saved : Saved) → (start object : ℕ)
+        → object < object_count setup → saved_named saved (name_of setup object) ≡ None
+        → results_at (resumed setup saved start).results object
+        ≡ results_at (opening setup start).results object }
 {}
 
 /// Every call leaves a state that a scheduler can be in (`states`). So histories join: what is legal up to

@@ -6,7 +6,7 @@ ghost use Rattle.check_rules.specs.Flapping.{is_flapping, kept_after};
 ghost use Rattle.check_sched.specs.State.{results_at};
 ghost use Rattle.check_sched.specs.Step.{update_at};
 
-use check_rules::{LastResults, State, flaps_at};
+use check_rules::{LastResults, State};
 use std::alloc::{AllocError, Global};
 use std::marker::Model;
 
@@ -33,7 +33,8 @@ impl Results {
     {
         let mut by_number = Vec::with_capacity(alloc, count)?;
         for _number in 0..count {
-            by_number.push(LastResults::none())?;
+            let results = LastResults::none(alloc)?;
+            by_number.push(results)?;
         }
         Ok(Results { by_number })
     }
@@ -62,8 +63,8 @@ impl Results {
         ensures kept { self.new ≡ update_at number (λ results. kept_after results found) self.old }
         ensures flaps { result ≡ is_flapping (kept_after (results_at self.old number) found) was thresholds.0 thresholds.1 }
     {
-        let percent = self.by_number[number as usize].push(found);
-        flaps_at(percent, was, thresholds.0, thresholds.1)
+        let (low, high) = thresholds;
+        self.by_number[number as usize].push(found, was, low, high)
     }
 
     /// Whether the object with this number has as many results as are kept, and all are this state, so

@@ -17,7 +17,7 @@ use crate::object_state::{Change, ObjectState};
 use crate::results::Results;
 use crate::roster::Roster;
 use check_objects::Setup;
-use check_rules::{Standing, encode, pending};
+use check_rules::{Standing, code, pending};
 use check_saved::SavedRun;
 use check_spread::{LAST_MOMENT, LAST_TIME, initial_times};
 use std::alloc::{AllocError, Global};
@@ -186,13 +186,13 @@ impl Sched {
         self.setup.len() as u32
     }
 
-    /// The word of its board for the object with this number: the object's standing, [`encode`]d, which
-    /// [`decode`](check_rules::decode) reads.
+    /// The word of its board for the object with this number: the [`code`] of the object's standing,
+    /// which [`decode`](check_rules::decode) reads.
     pub fn word(&self, number: u32) -> u64
         requires { number < length (board_of self.now) }
         ensures { result ≡ slice_index (board_of self.now) number }
     {
-        encode(self.standings[number as usize])
+        code(self.standings[number as usize])
     }
 
     /// At which place of the board the call is posted, if it is made now: a report that will be

@@ -7,7 +7,7 @@ ghost use Rattle.link_order.specs.Cycles.{are_within};
 ghost use Rattle.link_order.specs.Orders.{IsOrder};
 ghost use Rattle.check_summary.specs.Chains.{depth_at, depth_over, greatest_of, longest_chain, HasDepths};
 
-use link_order::order_by_links;
+use link_order::{OrderOrCycle, order_by_links};
 use smallvec::SmallVec;
 use std::alloc::{AllocError, Global};
 
@@ -20,11 +20,11 @@ pub(crate) fn longest_chain(alloc: Global, links: &[SmallVec<u32, 4>]) -> Result
         count ≡ longest_chain (map (λ list. list.items) links.now)) }
 {
     match order_by_links(alloc, links)? {
-        Some(order) => {
+        OrderOrCycle::Order(order) => {
             let depths = find_depths(alloc, links, &order)?;
             Ok(greatest_of(&depths))
         }
-        None => Ok(links.len()),
+        OrderOrCycle::Cycle(_) => Ok(links.len()),
     }
 }
 

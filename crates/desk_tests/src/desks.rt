@@ -5,7 +5,7 @@ ghost use Rattle.check_desk.specs.Desks.{IsHolderAt, IsPassOf, IsWaitingAt};
 
 use crate::openings::{ONE_SERVICE, closed, two_passes};
 use check_desk::{Answer, Desk, Hold, Pass, Poll, Turn};
-use check_rules::{Code, Kind, Standing, State, encode};
+use check_rules::{Code, Kind, Standing, State, code};
 use check_sched::{Call, Reply};
 use std::process::Abort;
 use std::test::Fail;
@@ -100,13 +100,13 @@ fn glanced(rt: &impl Abort, desk: &Desk, pass: Pass, object: u32) -> (Pass, Stan
 fn glances_without_a_turn(rt: HostRuntime) -> Result<(), Fail> {
     let (desk, first, second) = two_passes(rt.alloc(), ONE_SERVICE)?;
     let (second, standing) = glanced(&rt, &desk, second, 1);
-    assert_eq!(rt; encode(standing), 48, "unchecked OK HARD 1");
+    assert_eq!(rt; code(standing), 48, "unchecked OK HARD 1");
     let (first, taken) = desk.ask(&rt, first, Call::Take { now: 0 });
     assert_eq!(rt; taken, Answer::Reply(Reply::Taken { object: 1, run: 1 }));
     let turn = begun(&rt, &desk, first);
     let hold = mine(&rt, &desk, turn);
     let (second, standing) = glanced(&rt, &desk, second, 0);
-    assert_eq!(rt; encode(standing), 32_824, "unchecked UP HARD 1");
+    assert_eq!(rt; code(standing), 32_824, "unchecked UP HARD 1");
     let report = Call::Report {
         object: 1,
         run: 1,
@@ -115,7 +115,7 @@ fn glances_without_a_turn(rt: HostRuntime) -> Result<(), Fail> {
     let (first, reported) = desk.finish(hold, report);
     assert!(rt; matches!(reported, Answer::Reply(_)));
     let (second, standing) = glanced(&rt, &desk, second, 1);
-    assert_eq!(rt; encode(standing), 37, "CRITICAL SOFT 1");
+    assert_eq!(rt; code(standing), 37, "CRITICAL SOFT 1");
     assert_eq!(rt;
         (standing.state, standing.kind),
         (State::Critical, Kind::Soft)

@@ -11,6 +11,7 @@ use Rattle.std.proofs.lemmas.List.{take_more, get_or-set_same, get_or-set_other,
 use Rattle.std.proofs.lemmas.List.Folds.{list_all-append, list_any-append}
 use Rattle.std.proofs.lemmas.Grind.{common_steps}
 use Rattle.link_order.specs.Cycles.{links_of, has_cycle, are_within}
+use Rattle.link_order.specs.Search.{IsStuck}
 use Rattle.link_order.specs.Orders.{is_among, times, follows, IsOrder}
 use Rattle.link_order.specs.Growth.{open_at, one_at_zero, waiting_objects, free_from, open_links, Closed, IsUnderWay}
 use Rattle.link_order.proofs.TestLemmas.{or_second, and_first, and_second, and_both, all_weaker, is_below, not_true}
@@ -211,7 +212,7 @@ all_and p q r f (x ∷ xs) h k = and_both _ _ (f x (and_first _ _ h) (and_first 
 at_place_by : (p : ℕ → Bool) (x : ℕ) (xs : List ℕ) → p x ≡ true → list_any p (x ∷ xs) ≡ true
 at_place_by p x xs h = rw h refl
 
-at_place : (xs : List ℕ) (i d : ℕ) → i < length xs → is_among xs (get_or xs i d) ≡ true
+pub at_place : (xs : List ℕ) (i d : ℕ) → i < length xs → is_among xs (get_or xs i d) ≡ true
 at_place [] i d h = absurd (omega arith)
 at_place (x ∷ xs) zero d h = at_place_by (λ y. y == x) x xs (eq-eqb x x refl)
 at_place (x ∷ xs) (suc i) d h = or_second (x == get_or xs i d) _ (at_place xs i d (omega arith))
@@ -399,7 +400,7 @@ some_open (v ∷ left) h = elim (cases_eq v 0) [
   | inr n ↦ (0, omega arith, omega arith)
 ]
 
-open_within : (left : List ℕ) (o : ℕ) → 0 < open_at left o → o < length left
+pub open_within : (left : List ℕ) (o : ℕ) → 0 < open_at left o → o < length left
 open_within [] o h = absurd (omega arith)
 open_within (v ∷ left) zero h = omega arith
 open_within (v ∷ left) (suc o) h = let again = open_within left o h in omega arith
@@ -436,22 +437,29 @@ order_whole links place left order u z =
       behind_links = u.behind_links;
     }
 
--- some link is open, and the dependents of all placed objects were looked at: there is a cycle
-pub cycle_left : (links : List (List ℕ)) (place : ℕ) (left order : List ℕ) → IsUnderWay links place left order → length order ≤ place
-    → are_within (length links) links ≡ true
-    → list_all (λ v. v == 0) left ≡ false → has_cycle links ≡ true
-cycle_left links place left order u e w z =
-    let found : (o : ℕ) × (o < length left) × (0 < open_at left o) = some_open left z in
+-- the dependents of all placed objects were looked at: each object that waits is linked to one that waits
+pub stuck_left : (links : List (List ℕ)) (place : ℕ) (left order : List ℕ) → IsUnderWay links place left order → length order ≤ place
+    → are_within (length links) links ≡ true → IsStuck links left
+stuck_left links place left order u e w =
     let all : take place order ≡ order = take_all place order e in
-    stuck_has_cycle links (λ o. nat_lt 0 (open_at left o))
-    (λ o p.
-    let pos : 0 < open_at left o = is_below 0 (open_at left o) p in
-    let l : o < length links = rw (← u.size) (open_within left o pos) in
-    let some : list_any (λ m. not (is_among order m)) (links_of links o)
-    ≡ true = open_links_some order (links_of links o) (rw (← all) (let c = u.counts o l in omega arith)) in
-    any_and (λ m. not (is_among order m)) (λ m. nat_lt m (length links)) (λ m. nat_lt 0 (open_at left m))
-    (λ m a b. still_open left order m (length links) u.once (is_below m (length links) b) a) (links_of links o) some (links_within (length links) links o w))
-    found.0 (rw (← u.size) found.1) (let t : nat_lt 0 (open_at left found.0) ≡ true = grind (arith, nat_tests, found.2) in t)
+    record {
+      size = u.size;
+      linked = λ o p.
+          let pos : 0 < open_at left o = is_below 0 (open_at left o) p in
+          let l : o < length links = rw (← u.size) (open_within left o pos) in
+          let some : list_any (λ m. not (is_among order m)) (links_of links o)
+          ≡ true = open_links_some order (links_of links o) (rw (← all) (let c = u.counts o l in omega arith)) in
+          any_and (λ m. not (is_among order m)) (λ m. nat_lt m (length links)) (λ m. nat_lt 0 (open_at left m))
+          (λ m a b. still_open left order m (length links) u.once (is_below m (length links) b) a) (links_of links o) some
+          (links_within (length links) links o w);
+    }
+
+-- and some object waits: there is a cycle
+pub cycle_left : (links : List (List ℕ)) (left : List ℕ) → IsStuck links left → list_all (λ v. v == 0) left ≡ false → has_cycle links ≡ true
+cycle_left links left stuck z =
+    let found : (o : ℕ) × (o < length left) × (0 < open_at left o) = some_open left z in
+    stuck_has_cycle links (λ o. nat_lt 0 (open_at left o)) stuck.linked found.0 (rw (← stuck.size) found.1)
+    (let t : nat_lt 0 (open_at left found.0) ≡ true = grind (arith, nat_tests, found.2) in t)
 
 -- ---- one dependent after another
 

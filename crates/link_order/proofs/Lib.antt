@@ -3,3 +3,5 @@ pub mod ChainLemmas
 pub mod CycleLemmas
 pub mod GrowthLemmas
 pub mod DependentLemmas
+pub mod WalkLemmas
+pub mod SearchLemmas

@@ -1,35 +1,39 @@
-//! The order, made object by object: an object is placed when the last that it links to was looked
-//! at, and where some are never placed there is a cycle among them.
-ghost use Rattle.std.specs.Prelude.{◌≡◌, ℕ, ◌<◌, ◌≤◌, ◌==◌, ◌-◌, ◌^◌, ◌++◌, ◌∷◌, [], IfOk, OnOk, length, map, true, vec_len, slice_set, nat_lt, if◌then◌else◌, MatchOption};
+//! The order, made object by object: an object is placed after the last object that it links to. If
+//! some objects can't be placed, there is a cycle among them. What is found is defined in
+//! `specs/Ordering.antt`.
+ghost use Rattle.std.specs.Prelude.{◌≡◌, ℕ, ◌<◌, ◌≤◌, ◌==◌, ◌-◌, ◌^◌, ◌++◌, ◌∷◌, [], IfOk, OnOk, length, map, true, vec_len, slice_set, nat_lt, if◌then◌else◌};
 ghost use Rattle.std.specs.List.{list_all};
-ghost use Rattle.link_order.specs.Cycles.{has_cycle, are_within};
-ghost use Rattle.link_order.specs.Orders.{IsOrder, times};
+ghost use Rattle.link_order.specs.Cycles.{are_within};
+ghost use Rattle.link_order.specs.Ordering.{IsAnswer};
+ghost use Rattle.link_order.specs.Orders.{times};
 ghost use Rattle.link_order.specs.Growth.{open_at, free_from, Closed, AddsDependent, HasDependents};
 
+use crate::cycle::find_cycle;
 use crate::lists::{empty_lists, push_at};
 use smallvec::SmallVec;
 use std::alloc::{AllocError, Global};
 
-/// A topological order of objects that are linked: their numbers, each once and behind all that it
-/// links to. It is for any work over linked objects that wants what an object links to done before
-/// the object, and for the test that links make no cycle.
+/// What linked objects have: an order, or a cycle.
+#[derive(Drop)]
+pub enum OrderOrCycle {
+    /// The numbers of all objects, each once and after all that it links to.
+    Order(Vec<u32>),
+    /// The numbers of different objects, each linked to the next one, and the last to the first.
+    Cycle(Vec<u32>),
+}
+
+/// A topological order of linked objects, or a cycle if there is no order. Use it for work in which
+/// everything that an object links to comes before the object.
 ///
-/// The links are given by object: of each the numbers of those that it links to, which are objects
-/// themselves, and a number may stand there more than once. There are at most 2^32 objects, so that
-/// each has a number.
+/// `links` has for each object the numbers of the objects that it links to, in any order, repeats
+/// included. There are at most 2^32 objects.
 ///
-/// The answer is None exactly where some object is linked to itself through one link or more: then
-/// no order is one. Else it has each object once. The call takes time and memory linear in the
-/// objects and their links. Its one error is that it is out of memory.
-pub fn order_by_links(
-    alloc: Global,
-    links: &[SmallVec<u32, 4>],
-) -> Result<Option<Vec<u32>>, AllocError>
+/// The call takes time and memory linear in the objects and their links. The only error is out of
+/// memory; nothing is made then.
+pub fn order_by_links(alloc: Global, links: &[SmallVec<u32, 4>]) -> Result<OrderOrCycle, AllocError>
     requires few { length links.now ≤ 2 ^ 32 }
     requires within { are_within (length links.now) (map (λ list. list.items) links.now) ≡ true }
-    ensures { IfOk result (λ answer. MatchOption answer
-        (has_cycle (map (λ list. list.items) links.now) ≡ true)
-        (λ order. IsOrder (map (λ list. list.items) links.now) order.items)) }
+    ensures { IfOk result (IsAnswer (map (λ list. list.items) links.now)) }
 {
     let dependents = dependents_of(alloc, links)?;
     let mut left = link_counts(alloc, links)?;
@@ -45,9 +49,9 @@ pub fn order_by_links(
         place += 1;
     }
     if are_closed(&left) {
-        Ok(Some(order))
+        Ok(OrderOrCycle::Order(order))
     } else {
-        Ok(None)
+        Ok(OrderOrCycle::Cycle(find_cycle(alloc, links, &left)?))
     }
 }
 

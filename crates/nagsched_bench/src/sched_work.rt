@@ -4,7 +4,7 @@ ghost use Rattle.std.specs.Prelude.{◌≤◌};
 
 use crate::random::{Random, mixed};
 use check_objects::Setup;
-use check_rules::{Code, encode};
+use check_rules::{Code, code};
 use check_sched::{Call, Reply, Sched};
 use check_text::push_reply;
 use std::alloc::{AllocError, Global};
@@ -179,7 +179,7 @@ fn mixed_reply(sum: u64, object: u32, reported: Reply) -> u64 {
     let Reply::Standing { standing, next, .. } = reported else {
         return sum;
     };
-    let word = encode(standing).wrapping_mul(4096);
+    let word = code(standing).wrapping_mul(4096);
     let sum = mixed(sum, word.wrapping_add(u64::from(object)));
     mixed(sum, next.unwrap_or(0))
 }

@@ -1,6 +1,6 @@
 //! Standings as words of a board.
 
-use check_rules::{Kind, Standing, State, decode, encode, pending};
+use check_rules::{Kind, Standing, State, code, decode, pending};
 
 /// A standing of an object that was checked.
 fn standing(state: State, kind: Kind, attempt: u8, last_hard: State) -> Standing {
@@ -37,7 +37,7 @@ fn words_of_standings(rt: HostRuntime) {
         (hard(State::Down), 1 + 2 * 5 + 16 + 32 * 3 + 8192 * 5),
         (flapping, 1 + 2 * 6 + 16 + 32 * 255 + 8192 * 6 + 65_536),
     ] {
-        assert_eq!(rt; encode(standing), word);
+        assert_eq!(rt; code(standing), word);
         assert_eq!(rt; decode(word), Some(standing));
     }
 }

@@ -214,18 +214,20 @@ fn resumed_results(
     let mut by_number = Vec::with_capacity(alloc, count)?;
     for number in 0..count {
         let kept = kept(saved, places, number as u32);
-        by_number.push(last_results(kept))?;
+        let results = last_results(alloc, kept)?;
+        by_number.push(results)?;
     }
     Ok(Results::of(by_number))
 }
 
-/// The results that are kept of an object: those that were saved, or none of a new one.
-fn last_results(kept: Option<&SavedObject>) -> LastResults
+/// The results that are kept of an object: those that were saved, or none of a new one. An Err means out
+/// of memory.
+fn last_results(alloc: Global, kept: Option<&SavedObject>) -> Result<LastResults, AllocError>
     requires { IfSome (option_map (λ o. o.now) kept) (λ o. length o.results ≤ KEPT_RESULTS) }
-    ensures { result ≡ results_of (option_map (λ o. o.now) kept.entry) }
+    ensures { IfOk result (λ results. results ≡ results_of (option_map (λ o. o.now) kept.entry)) }
 {
     match kept {
-        Some(saved) => LastResults::of(&saved.results),
-        None => LastResults::none(),
+        Some(saved) => LastResults::of(alloc, &saved.results),
+        None => LastResults::none(alloc),
     }
 }

@@ -15,9 +15,9 @@ order_by_links-requires-clause-within c =
     parents_within (λ l. l.items) (map host_entry hosts) c.deref.result.now (ap (map (λ l. l.items)) c.deref.ensures.value ∙ c.in_ok-links.ensures)
     (ap (λ n. list_all (λ h. list_all (λ p. nat_lt p n) h.parents) (map host_entry hosts)) (length-map hosts host_entry) ∙ c.requires.linked)
 
-pub returns-in-Some : goal.returns-in-Some
-returns-in-Some c =
-    let order = rw c.in-Some.is at c.in_ok-order_by_links.ensures in
+pub returns-in-Order : goal.returns-in-Order
+returns-in-Order c =
+    let order = rw c.in-Order.is at c.in_ok-order_by_links.ensures in
     let links = ap (map (λ l. l.items)) c.deref.ensures.value ∙ c.in_ok-links.ensures in
     let free : has_cycle (map (λ h. h.parents) (map host_entry c.args.hosts.now.entries)) ≡ false = ap has_cycle (sym links) ∙ order_has_no_cycle _ _ order in
     ap (λ b. cond b (Err errors.ParentCycle) (Ok tt)) free

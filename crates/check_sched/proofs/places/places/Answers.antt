@@ -1,4 +1,4 @@
-use Rattle.std.proofs.Common.{◌<◌, ◌≡◌, ◌∙◌, ◌+◌, ◌-◌, ap, arith, None, drop, length, replicate, subst, sym}
+use Rattle.std.proofs.Common.{◌≡◌, ◌∙◌, ◌-◌, ap, arith, None, drop, length, replicate, subst, sym}
 use Rattle.std.proofs.lemmas.List.{drop_all}
 use Rattle.check_objects.specs.Configuration.{number_of}
 use Rattle.check_saved.specs.Saved.{SavedObject}

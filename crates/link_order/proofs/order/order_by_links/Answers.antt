@@ -4,7 +4,7 @@ use Rattle.link_order.specs.Cycles.{links_of}
 use Rattle.link_order.specs.Growth.{HasDependents, IsUnderWay}
 use Rattle.link_order.specs.Orders.{times}
 use Rattle.link_order.proofs.ChainLemmas.{links_within}
-use Rattle.link_order.proofs.GrowthLemmas.{under_way_first, under_way_next, enough_open, order_whole, cycle_left, placed_below, written_back}
+use Rattle.link_order.proofs.GrowthLemmas.{under_way_first, under_way_next, enough_open, order_whole, cycle_left, stuck_left, placed_below, written_back}
 use Rattle.link_order.proofs.DependentLemmas.{dependents_at, all_below_same}
 use Rattle.link_order.proofs.order.order_by_links.Goals as goal
 
@@ -58,10 +58,17 @@ returns-then-are_closed c =
     order_whole links c.loop-place.place c.loop-place.left.items c.loop-place.order.items c.loop-place.invariant
     (rw (← c.deref-2.ensures.value) (sym c.are_closed.ensures ∙ c.if-are_closed.true))
 
+pub find_cycle-requires-clause-stuck : goal.find_cycle-requires-clause-stuck
+find_cycle-requires-clause-stuck c =
+    let links = map (λ list. list.items) c.args.links.now in
+    let size = length-map c.args.links.now (λ list. list.items) in
+    rw c.deref-else-are_closed.ensures.value (stuck_left links c.loop-place.place c.loop-place.left.items c.loop-place.order.items c.loop-place.invariant (omega arith)
+    (rw size c.requires.within))
+
 pub returns : goal.returns
 returns c =
     let links = map (λ list. list.items) c.args.links.now in
     let size = length-map c.args.links.now (λ list. list.items) in
-    cycle_left links c.loop-place.place c.loop-place.left.items c.loop-place.order.items c.loop-place.invariant (omega arith)
-    (rw size c.requires.within)
-    (rw (← c.deref-2.ensures.value) (sym c.are_closed.ensures ∙ c.if-are_closed.false))
+    let stuck = stuck_left links c.loop-place.place c.loop-place.left.items c.loop-place.order.items c.loop-place.invariant (omega arith)
+    (rw size c.requires.within) in
+    (cycle_left links c.loop-place.left.items stuck (rw (← c.deref-2.ensures.value) (sym c.are_closed.ensures ∙ c.if-are_closed.false)), c.in_ok-find_cycle.ensures)

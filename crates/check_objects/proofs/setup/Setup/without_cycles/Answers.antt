@@ -65,21 +65,21 @@ verify_no_parent_cycle-requires-clause-few c =
 pub verify_no_parent_cycle-requires-clause-linked : goal.verify_no_parent_cycle-requires-clause-linked
 verify_no_parent_cycle-requires-clause-linked c = linked_entries host_entry _ (drafts_view c.args.drafts.now) c.requires.hosts
 
-pub returns-in_err-verify_no_parent_cycle-in-Some : goal.returns-in_err-verify_no_parent_cycle-in-Some
-returns-in_err-verify_no_parent_cycle-in-Some c =
+pub returns-in_err-verify_no_parent_cycle-in-Order : goal.returns-in_err-verify_no_parent_cycle-in-Order
+returns-in_err-verify_no_parent_cycle-in-Order c =
     let ds = drafts_view c.args.drafts.now in
-    let free = acyclic ds _ _ (ap (map (λ list. list.items)) c.deref.ensures.value ∙ c.requires.dependencies) (rw c.in-Some.is at c.in_ok-order.ensures.order) in
-    let fails = fails_later (refusal c.in_err-verify_no_parent_cycle-in-Some.field-0.0) _ (without_cycles (configuration ds))
-    c.in_err-verify_no_parent_cycle-in-Some.ensures (λ x h. cyclic_parents (configuration ds) _ x c.requires.hosts free h) in
+    let free = acyclic ds _ _ (ap (map (λ list. list.items)) c.deref.ensures.value ∙ c.requires.dependencies) (rw c.in-Order.is at c.in_ok-order.ensures.order) in
+    let fails = fails_later (refusal c.in_err-verify_no_parent_cycle-in-Order.field-0.0) _ (without_cycles (configuration ds))
+    c.in_err-verify_no_parent_cycle-in-Order.ensures (λ x h. cyclic_parents (configuration ds) _ x c.requires.hosts free h) in
     search (rules, fails)
 
 pub invariant_of-result : goal.invariant_of-result
 invariant_of-result c =
     let ds = drafts_view c.args.drafts.now in
-    let order = rw c.in-Some.is at c.in_ok-order.ensures.order in
+    let order = rw c.in-Order.is at c.in_ok-order.ensures.order in
     let free = acyclic ds _ _ (ap (map (λ list. list.items)) c.deref.ensures.value ∙ c.requires.dependencies) order in
-    let no_parents = no_cycle_of (configuration ds) _ c.in_ok-verify_no_parent_cycle-in-Some.field-0 c.requires.hosts
-    c.in_ok-verify_no_parent_cycle-in-Some.ensures in
+    let no_parents = no_cycle_of (configuration ds) _ c.in_ok-verify_no_parent_cycle-in-Order.field-0 c.requires.hosts
+    c.in_ok-verify_no_parent_cycle-in-Order.ensures in
     record {
       setup =
           subst IsSetup (same_setup ds _ _ _ c.requires.hosts c.requires.services c.requires.dependencies)
@@ -87,17 +87,17 @@ invariant_of-result c =
       order = rw (← c.deref.ensures.value) order;
     }
 
-pub returns-in_ok-verify_no_parent_cycle-in-Some : goal.returns-in_ok-verify_no_parent_cycle-in-Some
-returns-in_ok-verify_no_parent_cycle-in-Some c =
+pub returns-in_ok-verify_no_parent_cycle-in-Order : goal.returns-in_ok-verify_no_parent_cycle-in-Order
+returns-in_ok-verify_no_parent_cycle-in-Order c =
     let ds = drafts_view c.args.drafts.now in
-    let free = acyclic ds _ _ (ap (map (λ list. list.items)) c.deref.ensures.value ∙ c.requires.dependencies) (rw c.in-Some.is at c.in_ok-order.ensures.order) in
-    let no_parents = no_cycle_of (configuration ds) _ c.in_ok-verify_no_parent_cycle-in-Some.field-0 c.requires.hosts
-    c.in_ok-verify_no_parent_cycle-in-Some.ensures in
+    let free = acyclic ds _ _ (ap (map (λ list. list.items)) c.deref.ensures.value ∙ c.requires.dependencies) (rw c.in-Order.is at c.in_ok-order.ensures.order) in
+    let no_parents = no_cycle_of (configuration ds) _ c.in_ok-verify_no_parent_cycle-in-Order.field-0 c.requires.hosts
+    c.in_ok-verify_no_parent_cycle-in-Order.ensures in
     acyclic_setup (configuration ds) free no_parents ∙ ap Ok (same_setup ds _ _ _ c.requires.hosts c.requires.services c.requires.dependencies)
 
-pub returns-in-None : goal.returns-in-None
-returns-in-None c =
+pub returns-in-Cycle : goal.returns-in-Cycle
+returns-in-Cycle c =
     let ds = drafts_view c.args.drafts.now in
     let seen = ap (map (λ list. list.items)) c.deref.ensures.value ∙ c.requires.dependencies in
-    let cyclic = rw c.in-None.is at c.in_ok-order.ensures.order in
+    let cyclic = (rw c.in-Cycle.is at c.in_ok-order.ensures.order).0 in
     cyclic_dependencies (configuration ds) (ap (λ l. has_cycle (map masters_in l)) (sym seen) ∙ cyclic)

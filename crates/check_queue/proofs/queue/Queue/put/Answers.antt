@@ -1,28 +1,38 @@
-use Rattle.std.proofs.Common.{◌<◌, length, Some, ap, ◌∙◌, arith}
-use Rattle.std.specs.Vec.{with_items}
+use Rattle.std.proofs.Common.{◌≡◌, ◌+◌, length, Some, None, ap, ◌∙◌, arith}
 use Rattle.std.proofs.Math.ListN.{set}
-use Rattle.check_queue.specs.declared.entry.Entry.{Entry}
-use Rattle.check_queue.specs.Tournament.{leaves_of, times_in}
-use Rattle.check_queue.proofs.LeafLaws.{Written, after, entry_time, leaf_of, times_length}
-use Rattle.check_queue.proofs.TournamentLaws.{leaves_length}
+use Rattle.std.proofs.lemmas.List.{get_or-set_same, length-set, set-set}
+use Rattle.check_queue.specs.Positions.{times_in}
+use Rattle.check_queue.proofs.QueueLaws.{Takes, settles, takes_new}
+use Rattle.check_queue.proofs.TimesLaws.{time_at}
 use Rattle.check_queue.proofs.queue.Queue.put.Goals as goal
+use Rattle.check_queue.proofs.queue.Queue.put.Goals.{After-deref_mut-2}
 
--- what the queue is then
-written : (c : goal.After-self-1)
-    → Written c.self.inside.nodes.items (with_items c.self.inside.nodes c.put_leaf.new.nodes).items c.args.number (Some c.args.time)
-written c =
-    let q = c.self.inside.nodes in
-    let m = c.self.invariant.tournament in
-    let few = c.self.invariant.leaves.few in
-    let bound : c.args.number < length (times_in q.items) = rw c.self.view_is c.requires in
-    let long = times_length q.items m in
-    let long' = leaves_length q.items m in
-    let small : c.args.number < 4294967295 = omega arith in
-    let leaf : Entry = record { time = c.args.time; number = c.args.number } in
-    let seen = c.deref_mut.ensures.value in
-    after q c.put_leaf.new.nodes c.args.number leaf (Some c.args.time) c.self.invariant.leaves (leaf_of c.args.number c.args.time (omega arith) small)
-    (entry_time c.args.number c.args.time small) (c.put_leaf.ensures.size ∙ ap length seen) c.put_leaf.ensures.tournament
-    (c.put_leaf.ensures.leaves ∙ ap (λ es. set (leaves_of es) c.args.number leaf) seen)
+-- the number has no time now
+takes : (c : After-deref_mut-2)
+    → Takes c.deref_mut.result.now c.deref_mut-2.result.now (c.self.inside.len + 1) c.self.inside.len (record { time = c.args.time; number = c.args.number })
+    (set (times_in c.self.inside.entries.items c.self.inside.positions.items) c.args.number (Some c.args.time))
+takes c =
+    let k = c.args.number in
+    let gone : times_in c.self.inside.entries.items c.self.inside.positions.items ≡ set c.args.self.now k None = c.self.view_is ∙ c.remove.ensures.after in
+    let long = ap length gone ∙ length-set c.args.self.now k None in
+    let below = c.requires in
+    rw (c.deref_mut.ensures.value, c.deref_mut-2.ensures.value)
+    (takes_new _ _ _ k c.args.time c.self.invariant.ordered c.self.invariant.size (omega arith)
+    (ap (λ ts. time_at ts k) gone ∙ get_or-set_same c.args.self.now k None None below))
+
+pub sift_up-requires-clause-around : goal.sift_up-requires-clause-around
+sift_up-requires-clause-around c = (takes (goal.at.sift_up-requires-clause-around c).After-deref_mut-2).around
+
+pub invariant_of-self : goal.invariant_of-self
+invariant_of-self c =
+    let t = takes (goal.at.invariant_of-self c).After-deref_mut-2 in
+    let h = settles c.self.inside.entries c.self.inside.positions _ _ _ _ (t.long ∙ t.around.linked.sizes ∙ ap length c.deref_mut.ensures.value)
+    (t.long ∙ ap length c.deref_mut-2.ensures.value) c.sift_up.ensures.ordered (c.sift_up.ensures.times ∙ t.times) t.size in
+    record { ordered = h.ordered; size = h.size }
 
 pub returns : goal.returns
-returns c = (written c).times ∙ ap (λ ts. set ts c.args.number (Some c.args.time)) c.self.view_is
+returns c =
+    let t = takes (goal.at.returns c).After-deref_mut-2 in
+    let h = settles c.self.inside.entries c.self.inside.positions _ _ _ _ (t.long ∙ t.around.linked.sizes ∙ ap length c.deref_mut.ensures.value)
+    (t.long ∙ ap length c.deref_mut-2.ensures.value) c.sift_up.ensures.ordered (c.sift_up.ensures.times ∙ t.times) t.size in
+    h.times ∙ ap (λ ts. set ts c.args.number (Some c.args.time)) (c.self.view_is ∙ c.remove.ensures.after) ∙ set-set c.args.self.now c.args.number None _

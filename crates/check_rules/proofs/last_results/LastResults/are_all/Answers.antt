@@ -1,24 +1,23 @@
-use Rattle.std.proofs.Common.{◌≡◌, arith, ◌∙◌, length}
-use Rattle.std.proofs.lemmas.Bool.{not-true}
-use Rattle.check_rules.specs.LastResults.{is_change, results_of, weight_to}
-use Rattle.check_rules.proofs.ChangeLemmas.{no_percent, settled}
-use Rattle.check_rules.proofs.DigitLemmas.{length_unpacked}
+use Rattle.std.proofs.Common.{◌≡◌, arith, ◌∙◌, length, sym}
+use Rattle.std.specs.Prelude.{IsTrue}
+use Rattle.std.proofs.lemmas.Bool.{eqb-true}
+use Rattle.check_rules.specs.Changes.{changes_in}
+use Rattle.check_rules.proofs.ChangeLemmas.{IsSettled, settled}
 use Rattle.check_rules.proofs.last_results.LastResults.are_all.Goals as goal
 
-pub returns-then-self-eq-KEPT_RESULTS-clause-kept : goal.returns-then-self-eq-KEPT_RESULTS-clause-kept
-returns-then-self-eq-KEPT_RESULTS-clause-kept c =
+-- where there are 21 results, with one more they are as they were
+as_they_are : (c : goal.After-is_full) → IsTrue c.is_full.result → IsSettled c.args.self.now c.args.found
+as_they_are c e =
     let r = c.self.inside in
-    let long : length (results_of r) ≡ 21 = length_unpacked r.count r.digits ∙ c.if-self-eq-KEPT_RESULTS.true in
-    let light = c.if-self-gt0.false in
-    let weighed = c.self.invariant.weighed in
-    let none : weight_to 95 (results_of r) ≡ 0 = omega (arith, light, weighed) in
-    rw (c.is_change.ensures, ← c.self.view_is) (λ e. settled (results_of r) c.args.found long none (not-true (is_change (results_of r) c.args.found) e))
+    let full : length r.kept.items ≡ 21 = eqb-true (length r.kept.items) r.kept.capacity (sym c.is_full.ensures ∙ e) ∙ c.self.invariant.room in
+    let counted = c.self.invariant.counted full in
+    let few = c.if-self-gt0.false in
+    let none : changes_in r.kept.items ≡ 0 = omega (arith, counted, few) in
+    rw (← c.self.view_is)
+    (settled r.kept.items c.args.found r.newest full none c.self.invariant.newest (sym c.is_another.ensures ∙ c.if-is_another.false))
 
-pub returns-then-self-eq-KEPT_RESULTS-clause-percent : goal.returns-then-self-eq-KEPT_RESULTS-clause-percent
-returns-then-self-eq-KEPT_RESULTS-clause-percent c =
-    let r = c.self.inside in
-    let long : length (results_of r) ≡ 21 = length_unpacked r.count r.digits ∙ c.if-self-eq-KEPT_RESULTS.true in
-    let light = c.if-self-gt0.false in
-    let weighed = c.self.invariant.weighed in
-    let none : weight_to 95 (results_of r) ≡ 0 = omega (arith, light, weighed) in
-    rw (← c.self.view_is) (λ e. no_percent (results_of r) long none)
+pub returns-clause-kept : goal.returns-clause-kept
+returns-clause-kept c = λ e. (as_they_are c e).kept
+
+pub returns-clause-percent : goal.returns-clause-percent
+returns-clause-percent c = λ e. (as_they_are c e).percent

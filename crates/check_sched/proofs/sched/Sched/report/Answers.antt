@@ -1,2 +1,0 @@
-use Rattle.std.proofs.Common.{◌≡◌, ◌<◌, ◌∙◌}
-use Rattle.check_sched.proofs.sched.Sched.report.Goals as goal

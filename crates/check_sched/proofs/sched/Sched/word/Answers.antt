@@ -23,4 +23,4 @@ returns c =
     let each = c.self.invariant.state.one_each in
     let standings = c.self.invariant.state.one_standing_each in
     let read = standing_read c.self.inside.standings.items c.args.number c.index.result.now (omega (arith, there, each, standings)) c.index.ensures in
-    rw (← c.self.view_is) (c.encode.ensures.value ∙ ap encoded (sym read) ∙ sym (word_at s c.args.number there))
+    rw (← c.self.view_is) (c.code.ensures.value ∙ ap encoded (sym read) ∙ sym (word_at s c.args.number there))

@@ -23,7 +23,7 @@ loop-number-preserved c =
     let there : n < object_count setup = omega arith in
     one_each setup (λ p. results_of (saved_named c.args.saved.now p.1.name)) n c.loop-number.by_number.items _
     _ there c.in_ok-push.ensures.items c.loop-number.invariant
-    (λ o e. results_seen setup c.args.saved.now n o _ _ e (c.kept-kept.ensures setup c.requires.places there) c.last_results.ensures)
+    (λ o e. results_seen setup c.args.saved.now n o _ _ e (c.kept-kept.ensures setup c.requires.places there) c.in_ok-results.ensures)
 
 pub returns : goal.returns
 returns c =

@@ -1,0 +1,108 @@
+#!/usr/bin/env python3
+"""Tries the wrong bodies in crates/NAME/edits: the prover must refuse each.
+
+    .ci/edits.py [--proved]        in the gate: tries the edits of each crate whose file TRIED doesn't fit any more
+    tools/edits [NAME ..]          by hand: tries those of these crates, or of all, and writes TRIED
+
+An edit is a file as in must-fail/, which `rt ci` tries at each run. Its outcome depends on the sources of its crate, on the edits,
+and on what the crate sees of the libraries below: their signatures with their clauses, and their definitions. TRIED has a checksum
+of these, written when the prover last refused every edit of the crate. It doesn't cover the kit: after a change of the kit, run
+tools/edits. With --proved the libraries are those that `rt ci` has just left in the tree. The last line counts the edits.
+"""
+import hashlib
+import importlib.machinery
+import importlib.util
+import os
+import pathlib
+import shutil
+import subprocess
+import sys
+import tempfile
+from concurrent.futures import ThreadPoolExecutor
+
+TOP = pathlib.Path(__file__).resolve().parent.parent
+FLAGS = ["--jobs", "1"]
+SHOWS_NOTHING = "(only because a proof file names"
+
+
+def judge():
+    """The kit's command `rt` as a module, for its own judgement of must-fail edits."""
+    kit = pathlib.Path(subprocess.run(["rt", "doc"], check=True, capture_output=True, text=True).stdout.strip()).parent / "bin"
+    sys.path.insert(0, str(kit))
+    loader = importlib.machinery.SourceFileLoader("rt", str(kit / "rt"))
+    module = importlib.util.module_from_spec(importlib.machinery.ModuleSpec("rt", loader, origin=str(kit / "rt")))
+    module.__file__ = str(kit / "rt")
+    loader.exec_module(module)
+    module.rtlib.guarded()
+    return module
+
+
+def edits_of(crate):
+    """The edits of a crate that only this script tries."""
+    return sorted(TOP.glob(f"crates/{crate.name}/edits/*.edit"))
+
+
+def file_tried(crate):
+    return TOP / "crates" / crate.name / "edits" / "TRIED"
+
+
+def checksum(crate):
+    """The checksum of all that the outcome of a crate's edits depends on, except the kit."""
+    folder = TOP / "crates" / crate.name
+    files = [file for part in ("src", "specs", "proofs") for file in folder.glob(f"{part}/**/*") if file.suffix in (".rt", ".antt")]
+    for library in crate.below():
+        below = TOP / "crates" / library.name
+        files += [*below.glob("specs/**/*.antt"), *below.glob(f"out/rlib/{library.name}.rlib/interface/lang/src/**/*.rt")]
+    total = hashlib.sha256()
+    for file in sorted([*files, *edits_of(crate)]):
+        total.update(f"{file.relative_to(TOP)}\0".encode() + hashlib.sha256(file.read_bytes()).digest())
+    return total.hexdigest() + "\n"
+
+
+def results_of(rt, crate):
+    """What the prover says of each edit of a crate: whether it refused it, and a line. It starts from the crate's kept proofs, if there are any."""
+    edits = [str(edit) for edit in edits_of(crate)]
+    kept = pathlib.Path(crate.folder) / "out" / "incremental"
+    with tempfile.TemporaryDirectory(prefix="edits-") as room:
+        if kept.is_dir():
+            shutil.copytree(kept, room, dirs_exist_ok=True)
+        results = [rt.must_fail(crate, edit, FLAGS, room) for edit in edits]
+        is_sound = rt.checked(crate, {}, FLAGS, room).returncode == 0
+    if not is_sound or not all(refused for refused, _ in results):
+        results = rt.must_fail_all(crate, edits, FLAGS)
+    return [(refused and SHOWS_NOTHING not in line, line) for refused, line in results]
+
+
+def prepare(rt, crates):
+    """Builds the libraries below these crates where they aren't built, with no other rt at work in their folders. Whether all are proved."""
+    libraries = {library.name: library for crate in crates for library in crate.below()}
+    rt.rtlib.lock([*crates, *libraries.values()])
+    in_order = sorted(libraries.values(), key=lambda library: len(library.below()))
+    return all(library.build_rlib(FLAGS, anew=False) == 0 for library in in_order)
+
+
+def main(words):
+    is_by_hand, names = "--write" in words, [word for word in words if not word.startswith("--")]
+    os.chdir(TOP)
+    rt = judge()
+    crates = [crate for crate in rt.rtlib.crates_below(str(TOP)) if edits_of(crate) and (not names or crate.name in names)]
+    passed = failed = 0
+    if not names or len(crates) == len(set(names)):
+        is_ready = "--proved" in words or prepare(rt, crates)
+        stale = [crate for crate in crates if is_by_hand or not file_tried(crate).is_file() or file_tried(crate).read_text() != checksum(crate)]
+        with ThreadPoolExecutor(int(os.environ.get("RT_JOBS") or os.cpu_count() or 1)) as lanes:
+            for crate, results in zip(stale, lanes.map(lambda crate: results_of(rt, crate) if is_ready else [(False, "a library isn't proved")], stale)):
+                print("\n".join(f"edits: {crate.name}: {line}" for _, line in results), flush=True)
+                failed += sum(not refused for refused, _ in results)
+                if is_by_hand and all(refused for refused, _ in results):
+                    file_tried(crate).write_text(checksum(crate))
+        passed = sum(len(edits_of(crate)) for crate in crates) - failed
+    else:
+        print("edits: a crate that was named has no edits")
+        failed = 1
+    print(f"edits: {passed} passed, {failed} failed")
+    return 1 if failed else 0
+
+
+if __name__ == "__main__":
+    sys.exit(main(sys.argv[1:]))

@@ -1,0 +1,87 @@
+//! Moves of an entry up and down the heap. The children of position i are 2i + 1 and 2i + 2.
+//!
+//! Entries aren't swapped. The entry that moves is held outside the heap, and its position is a hole:
+//! other entries move into the hole, one by one, and the held entry is written once, at the end.
+
+ghost use Rattle.std.specs.Prelude.{◌≡◌, ◌+◌, ◌*◌, ◌<◌, ◌≤◌, ◌^◌, Some, length, slice_set};
+ghost use Rattle.check_queue.specs.Heap.{FitsBelow, HasHole, IsFirstChild, IsOrdered};
+ghost use Rattle.check_queue.specs.Positions.{times_in};
+
+use crate::entry::{Entry, is_before};
+
+/// Moves the hole down until it has no child, and from there up to where `held` fits, and puts `held`
+/// there. An entry that is put in high mostly belongs low, so it is cheaper to compare only the
+/// children on the way down.
+pub(crate) fn sift_down(
+    entries: &mut [Entry],
+    positions: &mut [u32],
+    len: usize,
+    mut hole: usize,
+    held: Entry,
+)
+    requires { HasHole entries.old positions.old len hole held }
+    ensures ordered { IsOrdered entries.new positions.new len }
+    ensures times { times_in entries.new positions.new ≡ slice_set (times_in entries.old positions.old) held.number (Some held.time) }
+{
+    while hole < (len - 1) / 2 {
+        let child = first_child(entries, len, hole);
+        let below = entries[child];
+        put_at(entries, positions, hole, below);
+        hole = child;
+    }
+    if hole < len / 2 {
+        let child = 2 * hole + 1;
+        let below = entries[child];
+        put_at(entries, positions, hole, below);
+        hole = child;
+    }
+    sift_up(entries, positions, len, hole, held);
+}
+
+/// Moves the hole up to where `held` fits, and puts `held` there.
+pub(crate) fn sift_up(
+    entries: &mut [Entry],
+    positions: &mut [u32],
+    len: usize,
+    mut hole: usize,
+    held: Entry,
+)
+    requires around { HasHole entries.old positions.old len hole held }
+    requires below { FitsBelow entries.old len hole held }
+    ensures ordered { IsOrdered entries.new positions.new len }
+    ensures times { times_in entries.new positions.new ≡ slice_set (times_in entries.old positions.old) held.number (Some held.time) }
+{
+    while 0 < hole {
+        let parent = (hole - 1) / 2;
+        let above = entries[parent];
+        if !is_before(held, above) {
+            break;
+        }
+        put_at(entries, positions, hole, above);
+        hole = parent;
+    }
+    put_at(entries, positions, hole, held);
+}
+
+/// The position of that of the two children of `hole` which comes first.
+fn first_child(entries: &[Entry], len: usize, hole: usize) -> usize
+    requires room { len ≤ length entries.now }
+    requires few { length entries.now < 2 ^ 32 }
+    requires children { 2 * hole + 2 < len }
+    ensures { IsFirstChild entries.now len hole result }
+{
+    let left = 2 * hole + 1;
+    left + usize::from(is_before(entries[left + 1], entries[left]))
+}
+
+/// Writes an entry to a position, and the position to the entry's number.
+fn put_at(entries: &mut [Entry], positions: &mut [u32], position: usize, entry: Entry)
+    requires position { position < length entries.old }
+    requires number { entry.number < length positions.old }
+    requires few { length entries.old < 2 ^ 32 }
+    ensures entries { entries.new ≡ slice_set entries.old position entry }
+    ensures positions { positions.new ≡ slice_set positions.old entry.number position }
+{
+    entries[position] = entry;
+    positions[entry.number as usize] = position as u32;
+}

@@ -1,0 +1,27 @@
+-- The changes among results, one result after another. What is promised of the percent is the sum over pairs, `changes_weight`; this is for the
+-- code that adds the changes up, and for what is kept of them.
+use Rattle.std.specs.Prelude.{ℕ, ◌+◌, List, [], ◌∷◌, if◌then◌else◌}
+use Rattle.check_rules.specs.declared.state.State.{State}
+use Rattle.check_rules.specs.Board.{flag}
+use Rattle.check_rules.specs.State.{is_another_state}
+
+-- The weight of the changes from one result through those that come after it, where the first of them
+-- weighs this much.
+abbrev pub weight_after : State → List State → ℕ → ℕ
+weight_after before [] weight = 0
+weight_after before (found ∷ rest) weight = (if is_another_state found before then weight else 0) + weight_after found rest (weight + 2)
+
+-- how many changes there are from one result through those that come after it
+abbrev pub changes_after : State → List State → ℕ
+changes_after before [] = 0
+changes_after before (found ∷ rest) = flag (is_another_state found before) + changes_after found rest
+
+-- how many changes there are among results
+abbrev pub changes_in : List State → ℕ
+changes_in [] = 0
+changes_in (oldest ∷ rest) = changes_after oldest rest
+
+-- the last of some results, or the one before them
+abbrev pub last_after : State → List State → State
+last_after before [] = before
+last_after before (found ∷ rest) = last_after found rest

@@ -1,0 +1,110 @@
+//! The changes among the last results of an object: how many there are, and what they weigh together.
+//! (Our own profile, after the manual's "Detection and Handling of State Flapping".)
+
+ghost use Rattle.std.specs.Prelude.{◌≡◌, ◌+◌, ◌-◌, ◌*◌, ◌/◌, ◌≤◌, length};
+ghost use Rattle.check_rules.specs.Board.{flag};
+ghost use Rattle.check_rules.specs.Changes.{changes_after, changes_in, weight_after};
+ghost use Rattle.check_rules.specs.Flapping.{changes_weight};
+
+use crate::flapping::KEPT_RESULTS;
+use crate::state::State;
+use circular_buffer::HeapCircularBuffer;
+
+/// What the oldest of 20 changes weighs; each newer one weighs `WEIGHT_STEP` more.
+const OLDEST_WEIGHT: u16 = 57;
+
+const WEIGHT_STEP: u16 = 2;
+
+/// What the newest of 20 changes weighs.
+const NEWEST_WEIGHT: u16 = 95;
+
+/// What 20 changes weigh together.
+const WEIGHT_OF_ALL: u16 = 1520;
+
+/// The changes among some results.
+#[derive(Clone, Copy)]
+pub(crate) struct Changes {
+    /// What they weigh together.
+    pub(crate) weight: u16,
+    /// How many there are.
+    pub(crate) count: u16,
+}
+
+impl Changes {
+    /// The changes among these results. The two parts of the ring are gone through one after the other,
+    /// each from the result before it; before the oldest stands the oldest itself.
+    pub(crate) fn among(results: &HeapCircularBuffer<State>) -> Changes
+        requires { length results.now.items ≤ KEPT_RESULTS }
+        ensures weight { result.weight ≡ changes_weight results.now.items }
+        ensures count { result.count ≡ changes_in results.now.items }
+    {
+        let Some(oldest) = results.front() else {
+            return Changes {
+                weight: 0,
+                count: 0,
+            };
+        };
+        let (older, newer) = results.as_slices();
+        let before_newer = older.last().copied().unwrap_or(*oldest);
+        let first_of_newer = OLDEST_WEIGHT - WEIGHT_STEP + WEIGHT_STEP * older.len() as u16;
+        let among_older = changes_after(*oldest, older, OLDEST_WEIGHT - WEIGHT_STEP);
+        let among_newer = changes_after(before_newer, newer, first_of_newer);
+        Changes {
+            weight: among_older.weight + among_newer.weight,
+            count: among_older.count + among_newer.count,
+        }
+    }
+
+    /// The changes among 21 results with one more, where the oldest result goes: `goes` says whether a
+    /// change goes with it, and `comes` whether the new result is one. Those that stay weigh 2 less each.
+    pub(crate) fn after(self, goes: bool, comes: bool) -> Changes
+        requires there { flag goes ≤ self.count }
+        requires few { self.count ≤ 20 }
+        requires heavy { 57 * flag goes + 2 * (self.count - flag goes) ≤ self.weight }
+        requires light { self.weight ≤ 1520 }
+        ensures weight { result.weight + 57 * flag goes + 2 * (self.count - flag goes) ≡ self.weight + 95 * flag comes }
+        ensures count { result.count + flag goes ≡ self.count + flag comes }
+    {
+        let gone = u16::from(goes);
+        let new = u16::from(comes);
+        let stay = self.count - gone;
+        Changes {
+            weight: self.weight - OLDEST_WEIGHT * gone - WEIGHT_STEP * stay + NEWEST_WEIGHT * new,
+            count: stay + new,
+        }
+    }
+
+    /// What they weigh of all that could be among 21 results, in whole percents, rounded down.
+    pub(crate) fn percent(self) -> u8
+        requires { self.weight ≤ 1520 }
+        ensures value { result ≡ 100 * self.weight / 1520 }
+        ensures within { result ≤ 100 }
+    {
+        (100 * u32::from(self.weight) / u32::from(WEIGHT_OF_ALL)) as u8
+    }
+}
+
+/// The changes from the result `before` through those that come after it, the first of which weighs
+/// `weight`.
+fn changes_after(before: State, results: &[State], weight: u16) -> Changes
+    requires few { length results.now ≤ KEPT_RESULTS }
+    requires light { weight ≤ 100 }
+    ensures weight { result.weight ≡ weight_after before results.now weight }
+    ensures count { result.count ≡ changes_after before results.now }
+{
+    let mut changes = Changes {
+        weight: 0,
+        count: 0,
+    };
+    let mut last = before;
+    let mut next_weight = weight;
+    for found in results {
+        if found.is_another(last) {
+            changes.weight += next_weight;
+            changes.count += 1;
+        }
+        last = *found;
+        next_weight += WEIGHT_STEP;
+    }
+    changes
+}

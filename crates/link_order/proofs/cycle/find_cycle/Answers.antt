@@ -1,0 +1,25 @@
+use Rattle.std.proofs.Common.{◌≡◌, IfOk, Result, Ok, Err, length, map, subst, sym, true}
+use Rattle.link_order.specs.Search.{waits}
+use Rattle.link_order.proofs.WalkLemmas.{round_is_cycle, walk_returns, walked_waits}
+use Rattle.link_order.proofs.cycle.find_cycle.Goals as goal
+
+each_ok : {A E : Type 0} (P Q : A → Type 0) (r : Result A E) → ((x : A) → P x → Q x) → IfOk r P → IfOk r Q
+each_ok P Q (Ok x) weaker holds = weaker x holds
+each_ok P Q (Err e) weaker holds = tt
+
+pub round-requires : goal.round-requires
+round-requires c =
+    let links = map (λ list. list.items) c.args.links.now in
+    let walked = rw c.deref-2.ensures.value at c.walk.ensures in
+    rw (c.deref.ensures.value, walked)
+    (walk_returns links c.args.left.now c.in_ok-next.next.items c.first_waiting-start.result c.requires.stuck c.in_ok-next.ensures c.first_waiting-start.ensures)
+
+pub returns : goal.returns
+returns c =
+    let links = map (λ list. list.items) c.args.links.now in
+    let next = c.in_ok-next.next.items in
+    let walked = rw c.deref-2.ensures.value at c.walk.ensures in
+    let round = rw c.deref.ensures.value at c.round.ensures in
+    let at : waits c.args.left.now c.walk.result ≡ true = subst (λ o. waits c.args.left.now o ≡ true) (sym walked)
+    (walked_waits links c.args.left.now next c.first_waiting-start.result (length next) c.requires.stuck c.in_ok-next.ensures c.first_waiting-start.ensures) in
+    each_ok _ _ c.round.result (λ cycle is. round_is_cycle links c.args.left.now next c.walk.result cycle.items c.requires.stuck c.in_ok-next.ensures at is) round

@@ -1,0 +1,216 @@
+#define _GNU_SOURCE
+#include "processes.h"
+
+#include <errno.h>
+#include <fcntl.h>
+#include <limits.h>
+#include <signal.h>
+#include <stdio.h>
+#include <stdlib.h>
+#include <string.h>
+#include <sys/mman.h>
+#include <sys/prctl.h>
+#include <sys/resource.h>
+#include <unistd.h>
+
+extern char **environ;
+
+/* A plugin, as its process, the runner and the guard see it: its process group, and the error for which it could not be run. */
+struct entry {
+    volatile pid_t group;
+    volatile int error;
+};
+
+/* The table is shared memory. A plugin's program no longer has it. */
+static struct entry *table;
+static int free_places[MOST_PLUGINS], free_count;
+static struct rlimit files;
+static pid_t guard = -1;
+/* The guard reads the other end of this pipe. Nobody writes: it ends when the runner does. */
+static int guard_pipe = -1;
+static int nothing = -1;
+
+/* ---- killing */
+
+static void kill_group(pid_t group) {
+    if (group > 0 && kill(-group, SIGKILL) != 0 && errno == ESRCH)
+        kill(group, SIGKILL);
+}
+
+void process_kill(const struct started *started) {
+    kill_group(started->process);
+}
+
+void processes_close(void) {
+    for (int place = 0; place < MOST_PLUGINS; place++) {
+        kill_group(table[place].group);
+        table[place].group = 0;
+    }
+}
+
+/* ---- the guard */
+
+/* Waits for the end of the runner, which may have been killed, and then kills its plugins. */
+static void watch_runner(int runner) {
+    char nobody_writes;
+    ssize_t got;
+    prctl(PR_SET_NAME, "nagsched-guard");
+    setsid();
+    dup2(runner, STDIN_FILENO);
+    close_range(STDOUT_FILENO, ~0U, 0);
+    do
+        got = read(STDIN_FILENO, &nobody_writes, 1);
+    while (got > 0 || (got < 0 && errno == EINTR));
+    processes_close();
+    _exit(0);
+}
+
+static bool begin_guard(void) {
+    int ends[2];
+    if (pipe2(ends, O_CLOEXEC) != 0)
+        return false;
+    guard = fork();
+    if (guard == 0) {
+        close(ends[1]);
+        watch_runner(ends[0]);
+    }
+    close(ends[0]);
+    if (guard_pipe >= 0)
+        close(guard_pipe);
+    guard_pipe = ends[1];
+    return guard > 0;
+}
+
+bool is_guard(pid_t process) {
+    if (process != guard)
+        return false;
+    begin_guard();
+    return true;
+}
+
+bool processes_open(void) {
+    struct rlimit raised;
+    if (getrlimit(RLIMIT_NOFILE, &files) != 0)
+        return false;
+    raised = files;
+    raised.rlim_cur = files.rlim_max;
+    setrlimit(RLIMIT_NOFILE, &raised);
+    nothing = open("/dev/null", O_RDONLY | O_CLOEXEC);
+    table = mmap(NULL, MOST_PLUGINS * sizeof *table, PROT_READ | PROT_WRITE, MAP_SHARED | MAP_ANONYMOUS, -1, 0);
+    if (nothing < 0 || table == MAP_FAILED)
+        return false;
+    for (int place = MOST_PLUGINS - 1; place >= 0; place--)
+        free_places[free_count++] = place;
+    return begin_guard();
+}
+
+/* ---- starting */
+
+bool is_local_trouble(int error) {
+    static const int of_the_line[] = {ENOENT, EACCES, EPERM, ENOEXEC, ENOTDIR, EISDIR, ELOOP, ENAMETOOLONG, E2BIG, EINVAL, ELIBBAD};
+    for (size_t i = 0; i < sizeof of_the_line / sizeof *of_the_line; i++)
+        if (error == of_the_line[i])
+            return false;
+    return true;
+}
+
+/* Makes the process the program of these words, which is looked for in PATH if its name has no `/`. It returns with the error. A file that is no program isn't
+ * handed to a shell: an empty one would be OK. */
+static int run_program(char *const *words) {
+    const char *path = getenv("PATH"), *end;
+    char file[PATH_MAX];
+    int error = ENOENT;
+    if (strchr(words[0], '/') != NULL) {
+        execve(words[0], words, environ);
+        return errno;
+    }
+    for (path = path == NULL ? "/usr/bin:/bin" : path; *words[0] != '\0' && *path != '\0'; path = *end == '\0' ? end : end + 1) {
+        end = strchrnul(path, ':');
+        int length = snprintf(file, sizeof file, "%.*s/%s", (int)(end - path), path, words[0]);
+        if (end == path || length >= PATH_MAX)
+            continue;
+        execve(file, words, environ);
+        if (errno != ENOENT && errno != ENOTDIR)
+            error = errno;
+        if (error != ENOENT && error != EACCES)
+            break;
+    }
+    return error;
+}
+
+/* Has the kernel end plugins before it ends a runner, when memory is short. */
+static void offer_to_be_killed(void) {
+    int file = open("/proc/self/oom_score_adj", O_WRONLY | O_CLOEXEC);
+    if (file >= 0 && write(file, "500", 3) != 3)
+        errno = 0; /* it may not: nothing is lost */
+}
+
+/* What the new process does: it returns never. */
+static void become(char *const *words, struct entry *entry, pid_t runner, int output, int errors) {
+    sigset_t none;
+    setpgid(0, 0);
+    prctl(PR_SET_PDEATHSIG, SIGKILL);
+    if (getppid() != runner)
+        _exit(127);
+    sigemptyset(&none);
+    sigprocmask(SIG_SETMASK, &none, NULL);
+    offer_to_be_killed();
+    dup2(nothing, STDIN_FILENO);
+    dup2(output, STDOUT_FILENO);
+    dup2(errors, STDERR_FILENO);
+    close_range(STDERR_FILENO + 1, ~0U, 0); /* while the program is loaded, too: a file system may hang then */
+    setrlimit(RLIMIT_NOFILE, &files);
+    entry->error = run_program(words);
+    _exit(127);
+}
+
+/* Forks, with both pipes open. */
+static int fork_plugin(char *const *words, struct started *started, const int *output, const int *errors) {
+    struct entry *entry = &table[started->place];
+    pid_t runner = getpid();
+    entry->error = 0;
+    started->process = fork();
+    if (started->process < 0)
+        return errno;
+    if (started->process == 0)
+        become(words, entry, runner, output[1], errors[1]);
+    setpgid(started->process, started->process); /* it does so too: whoever comes first */
+    entry->group = started->process;
+    started->output = output[0];
+    started->errors = errors[0];
+    return 0;
+}
+
+static bool open_pipe(int *ends) {
+    return pipe2(ends, O_CLOEXEC) == 0 && fcntl(ends[0], F_SETFL, O_NONBLOCK) == 0;
+}
+
+static void close_end(int file) {
+    if (file >= 0)
+        close(file);
+}
+
+int process_start(char *const *words, struct started *started) {
+    int output[2] = {-1, -1}, errors[2] = {-1, -1};
+    if (free_count == 0 || (guard < 0 && !begin_guard()))
+        return EAGAIN;
+    started->place = free_places[free_count - 1];
+    int error = open_pipe(output) && open_pipe(errors) ? fork_plugin(words, started, output, errors) : errno;
+    close_end(output[1]);
+    close_end(errors[1]);
+    if (error != 0) {
+        close_end(output[0]);
+        close_end(errors[0]);
+        return error;
+    }
+    free_count--;
+    return 0;
+}
+
+int process_forget(const struct started *started) {
+    struct entry *entry = &table[started->place];
+    int error = entry->error;
+    entry->group = 0;
+    free_places[free_count++] = started->place;
+    return error;
+}

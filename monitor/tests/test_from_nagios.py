@@ -1,0 +1,213 @@
+"""Taking over a configuration of Nagios: what a macro stands for, groups, the monitor's options, and files that are replaced together."""
+import fcntl
+import json
+import os
+import pathlib
+import subprocess
+import sys
+import tempfile
+import threading
+import unittest
+from typing import Any, Dict, List, Optional
+from unittest import mock
+
+from nagsched_monitor import whole_site
+from nagsched_monitor.faults import SiteFault
+from nagsched_monitor.whole_site import reading
+
+from .waiting import LONG
+
+SCRIPT = pathlib.Path(__file__).resolve().parents[2] / "tools/from_nagios.py"
+# As `nagios4 -vp` of Nagios Core 4.4.6 writes it: groups by name.
+GROUPS: Dict[str, Dict[str, str]] = {
+    "contactgroup oncall": {"alias": "On call", "members": "ann"},
+    "hostgroup alpha": {"alias": "The alphas", "members": "db,web"},
+    "hostgroup middle": {"alias": "The middles", "members": "web"},
+    "hostgroup zebra": {"alias": "The zebras", "members": "db,web", "notes": "group notes $HOSTNAME$", "notes_url": "http://g/$HOSTGROUPNAME$", "action_url": "http://a/"},
+    "servicegroup as": {"alias": "A services", "members": "web,http"},
+    "servicegroup zs": {"alias": "Z services", "members": "db,plain,web,http", "notes": "sg notes"},
+}
+ALIAS = "A b-c_d.e/f:g~h?i=j&k%l+m@n,o"
+HOSTS: Dict[str, Dict[str, str]] = {
+    "web": {"alias": ALIAS, "display_name": "Web shown", "address": "192.0.2.7", "notes": "about $HOSTADDRESS$ & more", "notes_url": "http://n/?h=$HOSTALIAS$",
+            "action_url": "http://act/$HOSTNAME$", "_RACK": "r 7", "_GROUPX": "gx", "contact_groups": "oncall", "contacts": "bob,ann"},
+    "db": {"alias": "Db", "address": "192.0.2.8"},
+    "lone": {"address": "192.0.2.9"},
+}
+SERVICES: Dict[str, Dict[str, str]] = {
+    "web;http": {"display_name": "Http shown", "notes": "svc $SERVICEDESC$ of $HOSTNAME$", "notes_url": "http://sn/?a b=$SERVICEDESC$&c=1", "action_url": "http://sa/", "_OID": "1.3"},
+    "web;more": {},
+    "db;plain": {},
+}
+# What Nagios Core 4.4.6 handed to a plugin of each object, by the macro. None: Nagios leaves the macro as it is, or knows its value at run time only.
+MACROS: Dict[str, Dict[str, Optional[str]]] = {
+    "web": {
+        "HOSTGROUPNAME": "zebra", "HOSTGROUPNAMES": "zebra,middle,alpha", "HOSTGROUPALIAS": "The zebras", "HOSTNOTES": "about 192.0.2.7 & more",
+        "HOSTNOTESURL": "http://n/?h=A%20b-c_d.e%2Ff%3Ag~h%3Fi%3Dj%26k%25l%2Bm%40n%2Co", "HOSTACTIONURL": "http://act/web", "_HOSTGROUPX": "gx", "_HOSTRACK": "r 7",
+        "HOSTSTATE": None, "HOSTPARENTS": None, "LONGDATETIME": None,
+    },
+    "db": {"HOSTGROUPMEMBERS": "db,web", "HOSTGROUPNOTES": "group notes db", "HOSTGROUPNOTESURL": "http://g/zebra", "HOSTGROUPACTIONURL": "http://a/", "HOSTNOTES": "",
+           "HOSTNOTESURL": "", "HOSTGROUPNAMES": "zebra,alpha"},
+    "lone": {"HOSTGROUPNAME": "$HOSTGROUPNAME$", "HOSTGROUPNAMES": "", "HOSTALIAS": "lone", "HOSTADDRESS:web": "192.0.2.7", "HOSTALIAS:web": ALIAS, "_HOSTRACK:web": "r 7",
+             "HOSTGROUPMEMBERS:zebra": "db,web", "HOSTNAME:nosuch": None},
+    "web;http": {"SERVICEGROUPNAME": "zs", "SERVICEGROUPNAMES": "zs,as", "SERVICEGROUPALIAS": "Z services", "SERVICENOTES": "svc http of web",
+                 "SERVICENOTESURL": "http://sn/?a b=http&c=1", "SERVICEACTIONURL": "http://sa/", "SERVICESTATEID:db:plain": None},
+    "db;plain": {"HOSTGROUPNAME": "zebra", "SERVICEGROUPMEMBERS": "db,plain,web,http", "SERVICEGROUPNOTES": "sg notes", "SERVICEDESC:web:http": "http",
+                 "SERVICEDISPLAYNAME:web:http": "Http shown", "HOSTADDRESS:web": "192.0.2.7"},
+    "web;more": {"HOSTGROUPALIAS:alpha": "The alphas", "SERVICEGROUPALIAS:as": "A services", "HOSTGROUPNAME:alpha": "alpha", "SERVICEDESC::http": "http",
+                 "HOSTADDRESS:zebra:,": "192.0.2.8,192.0.2.7", "HOSTALIAS:zebra:|": f"Db|{ALIAS}", "HOSTDISPLAYNAME:alpha:, ": "db, Web shown", "HOSTGROUPNAMES:web": "zebra,middle,alpha",
+                 "HOSTGROUPALIAS:web": None},
+}
+
+
+def defined(kind: str, members: Dict[str, str]) -> str:
+    return f"define {kind} {{\n" + "".join(f"\t{name}\t{value}\n" for name, value in members.items()) + "\t}\n"
+
+
+class TakingOver(unittest.TestCase):
+    def setUp(self) -> None:
+        holder = tempfile.TemporaryDirectory()
+        self.addCleanup(holder.cleanup)
+        self.folder = pathlib.Path(holder.name)
+        self.site = self.folder / "site"
+
+    def taken(self, objects: str, options: str = "") -> "subprocess.CompletedProcess[str]":
+        (self.folder / "nagios.cfg").write_text(f"interval_length=60\n{options}")
+        (self.folder / "objects").write_text(objects)
+        words = [sys.executable, str(SCRIPT), "--site", str(self.site), str(self.folder / "nagios.cfg"), str(self.folder / "objects")]
+        return subprocess.run(words, capture_output=True, text=True, timeout=LONG, check=False)
+
+    def take(self, objects: str, options: str = "") -> str:
+        ran = self.taken(objects, options)
+        self.assertEqual(ran.returncode, 0, ran.stderr)
+        return ran.stderr
+
+    def read(self, name: str) -> Any:
+        return json.loads((self.site / f"{name}.json").read_text())
+
+    def small(self, count: int = 1) -> str:
+        """Hosts with a command each, all of one number."""
+        hosts = "".join(defined("host", {"host_name": f"h{number}-{count}", "check_command": "dummy", "max_check_attempts": "3"}) for number in range(count))
+        return defined("command", {"command_name": "dummy", "command_line": f"/bin/true {count}"}) + hosts
+
+    def network(self, commands: Dict[str, str]) -> str:
+        """All objects, each with the command that is named for it."""
+        text = "".join(defined(name.split()[0], {f"{name.split()[0]}_name": name.split()[1], **members}) for name, members in GROUPS.items())
+        for name, line in commands.items():
+            text += defined("command", {"command_name": f"of {name}", "command_line": line})
+        for name, members in {**HOSTS, **SERVICES}.items():
+            host, semicolon, description = name.partition(";")
+            own = {"host_name": host, **({"service_description": description} if semicolon else {}), **members, "check_command": f"of {name}", "max_check_attempts": "3"}
+            text += defined("service" if semicolon else "host", own)
+        return text
+
+    def test_macros_that_nagios_knows_before_it_runs(self) -> None:
+        known = {name: [(macro, wanted) for macro, wanted in macros.items() if wanted is not None] for name, macros in MACROS.items()}
+        self.take(self.network({name: "/bin/echo " + " ".join(f"'{macro}=${macro}$'" for macro, _ in macros) for name, macros in known.items()}))
+        for name, macros in known.items():
+            self.assertEqual(self.read("commands")[name]["line"], "/bin/echo " + " ".join(f"'{macro}={wanted}'" for macro, wanted in macros))
+
+    def test_macros_that_nagios_knows_when_it_runs(self) -> None:
+        """An object that has one is disabled, and named."""
+        for name, macros in MACROS.items():
+            for macro in (macro for macro, wanted in macros.items() if wanted is None):
+                told = self.take(self.network({**{each: "/bin/true" for each in {**HOSTS, **SERVICES}}, name: f"/bin/echo '${macro}$'"}))
+                self.assertNotIn(name, self.read("commands"))
+                self.assertIn(f"{name}: ${macro}$ has no value before Nagios runs", told)
+
+    def test_groups(self) -> None:
+        self.take(self.network({name: "/bin/true" for name in {**HOSTS, **SERVICES}}))
+        self.assertEqual(self.read("groups"), {
+            "web": {"host_groups": ["alpha", "middle", "zebra"], "contact_groups": ["oncall"], "contacts": ["ann", "bob"]},
+            "db": {"host_groups": ["alpha", "zebra"]},
+            "web;http": {"host_groups": ["alpha", "middle", "zebra"], "service_groups": ["as", "zs"]},
+            "web;more": {"host_groups": ["alpha", "middle", "zebra"]},
+            "db;plain": {"host_groups": ["alpha", "zebra"], "service_groups": ["zs"]},
+        })
+
+    def test_options_of_the_monitor(self) -> None:
+        """What nagios.cfg says counts, then what was there, then what Nagios takes; members that it can't say stay."""
+        self.take(self.small())
+        self.assertEqual(self.read("monitor"), {"slots": 200, "cached_host_check_horizon": 15, "service_check_timeout_state": "c"})
+        before = {"slots": 5000, "cached_host_check_horizon": 20, "service_check_timeout_state": "u", "zone": "Europe/Paris", "keep_days": 400, "other": [1]}
+        (self.site / "monitor.json").write_text(json.dumps(before))
+        self.take(self.small())
+        self.assertEqual(self.read("monitor"), before)
+        self.take(self.small(), "max_concurrent_checks=40\ncached_host_check_horizon=9\nservice_check_timeout_state=w\nuse_timezone=:America/Lima\n")
+        self.assertEqual(self.read("monitor"), {**before, "slots": 40, "cached_host_check_horizon": 9, "service_check_timeout_state": "w", "zone": "America/Lima"})
+
+    def test_options_that_would_be_lost(self) -> None:
+        """A monitor.json that can't be read stops it, and so does a zone that nobody knows; nothing is changed then."""
+        self.take(self.small())
+        for text in ("{", "[]"):
+            (self.site / "monitor.json").write_text(text)
+            ran = self.taken(self.small(2))
+            self.assertEqual((ran.returncode, (self.site / "monitor.json").read_text()), (1, text))
+            self.assertIn("monitor.json", ran.stderr)
+        (self.site / "monitor.json").unlink()
+        ran = self.taken(self.small(2), "use_timezone=Mars/Olympus\n")
+        self.assertEqual((ran.returncode, len(self.read("setup")["hosts"])), (1, 1))
+        self.assertIn("use_timezone=Mars/Olympus", ran.stderr)
+
+    def test_what_is_named(self) -> None:
+        options = {"enable_environment_macros": "NAGIOS_", "accept_passive_service_checks": "services", "accept_passive_host_checks": "hosts", "log_passive_checks": "logged"}
+        neutral = {"enable_environment_macros": "0", "accept_passive_service_checks": "1", "accept_passive_host_checks": "1", "log_passive_checks": "1"}
+        for option, word in options.items():
+            told = [line for line in self.take(self.small(), f"{option}={1 - int(neutral[option])}\n").splitlines() if option in line]
+            self.assertEqual(len(told), 1)
+            self.assertIn(word, told[0])
+            self.assertNotIn(option, self.take(self.small(), f"{option}={neutral[option]}\n"))
+        host = {"host_name": "h", "check_command": "dummy", "max_check_attempts": "3"}
+        told = self.take(self.small() + defined("host", {**host, "passive_checks_enabled": "0"})).splitlines()
+        self.assertIn("left out: passive_checks_enabled 0 (1): a passive result of it is taken all the same: h", told)
+        self.assertNotIn("passive_checks", self.take(self.small() + defined("host", {**host, "passive_checks_enabled": "1"})))
+        ran = subprocess.run([sys.executable, str(SCRIPT), str(self.folder / "nagios.cfg"), str(self.folder / "objects")], capture_output=True, text=True, check=False)
+        self.assertNotIn("zone", ran.stderr)
+        (self.folder / "nagios.cfg").write_text("use_timezone=Europe/Paris\n")
+        ran = subprocess.run([sys.executable, str(SCRIPT), str(self.folder / "nagios.cfg"), str(self.folder / "objects")], capture_output=True, text=True, check=False)
+        self.assertIn("left out: use_timezone (1): times are those of the machine's zone", ran.stderr)
+
+    def test_files_that_it_does_not_know_stay(self) -> None:
+        self.take(self.small())
+        (self.site / "queues.json").write_text("{}")
+        (self.site / "mirrors.json").write_text("{}")
+        (self.site / "part-1.json").write_text("{}")
+        self.take(self.small(2))
+        self.assertEqual(sorted(path.name for path in self.site.iterdir()), ["commands.json", "groups.json", "monitor.json", "passive.json", "periods.json", "queues.json", "setup.json"])
+        self.assertEqual((self.site / "commands.json").stat().st_mode & 0o777, 0o600)
+
+    def test_a_reader_sees_all_files_of_one_time(self) -> None:
+        """Whoever holds the folder's lock finds commands of just the hosts that there are."""
+        self.take(self.small(1))
+        is_over = threading.Event()
+        seen: List[int] = []
+        different: List[int] = []
+
+        def read() -> None:
+            while not is_over.is_set():
+                with reading(self.site):
+                    hosts = sorted(host["name"] for host in self.read("setup")["hosts"])
+                    (seen if hosts == sorted(self.read("commands")) else different).append(len(hosts))
+
+        reader = threading.Thread(target=read)
+        reader.start()
+        try:
+            for count in (2, 3, 300, 4, 5):
+                self.take(self.small(count))
+        finally:
+            is_over.set()
+            reader.join(LONG)
+        self.assertEqual(different, [])
+        self.assertEqual(seen, sorted(seen, key=[1, 2, 3, 300, 4, 5].index))
+        self.assertGreater(len(set(seen)), 2)
+
+    def test_files_that_are_replaced_for_too_long(self) -> None:
+        self.site.mkdir()
+        lock = os.open(self.site, os.O_RDONLY)
+        self.addCleanup(os.close, lock)
+        fcntl.flock(lock, fcntl.LOCK_EX)
+        with mock.patch.object(whole_site, "PATIENCE", 0.1), self.assertRaises(SiteFault):
+            with reading(self.site):
+                pass
+        with self.assertRaises(SiteFault), reading(self.folder / "none"):
+            pass
