@@ -150,6 +150,22 @@ def long_chain(held):
     held.compare("a chain of 4,000 dependencies", (lines(*wanted), 0), held.run([], lines(setup(**members), *commands)))
 
 
+def many_ways(held):
+    """Forty layers of two hosts, each of which depends on both of the next layer and inherits: 2^39 ways lead from the first to the last."""
+    layers = [(f"a{layer}", f"b{layer}") for layer in range(10, 50)]
+    pairs = [(one, other) for upper, lower in zip(layers, layers[1:]) for one in upper for other in lower]
+    links = [depends("a10", "a11", criteria="d"), *(depends(one, other, criteria="d", inherits_parent=True) for one, other in pairs)]
+    document = lines(setup(hosts=[host(name) for layer in layers for name in layer], host_dependencies=links))
+    names = sorted(sum(layers, ()))
+    takes = lines(*['["take",10]'] * len(names))
+    wanted = [f"taken {at} {name}" for at, name in enumerate(names, 1)]
+    held.compare("forty layers that are up", (lines(*wanted), 0), held.run(["run", "--start", "10"], document + takes))
+    down = lines('["reschedule","b49",0,false]', '["take",0]', '["report","b49",1,2]')
+    put_off = {name: f"putoff 300010 {name}" for name in names if name != "b49"} | {"a49": "taken 2 a49"}
+    wanted = ["done b49", "taken 1 b49", "standing DOWN HARD 1 yes STEADY 300000 b49", *put_off.values(), "idle 300000"]
+    held.compare("forty layers above a host that is down", (lines(*wanted), 0), held.run(["run", "--start", "10"], document + down + takes))
+
+
 def long_cycles(held):
     """4,000 objects in a ring, of each sort of dependency and of parents."""
     names = [f"x{n:04}" for n in range(4_000)]
@@ -253,7 +269,7 @@ def saved_states(held):
 
 
 held = Held("limits")
-LISTS = (many_objects, long_names, many_parents, too_many, explained_at_limits, most_dependencies, long_chain, long_cycles, last_of_many)
+LISTS = (many_objects, long_names, many_parents, too_many, explained_at_limits, most_dependencies, long_chain, many_ways, long_cycles, last_of_many)
 for part in (*LISTS, many_calls, places, long_inputs, saved_states):
     part(held)
 held.end()

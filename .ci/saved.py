@@ -121,6 +121,8 @@ def shapes(state: State) -> Iterator[Fault]:
     yield Fault(at(0, more=1), "refused K4 Shape 0")
     yield Fault(at(0, state="PENDING"), "refused K4 Shape 0")
     yield Fault(at(0, results="dx"), "refused K4 Shape 0")
+    yield Fault(at(0, kind="soft"), "refused K4 Shape 0")
+    yield Fault(at(0, attempt=1.0), "refused K4 Shape 0")
     yield Fault(lambda state: state["objects"].__setitem__(2, 5), "refused K4 Shape 2")
 
 
@@ -135,6 +137,17 @@ def unlawful() -> Iterator[Fault]:
     for index, each in changes.items():
         for members in each:
             yield Fault(at(index, **members), f"refused K9 Unlawful {index}")
+
+
+def standings() -> Iterator[Fault]:
+    """What may be known of a host with a maximum of 3 attempts, and what may not."""
+    for state, kind, attempt, last, is_lawful_one in [
+        ("DOWN", "SOFT", 2, "UP", True), ("DOWN", "SOFT", 3, "UP", False), ("DOWN", "SOFT", 1, "DOWN", False), ("DOWN", "HARD", 3, "DOWN", True),
+        ("DOWN", "HARD", 3, "UP", True), ("DOWN", "HARD", 2, "DOWN", False), ("UP", "SOFT", 3, "UP", True), ("UP", "SOFT", 4, "UP", False),
+        ("UP", "HARD", 1, "UP", True), ("UP", "HARD", 1, "DOWN", False),
+    ]:
+        line = "" if is_lawful_one else "refused K9 Unlawful 0"
+        yield Fault(at(0, state=state, kind=kind, attempt=attempt, last_hard_state=last), line)
 
 
 def orders() -> Iterator[Fault]:
@@ -152,7 +165,7 @@ def orders() -> Iterator[Fault]:
 def refusals(program: str, text: str) -> Iterator[tuple[str, bool]]:
     """Each refusal, by `run` and by `live`."""
     state = json.loads(text)
-    for number, fault in enumerate([*limits(), *shapes(state), *unlawful(), *orders()]):
+    for number, fault in enumerate([*limits(), *shapes(state), *unlawful(), *standings(), *orders()]):
         changed = copy.deepcopy(state)
         fault.change(changed)
         line = json.dumps(changed, ensure_ascii=False)

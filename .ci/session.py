@@ -184,6 +184,13 @@ def faults_of_conversations(held):
         os.close(writing)
 
 
+def three_workers(held):
+    """Each of three workers finds nothing to check; their lines come in any order, and the total after them."""
+    text, status = held.run(["drill", "--workers", "3"], b'{}\n["moment",5]\n')
+    written = text.decode().splitlines()
+    held.compare("three workers", (["0 idle none", "1 idle none", "2 idle none"], ["total 3 0"], 0), (sorted(written[:3]), written[3:], status))
+
+
 def long_documents(held):
     """A check reads no more of a document than shows that it is too long: one byte past its limit, and behind a line feed one more."""
     whole = b"{}" + b" " * (DOCUMENT - 2)
@@ -229,6 +236,6 @@ def terminals(held):
 
 
 held = Held("session")
-for part in (helps, versions, schema, refused_words, faults, faults_of_conversations, long_documents, writes, terminals):
+for part in (helps, versions, schema, refused_words, faults, faults_of_conversations, three_workers, long_documents, writes, terminals):
     part(held)
 held.end()

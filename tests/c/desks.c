@@ -1,5 +1,5 @@
-/* Desks of several passes: calls out of the order of their numbers, passes that are spent, as many passes and hosts as there
- * can be, two threads that call, and one that glances while the other reports.
+/* Desks of several passes: calls out of the order of their numbers, which refusal comes first, passes that are spent, as many passes and
+ * hosts as there can be, two threads that call, and one that glances while the other reports.
  */
 #include "counted.h"
 
@@ -10,6 +10,9 @@
 #define CALLS 100
 #define CHECKS 190
 #define GLANCES 10000
+
+/* One millisecond past the last moment. */
+#define TOO_LATE ((UINT64_C(1) << 60) + 1)
 
 static struct nagsched_handle passes[PASSES];
 
@@ -54,6 +57,30 @@ static void out_of_order(void) {
     GIVES(MISSING, nagsched_close(&passes[0]));
     close_desk(3, 3);
     IS(entry(0).pass == 2 && entry(1).pass == 0 && entry(2).pass == 1);
+    GIVES(OK, nagsched_free(&passes[0]));
+}
+
+/* An object that isn't there is reported before a moment past the last one, and that before another run's number. */
+static void first_refusals(void) {
+    struct nagsched_reply reply;
+    open_desk(ONE_SERVICE, 1, 20);
+    GIVES(OK, nagsched_report(&passes[0], 2, 1, NAGSCHED_CODE_OK, &reply));
+    IS(reply.kind == NAGSCHED_REPLY_UNKNOWN_OBJECT);
+    GIVES(OK, nagsched_abandon(&passes[0], 2, 1, TOO_LATE, &reply));
+    IS(reply.kind == NAGSCHED_REPLY_UNKNOWN_OBJECT);
+    GIVES(OK, nagsched_reschedule(&passes[0], 2, TOO_LATE, 0, &reply));
+    IS(reply.kind == NAGSCHED_REPLY_UNKNOWN_OBJECT);
+    GIVES(OK, nagsched_enable(&passes[0], 2, 1, &reply));
+    IS(reply.kind == NAGSCHED_REPLY_UNKNOWN_OBJECT);
+    GIVES(OK, nagsched_status(&passes[0], 2, &reply));
+    IS(reply.kind == NAGSCHED_REPLY_UNKNOWN_OBJECT);
+    GIVES(OK, nagsched_abandon(&passes[0], 1, 1, TOO_LATE, &reply));
+    IS(reply.kind == NAGSCHED_REPLY_TIME_RANGE);
+    GIVES(OK, nagsched_take(&passes[0], 0, &reply));
+    IS(reply.kind == NAGSCHED_REPLY_TAKEN && reply.object == 1 && reply.run == 1);
+    GIVES(OK, nagsched_abandon(&passes[0], 1, 2, TOO_LATE, &reply));
+    IS(reply.kind == NAGSCHED_REPLY_TIME_RANGE);
+    close_desk(1, 8);
     GIVES(OK, nagsched_free(&passes[0]));
 }
 
@@ -151,6 +178,7 @@ static void glances(void) {
 
 int main(void) {
     out_of_order();
+    first_refusals();
     spent();
     most_passes();
     most_hosts();

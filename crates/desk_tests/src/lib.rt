@@ -1,8 +1,15 @@
 #![tactic(auto)]
 //! Tests of books, desks and workers.
 //!
-//! They stand in a crate of their own, since a crate with a test is proved once more for it. Nothing
-//! but tests is in it. What a clause says has none.
+//! They are in a crate of their own, because a crate with tests is proved once more for them. It holds
+//! nothing else. A fact that a clause states has no test here.
+
+use check_sched::{Call, Reply};
+use std::mem::size_of;
+use ticket_steps::Entry;
+
+// An entry of a history takes 56 bytes.
+const _: () = prove!(size_of::<Entry<Call, Reply>>() == 56);
 
 #[cfg(test)]
 mod books;

@@ -1,7 +1,7 @@
 //! What no clause says and no drill of the program shows: that the workers of a crew work at the same
 //! time, what a plugin may do, crews that lack a pass, and how the library is embedded.
 
-ghost use Rattle.std.specs.Prelude.{⊤, ◌<◌, ◌≤◌};
+ghost use Rattle.std.specs.Prelude.{⊤};
 
 mod embedding;
 mod own_threads;
@@ -13,14 +13,10 @@ use crate::openings::{
 };
 use check_rules::Code;
 use check_workers::{CrewError, Plugin, Tally, crew, work};
-use std::alloc::Global;
 use std::hint::spin_loop;
-use std::process::Abort;
-use std::sync::Wait;
 use std::sync::atomic::AtomicU64;
 use std::sync::atomic::Ordering::SeqCst;
 use std::test::Fail;
-use std::thread::Threads;
 use ticket_steps::Kept;
 
 /// Two hosts that are due at 0; the first depends on the second where that was never checked.
@@ -153,41 +149,24 @@ fn the_workers_of_a_crew_work_at_the_same_time(rt: HostRuntime) -> Result<(), Fa
     Ok(())
 }
 
-/// A crew of so many workers over two services that come back fine. Whoever takes them, each is
-/// checked once: at the second moment neither is due.
-fn crew_of(
-    rt: &(impl Threads + Wait + Sync + Abort),
-    alloc: Global,
-    workers: u32,
-) -> Result<(), Fail>
-    requires { (0 < workers) × (workers ≤ 65) }
-{
-    let (desk, passes) = opened(alloc, TWO_SERVICES, workers, MOST_CALLS)?;
-    let Ok((book, tally)) = crew(rt, alloc, desk, passes, &AlwaysOk, &[0, 60_000]) else {
+/// The program has no drill of more than 64 workers, and a crew has no such limit. Whichever worker takes
+/// the two services, each is checked once: at the second moment neither is due.
+#[test]
+fn a_crew_of_sixty_five(rt: HostRuntime) -> Result<(), Fail> {
+    let alloc = rt.alloc();
+    let (desk, passes) = opened(alloc, TWO_SERVICES, 65, MOST_CALLS)?;
+    let Ok((book, tally)) = crew(&rt, alloc, desk, passes, &AlwaysOk, &[0, 60_000]) else {
         return Err(Fail::from("no memory for the threads"));
     };
     let two_runs = Tally {
-        takes: 2 * workers as u64,
+        takes: 130,
         taken: 2,
-        idle: 2 * workers as u64 - 2,
+        idle: 128,
         reports: 2,
         reported: 2,
         ..Tally::default()
     };
     assert_eq!(rt; tally, two_runs);
-    assert_eq!(rt; book.entries().len(), 2 * workers as usize + 2);
-    assert_eq!(rt; book.refused(), 0);
+    assert_eq!(rt; (book.entries().len(), book.refused()), (132, 0));
     Ok(())
-}
-
-#[test]
-fn crews_of_three_and_of_sixteen(rt: HostRuntime) -> Result<(), Fail> {
-    crew_of(&rt, rt.alloc(), 3)?;
-    crew_of(&rt, rt.alloc(), 16)
-}
-
-/// The program has no drill of more than 64 workers; a crew has no such limit.
-#[test]
-fn a_crew_of_sixty_five(rt: HostRuntime) -> Result<(), Fail> {
-    crew_of(&rt, rt.alloc(), 65)
 }

@@ -25,25 +25,20 @@ type LockOfTwo = (
     Seat<CounterBook>,
 );
 
-/// A lock of so many numbers over an empty book, a seat for the first of them and one for the rest.
-/// Out of memory hands the book back as it was, and a second try with memory succeeds.
-fn first_and_rest(alloc: Global, numbers: u32, room: usize) -> Result<LockOfTwo, AllocError>
-    requires { (1 < numbers) × (numbers ≤ 1024) }
+/// A lock of two numbers over an empty book, and a seat for each of them. Out of memory hands the book
+/// back as it was, and a second try with memory succeeds.
+fn two_seats(alloc: Global, room: usize) -> Result<LockOfTwo, AllocError>
     ensures { IfOk result (λ made. IsSeatOf made.0 made.1 × IsSeatOf made.0 made.2) }
 {
     let book = empty_book(alloc, room)?;
-    let (lock, seat) = match TicketLock::open(alloc, book, numbers) {
+    let (lock, seat) = match TicketLock::open(alloc, book, 2) {
         Ok(made) => made,
-        Err(book) => match TicketLock::open(alloc, book, numbers) {
-            Ok(made) => made,
-            Err(_book) => return Err(AllocError),
-        },
+        Err(book) => TicketLock::open(alloc, book, 2).map_err(|_book| AllocError)?,
     };
-    let count = seat.count();
-    if count < 2 {
+    if seat.count() < 2 {
         return Err(AllocError);
     }
-    let (first, second) = lock.split(seat, count - 1);
+    let (first, second) = lock.split(seat, 1);
     Ok((lock, first, second))
 }
 
@@ -60,13 +55,6 @@ fn seat_with(
         Ok(made) => Ok(made),
         Err(book) => TicketLock::open_with(alloc, book, 1, draws).map_err(|_book| AllocError),
     }
-}
-
-/// A lock of two numbers over an empty book, and a seat for each of them.
-fn two_seats(alloc: Global, room: usize) -> Result<LockOfTwo, AllocError>
-    ensures { IfOk result (λ made. IsSeatOf made.0 made.1 × IsSeatOf made.0 made.2) }
-{
-    first_and_rest(alloc, 2, room)
 }
 
 #[test]
@@ -252,33 +240,5 @@ fn two_threads_make_a_thousand_calls_each(rt: HostRuntime) -> Result<(), Fail> {
     };
     assert_eq!(rt; book.entries().len(), 2000);
     assert_eq!(rt; book.entries()[1999].reply, 2000);
-    Ok(())
-}
-
-/// As many numbers as there can be.
-#[test]
-fn a_lock_of_1024_numbers(rt: HostRuntime) -> Result<(), Fail> {
-    let (lock, first, rest) = first_and_rest(rt.alloc(), 1024, 2)?;
-    assert_eq!(rt; (first.number(), first.count()), (0, 1));
-    assert_eq!(rt; (rest.number(), rest.count()), (1, 1023));
-    assert_eq!(rt; rest.left(), 1023 * 4_294_967_295);
-    let Ok(turn) = lock.draw(rest) else {
-        panic!(rt; "spent")
-    };
-    let (rest, reply) = match take_turn(&lock, turn, 9) {
-        Ok(done) => done,
-        Err(_turn) => panic!(rt; "waits"),
-    };
-    assert_eq!(rt; reply, Ok(9));
-    let seat = lock.gather(first, rest);
-    assert_eq!(rt; (seat.count(), seat.calls()), (1024, 1));
-    let book = match lock.close(seat) {
-        Ok(book) => book,
-        Err((_lock, _seat)) => panic!(rt; "missing"),
-    };
-    let [entry] = book.entries() else {
-        panic!(rt; "not one entry")
-    };
-    assert!(rt; is_entry(entry, 1, 9, 9));
     Ok(())
 }

@@ -8,11 +8,7 @@
 //!
 //! | Workload | A cycle |
 //! |---|---|
-//! | `drain` | puts an entry into a queue, in a random order, and takes one out, until all n are out |
 //! | `steady` | takes the first of n entries out, and puts it back 5 minutes later |
-//! | `mixed` | the same, back after 1, 5, 10 or 15 minutes |
-//! | `remove` | removes a random entry of n, and puts it back at a random time; at the end all are taken out |
-//! | `xremove` | the same without the end |
 //! | `cycle` | takes a check of one of n objects, and reports that it is OK |
 //! | `depend` | as `cycle`, where every service but the first depends on the first |
 //! | `inherit` | as `depend`, where these dependencies inherit, and the first service depends on the second |
@@ -20,7 +16,7 @@
 //! | `lines` | as `cycle`, and the replies are written as lines of text |
 //! | `ask` | as `cycle`, by the only pass of a desk |
 //!
-//! `queue_work` has the workloads of the queue, `sched_work` those of the scheduler, `desk_work` that of
+//! `queue_work` has the workload of the queue, `sched_work` those of the scheduler, `desk_work` that of
 //! a desk, `random` the numbers. What a shared scheduler costs is measured over the C library, by
 //! `bench/c_asks.c`.
 
@@ -31,7 +27,7 @@ mod random;
 mod sched_work;
 
 use made::{Made, nanos_since};
-use queue_work::{QueueWork, QueueWorkload};
+use queue_work::{queue, steady};
 use sched_work::{Masters, cycle, lines, scheduler, vary};
 use std::alloc::Global;
 use std::env;
@@ -45,7 +41,7 @@ const MAX_NUMBERS: u32 = 1_000_000;
 /// What a workload works on.
 #[derive(Clone, Copy)]
 enum Workload {
-    Queue(QueueWorkload),
+    Queue,
     Scheduler(Masters),
     /// The scheduler's, with random codes.
     Vary,
@@ -75,25 +71,26 @@ fn main(rt: HostRuntime) -> ExitCode {
         return ExitCode::from(2);
     };
     match work_on(&rt, rt.alloc(), &job) {
-        Some((made, cycles)) => tell(&rt, &job, made, cycles),
+        Some(made) => tell(&rt, &job, made),
         None => ExitCode::from(2),
     }
 }
 
-/// Makes what is asked for; returns what it took and saw, and how many cycles were made. None where there
-/// is no memory, or it can't be made of so many numbers.
-fn work_on(rt: &(impl Clock + Wait), alloc: Global, job: &Job) -> Option<(Made, u64)> {
+/// Makes the workload, and returns how long it took and what it saw. None means out of memory, or too many
+/// numbers for the workload.
+fn work_on(rt: &(impl Clock + Wait), alloc: Global, job: &Job) -> Option<Made> {
     match job.workload {
-        Workload::Queue(workload) => queue_cycles(rt, alloc, workload, job),
+        Workload::Queue => queue_cycles(rt, alloc, job),
         Workload::Scheduler(masters) => scheduler_cycles(rt, alloc, masters, job),
         Workload::Vary | Workload::Lines => scheduler_cycles(rt, alloc, Masters::None, job),
         Workload::Ask => ask_cycles(rt, alloc, job),
     }
 }
 
-/// Writes the line of so many cycles.
-fn tell(rt: &HostRuntime, job: &Job, made: Made, cycles: u64) -> ExitCode {
+/// Writes the line of a workload.
+fn tell(rt: &HostRuntime, job: &Job, made: Made) -> ExitCode {
     let Made { nanos, sum } = made;
+    let cycles = job.cycles;
     let written = if job.timed {
         println!(rt; "ns={nanos} ops={cycles} sum={sum:016x}")
     } else {
@@ -126,11 +123,7 @@ fn job_of(words: &[String]) -> Option<Job> {
 /// The workload that a word names.
 fn workload_of(word: &str) -> Option<Workload> {
     match word {
-        "drain" => Some(Workload::Queue(QueueWorkload::Drain)),
-        "steady" => Some(Workload::Queue(QueueWorkload::Steady)),
-        "mixed" => Some(Workload::Queue(QueueWorkload::Mixed)),
-        "remove" => Some(Workload::Queue(QueueWorkload::Remove)),
-        "xremove" => Some(Workload::Queue(QueueWorkload::RemoveAlone)),
+        "steady" => Some(Workload::Queue),
         "cycle" => Some(Workload::Scheduler(Masters::None)),
         "depend" => Some(Workload::Scheduler(Masters::First)),
         "inherit" => Some(Workload::Scheduler(Masters::FirstAndItsMasters)),
@@ -141,29 +134,18 @@ fn workload_of(word: &str) -> Option<Workload> {
     }
 }
 
-fn queue_cycles(
-    rt: &impl Clock,
-    alloc: Global,
-    workload: QueueWorkload,
-    job: &Job,
-) -> Option<(Made, u64)> {
+fn queue_cycles(rt: &impl Clock, alloc: Global, job: &Job) -> Option<Made> {
     if job.numbers == 0 {
         return None;
     }
-    let mut queue = QueueWork::new(alloc, workload, job.numbers).ok()?;
+    let mut queue = queue(alloc, job.numbers).ok()?;
     let start = Instant::now(rt);
-    let cycles = queue.make(job.cycles);
+    let sum = steady(&mut queue, job.cycles);
     let nanos = nanos_since(rt, start);
-    let sum = queue.sum();
-    Some((Made { nanos, sum }, cycles))
+    Some(Made { nanos, sum })
 }
 
-fn scheduler_cycles(
-    rt: &impl Clock,
-    alloc: Global,
-    masters: Masters,
-    job: &Job,
-) -> Option<(Made, u64)> {
+fn scheduler_cycles(rt: &impl Clock, alloc: Global, masters: Masters, job: &Job) -> Option<Made> {
     let mut scheduler = scheduler(alloc, job.numbers, masters)?;
     let start = Instant::now(rt);
     let sum = match job.workload {
@@ -172,18 +154,13 @@ fn scheduler_cycles(
         _ => Some(cycle(&mut scheduler, job.numbers, job.cycles)),
     };
     let nanos = nanos_since(rt, start);
-    when_ended(nanos, sum, job.cycles)
+    Some(Made { nanos, sum: sum? })
 }
 
-/// What a workload took and saw, where it came to its end.
-fn when_ended(nanos: u128, sum: Option<u64>, cycles: u64) -> Option<(Made, u64)> {
-    Some((Made { nanos, sum: sum? }, cycles))
-}
-
-fn ask_cycles(rt: &(impl Clock + Wait), alloc: Global, job: &Job) -> Option<(Made, u64)> {
+fn ask_cycles(rt: &(impl Clock + Wait), alloc: Global, job: &Job) -> Option<Made> {
     let (desk, pass) = desk_work::open(alloc, job.numbers, job.cycles)?;
     let start = Instant::now(rt);
     let sum = desk_work::ask(rt, &desk, pass, job.numbers, job.cycles);
     let nanos = nanos_since(rt, start);
-    Some((Made { nanos, sum }, job.cycles))
+    Some(Made { nanos, sum })
 }

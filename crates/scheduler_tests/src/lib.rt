@@ -1,16 +1,11 @@
 #![tactic(auto)]
-//! Tests of the crates below a book: the queue, the rules, the text of a saved state and the scheduler.
+//! Tests of the queue, and of standings as words of a board.
 //!
-//! They stand in a crate of their own, since a crate with a test is proved once more for it. Nothing
-//! but tests is in it. What a clause says has none.
+//! They are in a crate of their own, because a crate with tests is proved once more for them. It holds
+//! nothing else. A fact that a clause states has no test here, and one that the built program shows is a
+//! case of `conformance/`.
 
 #[cfg(test)]
+mod board;
+#[cfg(test)]
 mod queue;
-#[cfg(test)]
-mod resuming;
-#[cfg(test)]
-mod rules;
-#[cfg(test)]
-mod saved;
-#[cfg(test)]
-mod scheduler;

@@ -1,10 +1,10 @@
 #![tactic(auto)]
-//! Tests of what the program does with its input and output: of `check_session`, and of an explanation
-//! that no document reaches.
+//! Tests of runs, conversations and sessions over readers and writers of our own, and of an explanation
+//! that no input of the program leads to.
 //!
-//! They stand in a crate of their own, since a crate with a test is proved once more for it. Nothing
-//! but tests is in it. What a clause says has none, and what is a text of the program is a case of
-//! `conformance/`.
+//! They are in a crate of their own, because a crate with tests is proved once more for them. It holds
+//! nothing else. A fact that a clause states has no test here. A text of the program is a case of
+//! `conformance/`, and `.ci/devices.py` runs the built program over devices that fail.
 
 #[cfg(test)]
 mod tests;

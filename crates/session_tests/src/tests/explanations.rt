@@ -1,22 +1,9 @@
-//! Explanations that no document of the program reaches: of a fault that another document had. The
-//! words of all others are cases of the built program.
+//! Explanations of a fault that another document had, which no input of the program leads to. The words
+//! of all others are cases of the built program.
 
 use check_explain::explain;
 use check_objects::{Fault, Place, RangeFault, ShapeFault};
 use std::test::Fail;
-
-#[test]
-fn explains_what_no_document_needs(rt: HostRuntime) -> Result<(), Fail> {
-    let alloc = rt.alloc();
-    let line = explain(alloc, b"{}", Fault::TooLong)?;
-    assert_eq!(rt; line.as_str(), "the document has more than 16777216 bytes");
-    let line = explain(alloc, b"{}", Fault::Memory)?;
-    assert_eq!(rt;
-        line.as_str(),
-        "memory ran out; that says nothing of the document"
-    );
-    Ok(())
-}
 
 #[test]
 fn tells_a_fault_of_another_document(rt: HostRuntime) -> Result<(), Fail> {

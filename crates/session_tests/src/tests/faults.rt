@@ -1,30 +1,19 @@
-//! Readers and writers that fail.
+//! Runs whose reader or writer fails, or takes little at a time.
 
-use super::devices::{FailingReader, KINDS, OnceFailingReader, ShortWriter};
+use super::devices::{FailingReader, KINDS, ShortWriter};
 use super::with_host;
 use check_drive::drive::{Outcome, drive};
-use check_drive::drive_resumed::drive_resumed;
+use check_drive::live::live;
 use check_script::DriveError;
+use check_session::check::check;
+use check_session::drill::drill;
 use std::alloc::Global;
-use std::io::{ErrorKind, Read};
-use std::process::Abort;
+use std::io::ErrorKind;
 use std::test::Fail;
 
 const LINES: &str = "[\"take\",0]\n[\"take\",0]\n";
 
 const TEXT: &[u8] = b"taken 1 h\nidle none\n";
-
-/// Compares a run whose reader fails, from an opening or from a saved state: nothing is written.
-fn reads_in_vain<R: Read>(rt: &impl Abort, alloc: Global, resumes: bool, reader: &mut R) {
-    let mut writer = ShortWriter::new(alloc, 7);
-    let result = if resumes {
-        drive_resumed(alloc, None, reader, &mut writer)
-    } else {
-        drive(alloc, 0, reader, &mut writer)
-    };
-    assert_eq!(rt; result, Err(DriveError::Read));
-    assert!(rt; writer.taken.is_empty());
-}
 
 #[test]
 fn readers_fail(rt: HostRuntime) -> Result<(), Fail> {
@@ -32,52 +21,15 @@ fn readers_fail(rt: HostRuntime) -> Result<(), Fail> {
     let input = with_host(alloc, LINES)?;
     for count in 0..=input.len() {
         for error in KINDS {
-            for resumes in [false, true] {
-                let mut reader = FailingReader {
-                    bytes: &input.as_bytes()[..count],
-                    most: 7,
-                    error,
-                };
-                reads_in_vain(&rt, alloc, resumes, &mut reader);
-            }
-        }
-    }
-    Ok(())
-}
-
-/// A reader that fails once, and would go on then, isn't asked once more.
-#[test]
-fn readers_fail_once(rt: HostRuntime) -> Result<(), Fail> {
-    let alloc = rt.alloc();
-    let input = with_host(alloc, LINES)?;
-    for count in 0..=input.len() {
-        for error in KINDS {
-            let mut reader = OnceFailingReader {
-                bytes: input.as_bytes(),
+            let mut reader = FailingReader {
+                bytes: &input.as_bytes()[..count],
                 most: 7,
-                fails_at: Some(count),
                 error,
             };
-            reads_in_vain(&rt, alloc, false, &mut reader);
-        }
-    }
-    Ok(())
-}
-
-/// Nor is a writer that fails once written to once more.
-#[test]
-fn writers_fail_once(rt: HostRuntime) -> Result<(), Fail> {
-    let alloc = rt.alloc();
-    let input = with_host(alloc, LINES)?;
-    for room in 0..TEXT.len() {
-        for error in KINDS {
-            let mut writer = ShortWriter::new(alloc, 3);
-            writer.room = room;
-            writer.error = error;
-            writer.once = true;
-            let result = drive(alloc, 0, &mut input.as_bytes(), &mut writer);
-            assert_eq!(rt; result, Err(DriveError::Write));
-            assert!(rt; writer.taken.as_slice() == &TEXT[..room]);
+            let mut writer = ShortWriter::new(alloc, 7);
+            let result = drive(alloc, 0, &mut reader, &mut writer);
+            assert_eq!(rt; result, Err(DriveError::Read));
+            assert!(rt; writer.taken.is_empty());
         }
     }
     Ok(())
@@ -122,7 +74,7 @@ fn writer_takes_no_byte(rt: HostRuntime) -> Result<(), Fail> {
     Ok(())
 }
 
-/// A writer that takes one byte a call gets the whole text, and one flush at the end.
+/// A writer that takes one byte in each call gets the whole text, and one flush at the end.
 #[test]
 fn flushes_once(rt: HostRuntime) -> Result<(), Fail> {
     let alloc = rt.alloc();
@@ -144,22 +96,49 @@ fn flushes_once(rt: HostRuntime) -> Result<(), Fail> {
     Ok(())
 }
 
-#[test]
-fn flush_fails(rt: HostRuntime) -> Result<(), Fail> {
-    let alloc = rt.alloc();
-    let refused = b"refused S2 NotJson 2\n".as_slice();
-    for (lines, wanted) in [("", b"".as_slice()), (LINES, TEXT), ("[", refused)] {
-        for once in [false, true] {
-            let input = with_host(alloc, lines)?;
-            let mut reader = input.as_bytes();
-            let mut writer = ShortWriter::new(alloc, 100);
-            writer.flush_error = Some(ErrorKind::Interrupted);
-            writer.once = once;
-            let result = drive(alloc, 0, &mut reader, &mut writer);
-            assert_eq!(rt; result, Err(DriveError::Write));
-            assert!(rt; writer.taken.as_slice() == wanted);
-            assert_eq!(rt; writer.flushes, 1);
-        }
+/// A reader that fails after these bytes.
+fn failing_reader(bytes: &[u8]) -> FailingReader<'_> {
+    FailingReader {
+        bytes,
+        most: 7,
+        error: ErrorKind::OutOfMemory,
     }
+}
+
+/// A writer that takes no byte and fails.
+fn failing_writer(alloc: Global) -> ShortWriter {
+    let mut writer = ShortWriter::new(alloc, 7);
+    writer.room = 0;
+    writer.error = ErrorKind::OutOfMemory;
+    writer
+}
+
+/// Conversations, checks and drills report a reader that fails as `Read`, and a writer as `Write`. The
+/// program has one status for both.
+#[test]
+fn each_job_reports_which_device_failed(rt: HostRuntime) -> Result<(), Fail> {
+    let alloc = rt.alloc();
+    let input = with_host(alloc, LINES)?;
+    let bytes = input.as_bytes();
+    let good = &mut ShortWriter::new(alloc, 100);
+    let talked = live(alloc, 0, &mut failing_reader(bytes), good);
+    assert_eq!(rt; talked, Err(DriveError::Read));
+    let talked = live(alloc, 0, &mut input.as_bytes(), &mut failing_writer(alloc));
+    assert_eq!(rt; talked, Err(DriveError::Write));
+    let told = check(alloc, 0, false, &mut failing_reader(b"{}"), good);
+    assert_eq!(rt; told, Err(DriveError::Read));
+    let told = check(
+        alloc,
+        0,
+        true,
+        &mut b"{}".as_slice(),
+        &mut failing_writer(alloc),
+    );
+    assert_eq!(rt; told, Err(DriveError::Write));
+    let drilled = drill(&rt, alloc, 0, 1, 100, &mut failing_reader(b"{}"), good);
+    assert_eq!(rt; drilled, Err(DriveError::Read));
+    let nobody = &mut failing_writer(alloc);
+    let drilled = drill(&rt, alloc, 0, 1, 100, &mut b"{}".as_slice(), nobody);
+    assert_eq!(rt; drilled, Err(DriveError::Write));
     Ok(())
 }

@@ -1,14 +1,10 @@
-//! Sessions: the exit statuses of words over one host, and of devices that fail.
+//! Sessions: the exit statuses of words over one host.
 
-use super::devices::{FailingReader, KINDS, ShortWriter};
+use super::devices::ShortWriter;
 use super::with_host;
 use check_session::session::session;
-use std::alloc::Global;
 use std::io::ErrorKind;
-use std::process::Abort;
-use std::sync::Wait;
 use std::test::Fail;
-use std::thread::Threads;
 
 /// Two takes on the setup with one host, whose check is due at the scheduler's start.
 const TAKES: &str = "[\"take\",7]\n[\"take\",7]\n";
@@ -44,53 +40,4 @@ fn words_decide_the_status(rt: HostRuntime) -> Result<(), Fail> {
         assert_eq!(rt; told, 3);
     }
     Ok(())
-}
-
-/// A drill of one worker.
-const DRILL: [&str; 4] = ["nagsched", "drill", "--workers", "1"];
-
-/// Whatever kind of error the reader has, the status is that of a fault, and nothing is written.
-fn reader_fails<H: Abort + Threads + Wait + Sync>(
-    rt: &H,
-    alloc: Global,
-    words: &[&str],
-    error: ErrorKind,
-) {
-    let mut reader = FailingReader {
-        bytes: b"{}\n",
-        most: 2,
-        error,
-    };
-    let mut writer = ShortWriter::new(alloc, 100);
-    assert_eq!(rt; session(rt, alloc, words, &mut reader, &mut writer), 3);
-    assert!(rt; writer.taken.is_empty());
-}
-
-/// The same of a writer that takes five bytes.
-fn writer_fails<H: Abort + Threads + Wait + Sync>(
-    rt: &H,
-    alloc: Global,
-    words: &[&str],
-    error: ErrorKind,
-) {
-    let mut writer = ShortWriter::new(alloc, 100);
-    writer.room = 5;
-    writer.error = error;
-    let told = session(rt, alloc, words, &mut b"[]".as_slice(), &mut writer);
-    assert_eq!(rt; told, 3);
-    assert_eq!(rt; writer.taken.len(), 5);
-}
-
-#[test]
-fn devices_of_sessions_fail(rt: HostRuntime) {
-    let alloc = rt.alloc();
-    for error in KINDS {
-        for words in [DRILL.as_slice(), ["nagsched"].as_slice()] {
-            reader_fails(&rt, alloc, words, error);
-            writer_fails(&rt, alloc, words, error);
-        }
-        for words in [["nagsched", "--help"], ["nagsched", "x"]] {
-            writer_fails(&rt, alloc, &words, error);
-        }
-    }
 }

@@ -1,0 +1,249 @@
+#!/usr/bin/env python3
+"""Runs the built program on an input and an output that fail, or that give and take few bytes at a time.
+
+    .ci/devices.py PROGRAM     needs a C compiler, cc
+
+The answers, the exit status and the calls don't depend on the pieces: an input is read to its end and the text written by one call, and a
+conversation writes its answers before it reads on. A read that fails ends in status 3 with nothing written, in a conversation with the answers
+to the lines that came; it isn't made again. A write that fails, or takes no byte, ends in status 3 with the bytes that were taken, and nothing
+is read after it. Only a write that was interrupted is made again.
+"""
+from __future__ import annotations
+
+import errno
+import os
+import pathlib
+import subprocess
+import sys
+import tempfile
+from concurrent.futures import ThreadPoolExecutor
+from typing import Iterator, NamedTuple
+
+HERE = pathlib.Path(__file__).resolve().parent
+sys.path.append(str(HERE.parent / "conformance"))
+from cases import cases  # noqa: E402
+
+SECONDS = 60
+WHOLE = 1 << 20
+PIECE = 7
+FAILED = 3
+READ_ERRORS = (errno.EIO, errno.EINTR, errno.ENOMEM, errno.EAGAIN, errno.EPIPE)
+NO_BYTE = 0
+WRITE_ERRORS = (errno.EIO, errno.ENOMEM, errno.EAGAIN, errno.EPIPE, NO_BYTE)
+# At how many places an input or an output fails at the most, and from how many bytes on at three.
+PLACES = 60
+LONG = 8_000
+
+# Every kind of line after the setup, the last without a line feed, and the answer to each.
+HOST = b'{"options":{"host_inter_check_delay_method":"n"},"hosts":[{"name":"h","max_check_attempts":3}]}\n'
+CONVERSATION = {
+    b'["take",0]\n': b"taken 1 h\n",
+    b'["report","h",1,2]\n': b"standing DOWN SOFT 1 yes STEADY 60000 h\n",
+    b" \t\r\n": b"",
+    b'["take"]\n': b"refused S3 Shape 5\n",
+    b'["status","x"]\n': b"refused S5 UnknownName 6\n",
+    b'["report","h",1,9]\n': b"refused S4 Code 7\n",
+    b"[\n": b"refused S2 NotJson 8\n",
+    b'["take",1]': b"idle 60000\n",
+}
+
+
+class Job(NamedTuple):
+    """A run of the program: its words, its input, what it writes, and its exit status."""
+
+    name: str
+    words: list[str]
+    given: bytes
+    text: bytes
+    status: int
+    reads: bool = True
+    # The lines of a conversation, each with its answer; none of another job, which reads its whole input first.
+    answers: dict[bytes, bytes] = {}
+
+    def answered(self, count: int) -> bytes:
+        """The answers that are written after so many bytes of the input, before its end is known."""
+        answers, rest = b"", count
+        for line, answer in self.answers.items():
+            rest -= len(line)
+            answers += answer if rest >= 0 and line.endswith(b"\n") else b""
+        return answers
+
+    def calls(self, most: int) -> str:
+        """The reads and writes, if a read gives at most this number of bytes, and a write takes all of them."""
+        calls, written = "", b""
+        for count in range(most, len(self.given) + most, most) if self.reads else ():
+            calls += "r"
+            answers = self.answered(min(count, len(self.given)))
+            calls += "w" if answers != written else ""
+            written = answers
+            if self.answers and self.status and written == self.text:
+                return calls
+        return calls + ("r" if self.reads else "") + ("w" if written != self.text else "")
+
+
+class Device(NamedTuple):
+    """How the input and the output behave."""
+
+    read_most: int = WHOLE
+    write_most: int = WHOLE
+    read_at: int = 0
+    write_at: int = 0
+    fault: int = 0
+    stays: bool = False
+
+
+class Ran(NamedTuple):
+    """The outcome of a run: its output, its exit status, and its calls."""
+
+    text: bytes
+    status: int
+    calls: str
+
+
+class Shim:
+    """Runs the program over such devices."""
+
+    def __init__(self, program: str, folder: str) -> None:
+        self.program, self.folder = program, folder
+        self.library = f"{folder}/devices.so"
+        subprocess.run(["cc", "-O2", "-shared", "-fPIC", "-o", self.library, HERE / "devices.c", "-ldl"], check=True)
+
+    def run(self, job: Job, device: Device) -> Ran:
+        """Runs a job over a device."""
+        with tempfile.TemporaryFile(dir=self.folder) as given, tempfile.NamedTemporaryFile(dir=self.folder) as calls:
+            given.write(job.given)
+            given.seek(0)
+            own = {name.upper(): str(int(value)) for name, value in device._asdict().items()}
+            own |= {"LD_PRELOAD": self.library, "CALLS": calls.name}
+            ran = subprocess.run([self.program, *job.words], stdin=given, stdout=subprocess.PIPE, env=os.environ | own, timeout=SECONDS, check=False)
+            return Ran(ran.stdout, ran.returncode, calls.read().decode())
+
+
+def case(name: str, reads: bool = True) -> Job:
+    """A case of conformance/."""
+    found = next(each for each in cases() if each.name == name)
+    return Job(name, found.arguments, found.given, found.wanted, found.status, reads)
+
+
+def conversation(name: str, setup: bytes, answers: dict[bytes, bytes], status: int) -> Job:
+    """A conversation over a setup."""
+    answers = {setup: b"", **answers} if status == 0 else answers
+    return Job(name, ["live"], b"".join(answers), b"".join(answers.values()), status, answers=answers)
+
+
+def jobs() -> Iterator[Job]:
+    """Each kind of run, good ones and refused ones."""
+    yield case("rows/results/eleven-results-of-a-service")
+    yield case("rows/results/code-four")
+    yield case("rows/first-path/duplicate-host")
+    yield case("rows/drill/one-worker")
+    yield case("rows/drill/plugin-without-codes")
+    yield case("checks/a-line")
+    yield case("checks/a-refused-setup")
+    yield case("changes/the-same-setup")
+    yield case("words/help-of-live", reads=False)
+    yield case("words/another-subcommand", reads=False)
+    yield conversation("a conversation", HOST, CONVERSATION, 0)
+    yield conversation("a conversation that is refused", b"", {b"{\n": b"refused L1 NotJson\n", b'["take",0]\n': b""}, 1)
+
+
+def long_run() -> Job:
+    """A run that writes more than the program holds back."""
+    return Job("a long run", ["run"], HOST + b'["take",0]\n' * 1_000, b"taken 1 h\n" + b"idle none\n" * 999, 0)
+
+
+def places(count: int) -> range:
+    """The numbers from 1 to this one, or as many of them as are tried."""
+    return range(1, count + 1, -(-count // PLACES))
+
+
+def few(count: int) -> list[int]:
+    """The first, one in the middle and the last of the numbers from 1 to this one."""
+    return [1, (count + 1) // 2, count]
+
+
+class Trial(NamedTuple):
+    """A run over a device, and the outcome that it must have."""
+
+    what: str
+    job: Job
+    device: Device
+    text: bytes
+    status: int
+    # The calls, the number of reads and the number of writes, if they are fixed.
+    calls: str = ""
+    reads: int = 0
+    writes: int = 0
+    # The program may have written the rest of the text after the failure.
+    more: bool = False
+
+    def differences(self, ran: Ran) -> Iterator[tuple[str, bool]]:
+        """Each part of the outcome, and whether it differs."""
+        is_front = ran.text.startswith(self.text) and self.job.text.startswith(ran.text)
+        yield "the text", not is_front if self.more else ran.text != self.text
+        yield "the status", ran.status != self.status
+        yield "the calls", self.calls not in ("", ran.calls)
+        yield "the number of reads", self.reads not in (0, ran.calls.count("r"))
+        yield "the number of writes", self.writes not in (0, ran.calls.count("w"))
+        behind = ran.calls.split("w", self.device.write_at)[self.device.write_at :] if self.device.write_at else []
+        yield "a read after the write", self.status == FAILED and "r" in "".join(behind)
+
+    def fault(self, ran: Ran) -> str:
+        """How it came out otherwise, or nothing."""
+        wrong = [what for what, differs in self.differences(ran) if differs]
+        return f"{self.what}, {self.job.name}, {self.device}: {', '.join(wrong)}; came {ran}" if wrong else ""
+
+
+def in_pieces(job: Job) -> Iterator[Trial]:
+    """An input in pieces, and an output that takes pieces."""
+    for most in (1, PIECE, WHOLE):
+        yield Trial("an input in pieces", job, Device(read_most=most), job.text, job.status, calls=job.calls(most))
+        yield Trial("an output in pieces", job, Device(write_most=most), job.text, job.status)
+
+
+def failing_reads(job: Job) -> Iterator[Trial]:
+    """Each read fails."""
+    count = job.calls(PIECE).count("r")
+    for at in places(count):
+        text = job.answered((at - 1) * PIECE)
+        for error in READ_ERRORS if at in few(count) else READ_ERRORS[:1]:
+            yield Trial("a read fails", job, Device(read_most=PIECE, read_at=at, fault=error), text, FAILED, reads=at)
+
+
+def failing_writes(job: Job) -> Iterator[Trial]:
+    """Each write of a byte fails: once, so that a later one would be taken, or for good; and each is interrupted."""
+    count = len(job.text)
+    for at in places(count) if count < LONG else few(count):
+        for error in WRITE_ERRORS if at in few(count) else WRITE_ERRORS[:1]:
+            device = Device(write_most=1, write_at=at, fault=error)
+            yield Trial("a write fails once", job, device, job.text[: at - 1], FAILED, more=True)
+            yield Trial("a write fails", job, device._replace(stays=True), job.text[: at - 1], FAILED)
+        device = Device(write_most=1, write_at=at, fault=errno.EINTR)
+        yield Trial("a write is interrupted", job, device, job.text, job.status, writes=count + 1)
+
+
+def trials() -> Iterator[Trial]:
+    """Every run."""
+    for job in jobs():
+        for sweep in (in_pieces, failing_reads, failing_writes) if job.reads else (in_pieces, failing_writes):
+            yield from sweep(job)
+    yield from failing_writes(long_run())
+
+
+def main() -> int:
+    """Makes all runs, and counts the outcomes."""
+    program = pathlib.Path(sys.argv[1]).resolve()
+    with tempfile.TemporaryDirectory() as folder, ThreadPoolExecutor(os.cpu_count()) as threads:
+        shim = Shim(str(program), folder)
+
+        def fault_of(trial: Trial) -> str:
+            return trial.fault(shim.run(trial.job, trial.device))
+
+        faults = list(threads.map(fault_of, trials()))
+    wrong = [fault for fault in faults if fault]
+    print("\n".join([*wrong[:20], f"devices: {len(faults) - len(wrong)} passed, {len(wrong)} failed"]))
+    return 1 if wrong or not faults else 0
+
+
+if __name__ == "__main__":
+    sys.exit(main())
