@@ -1,11 +1,10 @@
 """A process of its own beside the monitor: it is begun with it, begun again where it ends, and ended with it. It reads its end from its standard input."""
-import os
+import contextlib
 import subprocess
-import sys
 import time
 from typing import Callable, Optional, Sequence
 
-from .runner_program import FOLDER
+from .reading import process_words
 
 # From one beginning to the next at least, and how long it may take to end, in seconds. The pause is twice as long each time, up to the longest, where a
 # process ends sooner than that.
@@ -35,9 +34,8 @@ class Beside:
             self._let_go()
         if self._clock() >= self._not_before:
             self._begun = self._clock()
-            command = [sys.executable, "-m", f"nagsched_monitor.{self._module}", *self._words]
             try:
-                self._process = subprocess.Popen(command, stdin=subprocess.PIPE, env={**os.environ, "PYTHONPATH": str(FOLDER)})
+                self._process = subprocess.Popen(process_words(self._module, list(self._words)), stdin=subprocess.PIPE)
             except OSError as error:  # there is no room for a process now
                 self._not_before = self._begun + LONGEST_PAUSE
                 self._log(f"{self._module} can't be begun: {error}; it is tried again")
@@ -60,4 +58,5 @@ class Beside:
             process.wait(timeout=GRACE)
         except subprocess.TimeoutExpired:
             process.kill()
-            process.wait(timeout=GRACE)
+            with contextlib.suppress(subprocess.TimeoutExpired):
+                process.wait(timeout=GRACE)

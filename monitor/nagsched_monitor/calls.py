@@ -5,6 +5,11 @@ from dataclasses import dataclass
 from typing import NamedTuple, Optional, Union
 
 
+# The greatest moment and run number of a scheduler, and the greatest code of a plugin.
+GREATEST = 2**60
+GREATEST_CODE = 3
+
+
 class Take(NamedTuple):
     now: int
 
@@ -75,6 +80,14 @@ def read_call(line: str) -> Call:
     return call
 
 
+def is_sound(call: Call) -> bool:
+    """Whether a scheduler can read a call: its code is a plugin's, and its numbers are within their limits."""
+    numbers = [value for value in call if isinstance(value, int) and not isinstance(value, bool)]
+    if isinstance(call, Report) and not 0 <= call.code <= GREATEST_CODE:
+        return False
+    return all(0 <= value <= GREATEST for value in numbers)
+
+
 # ---- answers
 
 
@@ -123,7 +136,7 @@ class Done(NamedTuple):
 
 
 class Refused(NamedTuple):
-    """The call was refused, and changed nothing: its result comes too late, say."""
+    """The call was refused and changed nothing: its result comes too late, for example, or the scheduler couldn't read it."""
 
     why: str
 
@@ -154,6 +167,6 @@ def read_answer(line: str) -> Optional[Answer]:
         return Freed(int(first), name)
     if word == "done":
         return Done(rest)
-    if word == "refused" and first.startswith("C"):
+    if word == "refused":
         return Refused(rest)
     return None

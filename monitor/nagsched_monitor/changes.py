@@ -13,12 +13,14 @@ from .calls import Standing
 from .faults import NotStored
 from .rows import KeptChange
 from .store import Store
+from .text import first_line
 from .writes import DropDocument
 
-# How long the command may take, in seconds, how often it is tried, and how long it is waited between two tries.
+# How long the command may take, how long it is waited between two tries, twice as long each time up to the longest, and after which time a change is given up;
+# in seconds.
 LIMIT = 30.0
-TRIES = 10
-PAUSE = 5.0
+PAUSE, LONGEST_PAUSE = 5.0, 60.0
+MOST_AGE = 86_400.0
 
 
 def is_change(before: Optional[Standing], now: Standing) -> bool:
@@ -41,7 +43,7 @@ def line_of(change: KeptChange, zone: Optional[datetime.tzinfo]) -> str:
     """A change as a line of the log, with date and zone."""
     when = datetime.datetime.fromtimestamp(change.time, zone).astimezone(zone).isoformat(sep=" ", timespec="seconds")
     flapping = " FLAPPING" if change.flapping else ""
-    return f"{when} {change.name} is {change.state} {change.kind} {change.attempt}{flapping}: {change.words}"
+    return f"{when} {change.name} is {change.state} {change.kind} {change.attempt}{flapping}: {first_line(change.words)}"
 
 
 def document_of(change: KeptChange, before: Optional[Standing]) -> str:
@@ -55,7 +57,8 @@ def document_of(change: KeptChange, before: Optional[Standing]) -> str:
         "flapping": change.flapping,
         "was": None if before is None else before.state,
         "was_flapping": before is not None and before.flapping,
-        "output": change.words,
+        "output": first_line(change.words),
+        "long_output": change.words.partition("\n")[2],
     }
     return json.dumps(members, ensure_ascii=False)
 
@@ -70,14 +73,15 @@ class Try:
 
 
 class Notifier:
-    """Runs the command for changes, one after another in their order. A document that the command doesn't take is tried again, and at last given up."""
+    """Runs the command for changes, one after another in their order. A document that the command doesn't take is tried again, until it is too old."""
 
-    def __init__(self, command: Optional[str], store: Store, log: Callable[[str], None], clock: Callable[[], float] = time.monotonic) -> None:
-        self._command, self._store, self._log, self._clock = command, store, log, clock
+    def __init__(self, command: Optional[str], store: Store, log: Callable[[str], None], clock: Callable[[], float] = time.monotonic,
+                 wall: Callable[[], float] = time.time) -> None:
+        self._command, self._store, self._log, self._clock, self._wall = command, store, log, clock, wall
         self._running: Optional[Try] = None
-        self._failed = 0
+        self._pause = PAUSE
         self._not_before = 0.0
-        # Why the command couldn't be begun when it was tried last.
+        # Why the command couldn't be run or a document not be read or dropped when it was tried last.
         self._trouble: Optional[str] = None
         # The document that was taken or given up, where that couldn't be stored yet: the command isn't run for it again.
         self._ended: Optional[int] = None
@@ -96,22 +100,28 @@ class Notifier:
         if self._running is not None:
             self._see_to(self._running)
         if self._running is None and self._clock() >= self._not_before:
-            if self._ended is not None:
-                self._drop(self._ended)
-                return
-            waiting = self._store.outbox()
-            if waiting:
-                self._try(*waiting[0])
+            try:
+                self._next()
+            except (OSError, NotStored) as error:  # there is no room for a file or a process now, or the database can't be read or written
+                self._wait(f"the command for changes waits: {error}")
 
-    def _try(self, number: int, document: str) -> None:
-        """Begins the command. Where there is no room for a file or a process now it is tried again later."""
-        before, self._trouble = self._trouble, None
-        try:
-            self._begin(number, document)
-        except OSError as error:
-            self._not_before, self._trouble = self._clock() + PAUSE, str(error)
-            if self._trouble != before:
-                self._log(f"the command for changes can't be begun: {error}; it is tried again")
+    def _next(self) -> None:
+        if self._ended is not None:
+            self._drop(self._ended)
+        for number, document in self._store.outbox(1):
+            if self._wall() - float(json.loads(document).get("time", 0.0)) > MOST_AGE:
+                self._log(f"a change is given up, since the command took it not within {MOST_AGE / 3600:g} hours: {document}")
+                self._drop(number)
+            else:
+                self._begin(number, document)
+
+    def _wait(self, why: str) -> None:
+        """Tries again after a pause; the log says why, once."""
+        self._not_before = self._clock() + self._pause
+        self._pause = min(LONGEST_PAUSE, 2 * self._pause)
+        if why != self._trouble:
+            self._log(f"{why}; it is tried again")
+        self._trouble = why
 
     def _begin(self, number: int, document: str) -> None:
         given = file_with(document.encode() + b"\n")
@@ -126,28 +136,20 @@ class Notifier:
         if status is None:
             kill_group(running.process)
         self._running = None
-        if status == 0:
-            self._drop(running.document)
+        if status != 0:
+            self._wait(f"the command for changes {f'took longer than {LIMIT:g} seconds' if status is None else f'ended with {status}'}")
             return
-        self._failed += 1
-        self._not_before = self._clock() + PAUSE
-        why = f"took longer than {LIMIT:g} seconds" if status is None else f"ended with {status}"
-        if self._failed < TRIES:
-            self._log(f"the command for changes {why}; it is tried again")
-        else:
-            self._log(f"the command for changes {why} {TRIES} times; this change is given up: {dict(self._store.outbox()).get(running.document)}")
+        self._pause, self._trouble, self._ended = PAUSE, None, running.document
+        try:
             self._drop(running.document)
+        except NotStored as error:
+            self._wait(str(error))
 
     def _drop(self, number: int) -> None:
-        """Lets go of a document; where that can't be stored it is tried again later."""
-        is_first_try, self._ended = self._ended is None, number
-        try:
-            self._store.write(DropDocument(number))
-            self._failed, self._ended = 0, None
-        except NotStored as error:
-            self._not_before = self._clock() + PAUSE
-            if is_first_try:
-                self._log(str(error))
+        """Lets go of a document that was taken or is too old."""
+        self._ended = number
+        self._store.write(DropDocument(number))
+        self._ended = None
 
     def close(self) -> None:
         """Waits for the command that runs; its document is kept where it fails."""

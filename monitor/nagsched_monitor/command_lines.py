@@ -15,6 +15,10 @@ from .faults import SiteFault
 PLAIN = re.compile(r"[\w ./:,=%@+!#*?$~^{}\[\]-]*", re.ASCII)
 
 
+# How long a shell may take to test a line, in seconds.
+LIMIT = 30.0
+
+
 @dataclass(frozen=True)
 class Command:
     """A command line, split where no shell runs it."""
@@ -90,7 +94,10 @@ def shell_signs(line: str) -> List[str]:
 
 def shell_words(line: str, place: str) -> List[str]:
     """The words by which a shell runs a line that it can read."""
-    read = subprocess.run(["/bin/sh", "-n", "-c", line], stdin=subprocess.DEVNULL, stderr=subprocess.PIPE, check=False)
+    try:
+        read = subprocess.run(["/bin/sh", "-n", "-c", line], stdin=subprocess.DEVNULL, stderr=subprocess.PIPE, check=False, timeout=LIMIT)
+    except (OSError, subprocess.TimeoutExpired) as error:
+        raise SiteFault(f"{place}: its line can't be tested: {error}") from None
     if read.returncode != 0:
         raise SiteFault(f"{place}: {read.stderr.decode(errors='replace').strip()}")
     return ["/bin/sh", "-c", line]

@@ -1,21 +1,46 @@
-"""The socket in the folder of a site, through which its monitor is asked: lines of JSON there, and as many back."""
+"""The socket in the folder of a site, through which its monitor is asked: lines of JSON there, and as many back.
+
+No client holds up the monitor or another client: of each so many lines are handed on in one turn, and what it doesn't read waits, up to a limit.
+"""
 import os
 import pathlib
 import socket
-from typing import Callable, Dict, List, Sequence, Tuple
+import time
+from dataclasses import dataclass, field
+from functools import partial
+from typing import Callable, Dict, List, Sequence
 
 from .faults import MonitorFault
+from .requests import Request
 
 NAME = "monitor.socket"
 LONGEST_LINE = 262_144
 READ_BYTES = 65_536
+# Lines of one client in one turn, answers of one client that may wait to be read, clients at once, and for how many seconds one may say nothing.
+LINES_IN_TURN = 64
+UNREAD_BYTES = 64 * 1024 * 1024
+MOST_CLIENTS = 200
+IDLE = 300.0
+
+
+@dataclass
+class Client:
+    """A connection, what came of its next line, and what it hasn't read."""
+
+    connection: socket.socket
+    unread: bytes = b""
+    unsent: List[bytes] = field(default_factory=list)
+    # Requests that have no answer yet, when it was heard last, and whether it sends no more.
+    asked: int = 0
+    heard: float = 0.0
+    is_over: bool = False
 
 
 class Control:
-    """The socket of a monitor. The caller waits for its files to be readable, and calls `read` then."""
+    """The socket of a monitor. The caller waits for its files to be readable, calls `read` then, and `work` in each turn."""
 
-    def __init__(self, folder: pathlib.Path, answer: Callable[[bytes], bytes], watch: Callable[[int], None], unwatch: Callable[[int], None]) -> None:
-        self._answer, self._watch, self._unwatch = answer, watch, unwatch
+    def __init__(self, folder: pathlib.Path, ask: Callable[[Request], None], watch: Callable[[int], None], unwatch: Callable[[int], None]) -> None:
+        self._ask, self._watch, self._unwatch = ask, watch, unwatch
         self._path = folder / NAME
         self._path.unlink(missing_ok=True)
         self._socket = socket.socket(socket.AF_UNIX, socket.SOCK_STREAM)
@@ -28,55 +53,107 @@ class Control:
             os.umask(mask)
         self._socket.listen(16)
         self._socket.setblocking(False)
-        self._asking: Dict[int, Tuple[socket.socket, bytes]] = {}
+        self._clients: Dict[int, Client] = {}
         watch(self._socket.fileno())
 
     def owns(self, file: int) -> bool:
-        return file == self._socket.fileno() or file in self._asking
+        return file == self._socket.fileno() or file in self._clients
 
     def read(self, file: int) -> None:
-        """Takes a new connection, or reads requests and answers them."""
+        """Takes a new connection, or reads what a client sent."""
         if file == self._socket.fileno():
-            try:
-                connection, _ = self._socket.accept()
-            except OSError:
-                return  # there is no room for another file now, or whoever asked has gone: it is tried again where one still waits
-            connection.settimeout(1)
-            self._asking[connection.fileno()] = connection, b""
-            self._watch(connection.fileno())
+            self._accept()
             return
-        connection, unread = self._asking[file]
+        client = self._clients[file]
+        if b"\n" in client.unread:
+            return  # the lines before have their turn first
         try:
-            data = connection.recv(READ_BYTES)
+            data = client.connection.recv(READ_BYTES)
+        except BlockingIOError:
+            return
         except OSError:
-            data = b""
-        *lines, rest = (unread + data).split(b"\n")
-        for line in lines:
-            if file in self._asking:
-                self._send(file, connection, self._answer(line))
+            self._forget(file)
+            return
+        client.heard = time.monotonic()
+        client.unread += data
         if not data:
-            self._forget(file)
-        elif len(rest) > LONGEST_LINE:
-            self._send(file, connection, b'{"error": "the line is too long"}\n')
-            self._forget(file)
-        elif file in self._asking:
-            self._asking[file] = connection, rest
+            self._hear_no_more(file, client)
 
-    def _send(self, file: int, connection: socket.socket, answer: bytes) -> None:
+    def _hear_no_more(self, file: int, client: Client) -> None:
+        if not client.is_over:
+            client.is_over = True
+            self._unwatch(file)
+
+    def _accept(self) -> None:
         try:
-            for at in range(0, len(answer), READ_BYTES):  # each piece within the time limit
-                connection.sendall(answer[at : at + READ_BYTES])
+            connection, _ = self._socket.accept()
         except OSError:
-            self._forget(file)  # whoever asked reads no more
+            return  # there is no room for another file now, or whoever asked has gone: it is tried again where one still waits
+        if len(self._clients) >= MOST_CLIENTS:
+            connection.close()
+            return
+        connection.setblocking(False)
+        self._clients[connection.fileno()] = Client(connection, heard=time.monotonic())
+        self._watch(connection.fileno())
+
+    def work(self) -> bool:
+        """Hands on the lines that have come, sends what can be sent, and forgets who is gone. Whether more lines wait."""
+        has_more = False
+        for file, client in list(self._clients.items()):
+            self._hand_on(file, client)
+            self._send(file, client)
+            has_more |= b"\n" in client.unread
+            is_idle = not client.asked and not client.unsent and (client.is_over or time.monotonic() - client.heard > IDLE)
+            if is_idle and b"\n" not in client.unread:
+                self._forget(file)
+        return has_more
+
+    def is_sending(self) -> bool:
+        """Whether an answer waits for its reader."""
+        return any(client.unsent for client in self._clients.values())
+
+    def _hand_on(self, file: int, client: Client) -> None:
+        *lines, rest = client.unread.split(b"\n", LINES_IN_TURN)
+        client.unread = rest
+        for line in lines:
+            client.asked += 1
+            self._ask(Request(line, partial(self._reply, file, client)))
+        if len(rest) > LONGEST_LINE and b"\n" not in rest:
+            client.unsent.append(b'{"error": "the line is too long"}\n')
+            client.unread = b""
+            self._hear_no_more(file, client)
+
+    def _reply(self, file: int, client: Client, answer: bytes) -> None:
+        client.asked -= 1
+        client.unsent.append(answer)
+        if sum(map(len, client.unsent)) > UNREAD_BYTES:
+            self._forget(file)
+
+    def _send(self, file: int, client: Client) -> None:
+        """Sends as much as its reader takes now."""
+        try:
+            while client.unsent:
+                sent = client.connection.send(client.unsent[0])
+                if sent < len(client.unsent[0]):
+                    client.unsent[0] = client.unsent[0][sent:]
+                else:
+                    client.unsent.pop(0)
+        except BlockingIOError:
+            pass
+        except OSError:
+            client.unsent.clear()  # whoever asked reads no more
+            self._hear_no_more(file, client)
 
     def _forget(self, file: int) -> None:
-        if file in self._asking:
-            connection, _ = self._asking.pop(file)
-            self._unwatch(file)
-            connection.close()
+        client = self._clients.pop(file, None)
+        if client is not None:
+            self._hear_no_more(file, client)
+            client.connection.close()
 
     def close(self) -> None:
-        for file in list(self._asking):
+        """Sends what is left, and closes all connections."""
+        for file, client in list(self._clients.items()):
+            self._send(file, client)
             self._forget(file)
         self._unwatch(self._socket.fileno())
         self._socket.close()

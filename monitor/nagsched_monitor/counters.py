@@ -4,6 +4,8 @@ The names of the figures that are kept, and what each is:
 
     checks.STATE          results that were reported, by the state in which each left its object
     checks.given_up       checks that were given up, since their runner ended
+    checks.not_started    checks that this machine couldn't start: it had no files, processes or memory for them
+    faults                turns that ended with a fault of the monitor's own
     checks.refused        results that came too late
     late.BOUND            checks that began at most so many seconds behind their times, and more than the bound before; `late.more` those behind all bounds
     late.sum              the seconds by which all of these were late, together
@@ -29,8 +31,8 @@ MINUTE = 60_000
 # The bounds of the histogram of late starts, in seconds.
 BOUNDS = (0.05, 0.1, 0.25, 0.5, 1.0, 2.5, 5.0, 10.0, 30.0, 60.0)
 BUCKETS = tuple(f"late.{bound:g}" for bound in BOUNDS) + ("late.more",)
-RESULTS = ("OK", "WARNING", "CRITICAL", "UNKNOWN", "UP", "DOWN", "UNREACHABLE", "given_up", "refused")
-GONE_ON_WITH = tuple(f"checks.{result}" for result in RESULTS) + BUCKETS + ("late.sum", "saves", "saved_at")
+RESULTS = ("OK", "WARNING", "CRITICAL", "UNKNOWN", "UP", "DOWN", "UNREACHABLE", "given_up", "refused", "not_started")
+GONE_ON_WITH = tuple(f"checks.{result}" for result in RESULTS) + BUCKETS + ("late.sum", "saves", "saved_at", "faults")
 
 
 @dataclass(frozen=True)
@@ -63,8 +65,12 @@ class Counters:
     def result(self, result: str) -> None:
         """A result was reported: the state in which it left its object, `given_up` or `refused`."""
         self._values[f"checks.{result}"] += 1
-        if result not in ("given_up", "refused"):
+        if result not in ("given_up", "refused", "not_started"):
             self._made += 1
+
+    def fault(self) -> None:
+        """A turn ended with a fault of the monitor's own."""
+        self._values["faults"] += 1
 
     def started(self, late: int) -> None:
         """A check began so many milliseconds behind its time."""
@@ -84,13 +90,15 @@ class Counters:
         """Whether it is time to write them: every five seconds."""
         return self._written_at is None or now - self._written_at >= EVERY
 
-    def write(self, calls: int) -> Write:
+    def write(self, calls: int) -> KeepFigures:
         """The figures that aren't what they were when they were written last. `calls` is how many calls were made."""
+        values = self._all(self._clock.moment(), calls)
+        return KeepFigures({name: value for name, value in values.items() if self._written.get(name) != value})
+
+    def written(self, figures: KeepFigures) -> None:
+        """These were written."""
         self._written_at = self._clock.moment()
-        values = self._all(self._written_at, calls)
-        changed = {name: value for name, value in values.items() if self._written.get(name) != value}
-        self._written.update(changed)
-        return KeepFigures(changed)
+        self._written.update(figures.values)
 
     def _all(self, now: int, calls: int) -> Dict[str, float]:
         lately = self._latest_lately(now)

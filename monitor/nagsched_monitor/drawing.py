@@ -6,6 +6,7 @@ from typing import Dict, List, Optional, Sequence, Tuple
 
 from .picture import day_of, stretches
 from .shown import Change, OneObject, Picture, Shown
+from .text import first_line
 from .style import CLASSES, STYLE
 
 # How often a page renews itself, in seconds.
@@ -93,7 +94,7 @@ def next_of(it: Shown, times: Times) -> str:
 def row(it: Shown, times: Times, since: Optional[float]) -> str:
     flapping = " FLAPPING" if it.flapping else ""
     attempt = "" if it.attempt is None else str(it.attempt)
-    cells = (badge(it.state, it.kind) + flapping, link(it.name), attempt, times.ago(since), next_of(it, times), text(it.words))
+    cells = (badge(it.state, it.kind) + flapping, link(it.name), attempt, times.ago(since), next_of(it, times), text(first_line(it.words)))
     return f"<tr><td>{'</td><td>'.join(cells)}</td></tr>"
 
 
@@ -173,7 +174,7 @@ def page(picture: Picture, site: str, zone: Optional[datetime.tzinfo]) -> str:
 
 def change_row(it: Change, times: Times) -> str:
     flapping = " FLAPPING" if it.flapping else ""
-    return f"<tr><td>{times.of(it.time)}</td><td>{badge(it.state, it.kind)}{flapping}</td><td>{it.attempt}</td><td>{text(it.words)}</td></tr>"
+    return f"<tr><td>{times.of(it.time)}</td><td>{badge(it.state, it.kind)}{flapping}</td><td>{it.attempt}</td><td>{text(first_line(it.words))}</td></tr>"
 
 
 def legend_of(one: OneObject) -> str:

@@ -14,12 +14,16 @@ class DamagedRow(MonitorFault):
 
 
 class ConversationEnded(MonitorFault):
-    """The scheduler's process ended, or answered what no scheduler answers."""
+    """The scheduler's process can't be started, has ended, gave no answer in time, or answered what no scheduler answers."""
 
 
 class NotStored(Exception):
-    """The database took nothing: the disk is full, or can't be written. What was to be stored is as it was."""
+    """The database can't be written or read now: the disk is full, for example. It is as it was."""
 
 
 class RequestFault(Exception):
     """A request that is refused. Nothing was changed."""
+
+
+class AskAgain(RequestFault):
+    """A request that can't be obeyed now and may be later. Nothing was changed."""

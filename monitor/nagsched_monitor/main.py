@@ -1,4 +1,4 @@
-"""The words of `nagsched-monitor`, and the loop of a monitor."""
+"""The words of `nagsched-monitor`, and what a monitor is made of."""
 import argparse
 import datetime
 import json
@@ -17,41 +17,65 @@ from .changes import Notifier
 from .clock import Clock, SystemClock
 from .engine import Engine
 from .faults import ConversationEnded, MonitorFault, NotStored
+from .log import Log
+from .loop import Loop
 from .notify import Service
-from .pace import Pace
-from .requests import Requests
-from .runners import RunnerProcesses
+from .pace import FilePoller, Pace
+from .reading import Reading
+from .requests import Request, encoded
+from .runners import RunnerProcesses, raise_file_limit
 from .scheduling import Scheduling
 from .site import Site, read_site
 from .store import Store
+from .text import first_line
 from .typed import code_of, time_of
 from .writes import DropChangesBefore
 
 DAY = 86_400
+# How soon the next turn comes while a command for changes runs or a client reads, in milliseconds, and how long it is waited at a start for what isn't there.
 BUSY_WAIT = 100
-BETWEEN_CHORES = 1.0
+START_PAUSE = 1.0
+START_TRIES = 10
+# Files that a plugin takes of its runner, and that a process has beside.
+FILES_OF_PLUGIN, OTHER_FILES = 4, 100
+
 
 class Monitor:
     """A monitor of one site, while it runs."""
 
-    def __init__(self, words: argparse.Namespace) -> None:
-        folder, program = words.folder, words.program
-        self._folder, self._program = folder, program
+    def __init__(self, words: argparse.Namespace, log: Optional[Log] = None) -> None:
+        self._folder, self._program = words.folder, words.program
+        self.log = Log() if log is None else log
         self._service = Service()
-        self._pace = Pace(self._read)
-        self._is_ended = self._is_reload_wanted = False
-        self.site = read_site(folder, program)
-        self.store = Store(folder)
+        self._files = raise_file_limit()
+        self._poller = FilePoller(self._read)
+        watch, unwatch = self._poller.watch, self._poller.unwatch
+        site = read_site(self._folder, self._program)
+        self._test_slots(site)
+        self.store = Store(self._folder, self.log)
         self.clock: Clock = SystemClock(self.store.last_moment())
         self._notifier = Notifier(words.on_change, self.store, self.log)
-        self.scheduling = self._opened(self.site)
-        self.runners = RunnerProcesses(os.cpu_count() or 1, self.log, self._pace.watch, self._pace.unwatch)
-        self.runners.serve(self.site.queues)
-        self.engine = Engine(self.site, self.scheduling, self.runners, self.store, self.clock, self.log)
-        self.requests = Requests(self.engine, self.clock, self.reload, self.stop)
-        self.control = control.Control(folder, self.requests.answer, self._pace.watch, self._pace.unwatch)
-        self._dropped_at = self._chores_at = 0.0
+        self.scheduling = self._opened(site)
+        self.runners = RunnerProcesses(processors(), self.log, watch, unwatch)
+        self.runners.serve(site.queues)
+        self.engine = Engine(site, self.scheduling, self.runners, self.store, self.clock, self.log)
+        self.control = control.Control(self._folder, self.engine.ask, watch, unwatch)
+        self._reading = Reading(self._folder, self._program, watch, unwatch)
+        self.loop = Loop(self.engine, Pace(self.clock, self._poller), self.clock, self.log)
         self._beside = self._besides(words)
+        self._dropped_at = self.clock.wall()
+        self._wire()
+
+    @property
+    def site(self) -> Site:
+        return self.engine.site
+
+    def _wire(self) -> None:
+        requests = self.engine.requests
+        requests.log, requests.stop, requests.reload = self.log, self.loop.stop, self._reading.ask
+        self.loop.before = [self._hear]
+        self.loop.after = [self._tell, self._take_over, self._answer]
+        self.loop.chores = [self._drop_old_changes, self._service.alive, *(process.work for process in self._beside)]
 
     def _besides(self, words: argparse.Namespace) -> List[Beside]:
         """The processes that are asked for beside the monitor."""
@@ -65,53 +89,55 @@ class Monitor:
             besides.append(Beside("page", [words.page, str(words.folder)], self.log))
         return besides
 
-    def log(self, line: str) -> None:
-        try:
-            print(line, flush=True)
-        except (OSError, ValueError):
-            pass  # the disk is full, nobody reads any more, or there is no such letter where it is read: monitoring goes on
-
     def _opened(self, site: Site) -> Scheduling:
-        scheduling = Scheduling(self._program, site, self.store, self.clock, self.log, self._notifier.is_wanted())
-        scheduling.open()
-        return scheduling
+        """The site with its schedulers. While the disk is full or no scheduler can be had, it is tried again."""
+        tried = 0
+        while True:
+            scheduling = Scheduling(self._program, site, self.store, self.clock, self.log, self._notifier.is_wanted())
+            try:
+                scheduling.open()
+                return scheduling
+            except (NotStored, ConversationEnded) as fault:
+                scheduling.close()
+                tried += isinstance(fault, ConversationEnded)
+                if tried == START_TRIES:
+                    raise
+                self.log(f"{fault}; it is tried again")
+                time.sleep(START_PAUSE)
+
+    def _test_slots(self, site: Site) -> None:
+        """Refuses more slots than there can be files for."""
+        wanted = site.options.slots * FILES_OF_PLUGIN + OTHER_FILES
+        if wanted > self._files:
+            slots = f"monitor.json: slots: {site.options.slots} plugins may take {wanted} open files"
+            raise MonitorFault(f"{slots}, and the limit is {self._files}: raise it, or have fewer slots")
 
     # ---- the loop
 
-    def work(self) -> None:
-        """Works until it is asked to stop."""
+    def work(self) -> int:
+        """Works until it is asked to stop; returns the exit status."""
         self._take_signals()
         self.log(f"begins: {len(self.site.objects)} objects, {len(self.site.setups)} parts")
-        for line in changes.standing_problems([(known.name, known.standing) for known in self.scheduling.known.objects.values() if known.standing]):
+        for line in changes.standing_problems([(known.name, known.standing) for known in self.engine.objects.values() if known.standing]):
             self.log(f"at the start {line}")
         self._service.ready(f"{len(self.site.objects)} objects")
-        while not self._is_ended:
-            begun = time.monotonic()
-            wanted = self.engine.turn()
-            for change in self.scheduling.changed():
-                self.log(changes.line_of(change, self.site.zone))
-            if self._notifier.is_wanted():
-                self._notifier.work()
-                wanted = min(wanted, self.clock.moment() + BUSY_WAIT) if self._notifier.is_busy() else wanted
-            if begun >= self._chores_at:
-                self._chores_at = begun + BETWEEN_CHORES
-                self._do_chores()
-            if self._is_reload_wanted:
-                self._is_reload_wanted = False
-                self._reload_by_signal()
-            second = self.scheduling.known.second()
-            self._pace.rest(begun, self._time_of(wanted), None if second is None else self._time_of(second))
+        return self.loop.work()
 
-    def _do_chores(self) -> None:
-        """What has to be seen to every second."""
-        self._drop_old_changes()
-        self._service.alive()
-        for process in self._beside:
-            process.work()
+    def _hear(self) -> Optional[int]:
+        """Takes in the requests that have come."""
+        return 0 if self.control.work() else None
 
-    def _time_of(self, moment: int) -> float:
-        """A moment by the monotonic clock."""
-        return time.monotonic() + (moment - self.clock.moment()) / 1000
+    def _answer(self) -> Optional[int]:
+        """Sends the answers of the turn."""
+        has_more = self.control.work()
+        return 0 if has_more else self.clock.moment() + BUSY_WAIT if self.control.is_sending() else None
+
+    def _tell(self) -> Optional[int]:
+        """Logs the changes of the turn, and has the command run for them."""
+        for change in self.scheduling.changed():
+            self.log(changes.line_of(change, self.site.zone))
+        self._notifier.work()
+        return self.clock.moment() + BUSY_WAIT if self._notifier.is_busy() else None
 
     def _read(self, file: int) -> None:
         """Reads a file that can be read."""
@@ -119,6 +145,8 @@ class Monitor:
             self.runners.read(file)
         elif self.control.owns(file):
             self.control.read(file)
+        elif self._reading.owns(file):
+            self._reading.read(file)
         elif file == self._signals[0].fileno():
             self._signals[0].recv(4096)
 
@@ -128,32 +156,49 @@ class Monitor:
         back.setblocking(False)
         signal.set_wakeup_fd(back.fileno(), warn_on_full_buffer=False)
         self._signals = (there, back)
-        self._pace.watch(there.fileno())
+        self._poller.watch(there.fileno())
         for number in (signal.SIGINT, signal.SIGTERM):
-            signal.signal(number, lambda *_: self.stop())
-        signal.signal(signal.SIGHUP, lambda *_: setattr(self, "_is_reload_wanted", True))
+            signal.signal(number, lambda *_: self.loop.stop())
+        signal.signal(signal.SIGHUP, lambda *_: self._reading.ask(None))
 
     def _drop_old_changes(self) -> None:
-        if self.clock.wall() - self._dropped_at > DAY / 24:
-            self._dropped_at = self.clock.wall()
+        """Drops old changes, each hour but the first. A clock that jumped by more than a day drops nothing."""
+        now, since = self.clock.wall(), self.clock.wall() - self._dropped_at
+        if 0 <= since < DAY / 24:
+            return
+        self._dropped_at = now
+        if 0 <= since < DAY:
             try:
-                self.store.write(DropChangesBefore(self.clock.wall() - self.site.options.keep_days * DAY))
+                self.store.write(DropChangesBefore(now - self.site.options.keep_days * DAY))
             except NotStored as fault:
                 self.log(str(fault))
 
-    # ---- what it can be asked
+    # ---- another site
 
-    def stop(self) -> None:
-        self._is_ended = True
+    def _take_over(self) -> Optional[int]:
+        """Goes on with the site that was read; if it is bad the old one goes on."""
+        read = self._reading.work()
+        if read is None:
+            return None
+        site, asked = read
+        try:
+            if isinstance(site, str):
+                raise MonitorFault(site)
+            answer = self._become(site)
+        except (MonitorFault, NotStored) as fault:
+            answer = {"error": str(fault)}
+            self.log(f"the site isn't taken over: {fault}")
+        for request in asked:
+            if request is not None:
+                request.reply(encoded(answer))
+        return 0
 
-    def reload(self) -> Dict[str, Any]:
-        """Reads the site anew, and goes on with it; where it is bad the old one goes on."""
-        site = self._site_now()
-        before = self.scheduling.known.objects
+    def _become(self, site: Site) -> Dict[str, Any]:
+        self._test_slots(site)
+        before = set(self.engine.objects)
         changed = self.engine.reload(site)
-        self.site = site
-        self.runners.serve(self.site.queues)
-        new, dropped = sorted(set(site.objects) - set(before)), sorted(set(before) - set(site.objects))
+        self.runners.serve(site.queues)
+        new, dropped = sorted(set(site.objects) - before), sorted(before - set(site.objects))
         for word, names in (("new", new), ("dropped", dropped)):
             for name in names:
                 self.log(f"{word}: {name}")
@@ -161,25 +206,11 @@ class Monitor:
             self.log(line)
         return {"done": "reload", "new": new, "dropped": dropped, "changed": changed}
 
-    def _site_now(self) -> Site:
-        """The site as its files are now. Whatever is wrong with them is a fault: it doesn't end a monitor that runs."""
-        try:
-            return read_site(self._folder, self._program)
-        except MonitorFault:
-            raise
-        except Exception as error:
-            raise MonitorFault(f"the site can't be read: {type(error).__name__}: {' '.join(str(error).split())}") from error
-
-    def _reload_by_signal(self) -> None:
-        try:
-            self.reload()
-        except (MonitorFault, NotStored) as fault:
-            self.log(f"the site isn't taken over: {fault}")
-
     def close(self) -> None:
         """Ends: plugins that run are killed, and their checks given up at the next start."""
         self._service.stopping()
         self.control.close()
+        self._reading.close()
         for process in self._beside:
             process.close()
         self.runners.close()
@@ -191,6 +222,11 @@ class Monitor:
         self.log("ends")
         self.scheduling.close()
         self.store.close()
+
+
+def processors() -> int:
+    """How many processors this process may use."""
+    return max(1, len(os.sched_getaffinity(0)))
 
 
 # ---- words
@@ -251,7 +287,7 @@ def printed(answer: Dict[str, Any], is_long: bool = False) -> str:
     lines = [] if answer["objects"] else ["no object has such a name"]
     for it in answer["objects"]:
         marks = "".join(word for word, there in ((" FLAPPING", it["flapping"]), (" out", it["out"]), (" off", not it["on"])) if there)
-        lines.append(f"{it['state']} {it['kind']} {it['attempt']}{marks} {it['name']}: {it['output']}")
+        lines.append(f"{it['state']} {it['kind']} {it['attempt']}{marks} {it['name']}: {first_line(it['output'])}")
         if is_long:
             lines[-1] += f"; next check {'none' if it['next'] is None else clock_time(it['next'])}"
     return "\n".join(lines)
@@ -272,12 +308,13 @@ def main(given: Optional[List[str]] = None) -> int:
             return 0
         if words.page is not None:
             places.place_of(words.page)
-        monitor = Monitor(words)
+        log = Log()
+        monitor = Monitor(words, log)
     except MonitorFault as fault:
         print(f"nagsched-monitor: {fault}", file=sys.stderr)
         return 1
     try:
-        monitor.work()
+        return monitor.work()
     finally:
         monitor.close()
-    return 0
+        log.close()

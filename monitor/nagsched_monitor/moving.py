@@ -9,9 +9,13 @@ from .site import Site
 from .store import Store, Write
 
 Member = Dict[str, Any]
+# The states of schedulers by their parts.
+States = Mapping[int, bytes]
+# How long the program may take to test a state, in seconds.
+LIMIT = 60.0
 
 
-def put_together(states: Mapping[int, bytes], mirrored: Mapping[int, AbstractSet[str]], site: Site, moment: int) -> Dict[int, bytes]:
+def put_together(states: States, mirrored: Mapping[int, AbstractSet[str]], site: Site, moment: int) -> Dict[int, bytes]:
     """From which state each part of a site begins, by the states of the parts that there are, and the names of their mirrors.
 
     A mirror stands as its original does. Runs go on from the greatest number of all parts, so that no late result fits a run of another part."""
@@ -52,7 +56,11 @@ def carried(program: str, site: Site, part: int, state: bytes) -> List[str]:
     """What the setup of a part changes of the saved objects that it keeps, a line each; mirrors change as their originals do.
 
     Where one of the two is refused it is a fault, and nothing has changed."""
-    ran = subprocess.run([program, "check", "--resume"], input=site.setups[part] + b"\n" + state + b"\n", stdout=subprocess.PIPE, check=False)
+    given = site.setups[part] + b"\n" + state + b"\n"
+    try:
+        ran = subprocess.run([program, "check", "--resume"], input=given, stdout=subprocess.PIPE, check=False, timeout=LIMIT)
+    except (OSError, subprocess.TimeoutExpired) as error:
+        raise MonitorFault(f"the saved state can't be tested: {error}") from None
     lines = ran.stdout.decode(errors="replace").splitlines()
     if ran.returncode:
         raise MonitorFault(f"the saved state can't be taken over: {'; '.join(lines)}")

@@ -1,7 +1,7 @@
 """The blocks of Nagios's status file: what a site's setup and its table of standings say, in the members that Nagios's pages read."""
 import json
 from dataclasses import dataclass, field
-from typing import Any, Dict, List, Mapping, Optional
+from typing import Any, Dict, List, Mapping, Optional, Tuple
 
 from .rows import KeptStanding
 
@@ -146,12 +146,20 @@ def program_block(program: Program, hosts: List[KeptStanding], services: List[Ke
     return "programstatus {\n" + "".join(f"\t{name}={value}\n" for name, value in members.items()) + "\t}\n"
 
 
+def outputs(words: str) -> Tuple[str, str, str]:
+    """A plugin's output, its long output with each line feed as two letters, and its performance data."""
+    first, _, others = words.partition("\n")
+    output, _, performance = first.partition("|")
+    long_output, _, more = others.partition("|")
+    return output, "\\n".join(plain(line) for line in long_output.rstrip("\n").split("\n")), f"{performance} {more}".strip()
+
+
 def object_block(program: Program, its: Settings, kept: KeptStanding, now: float) -> str:
     """The block of a host or a service."""
     host, is_service, description = kept.name.partition(";")
     states = SERVICE_STATES if is_service else HOST_STATES
     state = states.get(kept.state or "", 0)
-    output, _, performance = kept.words.partition("|")
+    output, long_output, performance = outputs(kept.words)
     left = program.left.get(kept.name, {})
     begin = f"servicestatus {{\n\thost_name={host}\n\tservice_description={description}\n" if is_service else f"hoststatus {{\n\thost_name={host}\n"
     last_times = "".join(
@@ -169,7 +177,7 @@ def object_block(program: Program, its: Settings, kept: KeptStanding, now: float
 \tcurrent_state={state}
 \tlast_hard_state={state if kept.kind == "HARD" else 0}
 \tplugin_output={plain(output)}
-\tlong_plugin_output=
+\tlong_plugin_output={long_output}
 \tperformance_data={plain(performance)}
 \tlast_check={seconds(kept.last_check)}
 \tnext_check={seconds(kept.next_check)}

@@ -94,6 +94,7 @@ class NagiosFiles:
         self._waiting: Deque[Tuple[str, Request]] = collections.deque()
         self._services: Dict[str, List[str]] = {}
         self._fault: Optional[str] = None
+        self._mark, self._count = f"pipe-{os.getpid()}-{time.time_ns()}", 0
 
     def work(self) -> None:
         """Works until its standard input ends."""
@@ -134,28 +135,35 @@ class NagiosFiles:
     # ---- the pipe
 
     def hear(self, lines: Sequence[bytes]) -> None:
-        """Takes in lines of the pipe; one that isn't obeyed is named."""
+        """Takes in lines of the pipe; one that isn't obeyed is named. Each request has a number, so that it isn't obeyed twice when it is asked twice."""
         for line in lines:
             try:
                 name, requests = requests_of(line, self._services)
-                self._waiting.extend((name, request) for request in requests)
             except RequestFault as fault:
                 log(str(fault))
+                continue
+            for request in requests:
+                self._count += 1
+                self._waiting.append((name, {**request, "number": f"{self._mark}-{self._count}"}))
 
     def ask(self) -> None:
-        """Has the monitor obey what waits. What it didn't answer is asked again."""
+        """Has the monitor obey what waits. What it didn't answer, or can't obey now, is asked again."""
         while self._waiting:
             some = [self._waiting[place] for place in range(min(AT_ONCE, len(self._waiting)))]
             try:
                 answers = control.ask_all(self._site, [json.dumps(request, ensure_ascii=False).encode(errors="replace") for _, request in some])
             except MonitorFault:
                 return  # it begins, ends or reads its site; it is asked again
-            for (name, _), answer in zip(some, answers):
+            again = []
+            for asked, answer in zip(some, answers):
                 self._waiting.popleft()
-                error = json.loads(answer).get("error")
-                if error is not None:
-                    log(f"{name}: {error}")
-            if len(answers) < len(some):
+                told = json.loads(answer)
+                if told.get("again", False):
+                    again.append(asked)
+                elif "error" in told:
+                    log(f"{asked[0]}: {asked[1].get('name', '')}: {told['error']}")
+            self._waiting.extendleft(reversed(again))
+            if again or len(answers) < len(some):
                 return
 
 

@@ -100,9 +100,9 @@ def number(word: str) -> int:
     return int(word)
 
 
-def plain(output: str) -> str:
-    """The first line of an output, whose line feeds are two letters here."""
-    return "".join(letter if letter.isprintable() else " " for letter in output.partition("\\n")[0])
+def lines(output: str) -> str:
+    """An output, whose line feeds are two letters in the pipe."""
+    return output.replace("\\n", "\n")
 
 
 def schedule(name: str, time: str, forced: bool) -> Request:
@@ -147,12 +147,12 @@ def host_result(rest: str, services: Services) -> List[Request]:
     host, code, output = words(f"{rest};" if rest.count(";") == 1 else rest, 3)
     if number(code) > 2:
         raise ValueError(f"no state of a host: {code}")
-    return [{"do": "result", "name": host, "code": 2 if number(code) else 0, "output": plain(output)}]
+    return [{"do": "result", "name": host, "code": 2 if number(code) else 0, "output": lines(output)}]
 
 
 def service_result(rest: str, services: Services) -> List[Request]:
     host, description, code, output = words(f"{rest};" if rest.count(";") == 2 else rest, 4)
-    return [{"do": "result", "name": f"{host};{description}", "code": number(code), "output": plain(output)}]
+    return [{"do": "result", "name": f"{host};{description}", "code": number(code), "output": lines(output)}]
 
 
 COMMANDS: Mapping[str, Callable[[str, Services], List[Request]]] = {

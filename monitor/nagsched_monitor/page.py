@@ -217,7 +217,7 @@ class Server(http.server.ThreadingHTTPServer):
     def handle_error(self, request: Any, client_address: Any) -> None:
         """A request that failed is a line of the log, unless its client has gone or sends nothing."""
         fault = sys.exc_info()[1]
-        if not isinstance(fault, (ConnectionError, socket.timeout)):
+        if not isinstance(fault, OSError):
             print(f"the page: {type(fault).__name__}: {fault}", file=sys.stderr, flush=True)
 
 

@@ -16,8 +16,16 @@ TABLES: Dict[str, str] = {
     "outbox": "document TEXT",
     "figures": "name TEXT UNIQUE, value REAL",
     "standings": "name TEXT UNIQUE, state TEXT, kind TEXT, attempt INTEGER, flapping INTEGER, since REAL, hard_since REAL, last_check REAL, "
-    "next_check REAL, is_on INTEGER, out_since REAL, took REAL, late REAL, words TEXT",
+    "next_check REAL, is_on INTEGER, out_since REAL, took REAL, late REAL, words TEXT, phase INTEGER",
+    "requests": "number TEXT UNIQUE, answer TEXT",
+    "aside": "part INTEGER, line TEXT",
+    "damaged": "source TEXT, was TEXT",
 }
+INDEXES = ("changes_by_name ON changes (name, id)", "changes_by_time ON changes (time)")
+# What is told to people alone: a row of these that is damaged is set aside, and the monitor goes on.
+FOR_PEOPLE = ("changes", "figures", "standings")
+# The version of these tables; the first one had no phases.
+VERSION = 2
 INSERTS: Dict[str, str] = {
     table: f"INSERT OR REPLACE INTO {table} VALUES ({','.join('?' * (len(members.split(',')) + 2))})" for table, members in TABLES.items()
 }
@@ -94,6 +102,8 @@ class KeptStanding(NamedTuple):
     took: Optional[float]
     late: Optional[float]
     words: str
+    # A moment at which it is checked by itself.
+    phase: Optional[int] = None
 
 
 @dataclass

@@ -24,6 +24,8 @@ from .periods import Periods, read_periods
 from .queues import Queues, queue_of_each, read_queues
 from .whole_site import reading
 
+# How long a setup may take to be tested, in seconds.
+LIMIT = 60.0
 CODES_BY_LETTER = {"w": 1, "c": 2, "u": 3}
 
 
@@ -130,11 +132,13 @@ def setup_line(path: pathlib.Path, program: str) -> bytes:
     line = b""
     for words in ((), ("--line",)):
         try:
-            checked = subprocess.run([program, "check", *words], input=setup, stdout=subprocess.PIPE, check=False)
+            checked = subprocess.run([program, "check", *words], input=setup, stdout=subprocess.PIPE, check=False, timeout=LIMIT)
         except (FileNotFoundError, PermissionError):
             raise SiteFault(f"there is no program {program}: put it on the path, or name it with --program") from None
         except OSError as error:
             raise SiteFault(f"{program} can't be run: {error.strerror}") from None
+        except subprocess.TimeoutExpired:
+            raise SiteFault(f"{path.name}: {program} gives no answer within {LIMIT:g} seconds") from None
         line = checked.stdout.rstrip(b"\n")
         if checked.returncode != 0:
             raise SiteFault(f"{path.name}: {'; '.join(line.decode(errors='replace').splitlines()) or 'the scheduler gives no answer'}")

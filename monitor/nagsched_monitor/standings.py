@@ -5,18 +5,18 @@ a second is written by itself. Times in the table are seconds since 1970 of the 
 """
 from typing import Dict, Iterable, List, Mapping, Optional, Sequence, Tuple
 
-from .calls import Abandon, Answer, Call, Freed, Report, Standing, Taken
+from .calls import Answer, Call, Report, Standing, Taken
 from .clock import Clock
 from .known import Known, Past
+from .rhythm import FIRST_TIME
 from .rows import KeptStanding
+from .running import Run
 from .store import Store, Write
 from .writes import DropStandings, KeepStandings
 
 # How long a marked object waits for others, and behind what it is written by itself, in milliseconds.
 TOGETHER = 500
 LONGEST = 1_000
-# A next check before this moment was asked for at once.
-FIRST_TIME = 3
 
 
 class Standings:
@@ -42,17 +42,15 @@ class Standings:
         for number, kept in self._store.standings():
             self._numbers[kept.name] = number
             if kept.name in objects:
-                objects[kept.name].words = kept.words
-                objects[kept.name].past = past_of(kept)
+                known = objects[kept.name]
+                known.words, known.phase, known.past = kept.words, kept.phase, past_of(kept)
         self._greatest = max(self._numbers.values(), default=0)
         self._dropped = [name for name in self._numbers if name not in objects]
 
     def settle(self, objects: Mapping[str, Known]) -> None:
         """The objects stand as they are known now. Where the table had another state, the kept changes say since when it is."""
-        others = [known for known in objects.values() if not is_settled(known)]
-        changes = self._store.last_changes() if others else {}
-        for known in others:
-            since = changes.get(known.name)
+        for known in [known for known in objects.values() if not is_settled(known)]:
+            since = self._store.last_changes(known.name)
             assert known.standing is not None
             now = self._clock.wall()
             note(known.past, known.standing, since.since if since and since.state == known.standing.state else now)
@@ -71,18 +69,20 @@ class Standings:
 
     # ---- while it runs
 
-    def hear(self, known: Known, call: Call, answer: Answer) -> None:
-        """Takes in what an answer changed of an object, and marks it."""
+    def hear(self, known: Known, call: Call, answer: Answer, ended: Optional[Run]) -> None:
+        """Takes in what an answer changed of an object, and marks it. `ended` is its run before."""
         past = known.past
-        if isinstance(answer, Taken):
-            past.out_since = self._clock.wall()
+        if isinstance(answer, Taken) and known.run is not None:
+            known.run.began = self._clock.wall()
         elif isinstance(call, Report) and isinstance(answer, Standing):
             now = self._clock.wall()
-            begun = now if past.out_since is None else past.out_since
-            past.last_check, past.took, past.out_since = begun, max(0.0, now - begun), None
+            begun = now if ended is None or ended.began is None else ended.began
+            past.last_check, past.took = begun, max(0.0, now - begun)
             note(past, answer, now)
-        elif isinstance(call, Abandon) and isinstance(answer, Freed):
-            past.out_since = None
+        self.mark(known)
+
+    def mark(self, known: Known) -> None:
+        """An object is written with the next calls."""
         self._marked[known.name] = known
         if self._marked_at is None:
             self._marked_at = self._clock.moment()
@@ -105,12 +105,11 @@ class Standings:
         dropped = [DropStandings(self._dropped)] if self._dropped else []
         return [*dropped, KeepStandings(self._rows(self._marked.values()))]
 
-    def written(self, writes: Sequence[Write]) -> None:
-        """These were written."""
-        if writes:
-            self._marked.clear()
-            self._dropped = []
-            self._marked_at = None
+    def written(self) -> None:
+        """What was to be written was."""
+        self._marked.clear()
+        self._dropped = []
+        self._marked_at = None
 
     def _rows(self, marked: Iterable[Known]) -> List[Tuple[int, KeptStanding]]:
         wall = self._clock.wall()
@@ -145,7 +144,7 @@ def past_of(kept: KeptStanding) -> Past:
     well = "OK" if ";" in kept.name else "UP"
     hard = None if kept.hard_since is None else kept.state if kept.kind == "HARD" else well
     state = None if kept.since is None else kept.state
-    return Past(state, kept.since, hard, kept.hard_since, kept.last_check, kept.out_since, kept.took, kept.late)
+    return Past(state, kept.since, hard, kept.hard_since, kept.last_check, kept.took, kept.late)
 
 
 def kept_of(known: Known, wall: float, ahead: float) -> KeptStanding:
@@ -156,6 +155,6 @@ def kept_of(known: Known, wall: float, ahead: float) -> KeptStanding:
         state, kind, attempt, flapping = standing.state, standing.kind, standing.attempt, standing.flapping
     next_check = None if known.next is None else wall if known.next < FIRST_TIME else known.next / 1000 - ahead
     return KeptStanding(
-        known.name, state, kind, attempt, flapping, past.since, past.hard_since, past.last_check, next_check, known.on, past.out_since, past.took,
-        past.late, known.words,
+        known.name, state, kind, attempt, flapping, past.since, past.hard_since, past.last_check, next_check, known.on,
+        None if known.run is None else known.run.began, past.took, past.late, known.words, known.phase,
     )

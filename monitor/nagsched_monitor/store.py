@@ -9,25 +9,31 @@
     outbox        changes that the command for changes hasn't taken yet
     standings     how each object stands, a second old at most
     figures       what the monitor counts of itself, a name and a number each
+    requests      the answers to the last thousand requests that had numbers
+    aside         calls after which a scheduler ends: they aren't made again
+    damaged       rows of changes, standings and figures that were changed since they were written
 
 Each row has a checksum over its table and its members, so that a row that was changed since is found.
 """
+import contextlib
 import fcntl
 import os
 import pathlib
 import sqlite3
-from typing import Dict, Iterator, List, Optional, Sequence, Tuple
+from typing import Callable, Dict, Iterator, List, Optional, Sequence, Set, Tuple
 
 from .calls import Abandon, Take, read_call
 from .faults import DamagedRow, MonitorFault, NotStored
-from .rows import GENERATIONS, INSERTS, TABLES, Cell, Generation, KeptCall, KeptResult, KeptStanding, LastChanges, checksum_of, names_of
+from .rows import (
+    FOR_PEOPLE, GENERATIONS, INDEXES, INSERTS, TABLES, VERSION, Cell, Generation, KeptCall, KeptResult, KeptStanding, LastChanges, checksum_of, names_of,
+)
 
 
 class Store:
     """The database of one monitor. A second one of the same site is refused."""
 
-    def __init__(self, folder: pathlib.Path) -> None:
-        self.path = folder / "monitor.db"
+    def __init__(self, folder: pathlib.Path, log: Callable[[str], None] = lambda line: None) -> None:
+        self.path, self._log = folder / "monitor.db", log
         self._lock: Optional[int] = locked(folder)
         try:
             self._database = self._opened()
@@ -35,11 +41,11 @@ class Store:
         except sqlite3.Error as error:
             self.close()
             raise MonitorFault(f"{self.path}: {error}") from None
-        except DamagedRow:
+        except MonitorFault:
             self.close()
             raise
         self.last_call = max(self._greatest("calls"), self._greatest("generations", "last_call"))
-        self.last_change = self._greatest("changes")
+        self.last_result = self._greatest("passive")
 
     def _opened(self) -> sqlite3.Connection:
         """The database, for its owner only, with a table for everything."""
@@ -48,12 +54,33 @@ class Store:
         try:
             for setting in ("journal_mode=WAL", "synchronous=FULL", "wal_autocheckpoint=1000"):
                 database.execute(f"PRAGMA {setting}")
+            database.execute("BEGIN IMMEDIATE")
+            self._take_over(database)
             for table, members in TABLES.items():
                 database.execute(f"CREATE TABLE IF NOT EXISTS {table} (id INTEGER PRIMARY KEY, {members}, checksum TEXT)")
-        except sqlite3.Error:
+            for index in INDEXES:
+                database.execute(f"CREATE INDEX IF NOT EXISTS {index}")
+            database.execute("COMMIT")
+        except (sqlite3.Error, MonitorFault):
             database.close()
             raise
         return database
+
+    def _take_over(self, database: sqlite3.Connection) -> None:
+        """Takes over a database of the version before: its standings had no phases."""
+        (version,) = database.execute("PRAGMA user_version").fetchone()
+        if version > VERSION:
+            raise MonitorFault(f"{self.path}: it has version {version}, and this monitor reads versions up to {VERSION}")
+        if version == VERSION:
+            return
+        rows = []
+        if database.execute("SELECT 1 FROM sqlite_master WHERE name = 'standings'").fetchone():
+            rows = [row for row in database.execute("SELECT * FROM standings") if row[-1] == checksum_of("standings", row[0], row[1:-1])]
+            database.execute("DROP TABLE standings")
+        database.execute(f"CREATE TABLE standings (id INTEGER PRIMARY KEY, {TABLES['standings']}, checksum TEXT)")
+        for number, *cells, _ in rows:
+            database.execute(INSERTS["standings"], (number, *cells, None, checksum_of("standings", number, [*cells, None])))
+        database.execute(f"PRAGMA user_version = {VERSION}")
 
     def close(self) -> None:
         if self._lock is not None:
@@ -65,14 +92,37 @@ class Store:
     # ---- reading
 
     def _verify(self) -> None:
-        """Tests each row's checksum, and that no call is missing between two."""
+        """Tests each row's checksum but for those of the history, and that no call is missing between two."""
         for table in TABLES:
-            for number, *cells, checksum in self._database.execute(f"SELECT * FROM {table} ORDER BY id"):
-                if checksum != checksum_of(table, number, cells):
-                    raise DamagedRow(f"{self.path}: row {number} of {table} was changed since it was written")
+            if table not in ("changes", "damaged"):
+                self._sound(table, self._database.execute(f"SELECT * FROM {table} ORDER BY id").fetchall())
         first, last, count = self._database.execute("SELECT min(id), max(id), count(*) FROM calls").fetchone()
         if count and last - first + 1 != count:
             raise DamagedRow(f"{self.path}: {last - first + 1 - count} rows of calls are missing")
+
+    def _sound(self, table: str, rows: Sequence[Sequence[Cell]]) -> List[Sequence[Cell]]:
+        """Those of these rows that are as they were written, without their checksums. Others are a fault, or set aside if only people read them."""
+        sound = []
+        for row in rows:
+            number, *cells, checksum = row
+            if checksum == checksum_of(table, int(str(number)), cells):
+                sound.append(row[:-1])
+                continue
+            if table not in FOR_PEOPLE:
+                raise DamagedRow(f"{self.path}: row {number!r} of {table} was changed since it was written")
+            self._log(f"row {number!r} of {table} was changed since it was written: it is in the table damaged now")
+            with contextlib.suppress(sqlite3.Error):
+                self.insert("damaged", None, (table, ascii(row)))
+                self.delete(table, "id = ?", number)
+        return sound
+
+    @contextlib.contextmanager
+    def _reading(self) -> Iterator[None]:
+        """What can't be read now is told as what can't be stored."""
+        try:
+            yield
+        except sqlite3.Error as error:
+            raise NotStored(f"{self.path}: {error}") from None
 
     def _greatest(self, table: str, member: str = "id") -> int:
         (greatest,) = self._database.execute(f"SELECT max({member}) FROM {table}").fetchone()
@@ -82,15 +132,15 @@ class Store:
         """The last generation of each part."""
         return {row[0]: Generation(*(*row[:-1], names_of(row[-1]))) for row in self._database.execute(GENERATIONS)}
 
-    def calls_since(self, part: int, number: int) -> Iterator[KeptCall]:
-        """The calls of a part behind the call with this number."""
-        rows = self._database.execute("SELECT id, part, line, words FROM calls WHERE part = ? AND id > ? ORDER BY id", (part, number))
-        return (KeptCall(*row) for row in rows)
+    def calls_since(self, part: int, number: int) -> List[KeptCall]:
+        """The calls of a part after the call with this number, but for those that were set aside."""
+        return self.calls_between(part, number, self.last_call)
 
-    def count_calls(self, part: int, number: int) -> int:
-        """How many calls of a part there are behind the call with this number."""
-        (count,) = self._database.execute("SELECT count(*) FROM calls WHERE part = ? AND id > ?", (part, number)).fetchone()
-        return int(count)
+    def calls_between(self, part: int, number: int, last: int) -> List[KeptCall]:
+        """Those of them up to the call with the number `last`."""
+        rows = "SELECT id, part, line, words FROM calls WHERE part = ? AND id > ? AND id <= ? AND id NOT IN (SELECT id FROM aside) ORDER BY id"
+        with self._reading():
+            return [KeptCall(*row) for row in self._database.execute(rows, (part, number, last))]
 
     def last_moment(self) -> int:
         """The greatest moment that was kept. Behind a save no call may have one, so that the figures have one as well."""
@@ -108,12 +158,18 @@ class Store:
     def waiting(self) -> List[KeptResult]:
         return [KeptResult(*row) for row in self._database.execute("SELECT id, name, code, words FROM passive ORDER BY id")]
 
-    def last_waiting(self) -> KeptResult:
-        """The passive result that was written last."""
-        return KeptResult(*self._database.execute("SELECT id, name, code, words FROM passive ORDER BY id DESC LIMIT 1").fetchone())
+    def requests(self) -> Dict[str, str]:
+        """The answers to requests that had numbers."""
+        return dict(self._database.execute("SELECT number, answer FROM requests ORDER BY id"))
 
-    def outbox(self) -> List[Tuple[int, str]]:
-        return list(self._database.execute("SELECT id, document FROM outbox ORDER BY id"))
+    def outbox(self, count: int = -1) -> List[Tuple[int, str]]:
+        """The documents that the command for changes hasn't taken, the oldest first; so many of them at most."""
+        with self._reading():
+            return list(self._database.execute("SELECT id, document FROM outbox ORDER BY id LIMIT ?", (count,)))
+
+    def changes_after(self, number: int) -> Set[int]:
+        """The numbers of the stored changes after the call with this number."""
+        return {each for (each,) in self._database.execute("SELECT id FROM changes WHERE id > ?", (number,))}
 
     def figures(self) -> Dict[str, float]:
         return {name: float(value) for name, value in self._database.execute("SELECT name, value FROM figures")}
@@ -123,31 +179,33 @@ class Store:
         rows = self._database.execute(f"SELECT id, {', '.join(KeptStanding._fields)} FROM standings")
         return [(number, KeptStanding(*cells)) for number, *cells in rows]
 
-    def last_changes(self) -> Dict[str, LastChanges]:
-        """Of each object that has a change among the kept ones, since when it is in its last state, and in its last hard one."""
-        last: Dict[str, LastChanges] = {}
-        for time, name, state, kind in self._database.execute("SELECT time, name, state, kind FROM changes ORDER BY id"):
-            known = last.setdefault(name, LastChanges(state, time))
-            if known.state != state:
-                known.state, known.since = state, time
-            if kind == "HARD" and known.hard_state != state:
-                known.hard_state, known.hard_since = state, time
+    def last_changes(self, name: str) -> Optional[LastChanges]:
+        """Since when an object is in its last state, and in its last hard one, by the stored changes; None if it has none."""
+        last: Optional[LastChanges] = None
+        with self._reading():
+            rows = self._database.execute("SELECT * FROM changes WHERE name = ? ORDER BY id", (name,)).fetchall()
+        for _, time, _, state, kind, *_ in self._sound("changes", rows):
+            if last is None or last.state != state:
+                last = LastChanges(str(state), float(str(time)), *((None, None) if last is None else (last.hard_state, last.hard_since)))
+            if kind == "HARD" and last.hard_state != state:
+                last.hard_state, last.hard_since = str(state), float(str(time))
         return last
 
     # ---- writing
 
     def write(self, *writes: "Write") -> None:
         """Writes all of these or nothing, and syncs it. `NotStored` where the disk is full or the file can't be written."""
-        last_call, last_change = self.last_call, self.last_change
+        last_call = self.last_call
         try:
             self._database.execute("BEGIN IMMEDIATE")
             for write in writes:
                 write.carry_out(self)
             self._database.execute("COMMIT")
         except sqlite3.Error as error:
-            self.last_call, self.last_change = last_call, last_change
-            if self._database.in_transaction:
-                self._database.execute("ROLLBACK")
+            self.last_call = last_call
+            with contextlib.suppress(sqlite3.Error):
+                if self._database.in_transaction:
+                    self._database.execute("ROLLBACK")
             raise NotStored(f"{self.path}: {error}") from None
 
     def insert(self, table: str, number: Optional[int], cells: Sequence[Cell]) -> None:

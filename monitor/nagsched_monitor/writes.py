@@ -5,6 +5,9 @@ from typing import Optional, Sequence, Tuple
 from .rows import Generation, KeptChange, KeptStanding, text_of
 from .store import Store, Write
 
+# How many answers to numbered requests are kept.
+MOST_REQUESTS = 1_000
+
 
 @dataclass(frozen=True)
 class KeepCalls(Write):
@@ -19,6 +22,30 @@ class KeepCalls(Write):
 
 
 @dataclass(frozen=True)
+class SetAside(Write):
+    """A call after which its scheduler ends: it isn't made again."""
+
+    number: int
+    part: int
+    line: str
+
+    def carry_out(self, store: Store) -> None:
+        store.insert("aside", self.number, (self.part, self.line))
+
+
+@dataclass(frozen=True)
+class KeepRequest(Write):
+    """The answer to a request that has a number: it isn't obeyed twice. The last thousand are kept."""
+
+    number: str
+    answer: str
+
+    def carry_out(self, store: Store) -> None:
+        store.insert("requests", None, (self.number, self.answer))
+        store.delete("requests", f"id <= (SELECT max(id) FROM requests) - {MOST_REQUESTS}")
+
+
+@dataclass(frozen=True)
 class BeginGeneration(Write):
     """A scheduler that is opened: what came before of its part isn't needed any more."""
 
@@ -28,6 +55,7 @@ class BeginGeneration(Write):
         made = self.generation
         store.delete("generations", "part = ?", made.part)
         store.delete("calls", "part = ? AND id <= ?", made.part, made.last_call)
+        store.delete("aside", "part = ? AND id <= ?", made.part, made.last_call)
         store.insert("generations", None, (made.part, made.setup, made.start, made.saved, made.last_call))
         store.delete("mirrors", "part = ?", made.part)
         if made.mirrors:
@@ -51,9 +79,11 @@ class KeepResult(Write):
     name: str
     code: int
     words: str
+    # Its number; the next one without it.
+    id: Optional[int] = None
 
     def carry_out(self, store: Store) -> None:
-        store.insert("passive", None, (self.name, self.code, self.words))
+        store.insert("passive", self.id, (self.name, self.code, self.words))
 
 
 @dataclass(frozen=True)
@@ -76,7 +106,6 @@ class KeepChange(Write):
     def carry_out(self, store: Store) -> None:
         made = self.change
         store.insert("changes", made.id, (made.time, made.name, made.state, made.kind, made.attempt, int(made.flapping), made.words))
-        store.last_change = max(store.last_change, made.id)
         if self.document is not None:
             store.insert("outbox", None, (self.document,))
 

@@ -8,7 +8,9 @@ from unittest import mock
 from nagsched_monitor.calls import Answer, Call, Report, Standing, Status
 from nagsched_monitor.mirroring import AskedOf, Mirrors
 from nagsched_monitor.rows import KeptChange
+from nagsched_monitor.scheduling import Heard
 from nagsched_monitor.site import read_site
+from nagsched_monitor.store import Write
 
 from .one_scheduler import OneScheduler, Told, is_change, told_of
 from .simulated import PROGRAM, Plugin, SimulatedClock, SimulatedMonitor, SiteTest
@@ -91,19 +93,25 @@ class Parted(SiteTest):
     def begun(self, plugin: Plugin, clock: Optional[SimulatedClock] = None) -> SimulatedMonitor:
         """A monitor of the site, each of whose results is held to what one scheduler makes of it."""
         monitor = self.monitor(plugin, clock)
-        make = monitor.scheduling._make
+        store, make = monitor.scheduling.store, monitor.scheduling.make
+        asked: List[AskedOf] = []
 
-        def judged(asked: Sequence[AskedOf], *rest: Any, **named: Any) -> List[Tuple[Call, Answer]]:
-            made = make(asked, *rest, **named)
-            answers = {call.name: answer for call, answer in made if isinstance(call, Report)}
-            for _, call, _ in asked:
-                answer = answers.get(call.name) if isinstance(call, Report) else None
+        def noted(calls: Sequence[AskedOf], writes: Sequence[Write] = ()) -> None:
+            store(calls, writes)
+            asked[:] = calls
+
+        def judged() -> List[Heard]:
+            heard = make()
+            answers = {each.call.name: each.answer for each in heard if isinstance(each.call, Report)}
+            for part, call, _ in asked:
+                answer = answers.get(call.name) if isinstance(call, Report) and part == monitor.site.objects[call.name].part else None
                 if isinstance(call, Report) and isinstance(answer, Standing):
                     self.results += 1
                     self.judge(call, answer)
-            return made
+            return heard
 
-        setattr(monitor.scheduling, "_make", judged)
+        setattr(monitor.scheduling, "store", noted)
+        setattr(monitor.scheduling, "make", judged)
         self.originals, self.mirrors = {}, {}
         return monitor
 
@@ -136,16 +144,15 @@ class Parted(SiteTest):
 
     def assert_mirrors_stand(self, monitor: SimulatedMonitor) -> None:
         """Each mirror stands as its original does, as the schedulers have them."""
-        scheduling = monitor.scheduling
+        schedulers = monitor.scheduling.schedulers
         for part, names in monitor.site.mirrors.items():
-            for name, answer in zip(sorted(names), scheduling._conversations[part].ask([Status(name) for name in sorted(names)])):
-                (original,) = scheduling._conversations[monitor.site.objects[name].part].ask([Status(name)])
+            for name, answer in zip(sorted(names), schedulers.ask(part, [Status(name) for name in sorted(names)])):
+                (original,) = schedulers.ask(monitor.site.objects[name].part, [Status(name)])
                 assert isinstance(answer, Standing) and isinstance(original, Standing)
                 self.assertEqual((told_of(answer), answer.next), (told_of(original), None), (part, name))
 
     def reload(self, monitor: SimulatedMonitor) -> List[str]:
         """Goes on with the site as its files are now."""
-        monitor.site = read_site(self.folder, PROGRAM)
-        changed = monitor.engine.reload(monitor.site)
+        changed = monitor.engine.reload(read_site(self.folder, PROGRAM))
         self.assert_mirrors_stand(monitor)
         return changed

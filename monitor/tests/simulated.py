@@ -6,14 +6,20 @@ import pathlib
 import tempfile
 import unittest
 from dataclasses import dataclass, field
-from typing import Any, Callable, Dict, List, Optional, Tuple
+from typing import Any, Callable, Dict, List, Optional, Set, Tuple
 
+from nagsched_monitor.conversation import Conversation
 from nagsched_monitor.engine import Engine
-from nagsched_monitor.rows import KeptChange
-from nagsched_monitor.runners import Event, Finished, Job
+from nagsched_monitor.loop import Loop
+from nagsched_monitor.pace import Pace
+from nagsched_monitor.requests import Request
+from nagsched_monitor.rows import KeptChange, KeptResult
+from nagsched_monitor.runners import Event, Finished, Job, Lost
 from nagsched_monitor.scheduling import Scheduling
+from nagsched_monitor.schedulers import Converse
 from nagsched_monitor.site import Site, read_site
 from nagsched_monitor.store import Store
+from nagsched_monitor.writes import KeepResult
 
 PROGRAM = os.environ.get("NAGSCHED", "nagsched")
 # 2026-11-27 08:00:00, in UTC.
@@ -43,7 +49,7 @@ class SimulatedRunners:
     clock: SimulatedClock
     plugin: Plugin
     started: List[Tuple[int, Job]] = field(default_factory=list)
-    _ends: List[Tuple[int, int, Finished]] = field(default_factory=list)
+    _ends: List[Tuple[int, int, Event]] = field(default_factory=list)
 
     def start(self, job: Job) -> None:
         took, code, output = self.plugin(job.name, self.clock.now)
@@ -62,38 +68,115 @@ class SimulatedRunners:
     def first(self) -> Optional[int]:
         return self._ends[0][0] if self._ends else None
 
+    def jobs(self) -> Set[int]:
+        return {id(event.job) for _, _, event in self._ends}
+
+    def running(self) -> List[str]:
+        """The names of the objects whose plugins run now."""
+        return [event.job.name for end, _, event in self._ends if end > self.clock.now]
+
+    def kill(self, job: Job) -> bool:
+        """Its plugin is killed, and lost."""
+        is_there = id(job) in self.jobs()
+        self._ends = [(self.clock.now, number, Lost(job)) if event.job is job else (end, number, event) for end, number, event in self._ends]
+        heapq.heapify(self._ends)
+        return is_there
+
+
+@dataclass
+class SimulatedPoller:
+    """Time passes at once; plugins' ends are what comes."""
+
+    clock: SimulatedClock
+    runners: SimulatedRunners
+
+    def wait(self, milliseconds: float) -> bool:
+        until = self.clock.now + max(0, round(milliseconds))
+        first = self.runners.first()
+        has_come = first is not None and first <= until
+        self.clock.now = max(self.clock.now, first) if has_come and first is not None else until
+        return has_come
+
+    def sleep(self, milliseconds: float) -> None:
+        self.clock.now += max(0, round(milliseconds))
+
 
 class SimulatedMonitor:
     """A monitor whose day takes seconds."""
 
-    def __init__(self, folder: pathlib.Path, plugin: Plugin, clock: Optional[SimulatedClock] = None) -> None:
+    def __init__(
+        self, folder: pathlib.Path, plugin: Plugin, clock: Optional[SimulatedClock] = None, converse: Converse = Conversation, store: Optional[Store] = None
+    ) -> None:
         self.folder = folder
-        self.site: Site = read_site(folder, PROGRAM)
-        self.store = Store(folder)
+        site: Site = read_site(folder, PROGRAM)
+        self.store = store or Store(folder)
         self.store._database.execute("PRAGMA synchronous=OFF")
         self.clock = clock or SimulatedClock()
         # From one turn to the next at least, in milliseconds.
         self.between = 1
         self.lines: List[str] = []
         self.changes: List[Tuple[int, KeptChange]] = []
-        self.scheduling = Scheduling(PROGRAM, self.site, self.store, self.clock, self.lines.append, True)
-        self.scheduling.open()
+        self.scheduling = Scheduling(PROGRAM, site, self.store, self.clock, self.log, True, converse)
+        try:
+            self.scheduling.open()
+        except BaseException:
+            self.close()
+            raise
         self.runners = SimulatedRunners(self.clock, plugin)
-        self.engine = Engine(self.site, self.scheduling, self.runners, self.store, self.clock, self.lines.append)
+        self.engine = Engine(site, self.scheduling, self.runners, self.store, self.clock, self.log)
+        self.engine.requests.log = self.log
+        self.loop = Loop(self.engine, Pace(self.clock, SimulatedPoller(self.clock, self.runners)), self.clock, self.log)
+        self.loop.after = [self.take_changes]
+
+    def log(self, line: str) -> None:
+        self.lines.append(line)
+
+    @property
+    def site(self) -> Site:
+        return self.engine.site
+
+    def take_changes(self) -> None:
+        self.changes += [(self.clock.now, change) for change in self.scheduling.changed()]
 
     def run(self, seconds: float) -> None:
-        """Goes on for so long."""
+        """Goes on for so long, with a turn whenever something is due or has come."""
         end = self.clock.now + round(seconds * 1000)
         while self.clock.now < end:
+            self.engine.requests.begin_turn()
             wanted = self.engine.turn()
-            self.changes += [(self.clock.now, change) for change in self.scheduling.changed()]
+            self.take_changes()
             ends = self.runners.first()
             wanted = wanted if ends is None else min(wanted, ends)
             self.clock.now = min(end, max(wanted, self.clock.now + self.between))
 
+    def work(self, seconds: float) -> None:
+        """Goes on for so long, by the monitor's own loop."""
+        end = self.clock.now + round(seconds * 1000)
+        while self.clock.now < end and self.loop.status is None:
+            self.loop.go_round()
+
     def pause(self, seconds: float) -> None:
         """Nothing runs for so long, as where a machine sleeps."""
         self.clock.now += round(seconds * 1000)
+
+    def ask_line(self, line: bytes) -> Dict[str, Any]:
+        """The answer to a request, after the turn in which it is obeyed."""
+        answers: List[bytes] = []
+        self.engine.ask(Request(line, answers.append))
+        self.engine.requests.begin_turn()
+        self.engine.turn()
+        self.take_changes()
+        answer: Dict[str, Any] = json.loads(answers[0])
+        return answer
+
+    def ask(self, **members: Any) -> Dict[str, Any]:
+        return self.ask_line(json.dumps(members).encode())
+
+    def give(self, name: str, code: int, words: str) -> None:
+        """A passive result, which is stored."""
+        self.store.last_result += 1
+        self.store.write(KeepResult(name, code, words, self.store.last_result))
+        self.engine.expect(KeptResult(self.store.last_result, name, code, words))
 
     def starts(self) -> Dict[str, List[int]]:
         """When each object's plugin was started, in milliseconds from the beginning."""
@@ -133,8 +216,8 @@ class SiteTest(unittest.TestCase):
         for name, document in files.items():
             self.write(f"{name}.json", document)
 
-    def monitor(self, plugin: Plugin, clock: Optional[SimulatedClock] = None) -> SimulatedMonitor:
-        monitor = SimulatedMonitor(self.folder, plugin, clock)
+    def monitor(self, plugin: Plugin, clock: Optional[SimulatedClock] = None, converse: Converse = Conversation) -> SimulatedMonitor:
+        monitor = SimulatedMonitor(self.folder, plugin, clock, converse)
         self.addCleanup(monitor.close)
         return monitor
 

@@ -27,7 +27,7 @@ def children_of(process: int) -> List[int]:
 
 def is_page(process: int) -> bool:
     try:
-        return b"nagsched_monitor.page" in pathlib.Path(f"/proc/{process}/cmdline").read_bytes()
+        return b"import page as it" in pathlib.Path(f"/proc/{process}/cmdline").read_bytes()
     except OSError:
         return False  # it has just ended
 
@@ -175,7 +175,7 @@ class Pauses(SiteTest):
                     begun.append(second)
         self.assertEqual(begun, [0, 5, 15, 35, 75, 135, 195])
         self.assertEqual(LONGEST_PAUSE, 60)
-        self.assertEqual(set(lines), {"faults ended with status 0; it is begun again"})
+        self.assertEqual(set(lines), {"faults ended with status 1; it is begun again"})
 
 
     def test_no_room_for_a_process(self) -> None:

@@ -10,7 +10,7 @@ from unittest import mock
 
 from nagsched_monitor import changes
 from nagsched_monitor.calls import Standing
-from nagsched_monitor.changes import TRIES, Notifier, document_of, is_change, is_important, line_of
+from nagsched_monitor.changes import MOST_AGE, PAUSE, Notifier, document_of, is_change, is_important, line_of
 from nagsched_monitor.faults import NotStored
 from nagsched_monitor.rows import KeptChange
 from nagsched_monitor.store import Store
@@ -57,16 +57,19 @@ class Command(SiteTest):
 
     def keep(self, count: int) -> None:
         for number in range(1, count + 1):
-            change = KeptChange(number, float(number), f"h{number}", "DOWN", "HARD", 3, False, 'a "word"')
+            change = KeptChange(number, 1000.0 * number, f"h{number}", "DOWN", "HARD", 3, False, 'a "word"')
             self.store.write(KeepChange(change, document_of(change, None)))
+
+    def notifier(self, command: Optional[str]) -> Notifier:
+        return Notifier(command, self.store, self.lines.append, lambda: time.monotonic() + self.passed, lambda: self.passed)
 
     def worked(self, command: Optional[str], seconds: float = LONG) -> None:
         """Works until nothing waits, on a clock that goes on by itself between two tries."""
-        notifier = Notifier(command, self.store, self.lines.append, lambda: time.monotonic() + self.passed)
+        notifier = self.notifier(command)
         end = time.monotonic() + seconds
         while self.store.outbox() and time.monotonic() < end:
             notifier.work()
-            self.passed += 0 if notifier.is_busy() else 10
+            self.passed += 0 if notifier.is_busy() else 2 * PAUSE
             time.sleep(0.005)
         notifier.close()
 
@@ -83,17 +86,36 @@ class Command(SiteTest):
         names = [json.loads(line)["name"] for line in (self.folder / "taken").read_text().splitlines()]
         self.assertEqual(names, ["h1", "h1", "h2"])
 
-    def test_one_that_always_fails_is_given_up_by_name(self) -> None:
-        self.keep(1)
-        self.worked("exit 3")
-        self.assertEqual(len(self.lines), TRIES)
-        self.assertIn("h1", self.lines[-1])
-        self.assertEqual(self.store.outbox(), [])
+    def test_a_relay_that_is_away_for_ten_minutes(self) -> None:
+        """Nothing is lost, however often the command fails."""
+        self.keep(12)
+        notifier = self.notifier(f"test -e {self.folder}/up && cat >> {self.folder}/taken")
+
+        def is_done() -> bool:
+            notifier.work()
+            self.passed += 0 if notifier.is_busy() else PAUSE
+            if self.passed > 600:
+                (self.folder / "up").touch()
+            return not self.store.outbox()
+
+        self.assertTrue(comes(is_done))
+        notifier.close()
+        self.assertEqual(len((self.folder / "taken").read_text().splitlines()), 12)
+        self.assertEqual(self.lines, ["the command for changes ended with 1; it is tried again"])
+
+    def test_one_that_is_too_old_is_given_up_by_name(self) -> None:
+        """By its age, and never by how often it was tried."""
+        self.keep(2)
+        self.passed = 1500 + MOST_AGE
+        self.worked(f"cat >> {self.folder}/taken")
+        self.assertEqual([json.loads(line)["name"] for line in (self.folder / "taken").read_text().splitlines()], ["h2"])
+        self.assertEqual(len(self.lines), 1)
+        self.assertIn('"h1"', self.lines[0])
 
     def test_one_that_was_taken_while_nothing_can_be_stored(self) -> None:
         """The command isn't run again for it, and one line says why it waits."""
         self.keep(1)
-        notifier = Notifier(f"cat >> {self.folder}/taken", self.store, self.lines.append, lambda: time.monotonic() + self.passed)
+        notifier = self.notifier(f"cat >> {self.folder}/taken")
 
         def is_said() -> bool:
             notifier.work()
@@ -106,8 +128,8 @@ class Command(SiteTest):
                 is_said()
                 time.sleep(0.005)
         self.assertEqual(len((self.folder / "taken").read_text().splitlines()), 1)
-        self.assertEqual((self.lines, len(self.store.outbox())), (["the disk is full"], 1))
-        self.passed += 10
+        self.assertEqual((self.lines, len(self.store.outbox())), (["the disk is full; it is tried again", "the command for changes waits: the disk is full; it is tried again"], 1))
+        self.passed += 100
         notifier.work()
         notifier.close()
         self.assertEqual((len((self.folder / "taken").read_text().splitlines()), self.store.outbox()), (1, []))
@@ -115,7 +137,7 @@ class Command(SiteTest):
     def test_one_that_may_not_be_killed(self) -> None:
         """It runs as another user, and longer than it may: it isn't waited for."""
         self.keep(1)
-        notifier = Notifier("exec sleep 3", self.store, self.lines.append, lambda: time.monotonic() + self.passed)
+        notifier = self.notifier("exec sleep 3")
         with mock.patch.object(os, "killpg", side_effect=PermissionError), mock.patch.object(changes, "LIMIT", 0.1), warnings.catch_warnings():
             warnings.simplefilter("ignore", ResourceWarning)  # of the processes that aren't waited for
             notifier.work()
@@ -126,19 +148,20 @@ class Command(SiteTest):
             notifier.work()
             self.assertTrue(notifier.is_busy())
             notifier.close()
-        self.assertEqual(self.lines, ["the command for changes took longer than 0.1 seconds; it is tried again"] * 2)
+        self.assertEqual(self.lines, ["the command for changes took longer than 0.1 seconds; it is tried again"])
         self.assertEqual(len(self.store.outbox()), 1)
 
     def test_no_room_for_it(self) -> None:
         """One line says why it isn't begun, and it is when there is room."""
         self.keep(1)
-        notifier = Notifier(f"cat >> {self.folder}/taken", self.store, self.lines.append, lambda: time.monotonic() + self.passed)
+        notifier = self.notifier(f"cat >> {self.folder}/taken")
         for what, fault in ((subprocess, "Popen"), (changes, "file_with")):
             with mock.patch.object(what, fault, side_effect=OSError(28, "no room")):
                 for _ in range(3):
                     notifier.work()
-                    self.passed += 10
-        self.assertEqual(self.lines, ["the command for changes can't be begun: [Errno 28] no room; it is tried again"])
+                    self.passed += 100
+        self.assertEqual(self.lines, ["the command for changes waits: [Errno 28] no room; it is tried again"])
+        self.passed += 100
         notifier.work()
         notifier.close()
         self.assertEqual((len((self.folder / "taken").read_text().splitlines()), self.store.outbox()), (1, []))

@@ -29,7 +29,7 @@ class Figures(SiteTest):
         self.assertAlmostEqual(late_of(figures), len(monitor.runners.started), delta=10)
         self.assertEqual((figures["calls"], figures["saves"]), (monitor.store.last_call, 1))
         self.assertAlmostEqual(figures["checks_a_second"], 10, delta=1)
-        self.assertEqual(figures["latest_start"], monitor.engine.latest_start / 1000)
+        self.assertEqual(figures["latest_start"], monitor.engine.plugins.latest_start / 1000)
 
     def test_they_are_written_every_five_seconds(self) -> None:
         """A site with nothing to do writes only them, and never sooner."""

@@ -2,14 +2,20 @@
 import collections
 import os
 import signal
-from typing import Any, Dict, List, Set, Tuple
+from typing import Any, Dict, List, Sequence, Set, Tuple
 from unittest import mock
 
 from nagsched_monitor import gearman
-from nagsched_monitor.faults import NotStored
-from nagsched_monitor.runners import Lost
+from nagsched_monitor.conversation import Conversation
+from nagsched_monitor.faults import ConversationEnded, NotStored
+from nagsched_monitor.runners import Finished, Gone, Job, Lost
+from nagsched_monitor.schedulers import Schedulers
 
 from .simulated import BEGIN, SimulatedClock, SimulatedMonitor, SiteTest, fine, host, service
+
+
+def schedulers_of(monitor: SimulatedMonitor) -> Schedulers:
+    return monitor.scheduling.schedulers
 
 
 class Pauses(SiteTest):
@@ -95,16 +101,20 @@ class Outages(SiteTest):
         self.assertEqual(collections.Counter(states.values()), {"UP": 51, "OK": 500})
 
     def test_children_are_looked_at_when_the_parent_is_back(self) -> None:
+        """At once, but for those that were checked within the horizon: these are asked for by the next service that is OK."""
         monitor, _, up = self.outage((300, 60))
         monitor.run(1800)
         back = {change.name: moment for moment, change in monitor.changes if change.state == "UP" and moment >= up}
         self.assertEqual(len(back), 51)
-        self.assertLessEqual(max(back.values()) - back["gateway"], 5_000)
+        fresh = {job.name for moment, job in monitor.runners.started if back["gateway"] - 15_600 < moment < back["gateway"]}
+        self.assertLess(len(fresh - {"gateway"} & set(back)), 200)
+        self.assertLessEqual(max(moment for name, moment in back.items() if name not in fresh) - back["gateway"], 5_000)
+        self.assertLessEqual(max(back.values()) - back["gateway"], 90_000)
 
     def test_the_rhythm_of_a_host_stays(self) -> None:
         """A host that is asked for on account of a service is checked at its own times as before."""
         self.write_site([host("web", check_interval=300)], [service("web", "http", check_interval=70, max_check_attempts=1)])
-        monitor = self.monitor(lambda name, moment: (10, 2 if ";" in name else 0, ""))
+        monitor = self.monitor(lambda name, moment: (10, 2 if ";" in name and (moment // 70_000) % 2 else 0, ""))
         monitor.run(1300)
         starts = monitor.starts()["web"]
         self.assertEqual([start for start in starts if start % 300_000 == 0], [0, 300_000, 600_000, 900_000, 1_200_000])
@@ -112,7 +122,7 @@ class Outages(SiteTest):
 
     def test_no_host_is_asked_for_within_the_horizon(self) -> None:
         self.write_site([host("web", check_interval=5)], [service("web", "http", check_interval=7, max_check_attempts=1)])
-        monitor = self.monitor(lambda name, moment: (10, 2 if ";" in name else 0, ""))
+        monitor = self.monitor(lambda name, moment: (10, 2 if ";" in name and (moment // 7_000) % 2 else 0, ""))
         monitor.run(100)
         self.assertEqual(monitor.starts()["web"], list(range(0, 100_000, 5_000)))
 
@@ -132,10 +142,10 @@ class Periods(SiteTest):
         self.write_site([host("web")], [])
         monitor = self.monitor(fine)
         monitor.run(100)
-        monitor.engine.set_switch("web", False)
+        monitor.ask(do="disable", name="web")
         monitor.run(300)
         self.assertEqual(len(monitor.starts()["web"]), 2)
-        monitor.engine.set_switch("web", True)
+        monitor.ask(do="enable", name="web")
         monitor.run(100)
         self.assertEqual(monitor.starts()["web"][2:], [400_000, 420_000, 480_000])
 
@@ -162,14 +172,56 @@ class Faults(SiteTest):
         self.assertFalse([line for line in monitor.lines if "too late" in line])
 
     def test_a_scheduler_that_ends(self) -> None:
+        """What runs goes on under the same run: no plugin is started a second time, and its result counts."""
+        self.write_site([host("web")], [service("web", "http")])
+        monitor = self.monitor(lambda name, moment: (20_000, 0, "fine"))
+        monitor.run(70)
+        self.assertEqual(monitor.engine.busy(), {"web", "web;http"})
+        os.kill(monitor.scheduling.process_ids()[0], signal.SIGKILL)
+        monitor.run(5)
+        monitor.ask(do="reschedule", name="web", at=monitor.clock.wall() + 100)
+        monitor.run(5)
+        self.assertEqual((monitor.engine.busy(), len(monitor.runners.started)), ({"web", "web;http"}, 4))
+        monitor.run(10)
+        self.assertEqual((monitor.engine.made, monitor.engine.busy()), (4, set()))
+        self.assertEqual(len([line for line in monitor.lines if "it is started again" in line]), 1)
+
+    def test_a_scheduler_that_cant_be_had_for_a_while(self) -> None:
+        """Results wait, whoever asks hears that it may ask again, and then all goes on."""
         self.write_site([host("web")], [service("web", "http")])
         monitor = self.monitor(fine)
-        monitor.run(100)
-        os.kill(monitor.scheduling.process_ids()[0], signal.SIGKILL)
+        monitor.run(70)
+        with mock.patch.object(schedulers_of(monitor), "_converse", side_effect=ConversationEnded("no room for a process")):
+            os.kill(monitor.scheduling.process_ids()[0], signal.SIGKILL)
+            monitor.run(120)
+            self.assertTrue(monitor.ask(do="disable", name="web")["again"])
+            self.assertLessEqual(len(monitor.starts()["web"]), 3)
         monitor.run(200)
-        self.assertEqual(len(monitor.starts()["web"]), 5)
-        runs = [job.run for _, job in monitor.runners.started]
-        self.assertEqual(len(runs), len(set(runs)))
+        self.assertGreaterEqual(len(monitor.starts()["web"]), 5)
+        self.assertEqual(monitor.engine.made, len(monitor.runners.started))
+
+    def test_a_call_after_which_the_scheduler_ends(self) -> None:
+        """It is set aside with its number, the others go on, and a start isn't held up by it."""
+        self.write_site([host("web", max_check_attempts=5), host("db")], [])
+
+        class Poisoned(Conversation):
+            def begin(self, lines: Sequence[str]) -> None:
+                if any(line.startswith('["report","web",') and line.endswith(",2]") for line in lines):
+                    self._process.kill()
+                    self._process.wait()
+                super().begin(lines)
+
+        monitor = self.monitor(lambda name, moment: (10, 2 if name == "web" and moment > BEGIN + 50_000 else 0, ""), converse=Poisoned)
+        monitor.run(300)
+        aside = [line for line in monitor.lines if "is set aside" in line]
+        self.assertRegex(aside[0], r'call \d+ is set aside, .*\["report","web",\d+,2\]')
+        self.assertGreaterEqual(len(monitor.starts()["db"]), 5)
+        self.assertGreaterEqual(len(monitor.starts()["web"]), 3)
+        monitor.close()
+        after = self.monitor(fine, monitor.clock, converse=Poisoned)
+        after.run(100)
+        self.assertFalse([line for line in after.lines if "started again" in line])
+        self.assertGreaterEqual(after.engine.made, 2)
 
     def test_runners_that_end(self) -> None:
         """A check whose runner ended is given up and made again; the third time it is UNKNOWN."""
@@ -188,15 +240,86 @@ class Faults(SiteTest):
         self.assertEqual(len(monitor.starts()["web;http"]), 3)
         self.assertEqual([(change.state, change.words) for _, change in monitor.changes], [("UNKNOWN", "its runner ended 3 times")])
 
+    def test_a_runner_that_gives_no_result(self) -> None:
+        """Behind its limit and a margin it is killed, and the check is made again."""
+        self.write_site([host("web", check_interval=600)], [])
+        monitor = self.monitor(lambda name, moment: (10**9 if moment < BEGIN + 10_000 else 10, 0, "fine"))
+        monitor.run(70)
+        self.assertEqual((len(monitor.runners.started), monitor.engine.busy()), (1, {"web"}))
+        monitor.run(20)
+        self.assertEqual((monitor.engine.made, monitor.engine.busy(), len(monitor.runners.started)), (1, set(), 2))
+        self.assertIn("web: run 1 gave no result in time", monitor.lines)
+
+    def test_a_job_that_no_runner_has(self) -> None:
+        self.write_site([host("web", check_interval=600)], [])
+        monitor = self.monitor(lambda name, moment: (5_000, 0, "fine"))
+        monitor.run(2)
+        monitor.runners._ends.clear()
+        monitor.run(10)
+        self.assertEqual((monitor.engine.made, len(monitor.runners.started)), (1, 2))
+        self.assertIn("web: no runner has run 1", monitor.lines)
+
+    def test_what_this_machine_lacks(self) -> None:
+        """A check that can't be started here says nothing of its object: it is tried again after pauses that grow, and stays forced."""
+        self.write_site([host("web", check_interval=600), host("off", enabled=False)], [])
+        monitor = self.monitor(fine)
+        events = monitor.runners.events
+        setattr(monitor.runners, "events", lambda: [Lost(event.job, "too many open files", True) for event in events()])
+        monitor.ask(do="reschedule", name="off", force=True)
+        monitor.run(100)
+        self.assertEqual((monitor.changes, monitor.engine.made), ([], 0))
+        self.assertTrue(all(6 <= len(starts) <= 8 for starts in monitor.starts().values()), monitor.starts())
+        setattr(monitor.runners, "events", events)
+        monitor.run(70)
+        self.assertEqual(monitor.engine.made, 2)
+        monitor.engine.close()
+        self.assertEqual(monitor.store.figures()["checks.not_started"], len(monitor.runners.started) - 2)
+
+    def test_a_plugin_that_cant_be_killed(self) -> None:
+        """No second one is started beside it until it has ended; its object counts as timed out."""
+        self.write_site([host("web", check_interval=20)], [])
+        monitor = self.monitor(fine)
+        events = monitor.runners.events
+        stuck: List[Job] = []
+
+        def told() -> List[Any]:
+            came = [Finished(event.job, "limit", 0, "", "", True) for event in events()]
+            stuck.extend(event.job for event in came)
+            return came
+
+        setattr(monitor.runners, "events", told)
+        monitor.run(70)
+        self.assertEqual((len(monitor.runners.started), len(stuck)), (1, 1))
+        self.assertGreaterEqual(monitor.engine.made, 4)
+        setattr(monitor.runners, "events", lambda: [Gone(stuck.pop())] if stuck else events())
+        monitor.run(30)
+        self.assertEqual(len(monitor.runners.started), 3)
+
+    def test_the_state_is_saved_while_it_runs(self) -> None:
+        """Every five minutes; the calls before it are let go, and what it has is what the monitor knows."""
+        self.write_site([host("web", check_interval=10)], [])
+        monitor = self.monitor(fine)
+        monitor.run(290)
+        self.assertGreater(len(monitor.store.calls_since(0, 0)), 50)
+        monitor.run(20)
+        self.assertLess(len(monitor.store.calls_since(0, 0)), 10)
+        self.assertIsNotNone(monitor.store.generations()[0].saved)
+        self.assertFalse([line for line in monitor.lines if "otherwise" in line])
+        monitor.engine.objects["web"].next = 7
+        monitor.engine.save()
+        self.assertEqual([line for line in monitor.lines if "otherwise" in line], ["web: its scheduler has it otherwise than the monitor had; the scheduler counts"])
+        self.assertGreater(monitor.engine.objects["web"].next, BEGIN)
+
     def test_a_queue_that_nobody_serves(self) -> None:
         """What became of its jobs is said, and each has its queue."""
-        self.write_site([host("web")], [], queues={"server": "10.0.0.1:4730", "unsigned": True, "queues": {"dmz": ["web"]}})
+        self.write_site([host("web")], [service("web", "http", max_check_attempts=1)],
+                        queues={"server": "10.0.0.1:4730", "unsigned": True, "queues": {"dmz": ["web"]}})
         with mock.patch.object(gearman, "Library"):
             monitor = self.monitor(fine)
         events = monitor.runners.events
         setattr(monitor.runners, "events", lambda: [Lost(event.job, f"no worker took it from the queue {event.job.queue}") for event in events()])
         monitor.run(5)
-        self.assertEqual([change.words for _, change in monitor.changes], ["no worker took it from the queue dmz 3 times"])
+        self.assertEqual([(change.name, change.words) for _, change in monitor.changes], [("web;http", "no worker took it from the queue dmz 3 times")])
 
     def test_a_restart_makes_the_calls_again(self) -> None:
         self.write_site([host("web", max_check_attempts=5)], [service("web", "http")])
@@ -222,16 +345,12 @@ class Faults(SiteTest):
         after.run(1)
         self.assertEqual(after.changes, [])
 
-    def test_another_setup_is_taken_over_or_refused_by_name(self) -> None:
+    def test_another_setup_is_taken_over(self) -> None:
         self.write_site([host("web", max_check_attempts=5)], [])
         monitor = self.monitor(lambda name, moment: (10, 2, "bad"))
         monitor.run(35)
         monitor.close()
         self.write_site([host("web", max_check_attempts=5), host("db")], [])
-        try:
-            after = self.monitor(fine, monitor.clock)
-        except Exception as fault:
-            self.assertIn("another setup", str(fault))
-            return
-        standing = after.scheduling.known.objects["web"].standing
-        self.assertEqual(standing is not None and standing.state, "DOWN")
+        after = self.monitor(fine, monitor.clock)
+        standings = {name: known.standing for name, known in after.scheduling.known.objects.items()}
+        self.assertEqual({name: it and (it.state, it.attempt) for name, it in standings.items()}, {"web": ("DOWN", 4), "db": ("PENDING", 1)})

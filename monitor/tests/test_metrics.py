@@ -82,7 +82,7 @@ class Metrics(ShownSite):
             "nagsched_check_latency_seconds": "histogram",
         })
         self.assertEqual((families.of("nagsched_due"), families.of("nagsched_out")), (1, 1))
-        self.assertEqual([families.of("nagsched_checks_total", result=result) for result in RESULTS], [7, 0, 0, 0, 0, 0, 0, 1, 0])
+        self.assertEqual([families.of("nagsched_checks_total", result=result) for result in RESULTS], [7, 0, 0, 0, 0, 0, 0, 1, 0, 0])
         self.assertEqual((families.of("nagsched_calls_total"), families.of("nagsched_saves_total")), (3e9, 2))
         self.assertAlmostEqual(families.of("nagsched_seconds_since_save"), 30, delta=10)
         self.assertEqual(families.of("nagsched_objects", state="UP", kind="HARD"), 3)

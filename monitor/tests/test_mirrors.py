@@ -6,7 +6,6 @@ from unittest import mock
 
 from nagsched_monitor.calls import Reschedule
 from nagsched_monitor.faults import NotStored
-from nagsched_monitor.writes import KeepResult
 
 from .parted import Parted, depends, host, mirror, service, setup
 from .simulated import BEGIN, Plugin, SimulatedMonitor, fine
@@ -84,13 +83,12 @@ class AsOneScheduler(Parted):
             for _ in range(8):
                 monitor.run(chance.uniform(0, 2 * DAY / 8))
                 for name in chance.sample([*services, "h00", "h03"], 4):
-                    monitor.store.write(KeepResult(name, chance.choice((0, 0, 1, 2)), "passive"))
-                    monitor.engine.expect(monitor.store.waiting()[-1])
+                    monitor.give(name, chance.choice((0, 0, 1, 2)), "passive")
             mirrored += self.assert_alike()
             told += [change for _, change in monitor.changes]
             monitor.changes.clear()
             if day % 2:
-                monitor.scheduling.flush()
+                monitor.scheduling.store(())
                 monitor.close()
                 monitor = self.begun(outages.plugin, monitor.clock)
         self.assert_told(told)
@@ -144,8 +142,7 @@ class Handed(Parted):
         monitor.run(70)
         self.assert_alike()
         for code in (2, 2, 0):
-            monitor.store.write(KeepResult("gateway", code, "by hand"))
-            monitor.engine.expect(monitor.store.waiting()[-1])
+            monitor.give("gateway", code, "by hand")
         monitor.run(1)
         self.assertEqual([change.state for _, change in monitor.changes], ["DOWN", "UP"])
         self.assertEqual(self.assert_alike(), 3)
@@ -169,8 +166,7 @@ class Handed(Parted):
         """Where something stands before a mirror, the schedulers are opened anew, and the result comes to both."""
         monitor = self.site()
         monitor.run(30)
-        monitor.scheduling.make([(Reschedule("far;web", 0, True), None), (Reschedule("far", 0, True), None)])
-        monitor.store.write(KeepResult("gateway", 2, "by hand"))
-        monitor.engine.expect(monitor.store.waiting()[-1])
+        monitor.scheduling.store([(1, Reschedule("far;web", 0, True), None), (1, Reschedule("far", 0, True), None)])
+        monitor.give("gateway", 2, "by hand")
         monitor.run(300)
         self.assert_alike()

@@ -60,7 +60,7 @@ class Killed(ProcessTest):
         self.addCleanup(scheduling.close)
         told = []
         for name in ("root", "h0", "h1", "h2"):
-            first, second = [scheduling._conversations[part].ask([Status(name)])[0] for part in (0, 1)]
+            first, second = [scheduling.schedulers.ask(part, [Status(name)])[0] for part in (0, 1)]
             assert isinstance(first, Standing) and isinstance(second, Standing)
             self.assertEqual(told_of(first), told_of(second), name)
             told.append(first.state)

@@ -21,24 +21,27 @@ class Reloads(Parted):
         return {name: (it.state, it.kind, it.attempt) for name, it in standings.items() if it is not None}
 
     def test_objects_that_move(self) -> None:
-        """They keep how they stand; a run that is out is ended, and its result comes too late."""
+        """They keep how they stand; a plugin that runs ends the next check of its object, and no second one runs beside it."""
         slow = {"b"}
         self.write_two(["a", "b"], ["c"], [])
         monitor = self.monitor(lambda name, moment: (5_000 if name in slow else 10, 2 if name in "bc" else 0, "said"))
         monitor.run(100)
         before = self.states(monitor)
         self.assertEqual((before["b"], before["c"][0]), (("DOWN", "HARD", 3), "DOWN"))
-        monitor.engine.reschedule("b", monitor.clock.now, False)
+        monitor.ask(do="reschedule", name="b")
         monitor.run(1)
         self.assertEqual(monitor.engine.busy(), {"b"})
         self.write_two(["a", "c"], ["b"], ["d"])
         self.assertEqual(self.reload(monitor), [])
         self.assertEqual({name: state for name, state in self.states(monitor).items() if name != "d"}, before)
-        started = len(monitor.runners.started)
-        monitor.run(4.5)
-        (late,) = [line for line in monitor.lines if "too late" in line]
-        self.assertRegex(late, r"b: the result of run \d+ came too late \(C4 WrongRun\)")
-        self.assertIn("b", [job.name for _, job in monitor.runners.started[started:]])
+        started, made = len(monitor.runners.started), monitor.engine.made
+        monitor.run(3.5)
+        self.assertEqual((monitor.engine.busy(), monitor.runners.running()), ({"b"}, ["b"]))
+        monitor.run(1)
+        self.assertEqual(monitor.engine.busy(), set())
+        names = [job.name for _, job in monitor.runners.started[started:]]
+        self.assertEqual((names.count("b"), monitor.engine.made - made), (0, len(names) + 1))
+        self.assertFalse([line for line in monitor.lines if "late" in line or "dropped" in line])
 
     def test_runs_that_are_out_stay_where_nothing_moves(self) -> None:
         self.write_two(["a"], ["c"], [])

@@ -11,7 +11,6 @@ from typing import Callable, Dict, List, Mapping, Tuple
 from nagsched_monitor.nagios_blocks import HOST_STATES, SERVICE_STATES, Program, Settings, status_file
 from nagsched_monitor.nagios_files import NagiosFiles, services_of
 from nagsched_monitor.nagios_pipe import NAME
-from nagsched_monitor.requests import Requests
 from nagsched_monitor.rows import KeptStanding
 
 from .running import ProcessTest
@@ -100,8 +99,8 @@ class Blocks(SiteTest):
                    "plugin_output": "fine", "performance_data": "rta=0.8ms;1;2", "last_check": "2000", "next_check": "2060", "check_execution_time": "0.500",
                    "check_latency": "0.250", "check_period": "always", "check_command": "check_ping", "check_interval": "5.000000", "last_time_up": "2000",
                    "last_time_down": "0", "check_type": "0", "should_be_scheduled": "1", "last_update": "2050"}),
-            (http, {"current_state": "2", "last_hard_state": "0", "state_type": "0", "current_attempt": "2", "plugin_output": "no answer\\nof\\it",
-                    "is_flapping": "1", "active_checks_enabled": "0", "should_be_scheduled": "0", "next_check": "0", "last_time_critical": "2001",
+            (http, {"current_state": "2", "last_hard_state": "0", "state_type": "0", "current_attempt": "2", "plugin_output": "no answer",
+                    "long_plugin_output": "of\\it", "is_flapping": "1", "active_checks_enabled": "0", "should_be_scheduled": "0", "next_check": "0", "last_time_critical": "2001",
                     "last_time_ok": "1500", "last_hard_state_change": "900", "check_type": "1", "check_execution_time": "0.000"}),
             (new, {"has_been_checked": "0", "current_state": "0", "last_check": "0", "next_check": "3000", "last_state_change": "0", "current_attempt": "1"}),
         ]
@@ -126,17 +125,16 @@ class Outage(SiteTest):
 
         monitor = self.monitor(plugin)
         files = NagiosFiles(self.folder, self.folder / "nagios", True)
-        requests = Requests(monitor.engine, monitor.clock, dict, lambda: None)
-        requests.answer(b'{"do":"disable","name":"h2;load"}')
+        monitor.ask(do="disable", name="h2;load")
         states, compared = set(), 0
         for _ in range(80):
             monitor.run(3)
+            objects = monitor.ask(do="status")["objects"]
             # Nothing is taken for more than a second, so that the table is as the monitor is.
             if monitor.engine.out() or monitor.scheduling._standings._marked:
                 continue
             files.write()
             blocks = objects_of((self.folder / "nagios/status.dat").read_bytes())
-            objects = json.loads(requests.answer(b'{"do":"status"}'))["objects"]
             self.assertEqual(list(sorted(blocks)), [it["name"] for it in objects])
             for it in objects:
                 block = blocks[it["name"]]
@@ -198,12 +196,14 @@ class Process(ProcessTest):
         self.command("REMOVE_HOST_ACKNOWLEDGEMENT;h00", "ENABLE_HOST_CHECK;h07", "nonsense")
         self.wait(lambda: "CRITICAL HARD 1 h00;http: no answer;at all" in self.ask("status").stdout)
         self.wait(lambda: "DOWN SOFT 1 h01: it is gone" in self.ask("status").stdout)
-        # A burst, of which no result is lost and the last stands.
+        # A burst, of which no result is lost: each is another state than the one before.
         self.command(*[f"PROCESS_SERVICE_CHECK_RESULT;h00;http;{number % 3};number {number}" for number in range(300)])
         self.wait(lambda: ": number 299" in self.ask("status", "h00;http").stdout)
         output = self.end(running)
+        told = [line.rpartition(" ")[2] for line in output.splitlines() if " h00;http is " in line and ": number " in line]
+        self.assertEqual(told[-299:], [str(number) for number in range(1, 300)])
         self.assertIn("nagios files: REMOVE_HOST_ACKNOWLEDGEMENT isn't obeyed here\n", output)
-        self.assertIn("nagios files: ENABLE_HOST_CHECK: there is no object 'h07'\n", output)
+        self.assertIn("nagios files: ENABLE_HOST_CHECK: h07: there is no object 'h07'\n", output)
         self.assertEqual((self.runs("h00;ssh"), (self.nagios / NAME).exists()), (3, False))
 
     def test_begun_again_and_ended(self) -> None:

@@ -32,7 +32,7 @@ class Lines(SiteTest):
             ("PROCESS_HOST_CHECK_RESULT;web;0;up", [{"do": "result", "name": "web", "code": 0, "output": "up"}]),
             ("PROCESS_HOST_CHECK_RESULT;web;1;down;for long", [{"do": "result", "name": "web", "code": 2, "output": "down;for long"}]),
             ("PROCESS_HOST_CHECK_RESULT;web;2", [{"do": "result", "name": "web", "code": 2, "output": ""}]),
-            ("PROCESS_SERVICE_CHECK_RESULT;web;http;3;what?\\nmore", [{"do": "result", "name": "web;http", "code": 3, "output": "what?"}]),
+            ("PROCESS_SERVICE_CHECK_RESULT;web;http;3;what?\\nmore", [{"do": "result", "name": "web;http", "code": 3, "output": "what?\nmore"}]),
             ("PROCESS_SERVICE_CHECK_RESULT;web;http;1;a|b=1;2;3\r", [{"do": "result", "name": "web;http", "code": 1, "output": "a|b=1;2;3"}]),
             ("PROCESS_SERVICE_CHECK_RESULT;web;http;1", [{"do": "result", "name": "web;http", "code": 1, "output": ""}]),
         ]

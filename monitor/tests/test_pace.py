@@ -1,12 +1,13 @@
 """When turns begin: how many there are, and how late checks are."""
 import heapq
 import os
-import time
 import unittest
 from typing import List, Tuple
+from unittest import mock
 
+from nagsched_monitor.clock import SystemClock
 from nagsched_monitor.known import Due
-from nagsched_monitor.pace import BETWEEN_TURNS, MOST_SHARED, Pace, turn_at
+from nagsched_monitor.pace import BETWEEN_TURNS, MOST_SHARED, FilePoller, Pace, turn_at
 
 INTERVAL = 10.0
 
@@ -69,25 +70,34 @@ class Waiting(unittest.TestCase):
         self.addCleanup(os.close, self.there)
         self.addCleanup(os.close, self.back)
         self.read: List[bytes] = []
-        self.pace = Pace(lambda file: self.read.append(os.read(file, 10)))
-        self.pace.watch(self.there)
+        self.poller = FilePoller(lambda file: self.read.append(os.read(file, 10)))
+        self.poller.watch(self.there)
+        self.clock = SystemClock()
+        self.pace = Pace(self.clock, self.poller)
 
     def test_what_came_since_the_last_turn_has_a_turn_at_once(self) -> None:
         os.write(self.back, b"x")
-        begun = time.monotonic()
-        self.pace.rest(begun, begun + 60, None)
-        self.assertLess(time.monotonic() - begun, 10)
+        begun = self.clock.moment()
+        self.pace.rest(begun, begun + 60_000, None)
+        self.assertLess(self.clock.moment() - begun, 10_000)
         self.assertEqual(self.read, [b"x"])
 
     def test_a_turn_that_is_wanted_begins_with_nothing_to_read(self) -> None:
-        begun = time.monotonic()
-        self.pace.rest(begun, begun + 0.3, None)
-        self.assertGreaterEqual(time.monotonic() - begun, 0.3)
+        begun = self.clock.moment()
+        self.pace.rest(begun, begun + 300, None)
+        self.assertGreaterEqual(self.clock.moment() - begun, 299)
         self.assertEqual(self.read, [])
 
-    def test_a_file_that_isn_t_watched_any_more(self) -> None:
-        self.pace.unwatch(self.there)
+    def test_a_turn_that_is_wanted_at_once(self) -> None:
+        """There is no rest before it, and what has come is read."""
         os.write(self.back, b"x")
-        begun = time.monotonic()
+        with mock.patch.object(self.poller, "sleep", side_effect=AssertionError):
+            self.pace.rest(self.clock.moment(), 0, None)
+        self.assertEqual(self.read, [b"x"])
+
+    def test_a_file_that_isn_t_watched_any_more(self) -> None:
+        self.poller.unwatch(self.there)
+        os.write(self.back, b"x")
+        begun = self.clock.moment()
         self.pace.rest(begun, begun, None)
         self.assertEqual(self.read, [])

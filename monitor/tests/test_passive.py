@@ -1,19 +1,16 @@
 """Passive results, simulated: their order, freshness over restarts, a burst, a scheduler that ends at one."""
 import os
 import signal
-from typing import List, Tuple
+from typing import Any, List, Tuple
 
+from nagsched_monitor.site import read_site
 from nagsched_monitor.store import Write
-from nagsched_monitor.writes import DropResult, KeepResult
+from nagsched_monitor.writes import DropResult
 
-from .simulated import SimulatedClock, SimulatedMonitor, SiteTest, fine, host, service
+from .simulated import PROGRAM, SimulatedClock, SimulatedMonitor, SiteTest, fine, host, service
 
 
 class PassiveResults(SiteTest):
-    def give(self, monitor: SimulatedMonitor, name: str, code: int, words: str) -> None:
-        monitor.store.write(KeepResult(name, code, words))
-        monitor.engine.expect(monitor.store.waiting()[-1])
-
     def site(self) -> SimulatedMonitor:
         trap = service("web", "trap", enabled=False, max_check_attempts=2, check_interval=0)
         self.write_site([host("web")], [trap, service("web", "http")], passive={"web;trap": {"only": True}})
@@ -23,7 +20,7 @@ class PassiveResults(SiteTest):
         monitor = self.site()
         monitor.run(30)
         for code, words in ((2, "one"), (2, "two"), (0, "three")):
-            self.give(monitor, "web;trap", code, words)
+            monitor.give("web;trap", code, words)
         monitor.run(1)
         told = [(change.state, change.kind, change.words) for _, change in monitor.changes if change.name == "web;trap"]
         self.assertEqual(told, [("CRITICAL", "SOFT", "one"), ("CRITICAL", "HARD", "two"), ("OK", "HARD", "three")])
@@ -34,7 +31,7 @@ class PassiveResults(SiteTest):
         monitor = self.site()
         monitor.run(1)
         self.assertIn("web;http", monitor.engine.busy())
-        self.give(monitor, "web;http", 1, "slow")
+        monitor.give("web;http", 1, "slow")
         monitor.run(0.5)
         self.assertEqual(len(monitor.store.waiting()), 1)
         monitor.run(2)
@@ -44,14 +41,14 @@ class PassiveResults(SiteTest):
     def test_the_next_check_stays_where_it_was(self) -> None:
         monitor = self.site()
         monitor.run(30)
-        self.give(monitor, "web;http", 0, "by hand")
+        monitor.give("web;http", 0, "by hand")
         monitor.run(60)
         self.assertEqual(monitor.starts()["web;http"], [0, 60_000])
 
     def test_one_that_waited_over_a_restart_is_reported(self) -> None:
         monitor = self.site()
         monitor.run(30)
-        self.give(monitor, "web;trap", 2, "late")
+        monitor.give("web;trap", 2, "late")
         monitor.close()
         after = self.monitor(fine, monitor.clock)
         after.run(1)
@@ -62,7 +59,7 @@ class PassiveResults(SiteTest):
         self.write_site([host("web")], [trap], passive={"web;trap": {"only": True, "freshness": 90}})
         monitor = self.monitor(lambda name, moment: (10, 3 if "trap" in name else 0, "stale"))
         monitor.run(60)
-        self.give(monitor, "web;trap", 0, "fresh")
+        monitor.give("web;trap", 0, "fresh")
         monitor.run(240)
         first, second = monitor.starts()["web;trap"]
         self.assertTrue(150_000 <= first <= 151_000 and 90_000 <= second - first <= 92_000, (first, second))
@@ -76,7 +73,7 @@ class PassiveResults(SiteTest):
         for runs, rests in spans:
             monitor, begun = self.monitor(fine, clock), clock.now
             if is_given and passed == 0:
-                self.give(monitor, "web;trap", 0, "fresh")
+                monitor.give("web;trap", 0, "fresh")
             monitor.run(runs)
             started += [passed + (moment - begun) // 1000 for moment, job in monitor.runners.started if job.name == "web;trap"]
             monitor.engine.close()
@@ -108,10 +105,10 @@ class PassiveResults(SiteTest):
                 setattr(monitor.store, "write", write)
                 os.kill(monitor.scheduling.process_ids()[0], signal.SIGKILL)
 
-        self.give(monitor, "web;trap", 2, "door open")
+        monitor.give("web;trap", 2, "door open")
         setattr(monitor.store, "write", killing)
         monitor.run(5)
-        self.assertEqual(len([line for line in monitor.lines if "it is started anew" in line]), 1)
+        self.assertEqual(len([line for line in monitor.lines if "it is started again" in line]), 1)
         standing = monitor.scheduling.known.objects["web;trap"].standing
         self.assertEqual(standing and (standing.state, standing.kind, standing.attempt), ("CRITICAL", "SOFT", 1))
         self.assertEqual(monitor.store.waiting(), [])
@@ -127,11 +124,11 @@ class PassiveResults(SiteTest):
         setattr(monitor.store, "write", slow)
 
     def test_a_burst(self) -> None:
-        """Where each write takes 20 milliseconds 100 results take many turns, none of which is long, and stay in their order."""
+        """Where each write takes 20 milliseconds, 100 results of one object take one write each, no turn is long, and they stay in their order."""
         monitor = self.site()
         monitor.run(30)
         for number in range(100):
-            self.give(monitor, "web;trap", 2 * (number % 2), f"number {number}")
+            monitor.give("web;trap", 2 * (number % 2), f"number {number}")
         self.slow_down(monitor)
         turns = 0
         while monitor.store.waiting():
@@ -140,8 +137,9 @@ class PassiveResults(SiteTest):
             self.assertLess(monitor.clock.now - begun, 500)
             self.assertTrue(wanted <= monitor.clock.now or not monitor.store.waiting())
             turns += 1
-        self.assertTrue(20 <= turns <= 60, turns)
-        told = [change.words for change in monitor.scheduling.changed() if change.name == "web;trap"]
+        self.assertTrue(100 <= turns <= 102, turns)
+        monitor.take_changes()
+        told = [change.words for _, change in monitor.changes if change.name == "web;trap"]
         self.assertEqual(told, [f"number {number}" for number in range(1, 100)])
 
     def test_freshness_in_a_burst(self) -> None:
@@ -151,9 +149,75 @@ class PassiveResults(SiteTest):
         monitor = self.monitor(fine)
         monitor.run(89)
         for number in range(20):
-            self.give(monitor, "web;one", 0, f"number {number}")
-        self.give(monitor, "web;two", 0, "fresh")
+            monitor.give("web;one", 0, f"number {number}")
+        monitor.give("web;two", 0, "fresh")
         monitor.pause(2)
         self.slow_down(monitor)
         monitor.run(5)
         self.assertEqual((monitor.store.waiting(), "web;two" in monitor.starts()), ([], False))
+
+    def test_results_of_an_object_that_is_gone(self) -> None:
+        """They are dropped with a line, and aren't reported when it comes back."""
+        def write(services: List[Any]) -> None:
+            self.write_site([host("web")], services)
+
+        write([service("web", "http", max_check_attempts=1)])
+        monitor = self.monitor(lambda name, moment: (30_000, 0, "fine"))
+        monitor.run(10)
+        monitor.give("web;http", 2, "of last spring")
+        monitor.run(1)
+        write([])
+        monitor.engine.reload(read_site(self.folder, PROGRAM))
+        monitor.run(100)
+        self.assertEqual(monitor.store.waiting(), [])
+        self.assertIn("web;http: its passive results are dropped, since it isn't part of the site any more", monitor.lines)
+        write([service("web", "http", max_check_attempts=1)])
+        monitor.engine.reload(read_site(self.folder, PROGRAM))
+        monitor.run(100)
+        self.assertEqual(monitor.changes, [])
+
+    def test_freshness_of_an_object_that_a_reload_brings(self) -> None:
+        """It is awaited from then on, however long the monitor has run."""
+        self.write_site([host("web")], [])
+        monitor = self.monitor(fine)
+        monitor.run(300)
+        trap = service("web", "trap", enabled=False, check_interval=0)
+        self.write_site([host("web")], [trap], passive={"web;trap": {"only": True, "freshness": 90}})
+        monitor.engine.reload(read_site(self.folder, PROGRAM))
+        monitor.run(88)
+        self.assertNotIn("web;trap", monitor.starts())
+        monitor.run(5)
+        self.assertEqual(len(monitor.starts()["web;trap"]), 1)
+
+    def test_as_many_checks_run_as_may(self) -> None:
+        """A result waits until one ends; no command is run for an object that has none."""
+        trap = service("web", "trap", enabled=False, max_check_attempts=1, check_interval=0)
+        self.write_site([host("web")], [service("web", "slow"), trap], {"max_concurrent_checks": 1}, passive={"web;trap": {"only": True}},
+                        commands={"web": {"line": "true"}, "web;slow": {"line": "true"}})
+        monitor = self.monitor(lambda name, moment: (20_000 if "slow" in name else 10, 0, "fine"))
+        monitor.run(5)
+        monitor.give("web;trap", 2, "door open")
+        monitor.run(5)
+        self.assertEqual((monitor.changes, len(monitor.store.waiting())), ([], 1))
+        monitor.run(12)
+        self.assertEqual([(change.name, change.words) for _, change in monitor.changes], [("web;trap", "door open")])
+        self.assertNotIn("web;trap", monitor.starts())
+
+    def test_many_objects_at_once(self) -> None:
+        """The results of 200 objects are reported with two writes."""
+        traps = [service("web", f"t{number}", enabled=False, check_interval=0) for number in range(200)]
+        self.write_site([host("web", check_interval=3600)], traps)
+        monitor = self.monitor(fine)
+        monitor.run(30)
+        for trap in traps:
+            monitor.give(f"web;{trap['description']}", 1, "said")
+        write, writes = monitor.store.write, []
+
+        def counted(*each: Write) -> None:
+            writes.append(each)
+            write(*each)
+
+        setattr(monitor.store, "write", counted)
+        monitor.engine.turn()
+        monitor.engine.turn()
+        self.assertEqual((monitor.store.waiting(), len(writes)), ([], 2))

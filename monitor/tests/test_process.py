@@ -12,7 +12,9 @@ import time
 from typing import List
 from unittest import mock
 
-from nagsched_monitor import main
+from nagsched_monitor import main, reading
+from nagsched_monitor.faults import MonitorFault
+from nagsched_monitor.site import Site
 
 from .running import MONITOR, ProcessTest
 from .simulated import PROGRAM, SiteTest
@@ -74,18 +76,23 @@ class Running(ProcessTest):
         self.assertEqual(len(told), 20)
 
     def test_a_slow_sync(self) -> None:
-        """A disk whose sync takes 10 milliseconds: what comes meanwhile is kept together, and nothing is lost."""
+        """A disk whose sync takes 10 milliseconds: what comes meanwhile is stored by one sync, and every call was synced before it was made."""
         compiler = shutil.which("cc")
         if compiler is None:
             self.skipTest("there is no C compiler")
         shim = self.folder / "slow_sync.so"
         subprocess.run([compiler, "-shared", "-fPIC", "-o", str(shim), str(pathlib.Path(__file__).parent / "slow_sync.c"), "-ldl"], check=True)
         self.write_site(self.objects(50), [])
-        running = self.begin(environment={**os.environ, "LD_PRELOAD": str(shim)})
+        synced = self.folder / "synced"
+        running = self.begin(environment={**os.environ, "LD_PRELOAD": str(shim), "SYNCED": str(synced)})
         self.assertTrue(comes(lambda: self.count_of_calls() > 400))
+        before, calls = synced.stat().st_size, self.count_of_calls()
+        self.assertTrue(comes(lambda: self.count_of_calls() > calls + 400))
         self.end(running, signal.SIGKILL)
         with sqlite3.connect(self.folder / "monitor.db") as database:
-            answers = self.answers(self.calls(database))
+            kept = self.calls(database)
+        self.assertTrue(10 < synced.stat().st_size - before < (len(kept) - calls) / 2, (before, synced.stat().st_size, calls, len(kept)))
+        answers = self.answers(kept)
         reported = [answer for answer in answers if answer.startswith("standing ")]
         self.assertGreater(len(reported), 100)
         self.assertFalse([answer for answer in answers if answer.startswith("refused")])
@@ -123,19 +130,29 @@ class Running(ProcessTest):
     def test_reload(self) -> None:
         """Ten checks run while the site is read anew: each is reported. A bad site is refused with its line, and the old goes on."""
         self.write_site(self.objects(10), [])
-        self.write("commands.json", {f"h{number:02}": {"line": "sleep 1; echo slow", "shell": True} for number in range(10)})
+        self.write("commands.json", {f"h{number:02}": {"line": f"until test -e {self.folder}/go; do sleep 0.1; done; echo slow; echo >> {self.folder}/ended", "shell": True} for number in range(10)})
         running = self.begin()
-        time.sleep(0.5)
+        self.assertTrue(comes(lambda: sum(" out " in line for line in self.ask("status").stdout.splitlines()) == 10))
         self.write("commands.json", {f"h{number:02}": {"line": "echo 'quick", "shell": False} for number in range(10)})
         refused = self.ask("reload")
         self.assertEqual(refused.returncode, 1)
         self.assertIn("commands.json: h00: its line can't be split", refused.stderr)
         self.write("commands.json", {f"h{number:02}": {"line": "echo quick"} for number in range(10)})
         self.assertEqual(self.ask("reload").stdout, "reload: done\n")
+        self.assertEqual(sum(" out " in line for line in self.ask("status").stdout.splitlines()), 10)
+        (self.folder / "go").touch()
         self.await_states([f"UP HARD 1 h{number:02}: quick" for number in range(10)])
+        self.assertEqual((self.folder / "ended").read_text(), "\n" * 10)
+        (self.folder / "commands.json").write_text("no site")
         running.send_signal(signal.SIGHUP)
+        time.sleep(0.5)
+        self.write("commands.json", {f"h{number:02}": {"line": "echo by a signal"} for number in range(10)})
+        running.send_signal(signal.SIGHUP)
+        self.await_states([f"UP HARD 1 h{number:02}: by a signal" for number in range(10)])
         output = self.end(running)
         self.assertNotIn("too late", output)
+        self.assertNotIn("is dropped", output)
+        self.assertIn("the site isn't taken over: commands.json: ", output)
 
     def test_reload_over_another_setup(self) -> None:
         """What both setups have goes on, with its state and attempt; what is new begins, what is gone is dropped, and what changes is named."""
@@ -175,7 +192,7 @@ class Running(ProcessTest):
         """Ctrl-C in a terminal reaches the whole group: the state is saved all the same."""
         self.write_site(self.objects(2), [])
         running = self.begin("--page", "127.0.0.1:0", "--nagios-files", str(self.folder))
-        time.sleep(0.5)
+        self.assertTrue(comes((self.folder / "status.dat").exists))
         os.killpg(running.pid, signal.SIGINT)
         output = running.communicate(timeout=30)[0]
         self.assertEqual((running.returncode, "isn't saved" in output), (0, False))
@@ -204,14 +221,13 @@ class Running(ProcessTest):
 
 class Reloading(SiteTest):
     def test_whatever_is_wrong_with_a_site(self) -> None:
-        """It is refused, and the old one goes on."""
+        """It is refused with a line."""
         self.write_site([{"name": "web", "max_check_attempts": 1}], [])
-        logged = mock.patch.object(main.Monitor, "log")
-        logged.start()
-        self.addCleanup(logged.stop)
-        monitor = main.Monitor(main.words_of(["--program", PROGRAM, str(self.folder)]))
-        self.addCleanup(monitor.close)
-        with mock.patch.object(main, "read_site", side_effect=OSError("no room\nat all")):
-            answer = monitor.requests.answer(b'{"do":"reload"}')
-        self.assertEqual(json.loads(answer), {"error": "the site can't be read: OSError: no room at all"})
-        self.assertEqual(json.loads(monitor.requests.answer(b'{"do":"reload"}'))["done"], "reload")
+        with mock.patch.object(reading, "read_site", side_effect=OSError("no room\nat all")):
+            self.assertEqual(reading.read_now(self.folder, PROGRAM), "the site can't be read: OSError: no room at all")
+        self.assertIsInstance(reading.read_now(self.folder, PROGRAM), Site)
+
+    def test_more_slots_than_files(self) -> None:
+        self.write_site([{"name": "web", "max_check_attempts": 1}], [], monitor={"slots": 200})
+        with mock.patch.object(main, "raise_file_limit", return_value=500), self.assertRaisesRegex(MonitorFault, "slots: 200 plugins may take 900 open files"):
+            main.Monitor(main.words_of(["--program", PROGRAM, str(self.folder)]))

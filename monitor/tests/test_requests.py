@@ -5,11 +5,12 @@ import threading
 from typing import Any, Dict, List
 from unittest import mock
 
-from nagsched_monitor import control
-from nagsched_monitor.faults import MonitorFault
-from nagsched_monitor.requests import Requests
+from nagsched_monitor import control, passive, requests
+from nagsched_monitor.faults import MonitorFault, NotStored
+from nagsched_monitor.requests import Request
 
 from .simulated import SimulatedMonitor, SiteTest, fine
+from .waiting import comes
 
 HOST = {"name": "web", "check_interval": 60, "max_check_attempts": 3}
 TRAP = {"host": "web", "description": "trap", "max_check_attempts": 1, "enabled": False}
@@ -22,15 +23,9 @@ class Words(SiteTest):
         self.monitored: SimulatedMonitor = self.monitor(fine)
         self.monitored.run(30)
         self.asked: List[str] = []
-        self.requests = Requests(self.monitored.engine, self.monitored.clock, self.reloaded, lambda: self.asked.append("stop"))
-
-    def reloaded(self) -> Dict[str, Any]:
-        self.asked.append("reload")
-        return {"done": "reload", "new": [], "dropped": []}
 
     def ask(self, **members: Any) -> Dict[str, Any]:
-        answer: Dict[str, Any] = json.loads(self.requests.answer(json.dumps(members).encode()))
-        return answer
+        return self.monitored.ask(**members)
 
     def test_status(self) -> None:
         answer = self.ask(do="status", pattern="web*trap")
@@ -42,8 +37,25 @@ class Words(SiteTest):
     def test_reschedule(self) -> None:
         at = self.monitored.clock.wall() + 5
         self.assertEqual(self.ask(do="reschedule", name="web", at=at), {"done": "reschedule", "name": "web", "at": at, "on": True})
-        self.monitored.run(10)
+        self.monitored.run(40)
+        self.assertEqual(self.monitored.starts()["web"], [0, 35_000, 60_000])
+        self.assertEqual(self.ask(do="reschedule", name="web")["done"], "reschedule")
+        self.assertEqual(self.monitored.starts()["web"][-1], 70_000)
+
+    def test_an_operators_time_outlives_a_passive_result(self) -> None:
+        self.ask(do="reschedule", name="web", at=self.monitored.clock.wall() + 5, force=True)
+        self.ask(do="result", name="web", code=0, output="by hand")
+        self.monitored.run(20)
         self.assertEqual(self.monitored.starts()["web"], [0, 35_000])
+
+    def test_an_operators_time_that_is_set_while_a_check_runs(self) -> None:
+        """The check is made once more."""
+        monitor = self.monitored
+        monitor.run(30.005)
+        self.assertEqual(monitor.engine.busy(), {"web"})
+        self.ask(do="reschedule", name="web", force=True)
+        monitor.run(20)
+        self.assertEqual([start // 100 for start in monitor.starts()["web"]], [0, 600, 600])
 
     def test_switches(self) -> None:
         self.assertFalse(self.ask(do="disable", name="web")["on"])
@@ -51,22 +63,79 @@ class Words(SiteTest):
         self.assertEqual(self.monitored.starts()["web"], [0])
         self.assertTrue(self.ask(do="enable", name="web")["on"])
         self.assertEqual(self.monitored.store.switches(), {"web": True})
+        self.monitored.run(1)
+        self.assertEqual(len(self.monitored.starts()["web"]), 2)
 
     def test_a_passive_result(self) -> None:
-        with mock.patch.object(self.monitored.store, "waiting", side_effect=AssertionError):  # that reads all
-            self.ask(do="result", name="web;trap", code=2, output="door open\nand more")
+        self.ask(do="result", name="web;trap", code=2, output="door\topen\nand \x1b[2Kmore")
         self.monitored.run(1)
         (change,) = self.monitored.changes
-        self.assertEqual((change[1].state, change[1].words), ("CRITICAL", "door open"))
-        self.assertEqual(json.loads(self.requests.answer(b'{"do":"result","name":"web;trap","code":1,"output":"half \\ud800 a letter"}'))["done"], "result")
+        self.assertEqual((change[1].state, change[1].words), ("CRITICAL", "door open\nand  [2Kmore"))
+        self.assertEqual(self.monitored.ask_line(b'{"do":"result","name":"web;trap","code":1,"output":"half \\ud800 a letter"}')["done"], "result")
         self.monitored.run(1)
         self.assertEqual(self.monitored.changes[-1][1].words, "half ? a letter")
 
+    def test_more_results_than_can_wait(self) -> None:
+        """The sender hears that it may ask again, and nothing that was accepted is lost."""
+        with mock.patch.object(requests, "MOST_WAITING", 3):
+            engine = self.monitored.engine
+            answers: List[bytes] = []
+            for number in range(5):
+                line = json.dumps({"do": "result", "name": "web;trap", "code": 2 * (number % 2), "output": f"number {number}"})
+                engine.ask(Request(line.encode(), answers.append))
+            self.monitored.run(0.5)
+        told = [json.loads(answer) for answer in answers]
+        self.assertEqual([answer.get("again", False) for answer in told], [False, False, False, True, True])
+        self.assertEqual([change.words for _, change in self.monitored.changes], ["number 1", "number 2"])
+        self.assertEqual(passive.MOST_WAITING, 10_000)
+
+    def test_a_number_is_obeyed_once(self) -> None:
+        """Also over a restart; another number is another request."""
+        asked = {"do": "result", "name": "web;trap", "code": 2, "output": "door open"}
+        first = self.ask(**asked, number="a-1")
+        self.monitored.run(1)
+        kept = self.monitored.store.calls_since(0, 0)
+        self.assertEqual(self.ask(**asked, number="a-1"), first)
+        self.monitored.run(1)
+        self.assertEqual(self.monitored.store.calls_since(0, 0), kept)
+        self.monitored.close()
+        self.monitored = self.monitor(fine, self.monitored.clock)
+        self.assertEqual(self.ask(**asked, number="a-1"), first)
+        self.assertEqual(self.monitored.store.waiting(), [])
+        self.ask(**asked, number="a-2")
+        self.assertEqual(len(self.monitored.store.waiting()), 1)
+
+    def test_a_line_of_the_log_for_what_changes_something(self) -> None:
+        self.monitored.lines.clear()
+        for word in ("disable", "enable", "reschedule"):
+            self.ask(do=word, name="web")
+        self.ask(do="result", name="web;trap", code=1)
+        self.ask(do="status")
+        self.ask(do="disable", name="nobody")
+        told = [line for line in self.monitored.lines if line.startswith("asked: ")]
+        self.assertEqual([line.split()[1:3] for line in told], [["disable", "web"], ["enable", "web"], ["reschedule", "web"], ["result", "web;trap"]])
+
+    def test_nothing_can_be_stored(self) -> None:
+        """The answer says that it may be asked again, and nothing has changed."""
+        before = self.monitored.store.last_call
+        with mock.patch.object(self.monitored.store, "write", side_effect=NotStored("the disk is full")):
+            several: List[Dict[str, Any]] = [{"do": "disable", "name": "web"}, {"do": "result", "name": "web;trap", "code": 2}, {"do": "reschedule", "name": "web"}]
+            for asked in several:
+                self.assertEqual(self.ask(**asked), {"error": "the disk is full", "again": True})
+            self.assertNotIn("again", self.ask(do="enable", name="nobody"))
+        self.monitored.run(1)
+        self.assertEqual((self.monitored.store.switches(), self.monitored.store.waiting(), self.monitored.starts()["web"]), ({}, [], [0]))
+        self.assertEqual(self.monitored.store.last_call, before)
+
     def test_others(self) -> None:
-        self.assertEqual(self.ask(do="reload"), {"done": "reload", "new": [], "dropped": []})
+        words = self.monitored.engine.requests
+        words.stop, words.reload = lambda: self.asked.append("stop"), lambda request: request.reply(b'{"done":"reload"}')
+        self.assertEqual(self.ask(do="reload"), {"done": "reload"})
         self.assertEqual(self.ask(do="stop"), {"done": "stop"})
-        self.assertEqual(self.asked, ["reload", "stop"])
-        self.assertIn(list(self.ask(do="save")), [["done"], ["error"]])
+        self.assertEqual(self.asked, ["stop"])
+        self.assertGreater(len(self.monitored.store.calls_since(0, 0)), 0)
+        self.assertEqual(self.ask(do="save"), {"done": "save"})
+        self.assertEqual(self.monitored.store.calls_since(0, 0), [])
 
     def test_bad_lines(self) -> None:
         before = self.monitored.store.last_call
@@ -77,48 +146,30 @@ class Words(SiteTest):
             (b'{"do":"reschedule"}', "name"), (b'{"do":"reschedule","name":"x"}', "no object 'x'"),
             (b'{"do":"reschedule","name":"web","at":"now"}', "at is"), (b'{"do":"reschedule","name":"web","at":-1e30}', "no time"),
             (b'{"do":"reschedule","name":"web","at":1e400}', "no time"), (b'{"do":"reschedule","name":"web","force":1}', "force"),
+            (b'{"do":"reschedule","name":"web;trap","force":true}', "no command"),
             (b'{"do":"enable","name":"web;trap"}', "no command"), (b'{"do":"enable","name":["web"]}', "name"),
             (b'{"do":"result","name":"web","code":4}', "4"), (b'{"do":"result","name":"web","code":true}', "True"),
             (b'{"do":"result","name":"web"}', "None"), (b'{"do":"result","name":"web","code":0,"output":7}', "output"),
+            (b'{"do":"disable","name":"web","number":7}', "number"), (b'{"do":"disable","name":"web","number":""}', "number"),
             (b'{"do":"stop","now":true}', "'now'"),
         ):
             with self.subTest(line):
-                self.assertIn(word, json.loads(self.requests.answer(line))["error"])
-        self.assertEqual((self.monitored.store.last_call, self.monitored.store.waiting(), self.asked), (before, [], []))
+                self.assertIn(word, self.monitored.ask_line(line)["error"])
+        self.assertEqual((self.monitored.store.last_call, self.monitored.store.waiting(), self.monitored.loop.status), (before, [], None))
 
 
 class Socket(SiteTest):
-    def test_lines_there_and_back(self) -> None:
-        files: List[int] = []
-        made = control.Control(self.folder, lambda line: b"heard " + line + b"\n", files.append, files.remove)
-        self.addCleanup(made.close)
-        self.assertEqual((self.folder / control.NAME).stat().st_mode & 0o777, 0o600)
-        answers: List[bytes] = []
-        asking = threading.Thread(target=lambda: answers.extend([control.ask(self.folder, b"one"), control.ask(self.folder, b"two")]))
-        asking.start()
-        while asking.is_alive():
-            for file in list(files):
-                with socket.socket(fileno=socket.dup(file)) as waiting:
-                    waiting.setblocking(False)
-                    try:
-                        if file != made._socket.fileno():
-                            waiting.recv(1, socket.MSG_PEEK)
-                        made.read(file)
-                    except BlockingIOError:
-                        pass
-            asking.join(0.01)
-        self.assertEqual(answers, [b"heard one\n", b"heard two\n"])
+    """The socket by itself: each request is answered by `answer` in the turn in which it came."""
 
-    def control(self, answer: bytes) -> control.Control:
-        """The socket of a monitor that answers each request like this; its requests are in `heard`."""
+    def serving(self, answer: bytes = b"") -> control.Control:
         self.files: List[int] = []
         self.heard: List[bytes] = []
 
-        def answered(line: bytes) -> bytes:
-            self.heard.append(line)
-            return answer
+        def asked(request: Request) -> None:
+            self.heard.append(request.line)
+            request.reply(answer or b"heard " + request.line + b"\n")
 
-        made = control.Control(self.folder, answered, self.files.append, self.files.remove)
+        made = control.Control(self.folder, asked, self.files.append, self.files.remove)
         self.addCleanup(made.close)
         return made
 
@@ -128,26 +179,86 @@ class Socket(SiteTest):
         connection.connect(control.short_path(self.folder / control.NAME))
         return connection
 
-    def test_a_long_answer(self) -> None:
-        """Whoever reads it has time for each piece of it."""
-        made = self.control(b"")
-        answer = bytes(range(256)) * 4_000
-        connection = mock.Mock()
-        made._send(99, connection, answer)
-        pieces = [given.args[0] for given in connection.sendall.call_args_list]
-        self.assertEqual((b"".join(pieces), max(map(len, pieces))), (answer, control.READ_BYTES))
+    def turn(self, made: control.Control) -> bool:
+        """One turn of the loop around it: what can be read is read."""
+        for file in list(self.files):
+            made.read(file)
+        return made.work()
+
+    def test_lines_there_and_back(self) -> None:
+        made = self.serving()
+        self.assertEqual((self.folder / control.NAME).stat().st_mode & 0o777, 0o600)
+        answers: List[bytes] = []
+        asking = threading.Thread(target=lambda: answers.extend([control.ask(self.folder, b"one"), control.ask(self.folder, b"two")]))
+        asking.start()
+        self.assertTrue(comes(lambda: self.turn(made) or not asking.is_alive()))
+        self.assertEqual(answers, [b"heard one\n", b"heard two\n"])
+
+    def test_one_that_asks_much_leaves_room_for_others(self) -> None:
+        """Of each client so many lines are handed on in one turn; the rest waits, and nothing is lost."""
+        made = self.serving()
+        greedy, other = self.asking(), self.asking()
+        greedy.sendall(b"".join(b"%d\n" % number for number in range(1_000)))
+        self.turn(made)
+        self.turn(made)
+        other.sendall(b"other\n")
+        self.turn(made)
+        self.assertLess(self.heard.index(b"other"), 4 * control.LINES_IN_TURN)
+        self.assertTrue(comes(lambda: not self.turn(made) and len(self.heard) == 1_001))
+        self.assertEqual([line for line in self.heard if line != b"other"], [b"%d" % number for number in range(1_000)])
+
+    def test_one_that_reads_slowly_holds_up_nobody(self) -> None:
+        made = self.serving(b"x" * 1_000_000 + b"\n")
+        slow = self.asking()
+        slow.sendall(b"one\n")
+        self.assertTrue(comes(lambda: self.turn(made) or self.heard == [b"one"]))
+        other = self.asking()
+        other.settimeout(30)
+        other.sendall(b"two\n")
+        got: List[bytes] = []
+        reading = threading.Thread(target=lambda: got.extend(iter(lambda: other.recv(1 << 20), b"")), daemon=True)
+        reading.start()
+        self.assertTrue(comes(lambda: self.turn(made) or sum(map(len, got)) == 1_000_001))
+        slow.settimeout(30)
+        read = 0
+
+        def is_read() -> bool:
+            nonlocal read
+            self.turn(made)
+            read += len(slow.recv(1 << 20))
+            return read == 1_000_001
+
+        self.assertTrue(comes(is_read))
+        self.assertFalse(made.is_sending())
+
+    def test_one_that_says_nothing_is_forgotten(self) -> None:
+        made = self.serving()
+        there = self.asking()
+        there.settimeout(30)
+        self.assertTrue(comes(lambda: self.turn(made) or len(self.files) == 2))
+        with mock.patch.object(control, "IDLE", -1.0):
+            self.turn(made)
+        self.assertEqual((len(self.files), there.recv(1)), (1, b""))
+
+    def test_a_line_that_is_too_long(self) -> None:
+        made = self.serving()
+        there = self.asking()
+        there.settimeout(30)
+        sending = threading.Thread(target=lambda: there.sendall(b"x" * (control.LONGEST_LINE + control.READ_BYTES)), daemon=True)
+        sending.start()
+        self.assertTrue(comes(lambda: self.turn(made) or len(self.files) == 1))
+        self.assertEqual(self.heard, [])
 
     def test_no_room_for_a_connection(self) -> None:
         """It waits until there is."""
-        made = self.control(b"done\n")
+        made = self.serving(b"done\n")
         there = self.asking()
         there.sendall(b"one\n")
         with mock.patch.object(socket.socket, "accept", side_effect=OSError(24, "too many files")):
             made.read(self.files[0])
         self.assertEqual(len(self.files), 1)
-        made.read(self.files[0])
-        made.read(self.files[1])
-        self.assertEqual((self.heard, there.recv(100)), ([b"one"], b"done\n"))
+        self.assertTrue(comes(lambda: self.turn(made) or self.heard == [b"one"]))
+        self.assertEqual(there.recv(100), b"done\n")
 
     def test_no_monitor(self) -> None:
         with self.assertRaisesRegex(MonitorFault, "no monitor runs on"):

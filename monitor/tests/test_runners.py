@@ -6,11 +6,12 @@ import signal
 import subprocess
 import tempfile
 import threading
+import time
 import unittest
 from typing import Any, List
 from unittest import mock
 
-from nagsched_monitor.runners import Finished, Job, Lost, RunnerProcesses
+from nagsched_monitor.runners import Finished, Gone, Job, Lost, RunnerProcesses
 
 from .waiting import LONG, comes
 
@@ -19,7 +20,8 @@ class ManyRunners(unittest.TestCase):
     def setUp(self) -> None:
         self.lines: List[str] = []
         self.files: List[int] = []
-        self.runners = RunnerProcesses(2, self.lines.append, self.files.append, self.files.remove)
+        self.passed = 0.0
+        self.runners = RunnerProcesses(2, self.lines.append, self.files.append, self.files.remove, lambda: time.monotonic() + self.passed)
         self.addCleanup(self.runners.close)
 
     def wait(self, count: int) -> List[Any]:
@@ -45,6 +47,7 @@ class ManyRunners(unittest.TestCase):
         for run in range(4):
             self.runners.start(Job("web", run, ["sleep", "60"], 100))
         self.runners.flush()
+        self.passed = 10
         os.kill(self.runners.process_ids()[0], signal.SIGKILL)
         events = self.wait(2)
         self.assertEqual([type(event) for event in events], [Lost, Lost])
@@ -52,6 +55,25 @@ class ManyRunners(unittest.TestCase):
         self.assertIn("2 checks with it", self.lines[0])
         self.runners.start(Job("db", 9, ["true"], 10))
         self.assertEqual([event.job.name for event in self.wait(1)], ["db"])
+
+    def test_one_that_stands_still(self) -> None:
+        """It is killed with the job that is late; what else it ran is lost, and others run its next jobs."""
+        stopped = self.runners.process_ids()
+        for process in stopped:
+            os.kill(process, signal.SIGSTOP)
+        jobs = [Job("web", run, ["true"], 1) for run in range(4)]
+        for job in jobs:
+            self.runners.start(job)
+        self.runners.flush()
+        self.assertTrue(all(id(job) in self.runners.jobs() for job in jobs))
+        self.assertTrue(self.runners.kill(jobs[0]))
+        self.assertEqual([type(event) for event in self.wait(2)], [Lost, Lost])
+        self.assertEqual([id(job) in self.runners.jobs() for job in jobs], [False, True, False, True])
+        self.assertFalse(self.runners.kill(jobs[0]))
+        self.assertTrue(self.runners.kill(jobs[1]))
+        self.assertFalse(set(stopped) & set(self.runners.process_ids()))
+        self.runners.start(Job("db", 9, ["true"], 10))
+        self.assertIn("db", [event.job.name for event in self.wait(3)])
 
     def test_one_that_reads_no_jobs(self) -> None:
         """What doesn't fit into its pipe waits, and whoever hands jobs on isn't held up."""
@@ -69,39 +91,58 @@ class ManyRunners(unittest.TestCase):
         self.assertEqual(sorted(event.job.run for event in self.wait(40)), list(range(40)))
 
     def test_no_room_for_another_one(self) -> None:
-        """One line says so, jobs are handed to those that are left, and are lost where none is; it is tried again until there is room."""
+        """One line says so; jobs go to the runners that are left, and wait where none is, until there is room."""
         first, second = self.runners.process_ids()
+        self.passed = 10
         with mock.patch.object(subprocess, "Popen", side_effect=BlockingIOError(11, "no room")):
             for process, left in ((first, [second]), (second, [])):
                 os.kill(process, signal.SIGKILL)
-                self.assertEqual(self.wait(0), [])
                 self.assertTrue(comes(lambda: self.wait(0) == [] and self.runners.process_ids() == left))
-            self.runners.start(Job("web", 1, ["true"], 10))
-            self.assertEqual(self.wait(1), [Lost(Job("web", 1, ["true"], 10), "no runner could be started")])
+            job = Job("web", 1, ["true"], 10)
+            self.runners.start(job)
+            self.assertEqual((self.wait(0), id(job) in self.runners.jobs()), ([], True))
         self.assertEqual([line for line in self.lines if "no room" in line], ["a runner can't be started: [Errno 11] no room; it is tried again"])
-        self.runners.start(Job("web", 2, ["true"], 10))
-        self.assertEqual([type(event) for event in self.wait(1)], [Lost])
-        self.runners.start(Job("web", 3, ["true"], 10))
+        self.passed = 20
         self.assertEqual([type(event) for event in self.wait(1)], [Finished])
         self.assertEqual(len(self.runners.process_ids()), 2)
 
 
-class StandIn(unittest.TestCase):
-    def test_half_a_character(self) -> None:
-        """JSON may have it, and no database takes it: it is replaced in what a worker answers."""
-        folder = tempfile.TemporaryDirectory()
-        self.addCleanup(folder.cleanup)
-        runner = pathlib.Path(folder.name) / "runner"
-        runner.write_text("#!/bin/sh\nread line\necho '{\"job\":1,\"code\":0,\"end\":\"exited\",\"output\":\"half \\ud800\"}'\n"
-                          "echo '{\"job\":2,\"lost\":\"\\udfff gone\"}'\nread line\n")
-        runner.chmod(0o700)
+class Pauses(unittest.TestCase):
+    def test_one_that_ends_at_once(self) -> None:
+        """It is started again after a pause that grows: no storm of processes and of lines."""
         lines: List[str] = []
         files: List[int] = []
-        with mock.patch.dict(os.environ, {"NAGSCHED_RUNNER": str(runner)}):
-            made = RunnerProcesses(1, lines.append, files.append, files.remove)
+        now = [0.0]
+        with mock.patch.dict(os.environ, {"NAGSCHED_RUNNER": "/bin/false"}):
+            made = RunnerProcesses(1, lines.append, files.append, files.remove, lambda: now[0])
         self.addCleanup(made.close)
-        jobs = [Job("web", run, ["true"], 10) for run in (1, 2)]
-        for job in jobs:
+        for _ in range(600):
+            now[0] += 0.1
+            for process in list(made._processes.values()):
+                process.process.wait()
+            for file in list(files):
+                made.read(file)
+            made.flush()
+        self.assertTrue(3 <= len(lines) <= 7, lines)
+
+
+class StandIn(unittest.TestCase):
+    """A runner of one's own, which says these lines to the first job."""
+
+    def events(self, *answers: str, count: int = 1) -> List[Any]:
+        folder = tempfile.TemporaryDirectory()
+        self.addCleanup(folder.cleanup)
+        (pathlib.Path(folder.name) / "answers").write_bytes("".join(f"{answer}\n" for answer in answers).encode("latin-1"))
+        runner = pathlib.Path(folder.name) / "runner"
+        runner.write_text(f"#!/bin/sh\nread line\ncat {folder.name}/answers\nread line\nread line\nread line\n")
+        runner.chmod(0o700)
+        self.lines: List[str] = []
+        files: List[int] = []
+        with mock.patch.dict(os.environ, {"NAGSCHED_RUNNER": str(runner)}):
+            made = RunnerProcesses(1, self.lines.append, files.append, files.remove)
+        self.addCleanup(made.close)
+        self.jobs = [Job("web", run, ["true"], 10, "dmz" if run == 3 else None) for run in (1, 2)]
+        for job in self.jobs:
             made.start(job)
         made.flush()
         events: List[Any] = []
@@ -110,8 +151,33 @@ class StandIn(unittest.TestCase):
             for file in select.select(files, [], [], 0.1)[0]:
                 made.read(file)
             events.extend(made.events())
-            return len(events) == 2
+            return len(events) >= count
 
         self.assertTrue(comes(came))
-        self.assertEqual(events, [Finished(jobs[0], "exited", 0, "half ?"), Lost(jobs[1], "? gone")])
-        self.assertEqual(lines, ["web: run 2 is given up: ? gone"])
+        return events
+
+    def test_half_a_character(self) -> None:
+        """JSON may have it, and no database takes it: it is replaced in what a worker answers."""
+        events = self.events('{"job":1,"code":0,"end":"exited","output":"half \\ud800"}', '{"job":2,"lost":"\\udfff gone"}', count=2)
+        self.assertEqual(events, [Finished(self.jobs[0], "exited", 0, "half ?"), Lost(self.jobs[1], "? gone", True)])
+
+    def test_both_streams(self) -> None:
+        (event,) = self.events('{"job":1,"code":1,"end":"exited","output":"one\\ntwo","stderr":"said"}')
+        self.assertEqual(event, Finished(self.jobs[0], "exited", 1, "one\ntwo", "said"))
+
+    def test_a_plugin_that_cant_be_killed(self) -> None:
+        events = self.events('{"job":1,"code":0,"end":"limit","output":"","stuck":true}', '{"job":1,"gone":true}', '{"job":1,"gone":true}', count=2)
+        self.assertEqual(events, [Finished(self.jobs[0], "limit", 0, "", "", True), Gone(self.jobs[0])])
+
+    def test_bad_lines(self) -> None:
+        """None ends the monitor: each is logged, and the check that it speaks of is made again."""
+        for line, is_read in (("hello", False), ("[1]", False), ("[" * 100_000, False), ("{}", False), ('{"job":"1","end":"exited","code":0,"output":""}', False),
+                              ("\xff", False), ('{"job":true,"end":"exited","code":0,"output":""}', False), ('{"error":"no \\u001b number"}', False),
+                              ('{"job":1,"end":"exited","output":""}', True), ('{"job":1,"end":"exited","code":"0","output":""}', True),
+                              ('{"job":1,"end":"exited","code":-1,"output":""}', True), ('{"job":1,"end":"exited","code":true,"output":""}', True),
+                              ('{"job":1,"end":"fine","code":0,"output":""}', True), ('{"job":1,"end":"exited","code":0,"output":7}', True)):
+            with self.subTest(line[:60]):
+                events = self.events(line, '{"job":2,"end":"exited","code":0,"output":""}', count=2 if is_read else 1)
+                self.assertEqual([type(event) for event in events], [Lost, Finished] if is_read else [Finished])
+                self.assertEqual(len(self.lines), 1)
+                self.assertTrue(self.lines[0].isprintable())

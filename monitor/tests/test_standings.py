@@ -3,7 +3,6 @@ import pathlib
 import sqlite3
 from typing import Dict, Tuple
 
-from nagsched_monitor.requests import Requests
 from nagsched_monitor.rows import KeptStanding
 from nagsched_monitor.site import read_site
 
@@ -80,8 +79,7 @@ class Table(SiteTest):
     def test_switches_and_periods(self) -> None:
         monitor = self.monitor(fine)
         monitor.run(3)
-        requests = Requests(monitor.engine, monitor.clock, dict, lambda: None)
-        requests.answer(b'{"do":"disable","name":"db"}')
+        monitor.ask(do="disable", name="db")
         monitor.run(3)
         self.assertEqual({name: row.is_on for name, row in self.assert_same(monitor).items()}, {"db": 0, "web": 1, "web;http": 1})
 

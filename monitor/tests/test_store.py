@@ -1,15 +1,18 @@
 """The database: what was changed is found, what can't be written changes nothing."""
 import sqlite3
+from typing import List
 
 from nagsched_monitor.counters import KeepFigures
 from nagsched_monitor.faults import DamagedRow, MonitorFault, NotStored
-from nagsched_monitor.rows import TABLES, Generation, KeptChange, KeptStanding
+from nagsched_monitor.rows import FOR_PEOPLE, TABLES, VERSION, Generation, KeptChange, KeptStanding, checksum_of
 from nagsched_monitor.store import Store
-from nagsched_monitor.writes import BeginGeneration, DropChangesBefore, DropStandings, KeepCalls, KeepChange, KeepResult, KeepStandings, SetSwitch
+from nagsched_monitor.writes import (
+    BeginGeneration, DropChangesBefore, DropStandings, KeepCalls, KeepChange, KeepRequest, KeepResult, KeepStandings, SetAside, SetSwitch,
+)
 
 from .simulated import SiteTest
 
-STANDING = KeptStanding("web", "DOWN", "HARD", 3, False, 990.5, 1000.5, 1000.25, 1060.0, True, None, 0.5, 0.0, "no answer")
+STANDING = KeptStanding("web", "DOWN", "HARD", 3, False, 990.5, 1000.5, 1000.25, 1060.0, True, None, 0.5, 0.0, "no answer", 60_000)
 CHANGE = KeptChange(2, 1000.5, "web", "DOWN", "HARD", 3, False, "no answer")
 
 
@@ -26,6 +29,8 @@ class Database(SiteTest):
             KeepChange(CHANGE, '{"name":"web"}'),
             KeepStandings([(1, STANDING)]),
             KeepFigures({"saves": 3.0}),
+            KeepRequest("a-1", "{}"),
+            SetAside(1, 0, '["take",8]'),
         )
         return store
 
@@ -33,9 +38,10 @@ class Database(SiteTest):
         self.filled().close()
         store = Store(self.folder)
         self.addCleanup(store.close)
-        self.assertEqual([call.line for call in store.calls_since(0, 0)], ['["take",8]', '["report","web",1,2]'])
+        self.assertEqual([call.line for call in store.calls_since(0, 0)], ['["report","web",1,2]'])
         self.assertEqual((store.switches(), [result.words for result in store.waiting()]), ({"web": False}, ["slow"]))
-        self.assertEqual((store.generations()[0].saved, store.last_call, store.last_change, store.last_moment()), (b'{"format":1}', 2, 2, 8))
+        self.assertEqual((store.generations()[0].saved, store.last_call, store.changes_after(0), store.last_moment()), (b'{"format":1}', 2, {2}, 8))
+        self.assertEqual(store.requests(), {"a-1": "{}"})
         self.assertEqual(store.generations()[0].mirrors, {"gateway"})
         self.assertEqual((store.outbox(), store.figures()), ([(1, '{"name":"web"}')], {"saves": 3.0}))
         self.assertEqual(store.standings(), [(1, STANDING)])
@@ -53,20 +59,78 @@ class Database(SiteTest):
         Store(self.folder).close()
 
     def test_a_changed_byte_in_each_table(self) -> None:
+        """What checks depend on is refused; what only people read is set aside with a line."""
         self.filled().close()
         for table, members in TABLES.items():
             for member in ["checksum", *(each.split()[0] for each in members.split(", "))]:
-                with self.subTest(f"{table}.{member}"), sqlite3.connect(self.folder / "monitor.db") as database:
-                    (before,) = database.execute(f"SELECT {member} FROM {table} ORDER BY id LIMIT 1").fetchone()
-                    after = 9 if isinstance(before, (int, float)) else b"x" if isinstance(before, bytes) else "x"
-                    database.execute(f"UPDATE {table} SET {member} = ? WHERE id = (SELECT min(id) FROM {table})", (after,))
-                    database.commit()
-                    with self.assertRaises(DamagedRow) as caught:
-                        Store(self.folder)
-                    self.assertRegex(str(caught.exception), rf"row \d+ of {table} ")
-                    database.execute(f"UPDATE {table} SET {member} = ? WHERE id = (SELECT min(id) FROM {table})", (before,))
-                    database.commit()
+                if table not in ("changes", "damaged"):
+                    with self.subTest(f"{table}.{member}"), sqlite3.connect(self.folder / "monitor.db") as database:
+                        row = database.execute(f"SELECT * FROM {table} ORDER BY id LIMIT 1").fetchone()
+                        (before,) = database.execute(f"SELECT {member} FROM {table} ORDER BY id LIMIT 1").fetchone()
+                        after = 9 if isinstance(before, (int, float)) else b"x" if isinstance(before, bytes) else "x"
+                        database.execute(f"UPDATE {table} SET {member} = ? WHERE id = (SELECT min(id) FROM {table})", (after,))
+                        database.commit()
+                        self.assert_found(table)
+                        database.execute(f"INSERT OR REPLACE INTO {table} VALUES ({','.join('?' * len(row))})", row)
+                        database.commit()
         Store(self.folder).close()
+
+    def assert_found(self, table: str) -> None:
+        lines: List[str] = []
+        if table not in FOR_PEOPLE:
+            with self.assertRaisesRegex(DamagedRow, rf"row \d+ of {table} "):
+                Store(self.folder)
+            return
+        Store(self.folder, lines.append).close()
+        self.assertRegex(lines[0], rf"row \d+ of {table} was changed since it was written")
+
+    def test_a_changed_byte_in_the_history(self) -> None:
+        """It is found when it is read: it counts for nothing, and stays to be looked at."""
+        self.filled().close()
+        with sqlite3.connect(self.folder / "monitor.db") as database:
+            database.execute("UPDATE changes SET state = 'UP'")
+        lines: List[str] = []
+        store = Store(self.folder, lines.append)
+        self.addCleanup(store.close)
+        self.assertEqual((lines, store.last_changes("web")), (lines, None))
+        self.assertEqual(len(lines), 1)
+        self.assertEqual([source for (source,) in store._database.execute("SELECT source FROM damaged")], ["changes"])
+
+    def test_a_database_of_the_version_before(self) -> None:
+        """Its standings are taken over; one of a later version is refused."""
+        self.filled().close()
+        with sqlite3.connect(self.folder / "monitor.db") as database:
+            row = database.execute("SELECT * FROM standings").fetchone()
+            database.execute("DROP TABLE standings")
+            members = TABLES["standings"].replace(", phase INTEGER", "")
+            database.execute(f"CREATE TABLE standings (id INTEGER PRIMARY KEY, {members}, checksum TEXT)")
+            cells = row[1:-2]
+            database.execute(f"INSERT INTO standings VALUES ({','.join('?' * len(row[:-1]))})", (row[0], *cells, checksum_of("standings", row[0], cells)))
+            for table in ("requests", "aside", "damaged"):
+                database.execute(f"DROP TABLE {table}")
+            database.execute("PRAGMA user_version = 0")
+        store = Store(self.folder)
+        self.assertEqual(store.standings(), [(1, STANDING._replace(phase=None))])
+        self.assertEqual(store.requests(), {})
+        store.close()
+        with sqlite3.connect(self.folder / "monitor.db") as database:
+            self.assertEqual(database.execute("PRAGMA user_version").fetchone(), (VERSION,))
+            database.execute(f"PRAGMA user_version = {VERSION + 1}")
+        with self.assertRaisesRegex(MonitorFault, f"it has version {VERSION + 1}"):
+            Store(self.folder)
+
+    def test_it_is_for_its_owner_only_and_synced(self) -> None:
+        store = self.filled()
+        self.assertEqual(store.path.stat().st_mode & 0o777, 0o600)
+        self.assertEqual(store._database.execute("PRAGMA synchronous").fetchone(), (2,))
+        self.assertEqual(store._database.execute("PRAGMA journal_mode").fetchone(), ("wal",))
+
+    def test_a_read_that_fails(self) -> None:
+        """It is told as what can't be stored, and tried again."""
+        store = self.filled()
+        store._database.execute("ALTER TABLE outbox RENAME TO gone")
+        with self.assertRaises(NotStored):
+            store.outbox()
 
     def test_a_call_that_is_gone(self) -> None:
         store = self.filled()
@@ -96,7 +160,7 @@ class Database(SiteTest):
         self.assertEqual((store.last_call, store.switches()), (2, {"web": False}))
         store._database.execute("PRAGMA max_page_count = 100000")
         store.write(KeepCalls([(0, '["take",10]', None)]))
-        self.assertEqual([call.id for call in store.calls_since(0, 0)], [1, 2, 3])
+        self.assertEqual([call.id for call in store.calls_since(0, 0)], [2, 3])
 
     def test_a_saved_state_lets_go_of_the_calls_before(self) -> None:
         store = self.filled()

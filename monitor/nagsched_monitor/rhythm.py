@@ -1,0 +1,42 @@
+"""The times at which an object is checked by itself: its phase, to which it returns after whatever made a check early or late."""
+import zlib
+from typing import List, Optional, Sequence, Tuple
+
+# An overdue check is made within so many milliseconds, or within its interval if that is shorter.
+WINDOW = 15_000
+# A next check that is off by no more than so many milliseconds stays as it is.
+TOLERANCE = 250
+# The times of checks that are asked for at once: a mirror comes before a passive result's object, that before a host that matters now, and all come before
+# what is due.
+MIRROR_FIRST, RESULT_FIRST, HOST_FIRST = 0, 1, 2
+# Any time from this one on is a time by the clock.
+FIRST_TIME = 3
+
+
+def on_time(due: Optional[int]) -> Optional[int]:
+    """The time at which a check was due; None if it was asked for at once."""
+    return due if due is not None and due >= FIRST_TIME else None
+
+
+def spread(overdue: Sequence[Tuple[str, int]], now: int) -> List[int]:
+    """The times of checks that are overdue, in the order in which they were due: each has its name and its interval in milliseconds."""
+    count = len(overdue)
+    return [now + min(interval or WINDOW, WINDOW) * place // count for place, (_, interval) in enumerate(overdue)]
+
+
+def next_in_phase(phase: int, interval: int, now: int) -> int:
+    """The first moment after now that lies whole intervals from the phase."""
+    return phase + ((now - phase) // interval + 1) * interval
+
+
+def return_to(phase: Optional[int], interval: int, next_check: Optional[int], now: int) -> Optional[int]:
+    """The time to which a next check has to be moved so that it is in phase; None if it is, or the object has no phase."""
+    if phase is None or interval == 0 or next_check is None:
+        return None
+    off = (next_check - phase) % interval
+    return next_in_phase(phase, interval, now) if min(off, interval - off) > TOLERANCE else None
+
+
+def moved(phase: int, name: str, before: int, interval: int) -> int:
+    """The phase of an object whose interval becomes another one: a longer interval is filled evenly, by the object's name."""
+    return phase + before * (zlib.crc32(name.encode()) % max(1, interval // before)) if before > 0 else phase

@@ -1,0 +1,271 @@
+"""A site on which everything happens, and one fault at one moment of it: what holds afterwards, whichever moment it was."""
+import json
+import os
+import pathlib
+import signal
+from typing import Any, Callable, Dict, List, Optional, Sequence, Set, Tuple
+
+from nagsched_monitor.calls import Report, Standing
+from nagsched_monitor.conversation import Conversation
+from nagsched_monitor.faults import ConversationEnded, NotStored
+from nagsched_monitor.requests import Request
+from nagsched_monitor.rhythm import TOLERANCE
+from nagsched_monitor.running import Owner
+from nagsched_monitor.runners import Job
+from nagsched_monitor.site import read_site
+from nagsched_monitor.store import Store, Write
+from nagsched_monitor.writes import DropDocument, KeepCalls, KeepChange
+
+from .simulated import BEGIN, PROGRAM, SimulatedClock, SimulatedMonitor
+
+OPTIONS: Dict[str, Any] = {"interval_length": 1, "max_service_check_spread": 1, "max_host_check_spread": 1}
+TIMES: Dict[str, Any] = {"check_interval": 60, "retry_interval": 20, "max_check_attempts": 2}
+# When the gateway fails and is back, when the site is reloaded, when a save is asked for, and how long all of it takes, in seconds.
+DOWN, UP, RELOAD, SAVE, END, QUIET = 150, 300, 220, 350, 480, 200
+# When passive results come, and of which objects.
+RESULTS = [(40, "near;trap"), (41, "near;trap"), (100, "far;web"), (160, "near;trap"), (221, "far;backup"), (260, "far;web"), (351, "near;trap"), (352, "gateway")]
+ORDERS = [(70, "disable", "far;web"), (130, "enable", "far;web"), (240, "reschedule", "near;web")]
+
+
+class Killed(BaseException):
+    """The monitor is killed here."""
+
+
+def write_site(folder: pathlib.Path, is_later: bool) -> None:
+    """Two parts: a gateway with a host behind it in the first, a mirror of it with another host in the second; a reload brings a third."""
+    gateway: Dict[str, Any] = {"name": "gateway", **TIMES}
+    mirror: Dict[str, Any] = {**gateway, "enabled": False, "check_interval": 0, "retry_interval": 0}
+    passive: Dict[str, Any] = {"enabled": False, "max_check_attempts": 1, "check_interval": 0}
+    first = {"options": OPTIONS, "hosts": [gateway, {"name": "near", "parents": ["gateway"], **TIMES}],
+             "services": [{"host": "near", "description": "web", **TIMES}, {"host": "near", "description": "trap", **passive}]}
+    hosts = [mirror, {"name": "far", "parents": ["gateway"], **TIMES}, *([{"name": "new", "parents": ["gateway"], **TIMES}] if is_later else [])]
+    second = {"options": OPTIONS, "hosts": hosts, "services": [{"host": "far", "description": "web", **TIMES}, {"host": "far", "description": "backup", **passive}]}
+    names = ["gateway", "near", "near;web", "far", "far;web", "far;backup", *(["new"] if is_later else [])]
+    day = {name: ["08:01-08:04", "08:06-09:00"] for name in ("monday", "tuesday", "wednesday", "thursday", "friday", "saturday", "sunday")}
+    for name, document in (
+        ("part-1", first), ("part-2", second), ("mirrors", {"part-2": {"gateway": "part-1"}}), ("commands", {name: {"line": "true", "limit": 30} for name in names}),
+        ("passive", {"near;trap": {"only": True}, "far;backup": {"only": True, "freshness": 90}}), ("monitor", {"zone": "UTC", "slots": 4}),
+        ("periods", {"periods": {"p": {"weekdays": day}}, "objects": {"near;web": "p"}}),
+    ):
+        (folder / f"{name}.json").write_text(json.dumps(document))
+
+
+def plugin(name: str, moment: int) -> Tuple[int, int, str]:
+    is_down = DOWN <= (moment - BEGIN) / 1000 < UP
+    return 12_000 if name == "far;web" else 300, 2 if is_down or name == "far;backup" else 0, "by a plugin"
+
+
+class Faulty:
+    """The site with a fault: the write with this number is refused or the last one, the exchange with this number is one at which the scheduler ends, or the start of
+    a scheduler with this number is refused."""
+
+    def __init__(self, folder: pathlib.Path, refused: int = 0, last: int = 0, ends: int = 0, start: int = 0) -> None:
+        self.folder, self.refused, self.last, self.ends, self.start = folder, refused, last, ends, start
+        self.writes = self.exchanges = self.starts = 0
+        self.clock = SimulatedClock()
+        # What was accepted and what was reported, by the words; documents that were stored and that were taken; what came of requests.
+        self.accepted: List[str] = []
+        self.reported: List[str] = []
+        self.documents: Set[str] = set()
+        self.taken: Set[str] = set()
+        self.lines: List[str] = []
+        self.wrong: List[str] = []
+        self.is_later = False
+        write_site(folder, False)
+        self.monitor = self._begun()
+
+    # ---- faults
+
+    def _begun(self) -> SimulatedMonitor:
+        converse = self._converse()
+        while True:
+            try:
+                monitor = SimulatedMonitor(self.folder, plugin, self.clock, converse, self._store())
+                break
+            except (ConversationEnded, NotStored):
+                self.clock.now += 1_000
+        start = monitor.runners.start
+
+        def once(job: Job) -> None:
+            if job.name in monitor.runners.running():
+                self.wrong.append(f"two plugins of {job.name} run at once")
+            if job.name == "near;trap":
+                self.wrong.append("a plugin of an object without a command runs")
+            start(job)
+
+        setattr(monitor.runners, "start", once)
+        monitor.loop.after.append(self._take_documents)
+        monitor.lines = self.lines
+        return monitor
+
+    def _store(self) -> Store:
+        store = Store(self.folder)
+        write = store.write
+
+        def counted(*writes: Write) -> None:
+            self.writes += 1
+            if self.writes == self.refused:
+                raise NotStored("the disk is full")
+            write(*writes)
+            for each in writes:
+                if isinstance(each, KeepCalls):
+                    self.reported += [words for _, line, words in each.calls if words is not None and words.startswith("result ")]
+                elif isinstance(each, KeepChange) and each.document is not None:
+                    self.documents.add(each.document)
+            if self.writes == self.last:
+                raise Killed
+
+        setattr(store, "write", counted)
+        return store
+
+    def _converse(self) -> Callable[..., Conversation]:
+        faulty = self
+
+        class Ending(Conversation):
+            def begin(self, lines: Sequence[str]) -> None:
+                faulty.exchanges += 1
+                if faulty.exchanges == faulty.ends:
+                    os.kill(self.process_id(), signal.SIGKILL)
+                super().begin(lines)
+
+        def begun(*words: Any) -> Conversation:
+            self.starts += 1
+            if self.starts == self.start:
+                raise ConversationEnded("no room for a process")
+            return Ending(*words)
+
+        return begun
+
+    def _take_documents(self) -> Optional[int]:
+        """The command for changes takes what waits."""
+        for number, document in self.monitor.store.outbox():
+            self.taken.add(document)
+            self.monitor.store.write(DropDocument(number))
+        return None
+
+    # ---- what happens
+
+    def run(self) -> None:
+        """All that happens, and then a time in which nothing new does."""
+        happens: List[Tuple[float, Callable[[], bool]]] = [(RELOAD, self._reload), (SAVE, lambda: self._ask({"do": "save"}))]
+        happens += [(at, self._result(number, name)) for number, (at, name) in enumerate(RESULTS)]
+        happens += [(at, self._order(number, word, name)) for number, (at, word, name) in enumerate(ORDERS)]
+        if self.start:
+            happens += [(at, self._kill) for at in range(50, END, 60)]
+        happens.sort(key=lambda each: each[0])
+        for at, happen in happens:
+            self._work_until(at)
+            for _ in range(30):
+                try:
+                    if happen():
+                        break
+                except Killed:
+                    self._restart()
+                self._work_until(self._now() + 1)
+        self._work_until(END + QUIET)
+
+    def _now(self) -> float:
+        return (self.clock.now - BEGIN) / 1000
+
+    def _work_until(self, seconds: float) -> None:
+        while self._now() < seconds:
+            try:
+                self.monitor.work(min(1.0, seconds - self._now()))
+                self._look()
+            except Killed:
+                self._restart()
+
+    def _restart(self) -> None:
+        """The monitor was killed, and its runners and schedulers with it."""
+        for process in self.monitor.scheduling.process_ids():
+            os.kill(process, signal.SIGKILL)
+        self.monitor.close()
+        self.clock.now += 2_000
+        self.monitor = self._begun()
+
+    def _kill(self) -> bool:
+        for process in self.monitor.scheduling.process_ids():
+            os.kill(process, signal.SIGKILL)
+        return True
+
+    def _ask(self, request: Dict[str, Any]) -> bool:
+        answers: List[bytes] = []
+        self.monitor.engine.ask(Request(json.dumps(request).encode(), answers.append))
+        for _ in range(3):
+            self.monitor.loop.go_round()
+            if answers:
+                return not json.loads(answers[0]).get("again", False)
+        return False
+
+    def _result(self, number: int, name: str) -> Callable[[], bool]:
+        def given() -> bool:
+            words = f"result {number} of {name}"
+            is_taken = self._ask({"do": "result", "name": name, "code": number % 3, "output": words, "number": f"result-{number}"})
+            self.accepted += [words] if is_taken else []
+            return is_taken
+
+        return given
+
+    def _order(self, number: int, word: str, name: str) -> Callable[[], bool]:
+        return lambda: self._ask({"do": word, "name": name, "number": f"order-{number}"})
+
+    def _reload(self) -> bool:
+        write_site(self.folder, True)
+        self.is_later = True
+        try:
+            self.monitor.engine.reload(read_site(self.folder, PROGRAM))
+        except (NotStored, ConversationEnded):
+            return False
+        return True
+
+    # ---- what holds
+
+    def _look(self) -> None:
+        """What holds at any time."""
+        now = self.clock.now
+        for run in self.monitor.scheduling.known.running:
+            if run.owner is not Owner.ORIGINAL and (run.deadline is None and run.owner is not Owner.NOBODY or run.deadline is not None and run.deadline < now - 60_000):
+                self.wrong.append(f"{self._now():g} s: a run without a deadline, or past it: {run}")
+
+    def judge(self) -> List[str]:
+        """What doesn't hold at the end."""
+        wrong = list(self.wrong)
+        engine, scheduling = self.monitor.engine, self.monitor.scheduling
+        wrong += [line for line in self.lines if line.startswith("fault: ")]
+        wrong += [f"{words} was accepted and reported {self.reported.count(words)} times" for words in self.accepted if self.reported.count(words) != 1]
+        wrong += [f"not accepted: {number} of {name}" for number, (_, name) in enumerate(RESULTS) if f"result {number} of {name}" not in self.accepted]
+        wrong += [f"result still waits: {result}" for result in self.monitor.store.waiting()]
+        wrong += [f"never told: {document}" for document in self.documents - self.taken]
+        for run in scheduling.known.running:
+            if run.owner is Owner.NOBODY:
+                wrong.append(f"nobody ends {run}")
+        states = scheduling.schedulers.states() or {}
+        for part, state in states.items():
+            wrong += [f"known otherwise: {name}" for name in scheduling.known.read_saved(scheduling.mirrors.read_saved(part, json.loads(state)["objects"]))]
+        wrong += self._unmonitored()
+        if sorted(engine.objects) != sorted(["far", "far;backup", "far;web", "gateway", "near", "near;trap", "near;web", "new"]):
+            wrong.append(f"objects {sorted(engine.objects)}")
+        return wrong
+
+    def _unmonitored(self) -> List[str]:
+        """Objects whose checks aren't in time and in phase, whose states aren't what their plugins say, or whose mirror stands otherwise."""
+        wrong = []
+        starts = self.monitor.starts()
+        now = self.clock.now - BEGIN
+        for name, known in self.monitor.engine.objects.items():
+            if known.watched.passive_only:
+                continue
+            own = starts.get(name, [])
+            if not own or now - own[-1] > 60_000 + TOLERANCE + 12_500:
+                wrong.append(f"{name} wasn't checked in time: {own[-3:]}, now {now}")
+            elif known.phase is None or min((own[-1] + BEGIN - known.phase) % 60_000, (known.phase - own[-1] - BEGIN) % 60_000) > 2 * TOLERANCE:
+                wrong.append(f"{name} isn't in phase: {own[-3:]}, phase {known.phase and known.phase - BEGIN}")
+            if known.standing is None or known.standing.is_problem():
+                wrong.append(f"{name} stands as {known.standing}")
+        standing = self.monitor.engine.objects["far;backup"].standing
+        if not isinstance(standing, Standing) or standing.state != "CRITICAL":
+            wrong.append(f"far;backup stands as {standing}")
+        return wrong
+
+
+__all__ = ["Faulty", "Report"]

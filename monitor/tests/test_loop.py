@@ -1,0 +1,86 @@
+"""What surrounds a turn: a fault of the monitor's own is caught, logged and counted; the log holds up nobody."""
+import os
+import unittest
+from typing import List
+from unittest import mock
+
+from nagsched_monitor.log import MOST_LINES, Log
+from nagsched_monitor.loop import BROKEN
+
+from .simulated import SiteTest, fine, host
+from .waiting import comes
+
+
+class Faults(SiteTest):
+    def test_one_is_caught(self) -> None:
+        """Its traceback is in the log, it is counted, and monitoring goes on."""
+        self.write_site([host("web")], [])
+        monitor = self.monitor(fine)
+        monitor.work(10)
+        with mock.patch.object(monitor.engine, "turn", side_effect=[KeyError("what"), ZeroDivisionError, monitor.clock.now + 1000]):
+            for _ in range(3):
+                monitor.loop.go_round()
+        self.assertIn("fault: KeyError: 'what'", monitor.lines)
+        monitor.work(120)
+        self.assertEqual((monitor.loop.status, len(monitor.starts()["web"])), (None, 3))
+        monitor.engine.close()
+        self.assertEqual(monitor.store.figures()["faults"], 2)
+
+    def test_three_in_a_row_end_the_process(self) -> None:
+        self.write_site([host("web")], [])
+        monitor = self.monitor(fine)
+        monitor.work(1)
+        begun = monitor.clock.now
+        with mock.patch.object(monitor.engine, "turn", side_effect=KeyError):
+            self.assertEqual((monitor.loop.work(), BROKEN), (70, 70))
+        self.assertGreaterEqual(monitor.clock.now - begun, 2_000)
+
+    def test_a_request_with_a_fault(self) -> None:
+        """It gets an error, and the turn goes on."""
+        self.write_site([host("web")], [])
+        monitor = self.monitor(fine)
+        with mock.patch.object(type(monitor.engine), "is_open", side_effect=KeyError("what")):
+            self.assertIn("the monitor has a fault: KeyError", monitor.ask(do="reschedule", name="web")["error"])
+        monitor.work(70)
+        self.assertEqual(len(monitor.starts()["web"]), 2)
+
+    def test_what_is_done_every_second(self) -> None:
+        self.write_site([host("web")], [])
+        monitor = self.monitor(fine)
+        done: List[int] = []
+        monitor.loop.chores = [lambda: done.append(monitor.clock.now)]
+        monitor.work(30)
+        self.assertTrue(25 <= len(done) <= 31, len(done))
+
+
+class Lines(unittest.TestCase):
+    def test_a_pipe_that_nobody_reads(self) -> None:
+        """Lines wait, and those that are too many are counted."""
+        there, back = os.pipe()
+        self.addCleanup(os.close, there)
+        self.addCleanup(os.close, back)
+        log = Log(back)
+        for number in range(2 * MOST_LINES):
+            log(f"line {number} with a plugin's\x1b[2K words\nand more")
+        read = b""
+
+        def is_whole() -> bool:
+            nonlocal read
+            read += os.read(there, 1 << 20)
+            return b"are missing here" in read
+
+        self.assertTrue(comes(is_whole))
+        log.close()
+        lines = read.decode().splitlines()
+        self.assertEqual(lines[0], "line 0 with a plugin's [2K words and more")
+        (missing,) = [int(line.split()[0]) for line in lines if "are missing here" in line]
+        self.assertGreaterEqual(missing, MOST_LINES // 2)
+
+    def test_its_last_lines_are_written(self) -> None:
+        there, back = os.pipe()
+        self.addCleanup(os.close, there)
+        log = Log(back)
+        log("ends")
+        log.close()
+        os.close(back)
+        self.assertEqual(os.read(there, 100), b"ends\n")
