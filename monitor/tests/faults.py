@@ -1,11 +1,12 @@
 """A site on which everything happens, and one fault at one moment of it: what holds afterwards, whichever moment it was."""
+import contextlib
 import json
 import os
 import pathlib
 import signal
 from typing import Any, Callable, Dict, List, Optional, Sequence, Set, Tuple
 
-from nagsched_monitor.calls import Report, Standing
+from nagsched_monitor.calls import Standing
 from nagsched_monitor.conversation import Conversation
 from nagsched_monitor.faults import ConversationEnded, NotStored
 from nagsched_monitor.requests import Request
@@ -23,7 +24,8 @@ TIMES: Dict[str, Any] = {"check_interval": 60, "retry_interval": 20, "max_check_
 # When the gateway fails and is back, when the site is reloaded, when a save is asked for, and how long all of it takes, in seconds.
 DOWN, UP, RELOAD, SAVE, END, QUIET = 150, 300, 220, 350, 480, 200
 # When passive results come, and of which objects.
-RESULTS = [(40, "near;trap"), (41, "near;trap"), (100, "far;web"), (160, "near;trap"), (221, "far;backup"), (260, "far;web"), (351, "near;trap"), (352, "gateway")]
+RESULTS = [(40, "near;trap"), (41, "near;trap"), (100, "far;web"), (160, "near;trap"), (221, "far;backup"), (260, "far;web"), (351, "near;trap"),
+           (352, "gateway")]
 ORDERS = [(70, "disable", "far;web"), (130, "enable", "far;web"), (240, "reschedule", "near;web")]
 
 
@@ -39,11 +41,13 @@ def write_site(folder: pathlib.Path, is_later: bool) -> None:
     first = {"options": OPTIONS, "hosts": [gateway, {"name": "near", "parents": ["gateway"], **TIMES}],
              "services": [{"host": "near", "description": "web", **TIMES}, {"host": "near", "description": "trap", **passive}]}
     hosts = [mirror, {"name": "far", "parents": ["gateway"], **TIMES}, *([{"name": "new", "parents": ["gateway"], **TIMES}] if is_later else [])]
-    second = {"options": OPTIONS, "hosts": hosts, "services": [{"host": "far", "description": "web", **TIMES}, {"host": "far", "description": "backup", **passive}]}
+    services = [{"host": "far", "description": "web", **TIMES}, {"host": "far", "description": "backup", **passive}]
+    second = {"options": OPTIONS, "hosts": hosts, "services": services}
     names = ["gateway", "near", "near;web", "far", "far;web", "far;backup", *(["new"] if is_later else [])]
     day = {name: ["08:01-08:04", "08:06-09:00"] for name in ("monday", "tuesday", "wednesday", "thursday", "friday", "saturday", "sunday")}
     for name, document in (
-        ("part-1", first), ("part-2", second), ("mirrors", {"part-2": {"gateway": "part-1"}}), ("commands", {name: {"line": "true", "limit": 30} for name in names}),
+        ("part-1", first), ("part-2", second), ("mirrors", {"part-2": {"gateway": "part-1"}}),
+        ("commands", {name: {"line": "true", "limit": 30} for name in names}),
         ("passive", {"near;trap": {"only": True}, "far;backup": {"only": True, "freshness": 90}}), ("monitor", {"zone": "UTC", "slots": 4}),
         ("periods", {"periods": {"p": {"weekdays": day}}, "objects": {"near;web": "p"}}),
     ):
@@ -56,8 +60,8 @@ def plugin(name: str, moment: int) -> Tuple[int, int, str]:
 
 
 class Faulty:
-    """The site with a fault: the write with this number is refused or the last one, the exchange with this number is one at which the scheduler ends, or the start of
-    a scheduler with this number is refused."""
+    """The site with a fault: the write with this number is refused or the last one, the exchange with this number is one at which the scheduler ends, or
+    the start of a scheduler with this number is refused."""
 
     def __init__(self, folder: pathlib.Path, refused: int = 0, last: int = 0, ends: int = 0, start: int = 0) -> None:
         self.folder, self.refused, self.last, self.ends, self.start = folder, refused, last, ends, start
@@ -70,7 +74,6 @@ class Faulty:
         self.taken: Set[str] = set()
         self.lines: List[str] = []
         self.wrong: List[str] = []
-        self.is_later = False
         write_site(folder, False)
         self.monitor = self._begun()
 
@@ -82,7 +85,7 @@ class Faulty:
             try:
                 monitor = SimulatedMonitor(self.folder, plugin, self.clock, converse, self._store())
                 break
-            except (ConversationEnded, NotStored):
+            except (ConversationEnded, NotStored, Killed):
                 self.clock.now += 1_000
         start = monitor.runners.start
 
@@ -138,9 +141,10 @@ class Faulty:
 
     def _take_documents(self) -> Optional[int]:
         """The command for changes takes what waits."""
-        for number, document in self.monitor.store.outbox():
-            self.taken.add(document)
-            self.monitor.store.write(DropDocument(number))
+        with contextlib.suppress(NotStored):
+            for number, document in self.monitor.store.outbox():
+                self.taken.add(document)
+                self.monitor.store.write(DropDocument(number))
         return None
 
     # ---- what happens
@@ -211,7 +215,6 @@ class Faulty:
 
     def _reload(self) -> bool:
         write_site(self.folder, True)
-        self.is_later = True
         try:
             self.monitor.engine.reload(read_site(self.folder, PROGRAM))
         except (NotStored, ConversationEnded):
@@ -224,7 +227,8 @@ class Faulty:
         """What holds at any time."""
         now = self.clock.now
         for run in self.monitor.scheduling.known.running:
-            if run.owner is not Owner.ORIGINAL and (run.deadline is None and run.owner is not Owner.NOBODY or run.deadline is not None and run.deadline < now - 60_000):
+            is_owned = run.owner in (Owner.PLUGIN, Owner.RESULT)
+            if is_owned and (run.deadline is None or run.deadline < now - 60_000):
                 self.wrong.append(f"{self._now():g} s: a run without a deadline, or past it: {run}")
 
     def judge(self) -> List[str]:
@@ -266,6 +270,3 @@ class Faulty:
         if not isinstance(standing, Standing) or standing.state != "CRITICAL":
             wrong.append(f"far;backup stands as {standing}")
         return wrong
-
-
-__all__ = ["Faulty", "Report"]

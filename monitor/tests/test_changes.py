@@ -53,7 +53,7 @@ class Command(SiteTest):
         self.store = Store(self.folder)
         self.addCleanup(self.store.close)
         self.lines: List[str] = []
-        self.passed = 0.0
+        self.passed, self.began = 0.0, 0.0
 
     def keep(self, count: int) -> None:
         for number in range(1, count + 1):
@@ -61,7 +61,7 @@ class Command(SiteTest):
             self.store.write(KeepChange(change, document_of(change, None)))
 
     def notifier(self, command: Optional[str]) -> Notifier:
-        return Notifier(command, self.store, self.lines.append, lambda: time.monotonic() + self.passed, lambda: self.passed)
+        return Notifier(command, self.store, self.lines.append, lambda: time.monotonic() + self.passed, lambda: self.began + self.passed)
 
     def worked(self, command: Optional[str], seconds: float = LONG) -> None:
         """Works until nothing waits, on a clock that goes on by itself between two tries."""
@@ -89,6 +89,7 @@ class Command(SiteTest):
     def test_a_relay_that_is_away_for_ten_minutes(self) -> None:
         """Nothing is lost, however often the command fails."""
         self.keep(12)
+        self.began = 12_000.0
         notifier = self.notifier(f"test -e {self.folder}/up && cat >> {self.folder}/taken")
 
         def is_done() -> bool:
@@ -128,7 +129,8 @@ class Command(SiteTest):
                 is_said()
                 time.sleep(0.005)
         self.assertEqual(len((self.folder / "taken").read_text().splitlines()), 1)
-        self.assertEqual((self.lines, len(self.store.outbox())), (["the disk is full; it is tried again", "the command for changes waits: the disk is full; it is tried again"], 1))
+        said = ["the disk is full; it is tried again", "the command for changes waits: the disk is full; it is tried again"]
+        self.assertEqual((self.lines, len(self.store.outbox())), (said, 1))
         self.passed += 100
         notifier.work()
         notifier.close()

@@ -307,7 +307,8 @@ class Faults(SiteTest):
         self.assertFalse([line for line in monitor.lines if "otherwise" in line])
         monitor.engine.objects["web"].next = 7
         monitor.engine.save()
-        self.assertEqual([line for line in monitor.lines if "otherwise" in line], ["web: its scheduler has it otherwise than the monitor had; the scheduler counts"])
+        said = "web: its scheduler has it otherwise than the monitor had; the scheduler counts"
+        self.assertEqual([line for line in monitor.lines if "otherwise" in line], [said])
         self.assertGreater(monitor.engine.objects["web"].next, BEGIN)
 
     def test_a_queue_that_nobody_serves(self) -> None:

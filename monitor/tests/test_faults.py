@@ -1,5 +1,5 @@
-"""One fault at one moment of a site on which everything happens: each write refused, each write the last one, each exchange with a scheduler that ends, each start of
-one refused. The gate tries some moments of each kind, and FAULTS=all tries all of them."""
+"""One fault at one moment of a site on which everything happens: each write refused, each write the last one, each exchange with a scheduler that ends,
+each start of one refused. The gate tries some moments of each kind, and FAULTS=all tries all of them."""
 import os
 import pathlib
 import tempfile
@@ -40,7 +40,7 @@ class OneFault(unittest.TestCase):
         count = self.count(kind)
         step = 1 if os.environ.get("FAULTS") == "all" else max(1, count // TRIED)
         wrong: List[str] = []
-        for moment in range(1 + (hash(kind) * 0 + step) // 2, count + 1, step):
+        for moment in range(1 + step // 2, count + 1, step):
             faulty = run(**{kind: moment})
             if faulty.wrong:
                 wrong.append(f"{kind} {moment} of {count}: {faulty.wrong[:4]}; log: {faulty.lines[-6:]}")

@@ -155,6 +155,7 @@ class PassiveResults(SiteTest):
         self.slow_down(monitor)
         monitor.run(5)
         self.assertEqual((monitor.store.waiting(), "web;two" in monitor.starts()), ([], False))
+        self.assertFalse([line for line in monitor.lines if "its command is run" in line])
 
     def test_results_of_an_object_that_is_gone(self) -> None:
         """They are dropped with a line, and aren't reported when it comes back."""

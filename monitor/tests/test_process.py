@@ -47,33 +47,44 @@ class Running(ProcessTest):
         return lines
 
     def test_killed_at_random_moments(self) -> None:
-        """Whichever of its processes is killed: no run is taken twice, and each result that was reported is kept."""
+        """Whichever of its processes is killed: no run is taken twice, no plugin runs twice at once, and each result that was reported is kept."""
         self.write_site(self.objects(20), [])
-        self.write("commands.json", {f"h{number:02}": {"line": f"sleep 0.0{number % 5}; exit $(({number} % 3))", "shell": True} for number in range(20)})
+        plugin = "flock -w 1 -o {folder}/{name}.lock sleep 1.5 || echo {name} >> {folder}/twice; exit {code}"
+        names = [f"h{number:02}" for number in range(20)]
+        lines = {name: plugin.format(folder=self.folder, name=name, code=number % 3) for number, name in enumerate(names)}
+        self.write("commands.json", {name: {"line": line, "shell": True} for name, line in lines.items()})
         chance = random.Random(7)
         for kill in range(KILLS):
             running = self.begin()
-            time.sleep(chance.uniform(0.05, 0.6))
+            before = self.last_call()
+            self.assertTrue(comes(lambda: self.last_call() > before + 20))
+            time.sleep(chance.uniform(0, 1.5))
             if kill == KILLS // 3:
                 self.ask("save")
             victims = [running.pid, *self.children_of(running.pid)]
             os.kill(victims[kill % len(victims)], signal.SIGKILL)
-            time.sleep(0.2)
+            before = self.last_call()
+            self.assertTrue(kill % len(victims) == 0 or comes(lambda: self.last_call() > before + 20))
             self.end(running, signal.SIGKILL)
         running = self.begin()
         self.assertTrue(comes(lambda: self.count_of_calls() > 200))
-        told = self.ask("status").stdout.splitlines()
+        told = self.states()
         self.end(running, signal.SIGKILL)
+        self.assertFalse((self.folder / "twice").exists())
         with sqlite3.connect(self.folder / "monitor.db") as database:
             kept = self.calls(database)
         answers = self.answers(kept)
-        self.assertEqual(len(answers), len(kept))
         runs = [answer.split(" ")[1] for answer in answers if answer.startswith("taken ")]
         self.assertGreater(len(runs), 40)
         self.assertEqual(len(runs), len(set(runs)))
-        refused = [answer for answer in answers if answer.startswith("refused")]
-        self.assertEqual(refused, [])
-        self.assertEqual(len(told), 20)
+        self.assertEqual([answer for answer in answers if answer.startswith("refused")], [])
+        self.assertEqual([line.split(" ")[0] for line in told], ["UP" if number % 3 < 2 else "DOWN" for number in range(20)])
+
+    def last_call(self) -> int:
+        """The number of the last call that was stored, while the monitor runs."""
+        with sqlite3.connect(self.folder / "monitor.db") as database:
+            numbers = database.execute("SELECT max(id) FROM calls UNION SELECT max(last_call) FROM generations")
+            return max(int(number or 0) for (number,) in numbers)
 
     def test_a_slow_sync(self) -> None:
         """A disk whose sync takes 10 milliseconds: what comes meanwhile is stored by one sync, and every call was synced before it was made."""
@@ -91,7 +102,8 @@ class Running(ProcessTest):
         self.end(running, signal.SIGKILL)
         with sqlite3.connect(self.folder / "monitor.db") as database:
             kept = self.calls(database)
-        self.assertTrue(10 < synced.stat().st_size - before < (len(kept) - calls) / 2, (before, synced.stat().st_size, calls, len(kept)))
+        count = synced.stat().st_size - before
+        self.assertTrue(10 < count < (len(kept) - calls) / 2, (count, len(kept) - calls))
         answers = self.answers(kept)
         reported = [answer for answer in answers if answer.startswith("standing ")]
         self.assertGreater(len(reported), 100)
@@ -229,5 +241,6 @@ class Reloading(SiteTest):
 
     def test_more_slots_than_files(self) -> None:
         self.write_site([{"name": "web", "max_check_attempts": 1}], [], monitor={"slots": 200})
-        with mock.patch.object(main, "raise_file_limit", return_value=500), self.assertRaisesRegex(MonitorFault, "slots: 200 plugins may take 900 open files"):
+        wanted = "slots: 200 plugins may take 900 open files"
+        with mock.patch.object(main, "raise_file_limit", return_value=500), self.assertRaisesRegex(MonitorFault, wanted):
             main.Monitor(main.words_of(["--program", PROGRAM, str(self.folder)]))

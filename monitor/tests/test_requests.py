@@ -39,7 +39,7 @@ class Words(SiteTest):
         self.assertEqual(self.ask(do="reschedule", name="web", at=at), {"done": "reschedule", "name": "web", "at": at, "on": True})
         self.monitored.run(40)
         self.assertEqual(self.monitored.starts()["web"], [0, 35_000, 60_000])
-        self.assertEqual(self.ask(do="reschedule", name="web")["done"], "reschedule")
+        self.assertEqual(self.ask(do="reschedule", name="web", at=at - 1000)["at"], self.monitored.clock.wall())
         self.assertEqual(self.monitored.starts()["web"][-1], 70_000)
 
     def test_an_operators_time_outlives_a_passive_result(self) -> None:
@@ -49,13 +49,14 @@ class Words(SiteTest):
         self.assertEqual(self.monitored.starts()["web"], [0, 35_000])
 
     def test_an_operators_time_that_is_set_while_a_check_runs(self) -> None:
-        """The check is made once more."""
-        monitor = self.monitored
-        monitor.run(30.005)
+        """The check is made once more, at that time."""
+        self.monitored.close()
+        monitor = self.monitor(lambda name, moment: (3_000, 0, "fine"), self.monitored.clock)
+        monitor.run(31)
         self.assertEqual(monitor.engine.busy(), {"web"})
-        self.ask(do="reschedule", name="web", force=True)
+        monitor.ask(do="reschedule", name="web", force=True)
         monitor.run(20)
-        self.assertEqual([start // 100 for start in monitor.starts()["web"]], [0, 600, 600])
+        self.assertEqual([start // 1000 for start in monitor.starts()["web"]], [60, 63])
 
     def test_switches(self) -> None:
         self.assertFalse(self.ask(do="disable", name="web")["on"])
@@ -65,6 +66,17 @@ class Words(SiteTest):
         self.assertEqual(self.monitored.store.switches(), {"web": True})
         self.monitored.run(1)
         self.assertEqual(len(self.monitored.starts()["web"]), 2)
+
+    def test_an_object_that_never_was_on(self) -> None:
+        """It has no time of its own until it is switched on; then it has one, and a phase."""
+        self.monitored.close()
+        self.write_site([HOST, {**HOST, "name": "new", "enabled": False}], [], passive={})
+        monitor = self.monitor(fine, self.monitored.clock)
+        monitor.run(100)
+        self.assertNotIn("new", monitor.starts())
+        monitor.ask(do="enable", name="new")
+        monitor.run(125)
+        self.assertEqual(len(monitor.starts()["new"]), 3)
 
     def test_a_passive_result(self) -> None:
         self.ask(do="result", name="web;trap", code=2, output="door\topen\nand \x1b[2Kmore")

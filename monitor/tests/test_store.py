@@ -5,7 +5,7 @@ from typing import List
 from nagsched_monitor.counters import KeepFigures
 from nagsched_monitor.faults import DamagedRow, MonitorFault, NotStored
 from nagsched_monitor.rows import FOR_PEOPLE, TABLES, VERSION, Generation, KeptChange, KeptStanding, checksum_of
-from nagsched_monitor.store import Store
+from nagsched_monitor.store import Store, Write
 from nagsched_monitor.writes import (
     BeginGeneration, DropChangesBefore, DropStandings, KeepCalls, KeepChange, KeepRequest, KeepResult, KeepStandings, SetAside, SetSwitch,
 )
@@ -161,6 +161,17 @@ class Database(SiteTest):
         store._database.execute("PRAGMA max_page_count = 100000")
         store.write(KeepCalls([(0, '["take",10]', None)]))
         self.assertEqual([call.id for call in store.calls_since(0, 0)], [2, 3])
+
+    def test_a_write_that_fails_behind_others(self) -> None:
+        """None of them is there, and numbers go on from where they were."""
+        class Failing(Write):
+            def carry_out(self, store: Store) -> None:
+                raise sqlite3.OperationalError("disk I/O error")
+
+        store = self.filled()
+        with self.assertRaises(NotStored):
+            store.write(KeepCalls([(0, '["take",9]', None)]), Failing())
+        self.assertEqual((store.last_call, [call.id for call in store.calls_since(0, 0)]), (2, [2]))
 
     def test_a_saved_state_lets_go_of_the_calls_before(self) -> None:
         store = self.filled()
