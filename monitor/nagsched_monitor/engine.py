@@ -205,7 +205,7 @@ class Engine:
         """Has the command run of each object of which no result came within its freshness."""
         for name in self.site.with_freshness:
             known = self.objects[name]
-            if known.is_stale(now) and name not in self.waiting and name not in self._wanted and self._is_in_period(known.watched):
+            if known.is_stale(now) and name not in self.waiting and self.is_open(known) and self._is_in_period(known.watched):
                 self._log(f"{name}: no result for {(known.watched.freshness or 0) / 1000:g} seconds; its command is run")
                 self.want(known, now, True)
 

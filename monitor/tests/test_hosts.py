@@ -69,3 +69,4 @@ class InTime(SiteTest):
         monitor = self.monitor(lambda name, moment: (10, 2 if (moment // 20_000) % 2 else 0, ""))
         monitor.run(200)
         self.assertNotIn("web", monitor.starts())
+        self.assertFalse([call for call in monitor.store.calls_since(0, 0) if '"reschedule","web",' in call.line])

@@ -2,7 +2,9 @@
 import os
 import signal
 from typing import Any, List, Tuple
+from unittest import mock
 
+from nagsched_monitor.faults import ConversationEnded
 from nagsched_monitor.site import read_site
 from nagsched_monitor.store import Write
 from nagsched_monitor.writes import DropResult
@@ -63,6 +65,19 @@ class PassiveResults(SiteTest):
         monitor.run(240)
         first, second = monitor.starts()["web;trap"]
         self.assertTrue(150_000 <= first <= 151_000 and 90_000 <= second - first <= 92_000, (first, second))
+
+    def test_freshness_while_its_command_is_awaited(self) -> None:
+        """It is run once, however long it takes, and however long its scheduler can't be had."""
+        trap = service("web", "trap", enabled=False, check_interval=0)
+        self.write_site([host("web")], [trap], passive={"web;trap": {"only": True, "freshness": 90}})
+        monitor = self.monitor(lambda name, moment: (8_000, 0, "fine"))
+        monitor.run(70)
+        with mock.patch.object(monitor.scheduling.schedulers, "_converse", side_effect=ConversationEnded("no room")):
+            os.kill(monitor.scheduling.process_ids()[0], signal.SIGKILL)
+            monitor.run(50)
+        monitor.run(20)
+        self.assertEqual(len(monitor.starts()["web;trap"]), 1)
+        self.assertEqual(len([line for line in monitor.lines if "its command is run" in line]), 1)
 
     def started_over_restarts(self, is_given: bool, *spans: Tuple[int, int]) -> List[int]:
         """When the command of an object is run that has to be fresh for 90 seconds, in seconds of monitors that run and then rest for so many seconds."""
