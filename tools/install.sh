@@ -27,8 +27,8 @@ missing=
 place() { install -D -m "$1" "$2" "$root/$3"; }
 
 place 755 "$program" bin/nagsched
-for module in "$top"/monitor/nagsched_monitor/*.py; do
-    place 644 "$module" "lib/nagsched/nagsched_monitor/$(basename "$module")"
+for module in "$top"/monitor/nagsched_monitor/*.py "$top"/monitor/nagsched_monitor/*/*.py; do
+    place 644 "$module" "lib/nagsched/${module#"$top"/monitor/}"
 done
 for script in nagsched-monitor nagsched-gearman-worker; do
     place 755 "$top/monitor/$script" "lib/nagsched/$script"

@@ -6,16 +6,16 @@ import pathlib
 import signal
 from typing import Any, Callable, Dict, List, Optional, Sequence, Set, Tuple
 
-from nagsched_monitor.calls import Standing
-from nagsched_monitor.conversation import Conversation
+from nagsched_monitor.core.rhythm import TOLERANCE
+from nagsched_monitor.core.running import Owner
 from nagsched_monitor.faults import ConversationEnded, NotStored
-from nagsched_monitor.requests import Request
-from nagsched_monitor.rhythm import TOLERANCE
-from nagsched_monitor.running import Owner
-from nagsched_monitor.runners import Job
-from nagsched_monitor.site import read_site
-from nagsched_monitor.store import Store, Write
-from nagsched_monitor.writes import DropDocument, KeepCalls, KeepChange
+from nagsched_monitor.inputs.requests import Request
+from nagsched_monitor.run.runners import Job
+from nagsched_monitor.scheduler.live_process import Conversation
+from nagsched_monitor.scheduler.protocol import Standing
+from nagsched_monitor.site.site import read_site
+from nagsched_monitor.store.store import Store, Write
+from nagsched_monitor.store.writes import DropDocument, KeepCalls, KeepChange
 
 from .simulated import BEGIN, PROGRAM, SimulatedClock, SimulatedMonitor
 
@@ -74,6 +74,7 @@ class Faulty:
         self.taken: Set[str] = set()
         self.lines: List[str] = []
         self.wrong: List[str] = []
+        self.quiet_from: float = END
         write_site(folder, False)
         self.monitor = self._begun()
 
@@ -108,6 +109,7 @@ class Faulty:
         def counted(*writes: Write) -> None:
             self.writes += 1
             if self.writes == self.refused:
+                self.quiet_from = max(END, self._now())
                 raise NotStored("the disk is full")
             write(*writes)
             for each in writes:
@@ -166,7 +168,9 @@ class Faulty:
                 except Killed:
                     self._restart()
                 self._work_until(self._now() + 1)
-        self._work_until(END + QUIET)
+        self._work_until(END)
+        while self._now() < self.quiet_from + QUIET:
+            self._work_until(self._now() + 1)
 
     def _now(self) -> float:
         return (self.clock.now - BEGIN) / 1000
@@ -186,6 +190,7 @@ class Faulty:
         self.monitor.close()
         self.clock.now += 2_000
         self.monitor = self._begun()
+        self.quiet_from = max(END, self._now())
 
     def _kill(self) -> bool:
         for process in self.monitor.scheduling.process_ids():

@@ -2,8 +2,8 @@
 from dataclasses import dataclass, field
 from typing import Any, Dict, List, Optional
 
-from nagsched_monitor.gearman import Happening, Kind, ServerFault
-from nagsched_monitor.gearman_seal import JOB, RESULT, Seal
+from nagsched_monitor.run.gearman import Happening, Kind, ServerFault
+from nagsched_monitor.run.gearman_seal import JOB, RESULT, Seal
 
 
 @dataclass

@@ -13,8 +13,8 @@ import threading
 import time
 from typing import Dict, List, Optional, Sequence
 
-from nagsched_monitor.gearman import LIBRARY
-from nagsched_monitor.runner_program import queue_runner_words
+from nagsched_monitor.run.gearman import LIBRARY
+from nagsched_monitor.run.runner_program import queue_runner_words
 
 HERE = pathlib.Path(__file__).resolve().parent.parent
 WORKER = HERE / "nagsched-gearman-worker"

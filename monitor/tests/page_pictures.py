@@ -16,8 +16,8 @@ import urllib.parse
 import urllib.request
 from typing import Any, Dict, List, Tuple
 
-from nagsched_monitor.page import Server, Site
-from nagsched_monitor.rows import KeptChange
+from nagsched_monitor.outputs.page import Server, Site
+from nagsched_monitor.store.rows import KeptChange
 
 from .shown_site import fill, standing
 

@@ -5,12 +5,12 @@ import sys
 from typing import Any, Dict, Iterable, List, Optional, Sequence, Tuple
 from unittest import mock
 
-from nagsched_monitor.calls import Answer, Call, Report, Standing, Status
-from nagsched_monitor.mirroring import AskedOf, Mirrors
-from nagsched_monitor.rows import KeptChange
-from nagsched_monitor.scheduling import Heard
-from nagsched_monitor.site import read_site
-from nagsched_monitor.store import Write
+from nagsched_monitor.core.mirroring import AskedOf, Mirrors
+from nagsched_monitor.scheduler.protocol import Answer, Call, Report, Standing, Status
+from nagsched_monitor.scheduler.scheduling import Heard
+from nagsched_monitor.site.site import read_site
+from nagsched_monitor.store.rows import KeptChange
+from nagsched_monitor.store.store import Write
 
 from .one_scheduler import OneScheduler, Told, is_change, told_of
 from .simulated import PROGRAM, Plugin, SimulatedClock, SimulatedMonitor, SiteTest

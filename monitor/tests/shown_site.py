@@ -5,11 +5,11 @@ import threading
 import time
 from typing import Any, Dict, List, Optional, Tuple
 
-from nagsched_monitor.counters import KeepFigures
-from nagsched_monitor.page import Server, Site
-from nagsched_monitor.rows import KeptChange, KeptStanding
-from nagsched_monitor.store import Store
-from nagsched_monitor.writes import DropStandings, KeepChange, KeepStandings
+from nagsched_monitor.outputs.page import Server, Site
+from nagsched_monitor.store.counters import KeepFigures
+from nagsched_monitor.store.rows import KeptChange, KeptStanding
+from nagsched_monitor.store.store import Store
+from nagsched_monitor.store.writes import DropStandings, KeepChange, KeepStandings
 
 from .simulated import SiteTest
 

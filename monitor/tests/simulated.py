@@ -8,18 +8,18 @@ import unittest
 from dataclasses import dataclass, field
 from typing import Any, Callable, Dict, List, Optional, Set, Tuple
 
-from nagsched_monitor.conversation import Conversation
-from nagsched_monitor.engine import Engine
-from nagsched_monitor.loop import Loop
-from nagsched_monitor.pace import Pace
-from nagsched_monitor.requests import Request
-from nagsched_monitor.rows import KeptChange, KeptResult
-from nagsched_monitor.runners import Event, Finished, Job, Lost
-from nagsched_monitor.scheduling import Scheduling
-from nagsched_monitor.schedulers import Converse
-from nagsched_monitor.site import Site, read_site
-from nagsched_monitor.store import Store
-from nagsched_monitor.writes import KeepResult
+from nagsched_monitor.core.engine import Engine
+from nagsched_monitor.inputs.requests import Request
+from nagsched_monitor.program.loop import Loop
+from nagsched_monitor.program.turn_timer import Pace
+from nagsched_monitor.run.runners import Event, Finished, Job, Lost
+from nagsched_monitor.scheduler.live_process import Conversation
+from nagsched_monitor.scheduler.schedulers import Converse
+from nagsched_monitor.scheduler.scheduling import Scheduling
+from nagsched_monitor.site.site import Site, read_site
+from nagsched_monitor.store.rows import KeptChange, KeptResult
+from nagsched_monitor.store.store import Store
+from nagsched_monitor.store.writes import KeepResult
 
 PROGRAM = os.environ.get("NAGSCHED", "nagsched")
 # 2026-11-27 08:00:00, in UTC.

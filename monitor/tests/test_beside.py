@@ -9,10 +9,10 @@ import sys
 from typing import Any, List, Tuple
 from unittest import mock
 
-from nagsched_monitor import control
-from nagsched_monitor.beside import LONGEST_PAUSE, Beside
 from nagsched_monitor.faults import MonitorFault
-from nagsched_monitor.places import is_own, place_of
+from nagsched_monitor.inputs import control
+from nagsched_monitor.program.helper_process import LONGEST_PAUSE, Beside
+from nagsched_monitor.program.places import is_own, place_of
 
 from .simulated import PROGRAM, SiteTest
 from .waiting import comes
@@ -27,7 +27,7 @@ def children_of(process: int) -> List[int]:
 
 def is_page(process: int) -> bool:
     try:
-        return b"import page as it" in pathlib.Path(f"/proc/{process}/cmdline").read_bytes()
+        return b"import nagsched_monitor.outputs.page as it" in pathlib.Path(f"/proc/{process}/cmdline").read_bytes()
     except OSError:
         return False  # it has just ended
 

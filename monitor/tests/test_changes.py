@@ -8,13 +8,13 @@ import warnings
 from typing import List, Optional
 from unittest import mock
 
-from nagsched_monitor import changes
-from nagsched_monitor.calls import Standing
-from nagsched_monitor.changes import MOST_AGE, PAUSE, Notifier, document_of, is_change, is_important, line_of
 from nagsched_monitor.faults import NotStored
-from nagsched_monitor.rows import KeptChange
-from nagsched_monitor.store import Store
-from nagsched_monitor.writes import KeepChange
+from nagsched_monitor.outputs import changes
+from nagsched_monitor.outputs.changes import MOST_AGE, PAUSE, Notifier, document_of, is_change, is_important, line_of
+from nagsched_monitor.scheduler.protocol import Standing
+from nagsched_monitor.store.rows import KeptChange
+from nagsched_monitor.store.store import Store
+from nagsched_monitor.store.writes import KeepChange
 
 from .simulated import SiteTest
 from .waiting import LONG, comes

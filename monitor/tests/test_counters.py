@@ -1,8 +1,8 @@
 """What the monitor counts of itself: by result, how late checks start, saves; and that it goes on over a restart."""
 from typing import Dict, Tuple
 
-from nagsched_monitor.counters import BOUNDS, BUCKETS, Counters
-from nagsched_monitor.store import Store
+from nagsched_monitor.store.counters import BOUNDS, BUCKETS, Counters
+from nagsched_monitor.store.store import Store
 
 from .simulated import SimulatedClock, SimulatedMonitor, SiteTest, fine
 

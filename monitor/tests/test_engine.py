@@ -5,11 +5,11 @@ import signal
 from typing import Any, Dict, List, Sequence, Set, Tuple
 from unittest import mock
 
-from nagsched_monitor import gearman
-from nagsched_monitor.conversation import Conversation
 from nagsched_monitor.faults import ConversationEnded, NotStored
-from nagsched_monitor.runners import Finished, Gone, Job, Lost
-from nagsched_monitor.schedulers import Schedulers
+from nagsched_monitor.run import gearman
+from nagsched_monitor.run.runners import Finished, Gone, Job, Lost
+from nagsched_monitor.scheduler.live_process import Conversation
+from nagsched_monitor.scheduler.schedulers import Schedulers
 
 from .simulated import BEGIN, SimulatedClock, SimulatedMonitor, SiteTest, fine, host, service
 

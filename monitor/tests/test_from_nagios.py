@@ -11,9 +11,9 @@ import unittest
 from typing import Any, Dict, List, Optional
 from unittest import mock
 
-from nagsched_monitor import whole_site
 from nagsched_monitor.faults import SiteFault
-from nagsched_monitor.whole_site import reading
+from nagsched_monitor.site import whole_site
+from nagsched_monitor.site.whole_site import reading
 
 from .waiting import LONG
 

@@ -4,9 +4,9 @@ import random
 import unittest
 from typing import Any, Dict, List
 
-from nagsched_monitor.gearman import Happening, Kind
-from nagsched_monitor.gearman_queue import GRACE, MOST_WAITING, RETRY, SILENCE, Queue
-from nagsched_monitor.gearman_seal import JOB, RESULT, Seal
+from nagsched_monitor.run.gearman import Happening, Kind
+from nagsched_monitor.run.gearman_queue import GRACE, MOST_WAITING, RETRY, SILENCE, Queue
+from nagsched_monitor.run.gearman_seal import JOB, RESULT, Seal
 
 from .gearman_server import ServedJob, StandInServer
 

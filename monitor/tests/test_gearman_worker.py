@@ -12,12 +12,14 @@ import unittest
 from typing import Any, Callable, Dict, List, Optional
 from unittest import mock
 
-from nagsched_monitor import gearman_worker, runner_link
-from nagsched_monitor.gearman import ServerFault
-from nagsched_monitor.gearman_queue import result_of
-from nagsched_monitor.gearman_seal import JOB, RESULT, Seal
-from nagsched_monitor.gearman_worker import NOT_SIGNED, SKEW, Door, Run, Worker
-from nagsched_monitor.runner_link import RunnerLink
+from nagsched_monitor.run import gearman_worker
+
+from nagsched_monitor.run import runner_link
+from nagsched_monitor.run.gearman import ServerFault
+from nagsched_monitor.run.gearman_queue import result_of
+from nagsched_monitor.run.gearman_seal import JOB, RESULT, Seal
+from nagsched_monitor.run.gearman_worker import NOT_SIGNED, SKEW, Door, Run, Worker
+from nagsched_monitor.run.runner_link import RunnerLink
 
 from .waiting import comes
 

@@ -2,11 +2,11 @@
 import unittest
 from typing import Dict, List, Optional
 
-from nagsched_monitor.calls import Standing
-from nagsched_monitor.hosts import hosts_of
-from nagsched_monitor.known import Known
-from nagsched_monitor.running import Running
-from nagsched_monitor.site import Watched
+from nagsched_monitor.core.hosts import hosts_of
+from nagsched_monitor.core.object_state import Known
+from nagsched_monitor.core.running import Running
+from nagsched_monitor.scheduler.protocol import Standing
+from nagsched_monitor.site.site import Watched
 
 from .simulated import BEGIN, SiteTest, host, service
 

@@ -4,8 +4,8 @@ import unittest
 from typing import List
 from unittest import mock
 
-from nagsched_monitor.log import MOST_LINES, Log
-from nagsched_monitor.loop import BROKEN
+from nagsched_monitor.program.log import MOST_LINES, Log
+from nagsched_monitor.program.loop import BROKEN
 
 from .simulated import SiteTest, fine, host
 from .waiting import comes

@@ -3,8 +3,8 @@ import re
 import time
 from typing import Dict, List, Tuple
 
-from nagsched_monitor.counters import BOUNDS, RESULTS
-from nagsched_monitor.metrics import escaped, family
+from nagsched_monitor.outputs.metrics import escaped, family
+from nagsched_monitor.store.counters import BOUNDS, RESULTS
 
 from .shown_site import ShownSite, fill, standing
 from .simulated import SiteTest

@@ -4,8 +4,8 @@ import random
 from typing import Any, Dict, List, Tuple
 from unittest import mock
 
-from nagsched_monitor.calls import Reschedule
 from nagsched_monitor.faults import NotStored
+from nagsched_monitor.scheduler.protocol import Reschedule
 
 from .parted import Parted, depends, host, mirror, service, setup
 from .simulated import BEGIN, Plugin, SimulatedMonitor, fine
@@ -66,7 +66,7 @@ class Outages:
 
 
 class AsOneScheduler(Parted):
-    @mock.patch.multiple("nagsched_monitor.engine", LONGEST_WAIT=60_000, PAUSE=61_000)
+    @mock.patch.multiple("nagsched_monitor.core.engine", LONGEST_WAIT=60_000, PAUSE=61_000)
     def test_a_week_of_random_outages(self) -> None:
         """Each result is judged as by one scheduler, and each mirror as its original; passive results, restarts and other cuts come between."""
         chance = random.Random(11)

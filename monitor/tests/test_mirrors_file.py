@@ -2,7 +2,7 @@
 from typing import Any, Dict, List, Tuple
 
 from nagsched_monitor.faults import SiteFault
-from nagsched_monitor.site import read_site
+from nagsched_monitor.site.site import read_site
 
 from .simulated import PROGRAM, SiteTest
 

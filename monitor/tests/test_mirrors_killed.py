@@ -6,10 +6,10 @@ import sqlite3
 import time
 from typing import Any, Dict
 
-from nagsched_monitor.calls import Standing, Status
-from nagsched_monitor.scheduling import Scheduling
-from nagsched_monitor.site import read_site
-from nagsched_monitor.store import Store
+from nagsched_monitor.scheduler.protocol import Standing, Status
+from nagsched_monitor.scheduler.scheduling import Scheduling
+from nagsched_monitor.site.site import read_site
+from nagsched_monitor.store.store import Store
 
 from .one_scheduler import told_of
 from .running import ProcessTest

@@ -8,10 +8,10 @@ import sys
 import time
 from typing import Callable, Dict, List, Mapping, Tuple
 
-from nagsched_monitor.nagios_blocks import HOST_STATES, SERVICE_STATES, Program, Settings, status_file
-from nagsched_monitor.nagios_files import NagiosFiles, services_of
-from nagsched_monitor.nagios_pipe import NAME
-from nagsched_monitor.rows import KeptStanding
+from nagsched_monitor.inputs.nagios_pipe import NAME
+from nagsched_monitor.outputs.nagios_blocks import HOST_STATES, SERVICE_STATES, Program, Settings, status_file
+from nagsched_monitor.outputs.nagios_files import NagiosFiles, services_of
+from nagsched_monitor.store.rows import KeptStanding
 
 from .running import ProcessTest
 from .simulated import BEGIN, SiteTest
@@ -224,7 +224,7 @@ class Process(ProcessTest):
         self.write("commands.json", {name: {"line": f"echo 'of {name}|a=1'; exit {code}", "shell": True}
                                      for name, code in (("h00", 0), ("h01", 2), ("h00;http", 1), ("h00;ssh", 2))})
         self.begin()
-        words = [sys.executable, "-m", "nagsched_monitor.nagios_files", "--every", "0.2", str(self.folder), str(self.nagios)]
+        words = [sys.executable, "-m", "nagsched_monitor.outputs.nagios_files", "--every", "0.2", str(self.folder), str(self.nagios)]
         helper = subprocess.Popen(words, stdin=subprocess.PIPE, cwd=TOP)
         self.addCleanup(helper.wait, 10)
         assert helper.stdin is not None

@@ -4,7 +4,7 @@ import threading
 from typing import Any, Dict, List, Tuple
 
 from nagsched_monitor.faults import MonitorFault, RequestFault
-from nagsched_monitor.nagios_pipe import LONGEST_LINE, NAME, Pipe, requests_of
+from nagsched_monitor.inputs.nagios_pipe import LONGEST_LINE, NAME, Pipe, requests_of
 
 from .simulated import SiteTest
 from .waiting import comes

@@ -8,7 +8,7 @@ import subprocess
 import sys
 from typing import Dict, List
 
-from nagsched_monitor.notify import Service
+from nagsched_monitor.outputs.sd_notify import Service
 
 from .simulated import PROGRAM, SiteTest
 from .waiting import LONG, comes

@@ -5,9 +5,9 @@ import unittest
 from typing import List, Tuple
 from unittest import mock
 
-from nagsched_monitor.clock import SystemClock
-from nagsched_monitor.known import Due
-from nagsched_monitor.pace import BETWEEN_TURNS, MOST_SHARED, FilePoller, Pace, turn_at
+from nagsched_monitor.core.clock import SystemClock
+from nagsched_monitor.core.object_state import Due
+from nagsched_monitor.program.turn_timer import BETWEEN_TURNS, MOST_SHARED, FilePoller, Pace, turn_at
 
 INTERVAL = 10.0
 

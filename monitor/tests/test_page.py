@@ -5,9 +5,11 @@ import time
 import urllib.parse
 from typing import Dict, List, Optional, Tuple
 
-from nagsched_monitor import page, style
-from nagsched_monitor.rows import KeptChange
-from nagsched_monitor.shown import LONGEST_WORDS
+from nagsched_monitor.outputs import page
+
+from nagsched_monitor.outputs import style
+from nagsched_monitor.outputs.status_query import LONGEST_WORDS
+from nagsched_monitor.store.rows import KeptChange
 
 from .shown_site import ShownSite, fill, standing
 

@@ -7,7 +7,7 @@ import time
 from typing import List
 from unittest import mock
 
-from nagsched_monitor import page
+from nagsched_monitor.outputs import page
 
 from .shown_site import ShownSite, fill, standing
 from .waiting import comes

@@ -5,9 +5,9 @@ from typing import Any, List, Tuple
 from unittest import mock
 
 from nagsched_monitor.faults import ConversationEnded
-from nagsched_monitor.site import read_site
-from nagsched_monitor.store import Write
-from nagsched_monitor.writes import DropResult
+from nagsched_monitor.site.site import read_site
+from nagsched_monitor.store.store import Write
+from nagsched_monitor.store.writes import DropResult
 
 from .simulated import PROGRAM, SimulatedClock, SimulatedMonitor, SiteTest, fine, host, service
 

@@ -4,7 +4,7 @@ import unittest
 import zoneinfo
 from typing import Any, Dict
 
-from nagsched_monitor.periods import Periods, read_periods
+from nagsched_monitor.site.periods import Periods, read_periods
 
 BERLIN = zoneinfo.ZoneInfo("Europe/Berlin")
 WORK = {day: ["09:00-17:00"] for day in ("monday", "tuesday", "wednesday", "thursday", "friday")}

@@ -12,9 +12,11 @@ import time
 from typing import List
 from unittest import mock
 
-from nagsched_monitor import main, reading
+from nagsched_monitor.program import main
+
 from nagsched_monitor.faults import MonitorFault
-from nagsched_monitor.site import Site
+from nagsched_monitor.program import reading
+from nagsched_monitor.site.site import Site
 
 from .running import MONITOR, ProcessTest
 from .simulated import PROGRAM, SiteTest
@@ -103,7 +105,7 @@ class Running(ProcessTest):
         with sqlite3.connect(self.folder / "monitor.db") as database:
             kept = self.calls(database)
         count = synced.stat().st_size - before
-        self.assertTrue(10 < count < (len(kept) - calls) / 2, (count, len(kept) - calls))
+        self.assertTrue(3 < count < (len(kept) - calls) / 2, (count, len(kept) - calls))
         answers = self.answers(kept)
         reported = [answer for answer in answers if answer.startswith("standing ")]
         self.assertGreater(len(reported), 100)

@@ -6,12 +6,14 @@ import unittest
 from typing import Any, Dict, List, Tuple
 from unittest import mock
 
-from nagsched_monitor import gearman, runner_program
+from nagsched_monitor.run import gearman
+
 from nagsched_monitor.faults import MonitorFault, SiteFault
-from nagsched_monitor.gearman_seal import read_key
-from nagsched_monitor.queues import Queues, read_queues
-from nagsched_monitor.runners import Finished, Job, Lost, RunnerProcesses
-from nagsched_monitor.site import read_site
+from nagsched_monitor.run import runner_program
+from nagsched_monitor.run.gearman_seal import read_key
+from nagsched_monitor.run.runners import Finished, Job, Lost, RunnerProcesses
+from nagsched_monitor.site.queue_file import Queues, read_queues
+from nagsched_monitor.site.site import read_site
 
 from .simulated import PROGRAM, SiteTest
 

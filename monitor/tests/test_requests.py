@@ -5,9 +5,13 @@ import threading
 from typing import Any, Dict, List
 from unittest import mock
 
-from nagsched_monitor import control, passive, requests
+from nagsched_monitor.inputs import control
+
+from nagsched_monitor.core import passive
+
 from nagsched_monitor.faults import MonitorFault, NotStored
-from nagsched_monitor.requests import Request
+from nagsched_monitor.inputs import requests
+from nagsched_monitor.inputs.requests import Request
 
 from .simulated import SimulatedMonitor, SiteTest, fine
 from .waiting import comes

@@ -2,8 +2,8 @@
 import collections
 from typing import List, Tuple
 
-from nagsched_monitor import rhythm
-from nagsched_monitor.site import read_site
+from nagsched_monitor.core import rhythm
+from nagsched_monitor.site.site import read_site
 
 from .simulated import BEGIN, PROGRAM, SimulatedMonitor, SiteTest, fine, host, service
 

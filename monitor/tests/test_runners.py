@@ -11,7 +11,7 @@ import unittest
 from typing import Any, List
 from unittest import mock
 
-from nagsched_monitor.runners import Finished, Gone, Job, Lost, RunnerProcesses
+from nagsched_monitor.run.runners import Finished, Gone, Job, Lost, RunnerProcesses
 
 from .waiting import LONG, comes
 

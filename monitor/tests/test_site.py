@@ -3,9 +3,9 @@ import json
 import subprocess
 from unittest import mock
 
-from nagsched_monitor.command_lines import Command
 from nagsched_monitor.faults import SiteFault
-from nagsched_monitor.site import read_site
+from nagsched_monitor.site.command_lines import Command
+from nagsched_monitor.site.site import read_site
 
 from .simulated import PROGRAM, SiteTest
 

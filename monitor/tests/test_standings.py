@@ -3,8 +3,8 @@ import pathlib
 import sqlite3
 from typing import Dict, Tuple
 
-from nagsched_monitor.rows import KeptStanding
-from nagsched_monitor.site import read_site
+from nagsched_monitor.site.site import read_site
+from nagsched_monitor.store.rows import KeptStanding
 
 from .simulated import BEGIN, PROGRAM, SimulatedMonitor, SiteTest, fine
 

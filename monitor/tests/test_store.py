@@ -2,11 +2,11 @@
 import sqlite3
 from typing import List
 
-from nagsched_monitor.counters import KeepFigures
 from nagsched_monitor.faults import DamagedRow, MonitorFault, NotStored
-from nagsched_monitor.rows import FOR_PEOPLE, TABLES, VERSION, Generation, KeptChange, KeptStanding, checksum_of
-from nagsched_monitor.store import Store, Write
-from nagsched_monitor.writes import (
+from nagsched_monitor.store.counters import KeepFigures
+from nagsched_monitor.store.rows import FOR_PEOPLE, TABLES, VERSION, Generation, KeptChange, KeptStanding, checksum_of
+from nagsched_monitor.store.store import Store, Write
+from nagsched_monitor.store.writes import (
     BeginGeneration, DropChangesBefore, DropStandings, KeepCalls, KeepChange, KeepRequest, KeepResult, KeepStandings, SetAside, SetSwitch,
 )
 

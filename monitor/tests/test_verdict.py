@@ -2,8 +2,8 @@
 import unittest
 from typing import Tuple
 
-from nagsched_monitor.runners import Finished, Job
-from nagsched_monitor.verdict import verdict
+from nagsched_monitor.core.verdict import verdict
+from nagsched_monitor.run.runners import Finished, Job
 
 WARNING, CRITICAL, UNKNOWN = 1, 2, 3
 

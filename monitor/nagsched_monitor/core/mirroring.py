@@ -1,0 +1,100 @@
+"""Results that are reported to mirrors: to each mirror of an object what is reported to it, in one order for all parts.
+
+Every mirror is running all the time: it is taken again after each of its results, by a check that is forced and comes before all others. So a result and those
+of its mirrors are calls of one turn, which are stored together.
+"""
+from typing import AbstractSet, Any, Dict, List, Mapping, Optional, Sequence, Set, Tuple
+
+from ..scheduler.protocol import Answer, Call, PutOff, Report, Reschedule, Take, Taken
+from .rhythm import MIRROR_FIRST
+from .running import Owner, Place, Run, Running
+
+# A call, its part, and the words of the plugin that it reports.
+AskedOf = Tuple[int, Call, Optional[str]]
+
+
+class Mirrors:
+    """The mirrors of a site, by their parts and names."""
+
+    def __init__(self, names: Mapping[int, AbstractSet[str]], running: Running) -> None:
+        self.names, self._running = names, running
+        self._parts: Dict[str, List[int]] = {}
+        for part in sorted(names):
+            for name in names[part]:
+                self._parts.setdefault(name, []).append(part)
+        self._asked_for: Set[Place] = set()
+
+    def of(self, part: int) -> AbstractSet[str]:
+        """The names of a part's mirrors."""
+        return self.names.get(part, frozenset())
+
+    def parts_of(self, name: str) -> Sequence[int]:
+        """The parts in which an object has mirrors."""
+        return self._parts.get(name, ())
+
+    # ---- what answers say
+
+    def owns(self, part: int, call: Call, answer: Answer) -> bool:
+        """Whether an answer speaks of a mirror; what it says is taken in then."""
+        names = self.names.get(part)
+        if not names:
+            return False
+        name: str = answer.name if isinstance(answer, (Taken, PutOff)) else getattr(call, "name", "")
+        if name not in names:
+            return False
+        if isinstance(answer, Taken):
+            self._running.begin(Run((part, name), answer.run, Owner.ORIGINAL))
+            self._asked_for.discard((part, name))
+        elif isinstance(call, Reschedule):
+            self._asked_for.add((part, name))
+        elif isinstance(call, Report):
+            self._running.end((part, name))
+        return True
+
+    def read_saved(self, part: int, members: Sequence[Mapping[str, Any]]) -> List[Mapping[str, Any]]:
+        """Takes in the runs of mirrors among the objects of a part, as its scheduler was saved; returns the other objects."""
+        own = []
+        for it in members:
+            if it["name"] not in self.of(part):
+                own.append(it)
+            elif it["run"] is not None:
+                self._running.begin(Run((part, it["name"]), it["run"]["number"], Owner.ORIGINAL))
+        return own
+
+    def become(self, names: Mapping[int, AbstractSet[str]], others: AbstractSet[int]) -> "Mirrors":
+        """The mirrors of another site, in which these parts are others."""
+        for run in self._running.of_owner(Owner.ORIGINAL):
+            part, name = run.place
+            if part in others or name not in names.get(part, ()):
+                self._running.end(run.place)
+        return Mirrors(names, self._running)
+
+    def left_over(self) -> List[Place]:
+        """The mirrors that were to be taken, and weren't, since it was asked last: none, while nothing stands before them."""
+        left, self._asked_for = sorted(self._asked_for), set()
+        return left
+
+    # ---- what is asked
+
+    def takes(self, moment: int) -> List[AskedOf]:
+        """The calls by which those mirrors are taken that aren't running."""
+        places = [(part, name) for part, names in self.names.items() for name in sorted(names) if self._running.of((part, name)) is None]
+        return [call for place in places for call in taken_again(place, moment)]
+
+    def are_running(self, name: str) -> bool:
+        """Whether a result of this object can be reported to all of its mirrors."""
+        return all(self._running.of((part, name)) is not None for part in self.parts_of(name))
+
+    def reports(self, report: Report, moment: int) -> List[AskedOf]:
+        """The reports to the mirrors of an object whose result is reported; they are taken again after them."""
+        whole: List[AskedOf] = []
+        for part in self.parts_of(report.name):
+            run = self._running.of((part, report.name))
+            assert run is not None
+            whole += [(part, Report(report.name, run.number, report.code), None), *taken_again((part, report.name), moment)]
+        return whole
+
+
+def taken_again(place: Place, moment: int) -> List[AskedOf]:
+    part, name = place
+    return [(part, Reschedule(name, MIRROR_FIRST, True), None), (part, Take(moment), None)]

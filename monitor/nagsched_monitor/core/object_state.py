@@ -1,0 +1,234 @@
+"""What the answers of the scheduler say of each object, and which are due."""
+import heapq
+from dataclasses import dataclass, field, replace
+from typing import Any, Dict, Iterable, List, Mapping, Optional, Set, Tuple
+
+from ..scheduler.protocol import Abandon, Answer, Call, Done, Enable, Freed, PutOff, Refused, Report, Reschedule, Standing, Take, Taken
+from ..site.site import Watched
+from . import rhythm
+from .running import Place, Run, Running
+
+
+@dataclass
+class Past:
+    """Since when an object is what it is, in seconds since 1970 of the wall clock; None where that isn't known."""
+
+    # The state that it has had since then, and the hard one.
+    state: Optional[str] = None
+    since: Optional[float] = None
+    hard_state: Optional[str] = None
+    hard_since: Optional[float] = None
+    last_check: Optional[float] = None
+    # How many seconds its last check took, and how late the last one began.
+    took: Optional[float] = None
+    late: Optional[float] = None
+
+
+@dataclass
+class Known:
+    """What is known of an object."""
+
+    watched: Watched
+    running: Running
+    # Whether the scheduler has its checks on, and the rest as the scheduler has it.
+    on: bool
+    next: Optional[int] = None
+    forced: bool = False
+    # The time for which its last run waited.
+    due: Optional[int] = None
+    standing: Optional[Standing] = None
+    # A moment at which it is checked by itself: the others are whole intervals away from it.
+    phase: Optional[int] = None
+    # The time to which an operator set its next check, and whether it is forced, until that check is made.
+    asked: Optional[Tuple[int, bool]] = None
+    # The moment of its last result, and the words that came with it.
+    last_result: Optional[int] = None
+    words: str = ""
+    # The moment since which a result is awaited, if none came while this monitor runs.
+    awaited_since: int = 0
+    past: Past = field(default_factory=Past)
+    name: str = field(init=False)
+
+    def __post_init__(self) -> None:
+        self.name = self.watched.name
+
+    @property
+    def place(self) -> Place:
+        return self.watched.part, self.name
+
+    @property
+    def run(self) -> Optional[Run]:
+        """Its check that runs."""
+        return self.running.of((self.watched.part, self.name))
+
+    def waits_until(self) -> Optional[int]:
+        """The time for which it waits; None while it is running, off, or has none."""
+        return self.next if (self.on or self.forced) and self.next is not None and self.run is None else None
+
+    def is_stale(self, now: int) -> bool:
+        """Whether no result came within its freshness."""
+        freshness = self.watched.freshness
+        if freshness is None or self.forced or self.run is not None:
+            return False
+        return now - (self.awaited_since if self.last_result is None else self.last_result) >= freshness
+
+    def is_problem(self) -> bool:
+        return self.standing is not None and self.standing.is_problem()
+
+
+@dataclass
+class Due:
+    """The objects of a part by the times for which they wait."""
+
+    _times: Dict[str, int] = field(default_factory=dict)
+    _heap: List[Tuple[int, str]] = field(default_factory=list)
+    _due: Set[str] = field(default_factory=set)
+
+    def set(self, name: str, time: Optional[int]) -> None:
+        """Sets the time for which an object waits, or that it waits for none."""
+        if time is not None and self._times.get(name) == time:
+            return
+        self._due.discard(name)
+        if time is None:
+            self._times.pop(name, None)
+        else:
+            self._times[name] = time
+            heapq.heappush(self._heap, (time, name))
+
+    def now(self, moment: int) -> Set[str]:
+        """The objects whose time has come."""
+        while self._heap and self._heap[0][0] <= moment:
+            time, name = heapq.heappop(self._heap)
+            if self._times.get(name) == time:
+                self._due.add(name)
+        return self._due
+
+    def first(self) -> Optional[int]:
+        """The least time that lies behind the last moment that was asked for."""
+        while self._heap and self._times.get(self._heap[0][1]) != self._heap[0][0]:
+            heapq.heappop(self._heap)
+        return self._heap[0][0] if self._heap else None
+
+    def second(self) -> Optional[int]:
+        """The time behind the first one, where it is at hand."""
+        times = [time for time, name in self._heap[1:3] if self._times.get(name) == time]
+        return min(times) if times else None
+
+
+class AllKnown:
+    """What is known of all objects of a site."""
+
+    def __init__(self) -> None:
+        self.objects: Dict[str, Known] = {}
+        self.running = Running()
+        self._due: Dict[int, Due] = {}
+
+    def add(self, watched: Watched, on: bool) -> None:
+        self.objects[watched.name] = Known(watched, self.running, on)
+        self._due.setdefault(watched.part, Due())
+
+    def become(self, objects: Mapping[str, Watched], now: int) -> None:
+        """Takes another site over: of an object that stays what is known stays. A check of one that moves to another part is given up there."""
+        before, self.objects, self._due = self.objects, {}, {}
+        for watched in objects.values():
+            kept = before.pop(watched.name, None)
+            self.add(watched, watched.enabled)
+            if kept is None:
+                self.objects[watched.name].awaited_since = now
+            else:
+                self.objects[watched.name] = self._moved(kept, watched, now)
+        for known in before.values():
+            self.leave(known)
+        for known in self.objects.values():
+            self._set_due(known)
+
+    def _moved(self, kept: Known, watched: Watched, now: int) -> Known:
+        """What is known of an object that stays."""
+        if kept.watched.part != watched.part:
+            self.leave(kept)
+        on = kept.on if kept.watched.enabled == watched.enabled else watched.enabled
+        since = now if kept.watched.freshness is None and kept.last_result is None else kept.awaited_since
+        phase = kept.phase
+        if phase is not None and kept.watched.check_interval != watched.check_interval:
+            phase = rhythm.moved(phase, kept.name, kept.watched.check_interval, watched.check_interval)
+        return replace(kept, watched=watched, on=on, awaited_since=since, phase=phase)
+
+    def leave(self, known: Known) -> None:
+        """Ends an object's run; its plugin, if one runs, isn't anybody's any more, and the next run of the object waits for it."""
+        run = self.running.end(known.place)
+        if run is not None and run.job is not None:
+            self.running.left[known.name] = run.job
+
+    def read_saved(self, members: Iterable[Mapping[str, Any]]) -> List[str]:
+        """Takes in objects as their scheduler was saved. Returns the names of those of which something else was known."""
+        others = []
+        for it in members:
+            known = self.objects.get(it["name"])
+            if known is None:
+                continue
+            run, number = known.run, None if it.get("run") is None else it["run"]["number"]
+            saved = (it["enabled"], it["forced"], it.get("next_check"), number)
+            if saved != (known.on, known.forced, known.next, None if run is None else run.number):
+                others.append(known.name)
+            known.on, known.forced, known.next, _ = saved
+            if number is None:
+                self.running.end(known.place)
+            elif run is None or run.number != number:
+                self.running.begin(Run(known.place, number))
+            self._set_due(known)
+        return others
+
+    def _set_due(self, known: Known) -> None:
+        self._due[known.watched.part].set(known.name, known.waits_until())
+
+    def all_due(self, moment: int) -> Dict[int, Set[str]]:
+        """The objects whose time has come, by their parts."""
+        all_due: Dict[int, Set[str]] = {}
+        for part, due in self._due.items():
+            names = due.now(moment)
+            if names:
+                all_due[part] = names
+        return all_due
+
+    def first(self) -> Optional[int]:
+        """The least time for which an object waits that isn't due yet."""
+        first: Optional[int] = None
+        for due in self._due.values():
+            time = due.first()
+            if time is not None and (first is None or time < first):
+                first = time
+        return first
+
+    def second(self) -> Optional[int]:
+        """The time behind the first one, where it is at hand."""
+        times = [time for due in self._due.values() for time in (due.first(), due.second()) if time is not None]
+        return sorted(times)[1] if len(times) > 1 else None
+
+    def hear(self, call: Call, answer: Answer) -> Optional[Known]:
+        """Takes in what an answer says; returns the object that it speaks of, if it is one of these."""
+        if not isinstance(call, Take):
+            known = self.objects.get(call.name)
+        elif isinstance(answer, (Taken, PutOff)):
+            known = self.objects.get(answer.name)
+        else:
+            return None
+        if known is None or isinstance(answer, Refused):
+            return known
+        if isinstance(answer, Taken):
+            self.running.begin(Run(known.place, answer.run, forced=known.forced))
+            known.due, known.next, known.forced = known.next, None, False
+        elif isinstance(answer, PutOff):
+            known.next = answer.next
+        elif isinstance(answer, Standing):
+            known.standing, known.next = answer, answer.next
+            if isinstance(call, Report):
+                self.running.end(known.place)
+        elif isinstance(answer, Freed) and isinstance(call, Abandon):
+            self.running.end(known.place)
+            known.next = answer.next
+        elif isinstance(answer, Done) and isinstance(call, Reschedule):
+            known.next, known.forced = call.time, call.forced
+        elif isinstance(answer, Done) and isinstance(call, Enable):
+            known.on = call.on
+        self._due[known.watched.part].set(known.name, known.waits_until())
+        return known

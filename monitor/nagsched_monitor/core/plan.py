@@ -1,0 +1,20 @@
+"""What a turn is to store and make, before anything is done."""
+from dataclasses import dataclass, field
+from typing import Callable, List, Set
+
+from ..store.store import Write
+from .mirroring import AskedOf
+
+
+@dataclass
+class Plan:
+    """One list of calls, what else is written with them, and what follows: once all of it is stored, and once the calls were answered."""
+
+    calls: List[AskedOf] = field(default_factory=list)
+    writes: List[Write] = field(default_factory=list)
+    then: List[Callable[[], None]] = field(default_factory=list)
+    last: List[Callable[[], None]] = field(default_factory=list)
+    # Plugins that end with this plan, and the objects whose next checks it sets to now, and to later.
+    freed: int = 0
+    at_once: Set[str] = field(default_factory=set)
+    later: Set[str] = field(default_factory=set)

@@ -1,0 +1,181 @@
+"""Runs that plugins make: their beginning, their end, and what becomes of those that don't end."""
+import collections
+from functools import partial
+from typing import Callable, Counter, Deque, Dict, List, Optional
+
+from ..run.runners import Event, Finished, Gone, Job, Lost, Runners
+from ..scheduler.protocol import Abandon, Report, Reschedule
+from ..scheduler.scheduling import Scheduling
+from ..site.command_lines import Command
+from ..site.site import Site
+from ..store.counters import Counters
+from .clock import Clock
+from .mirroring import AskedOf
+from .object_state import Known
+from .plan import Plan
+from .rhythm import on_time
+from .running import Owner, Run
+from .verdict import verdict
+
+# How often a check whose runner ended is begun again, and what it counts as then.
+MOST_LOST = 2
+UNKNOWN = 3
+# How long after its limit a result may come, in milliseconds.
+MARGIN = 15_000
+# A check that this machine couldn't start is tried again after so many milliseconds, twice as many each time, up to the longest.
+RETRY, LONGEST_RETRY = 1_000, 60_000
+# Runs are looked over every so many milliseconds.
+SWEEP = 1_000
+
+
+class PluginRuns:
+    """The plugins of a site, and the events by which they end."""
+
+    def __init__(self, scheduling: Scheduling, runners: Runners, clock: Clock, log: Callable[[str], None], counters: Counters) -> None:
+        self._scheduling, self._runners, self._clock, self._log, self._counters = scheduling, runners, clock, log, counters
+        self._events: Deque[Event] = collections.deque()
+        # Plugins that were killed and haven't ended, by the names of their objects.
+        self._stuck: Dict[str, Job] = {}
+        # How often in a row the check of an object was lost, and couldn't be run here.
+        self._lost: Counter[str] = collections.Counter()
+        self._put_off: Counter[str] = collections.Counter()
+        self._swept = clock.moment()
+        self.latest_start = 0
+
+    # ---- the beginning
+
+    def start(self, known: Known, run: Run, command: Command, site: Site) -> None:
+        """Runs the plugin of a check that was taken; one that still runs for a run before ends this one."""
+        left = self._scheduling.known.running.left.pop(known.name, None)
+        if left is not None:
+            self._own(run, left, site)
+            return
+        time = on_time(known.due)
+        late = 0
+        if time is not None:
+            late = self._clock.moment() - time
+            self.latest_start = max(self.latest_start, late)
+            self._counters.started(late)
+        known.past.late = max(0, late) / 1000
+        job = Job(known.name, run.number, command.words, command.limit, known.watched.queue)
+        self._own(run, job, site)
+        if known.name in self._stuck:
+            self._events.append(Finished(job, "limit", 0, "the plugin of an earlier check still runs and can't be killed"))
+        else:
+            self._runners.start(job)
+
+    def _own(self, run: Run, job: Job, site: Site) -> None:
+        wait = site.queues.wait if job.queue is not None and site.queues is not None else 0.0
+        run.owner, run.job, run.deadline = Owner.PLUGIN, job, self._clock.moment() + round((job.limit + wait) * 1000) + MARGIN * (2 if wait else 1)
+
+    # ---- the end
+
+    def hear(self, now: int) -> None:
+        """Takes in what runners say, and looks over all runs every second."""
+        self._events.extend(self._runners.events())
+        if now - self._swept >= SWEEP:
+            self._swept = now
+            self._sweep(now)
+
+    def _sweep(self, now: int) -> None:
+        """A run that is past its deadline is ended, by its runner's end; one that no runner has is nobody's."""
+        running = self._scheduling.known.running
+        ended, there = {id(event.job) for event in self._events}, self._runners.jobs()
+        for run in running.of_owner(Owner.PLUGIN):
+            if run.job is None or id(run.job) in ended:
+                continue
+            if id(run.job) not in there:
+                self._log(f"{run.place[1]}: no runner has run {run.number}")
+                run.owner = Owner.NOBODY
+            elif run.deadline is not None and run.deadline < now:
+                self._log(f"{run.place[1]}: run {run.number} gave no result in time")
+                self._runners.kill(run.job)
+                run.deadline = now + MARGIN
+        for name, job in list(running.left.items()):
+            if id(job) not in ended and id(job) not in there:
+                del running.left[name]
+
+    def _run_of(self, event: Event) -> Optional[Run]:
+        """The run that a plugin's end ends."""
+        known = self._scheduling.known.objects.get(event.job.name)
+        run = None if known is None else known.run
+        return run if run is not None and run.job is event.job else None
+
+    def plan(self, plan: Plan, site: Site, now: int) -> None:
+        """Reports what plugins gave. What can't be reported now stays."""
+        left: Deque[Event] = collections.deque()
+        for event in self._events:
+            run = self._run_of(event)
+            if isinstance(event, Gone) or run is None:
+                plan.then.append(partial(self._forget, event))
+            elif self._scheduling.is_reportable(run.place):
+                plan.calls += self._ended(run, event, site, now)
+                plan.freed += 1
+                plan.then.append(partial(self._count, event))
+            else:
+                left.append(event)
+        for run in self._scheduling.known.running.of_owner(Owner.NOBODY):
+            if self._scheduling.is_open(run.place[0]):
+                plan.calls += abandoned(run, now)
+                plan.then.append(partial(self._log, f"given up: run {run.number} of {run.place[1]}"))
+        plan.then.append(partial(self._consume, len(self._events), left))
+
+    def _consume(self, count: int, left: Deque[Event]) -> None:
+        for _ in range(count):
+            self._events.popleft()
+        self._events.extendleft(reversed(left))
+
+    def _forget(self, event: Event) -> None:
+        """A plugin has ended that no run waits for."""
+        name, left = event.job.name, self._scheduling.known.running.left
+        if self._stuck.get(name) is event.job:
+            del self._stuck[name]
+            self._log(f"{name}: the plugin that couldn't be killed has ended")
+        elif not isinstance(event, Gone):
+            if left.get(name) is event.job:
+                del left[name]
+            self._log(f"{name}: the result of run {event.job.run} is dropped: it was given up, or the object isn't part of the site any more")
+
+    def _ended(self, run: Run, event: Event, site: Site, now: int) -> List[AskedOf]:
+        """The calls by which a run ends. What was lost is made again; a service's check whose runner ended is UNKNOWN the third time."""
+        part, name = run.place
+        known = self._scheduling.known.objects[name]
+        if isinstance(event, Finished):
+            code, words = verdict(event, known.watched.is_host(), site.options.timeout_code)
+            return self._scheduling.reports(part, Report(name, run.number, code), words, now)
+        if self._is_put_off(event):
+            again = min(LONGEST_RETRY, RETRY << min(self._put_off[name], 16))
+            why = event.why if isinstance(event, Lost) else ""
+            self._log(f"{name}: its plugin can't be run now, and is tried again in {again / 1000:g} seconds: {why}")
+            return [(part, Abandon(name, run.number, now), None), (part, Reschedule(name, now + again, run.forced), None)]
+        if isinstance(event, Lost) and self._lost[name] == MOST_LOST:
+            return self._scheduling.reports(part, Report(name, run.number, UNKNOWN), f"{event.why} {MOST_LOST + 1} times", now)
+        return abandoned(run, now)
+
+    def _is_put_off(self, event: Event) -> bool:
+        """Whether a lost check says nothing of its object, and is made again after a pause: a host is never DOWN on account of its runners."""
+        name = event.job.name
+        return isinstance(event, Lost) and (event.is_local or self._lost[name] == MOST_LOST and self._scheduling.known.objects[name].watched.is_host())
+
+    def _count(self, event: Event) -> None:
+        """Counts how often in a row a check was lost, and couldn't be run here."""
+        name = event.job.name
+        if self._is_put_off(event):
+            self._put_off[name] += 1
+            self._counters.result("not_started")
+            return
+        self._put_off.pop(name, None)
+        if isinstance(event, Lost) and self._lost[name] < MOST_LOST:
+            self._lost[name] += 1
+        else:
+            self._lost.pop(name, None)
+        if isinstance(event, Finished) and event.is_stuck:
+            self._stuck[name] = event.job
+            self._log(f"{name}: its plugin can't be killed; no other is started beside it")
+
+
+def abandoned(run: Run, now: int) -> List[AskedOf]:
+    """The calls by which a run is abandoned; its check is made again, forced if it was."""
+    part, name = run.place
+    abandon: AskedOf = (part, Abandon(name, run.number, now), None)
+    return [abandon, (part, Reschedule(name, now, True), None)] if run.forced else [abandon]

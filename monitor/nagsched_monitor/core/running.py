@@ -1,0 +1,72 @@
+"""The one table of what is running: each run with its owner and its deadline. Whatever isn't in it doesn't run."""
+import enum
+from dataclasses import dataclass
+from typing import Dict, Iterator, List, Optional, Tuple
+
+from ..run.runners import Job
+from ..store.rows import KeptResult
+
+# A part and the full name of an object in it.
+Place = Tuple[int, str]
+
+
+class Owner(enum.Enum):
+    """Who will end a run."""
+
+    # Nobody: it was taken before this monitor started, or its owner is lost. It is abandoned.
+    NOBODY = "nobody"
+    # A plugin, here or in a worker.
+    PLUGIN = "plugin"
+    # A passive result, which is reported in the next turn.
+    RESULT = "result"
+    # The original of a mirror, whose next result is reported to it too.
+    ORIGINAL = "original"
+
+
+@dataclass
+class Run:
+    """A check that a scheduler handed out and that hasn't ended."""
+
+    place: Place
+    number: int
+    owner: Owner = Owner.NOBODY
+    # The moment after which it is abandoned; None for a mirror's, which ends with the next result of its original.
+    deadline: Optional[int] = None
+    job: Optional[Job] = None
+    result: Optional[KeptResult] = None
+    # Whether the check was forced: so is the next try.
+    forced: bool = False
+    # When it was taken, in seconds since 1970 of the wall clock.
+    began: Optional[float] = None
+
+
+class Running:
+    """All runs of a site, by their objects: each has one at most."""
+
+    def __init__(self) -> None:
+        self._runs: Dict[Place, Run] = {}
+        # Plugins that run for no run any more, by the names of their objects: no second one is started beside them.
+        self.left: Dict[str, Job] = {}
+
+    def begin(self, run: Run) -> None:
+        self._runs[run.place] = run
+
+    def end(self, place: Place) -> Optional[Run]:
+        return self._runs.pop(place, None)
+
+    def of(self, place: Place) -> Optional[Run]:
+        return self._runs.get(place)
+
+    def __iter__(self) -> Iterator[Run]:
+        return iter(list(self._runs.values()))
+
+    def plugins(self) -> int:
+        """How many plugins run."""
+        return sum(run.owner is Owner.PLUGIN for run in self._runs.values()) + len(self.left)
+
+    def of_owner(self, owner: Owner) -> List[Run]:
+        return [run for run in self._runs.values() if run.owner is owner]
+
+    def overdue(self, now: int) -> List[Run]:
+        """The runs whose deadline has passed."""
+        return [run for run in self._runs.values() if run.deadline is not None and run.deadline < now]

@@ -1,0 +1,32 @@
+"""What the end of a plugin counts as, as in Nagios: its exit code, and CRITICAL (DOWN of a host) where it gave none that a plugin may give."""
+from typing import Tuple
+
+from ..run.runners import Finished
+from ..scheduler.protocol import GREATEST_CODE
+from .text import plain
+
+CRITICAL = 2
+
+
+def verdict(event: Finished, is_host: bool, timeout_code: int) -> Tuple[int, str]:
+    """The return code, and the plugin's words: the first line is its output, the others are its long output and what it wrote to standard error."""
+    words = words_of(event)
+    if event.end == "exited" and 0 <= event.code <= GREATEST_CODE:
+        return event.code, words
+    if event.end == "limit":
+        return CRITICAL if is_host else timeout_code, with_words(f"timed out after {event.job.limit:g} seconds", words)
+    if event.end == "failed":
+        return CRITICAL, with_words("not started", words)
+    return CRITICAL, with_words(f"ended by {'signal' if event.end == 'signal' else 'exit code'} {event.code}", words)
+
+
+def words_of(event: Finished) -> str:
+    output, error = plain(event.output), plain(event.stderr)
+    if not error:
+        return output
+    return f"{output}\n{error}" if output else f"(No output on stdout) stderr: {error}"
+
+
+def with_words(what: str, words: str) -> str:
+    """What happened, and what the plugin said if it said something."""
+    return f"{what}: {words}" if words else what

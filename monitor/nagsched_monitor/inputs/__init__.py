@@ -1,0 +1,1 @@
+"""What can be asked of a monitor: its socket, and Nagios's pipe."""

@@ -1,0 +1,202 @@
+"""The socket in the folder of a site, through which its monitor is asked: lines of JSON there, and as many back.
+
+No client holds up the monitor or another client: of each so many lines are handed on in one turn, and what it doesn't read waits, up to a limit.
+"""
+import os
+import pathlib
+import socket
+import time
+from dataclasses import dataclass, field
+from functools import partial
+from typing import Callable, Dict, List, Sequence
+
+from ..faults import MonitorFault
+from .requests import Request
+
+NAME = "monitor.socket"
+LONGEST_LINE = 262_144
+READ_BYTES = 65_536
+# Lines of one client in one turn, answers of one client that may wait to be read, clients at once, and for how many seconds one may say nothing.
+LINES_IN_TURN = 64
+UNREAD_BYTES = 64 * 1024 * 1024
+MOST_CLIENTS = 200
+IDLE = 300.0
+
+
+@dataclass
+class Client:
+    """A connection, what came of its next line, and what it hasn't read."""
+
+    connection: socket.socket
+    unread: bytes = b""
+    unsent: List[bytes] = field(default_factory=list)
+    # Requests that have no answer yet, when it was heard last, and whether it sends no more.
+    asked: int = 0
+    heard: float = 0.0
+    is_over: bool = False
+
+
+class Control:
+    """The socket of a monitor. The caller waits for its files to be readable, calls `read` then, and `work` in each turn."""
+
+    def __init__(self, folder: pathlib.Path, ask: Callable[[Request], None], watch: Callable[[int], None], unwatch: Callable[[int], None]) -> None:
+        self._ask, self._watch, self._unwatch = ask, watch, unwatch
+        self._path = folder / NAME
+        self._path.unlink(missing_ok=True)
+        self._socket = socket.socket(socket.AF_UNIX, socket.SOCK_STREAM)
+        mask = os.umask(0o177)
+        try:
+            self._socket.bind(short_path(self._path))
+        except OSError as error:
+            raise MonitorFault(f"{self._path}: {error.strerror or error}") from None
+        finally:
+            os.umask(mask)
+        self._socket.listen(16)
+        self._socket.setblocking(False)
+        self._clients: Dict[int, Client] = {}
+        watch(self._socket.fileno())
+
+    def owns(self, file: int) -> bool:
+        return file == self._socket.fileno() or file in self._clients
+
+    def read(self, file: int) -> None:
+        """Takes a new connection, or reads what a client sent."""
+        if file == self._socket.fileno():
+            self._accept()
+            return
+        client = self._clients[file]
+        if b"\n" in client.unread:
+            return  # the lines before have their turn first
+        try:
+            data = client.connection.recv(READ_BYTES)
+        except BlockingIOError:
+            return
+        except OSError:
+            self._forget(file)
+            return
+        client.heard = time.monotonic()
+        client.unread += data
+        if not data:
+            self._hear_no_more(file, client)
+
+    def _hear_no_more(self, file: int, client: Client) -> None:
+        if not client.is_over:
+            client.is_over = True
+            self._unwatch(file)
+
+    def _accept(self) -> None:
+        try:
+            connection, _ = self._socket.accept()
+        except OSError:
+            return  # there is no room for another file now, or whoever asked has gone: it is tried again where one still waits
+        if len(self._clients) >= MOST_CLIENTS:
+            connection.close()
+            return
+        connection.setblocking(False)
+        self._clients[connection.fileno()] = Client(connection, heard=time.monotonic())
+        self._watch(connection.fileno())
+
+    def work(self) -> bool:
+        """Hands on the lines that have come, sends what can be sent, and forgets who is gone. Whether more lines wait."""
+        has_more = False
+        for file, client in list(self._clients.items()):
+            self._hand_on(file, client)
+            self._send(file, client)
+            has_more |= b"\n" in client.unread
+            is_idle = not client.asked and not client.unsent and (client.is_over or time.monotonic() - client.heard > IDLE)
+            if is_idle and b"\n" not in client.unread:
+                self._forget(file)
+        return has_more
+
+    def is_sending(self) -> bool:
+        """Whether an answer waits for its reader."""
+        return any(client.unsent for client in self._clients.values())
+
+    def _hand_on(self, file: int, client: Client) -> None:
+        *lines, rest = client.unread.split(b"\n", LINES_IN_TURN)
+        client.unread = rest
+        for line in lines:
+            client.asked += 1
+            self._ask(Request(line, partial(self._reply, file, client)))
+        if len(rest) > LONGEST_LINE and b"\n" not in rest:
+            client.unsent.append(b'{"error": "the line is too long"}\n')
+            client.unread = b""
+            self._hear_no_more(file, client)
+
+    def _reply(self, file: int, client: Client, answer: bytes) -> None:
+        client.asked -= 1
+        client.unsent.append(answer)
+        if sum(map(len, client.unsent)) > UNREAD_BYTES:
+            self._forget(file)
+
+    def _send(self, file: int, client: Client) -> None:
+        """Sends as much as its reader takes now."""
+        try:
+            while client.unsent:
+                sent = client.connection.send(client.unsent[0])
+                if sent < len(client.unsent[0]):
+                    client.unsent[0] = client.unsent[0][sent:]
+                else:
+                    client.unsent.pop(0)
+        except BlockingIOError:
+            pass
+        except OSError:
+            client.unsent.clear()  # whoever asked reads no more
+            self._hear_no_more(file, client)
+
+    def _forget(self, file: int) -> None:
+        client = self._clients.pop(file, None)
+        if client is not None:
+            self._hear_no_more(file, client)
+            client.connection.close()
+
+    def close(self) -> None:
+        """Sends what is left, and closes all connections."""
+        for file, client in list(self._clients.items()):
+            self._send(file, client)
+            self._forget(file)
+        self._unwatch(self._socket.fileno())
+        self._socket.close()
+        self._path.unlink(missing_ok=True)
+
+
+def short_path(path: pathlib.Path) -> str:
+    """The path of a socket, whose length is limited: below the current folder where it lies there."""
+    return os.path.relpath(path) if len(os.path.relpath(path)) < len(str(path)) else str(path)
+
+
+def ask(folder: pathlib.Path, request: bytes, seconds: float = 30) -> bytes:
+    """The answer of the monitor of a folder; nothing where it ended meanwhile."""
+    return b"".join(answer + b"\n" for answer in ask_all(folder, [request], seconds))
+
+
+def ask_all(folder: pathlib.Path, requests: Sequence[bytes], seconds: float = 30) -> List[bytes]:
+    """The answers to requests that are made together. Where the monitor ends meanwhile they are those that came before."""
+    with socket.socket(socket.AF_UNIX, socket.SOCK_STREAM) as connection:
+        connection.settimeout(seconds)
+        try:
+            connection.connect(short_path(folder / NAME))
+            connection.sendall(b"".join(request + b"\n" for request in requests))
+            return answers_from(connection, len(requests))
+        except (FileNotFoundError, ConnectionRefusedError):
+            raise MonitorFault(f"no monitor runs on {folder}") from None
+        except OSError as error:
+            raise MonitorFault(f"the monitor of {folder} doesn't answer: {error.strerror or error}") from None
+
+
+def answers_from(connection: socket.socket, count: int) -> List[bytes]:
+    """So many answers, or fewer where the connection ends before."""
+    parts: List[bytes] = []
+    missing = count
+    while missing > 0:
+        try:
+            data = connection.recv(READ_BYTES)
+        except OSError:
+            if missing == count:
+                raise
+            data = b""  # what came before was obeyed
+        if not data:
+            break
+        parts.append(data)
+        missing -= data.count(b"\n")
+    return b"".join(parts).split(b"\n")[:-1]

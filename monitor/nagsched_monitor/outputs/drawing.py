@@ -1,0 +1,212 @@
+"""The pages of a site, as HTML. What comes from a site, names and words, is escaped, and each character that is none of a text is replaced."""
+import datetime
+import html
+import urllib.parse
+from typing import Dict, List, Optional, Sequence, Tuple
+
+from ..core.text import first_line
+from .picture import day_of, stretches
+from .status_query import Change, OneObject, Picture, Shown
+from .style import CLASSES, STYLE
+
+# How often a page renews itself, in seconds.
+RENEWED = 15
+YEAR = 31_536_000
+# The last time that has a date here, at the begin of the year 9999.
+LAST_TIME = 253_370_764_800
+# Control characters, and those that turn the direction of a line.
+REPLACED = {code: "\ufffd" for code in (*range(32), *range(127, 160), *range(0x202A, 0x202F), *range(0x2066, 0x206A)) if code not in (9, 10)}
+HEADS = ("State", "Object", "Attempt", "Since", "Next check", "Last words")
+
+
+def text(given: str) -> str:
+    """A text as HTML has it."""
+    return html.escape(given if given.isprintable() else given.translate(REPLACED))
+
+
+def duration(seconds: float) -> str:
+    """How long something is, in two units at most."""
+    left = max(0, round(seconds))
+    if left < 60:
+        return f"{left} s"
+    if left < 3600:
+        return f"{left // 60} min"
+    if left < 86_400:
+        return f"{left // 3600} h {left % 3600 // 60} min"
+    return f"{left // 86_400} d {left % 86_400 // 3600} h"
+
+
+class Times:
+    """Times of the wall clock in the zone of a site, as seen from one moment."""
+
+    def __init__(self, now: float, zone: Optional[datetime.tzinfo]) -> None:
+        self.now, self._zone = now, zone
+        self._today = datetime.datetime.fromtimestamp(now, zone).date()
+        self._texts: Dict[int, str] = {}
+
+    def of(self, time: float) -> str:
+        """The time of day, with the date where it isn't today."""
+        if not 0 <= time <= LAST_TIME:
+            return "never" if time > 0 else "long ago"
+        second = int(time)
+        if second not in self._texts:
+            when = datetime.datetime.fromtimestamp(second, self._zone)
+            today = when.date() == self._today
+            self._texts[second] = when.strftime("%H:%M:%S" if today else "%d %b %H:%M" if when.year == self._today.year else "%d %b %Y %H:%M")
+        return self._texts[second]
+
+    def full(self, time: float) -> str:
+        return datetime.datetime.fromtimestamp(time, self._zone).astimezone(self._zone).isoformat(sep=" ", timespec="seconds")
+
+    def ago(self, time: Optional[float]) -> str:
+        """A time, and for how long it has been so."""
+        return "" if time is None else f"{self.of(time)} <i>{duration(self.now - time)}</i>"
+
+
+# ---- pieces
+
+
+def badge(state: str, kind: Optional[str]) -> str:
+    """A state by its word and colour; a soft problem by its edge and the word soft."""
+    name = CLASSES.get(state, "none")
+    soft = kind == "SOFT" and name not in ("up", "none")
+    return f'<b class="s {name}{" soft" if soft else ""}">{text(state)}</b>{" soft" if soft else " hard" if name not in ("up", "none") else ""}'
+
+
+def link(name: str) -> str:
+    return f'<a href="/object?name={urllib.parse.quote(name, safe="")}">{text(name)}</a>'
+
+
+def next_of(it: Shown, times: Times) -> str:
+    """When an object is checked next, or why it isn't."""
+    if it.out_since is not None:
+        return f"runs since {times.ago(it.out_since)}"
+    if not it.is_on:
+        return "off"
+    if it.next_check is None:
+        return "none"
+    if it.next_check > times.now:
+        return times.of(it.next_check)
+    # A time of long ago is how a check is asked for at once.
+    return "due" if times.now - it.next_check > YEAR else f"due since {times.of(it.next_check)}"
+
+
+def row(it: Shown, times: Times, since: Optional[float]) -> str:
+    flapping = " FLAPPING" if it.flapping else ""
+    attempt = "" if it.attempt is None else str(it.attempt)
+    cells = (badge(it.state, it.kind) + flapping, link(it.name), attempt, times.ago(since), next_of(it, times), text(first_line(it.words)))
+    return f"<tr><td>{'</td><td>'.join(cells)}</td></tr>"
+
+
+def table(rows: Sequence[str], heads: Sequence[str] = HEADS, name: str = "o") -> str:
+    head = "".join(f'<th scope="col">{each}</th>' for each in heads)
+    lines = "\n".join(rows)
+    return f'<table class="{name}"><thead><tr>{head}</tr></thead><tbody>\n{lines}\n</tbody></table>'
+
+
+def tiles(pairs: Sequence[Tuple[str, str]]) -> str:
+    return "<dl>" + "".join(f"<div><dt>{name}</dt><dd>{value}</dd></div>" for name, value in pairs) + "</dl>"
+
+
+def whole(title: str, site: str, times: Times, body: Sequence[str]) -> str:
+    """A page, with its head."""
+    return "\n".join(
+        (
+            "<!DOCTYPE html>",
+            f'<html lang="en"><head><meta charset="utf-8"><title>{text(title)}</title>',
+            f'<meta name="viewport" content="width=device-width, initial-scale=1"><meta http-equiv="refresh" content="{RENEWED}">',
+            f"<style>{STYLE}</style></head><body>",
+            f'<header><h1><a href="/">{text(site)}</a></h1><span class="n">{times.full(times.now)}, renewed every {RENEWED} seconds</span></header>',
+            *body,
+            "</body></html>\n",
+        )
+    )
+
+
+# ---- the page of a site
+
+
+def figures_of(picture: Picture) -> str:
+    """How many objects there are of each state, and how the monitor keeps up."""
+    counts: Dict[str, int] = {}
+    for (state, _), count in picture.counts().items():
+        counts[state] = counts.get(state, 0) + count
+    order = [*CLASSES, *sorted(set(counts) - set(CLASSES))]
+    states = [(badge(state, None).partition("</b>")[0] + "</b>", str(counts[state])) for state in order if state in counts]
+    figures = picture.figures
+    late, latest = figures.get("latest_start_lately", 0.0), figures.get("latest_start", 0.0)
+    keeps_up = [
+        ("checks a second", f"{figures.get('checks_a_second', 0.0):.2f}"),
+        ("latest start behind its time", f"{late:.2f} s <i>lately, {latest:.2f} s at most</i>"),
+        ("out", str(len(picture.out()))),
+        ("due", str(picture.due())),
+    ]
+    return tiles(states) + tiles(keeps_up)
+
+
+def silence_of(picture: Picture) -> List[str]:
+    """A line where the monitor isn't at work, so that what follows is old."""
+    silent = picture.silence()
+    if silent is None:
+        return []
+    since = f"for {duration(silent)}" if "written_at" in picture.figures else "yet"
+    return [f'<p class="silent">The monitor has written nothing {since}: what is shown is how things stood then.</p>']
+
+
+def page(picture: Picture, site: str, zone: Optional[datetime.tzinfo]) -> str:
+    """What is wrong, what is out, and all hosts and services."""
+    times = Times(picture.now, zone)
+    wrong, out = picture.wrong(), picture.out()
+    body = [*silence_of(picture), figures_of(picture), f"<h2>Wrong now: {len(wrong)}</h2>"]
+    body.append(table([row(it, times, it.wrong_since()) for it in wrong]) if wrong else "<p>Nothing is wrong.</p>")
+    if out:
+        body += [f"<h2>Out: {len(out)}</h2>", "<p>" + ", ".join(f"{link(it.name)} <i>{duration(times.now - (it.out_since or 0))}</i>" for it in out) + "</p>"]
+    for what, objects in (
+        ("Hosts", [it for it in picture.objects if it.is_host()]),
+        ("Services", [it for it in picture.objects if not it.is_host()]),
+    ):
+        body += [f"<h2>{what}: {len(objects)}</h2>", table([row(it, times, it.since) for it in objects]) if objects else f"<p>No {what.lower()}.</p>"]
+    return whole(f"{len(wrong)} wrong: {site}", site, times, body)
+
+
+# ---- the page of an object
+
+
+def change_row(it: Change, times: Times) -> str:
+    flapping = " FLAPPING" if it.flapping else ""
+    return f"<tr><td>{times.of(it.time)}</td><td>{badge(it.state, it.kind)}{flapping}</td><td>{it.attempt}</td><td>{text(first_line(it.words))}</td></tr>"
+
+
+def legend_of(one: OneObject) -> str:
+    """The states that the picture has, each by its word and colour."""
+    day = stretches(one)
+    states = sorted({(it.state, it.kind or "") for it in day if it.state is not None})
+    names = list(dict.fromkeys(badge(state, kind) for state, kind in states))
+    names += ["a thin line where no change is known"] if any(it.state is None for it in day) else []
+    return f"<p>{', '.join(names)}{'; soft ones are low' if any(kind == 'SOFT' for _, kind in states) else ''}</p>"
+
+
+def object_page(one: OneObject, site: str, zone: Optional[datetime.tzinfo]) -> str:
+    """How one object stands, and its last day."""
+    times, it = Times(one.now, zone), one.it
+    pairs = [
+        ("attempt", "none" if it.attempt is None else str(it.attempt)),
+        ("since", times.ago(it.since) or "never checked"),
+        ("hard since", times.ago(it.hard_since)),
+        ("last check", times.ago(it.last_check)),
+        ("next check", next_of(it, times)),
+        ("took", "" if it.took is None else f"{it.took:.3f} s"),
+        ("began behind its time", "" if it.late is None else f"{it.late:.3f} s"),
+    ]
+    changes = [change_row(each, times) for each in reversed(one.changes)]
+    body = [
+        f"<h2>{text(it.name)} {badge(it.state, it.kind)}{' FLAPPING' if it.flapping else ''}</h2>",
+        tiles([pair for pair in pairs if pair[1]]),
+        f"<pre>{text(one.words) or 'no words'}</pre>",
+        "<h2>The last day</h2>",
+        day_of(one, times.of),
+        legend_of(one),
+        table(changes, ("Time", "State", "Attempt", "Words"), "c") if changes else "<p>No change in the last day.</p>",
+        *(["<p>There were more changes than these.</p>"] if one.is_cut else []),
+    ]
+    return whole(f"{it.name}: {it.state}", site, times, body)

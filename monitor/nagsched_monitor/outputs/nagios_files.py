@@ -1,0 +1,208 @@
+"""Nagios's own files of a site: `status.dat`, by which Nagios's pages show it, and the pipe `nagios.cmd`, which commands it.
+
+    python3 -m nagsched_monitor.outputs.nagios_files SITE FOLDER [--notifies] [--every SECONDS]
+
+It is a process of its own, which the monitor begins and ends. It reads the database, and asks the monitor through its socket. It ends with its standard input.
+"""
+import argparse
+import collections
+import json
+import os
+import pathlib
+import select
+import signal
+import sqlite3
+import sys
+import time
+from typing import Deque, Dict, List, Optional, Sequence, Tuple
+
+from ..faults import MonitorFault, RequestFault
+from ..inputs import control
+from ..inputs.nagios_pipe import Pipe, Request, requests_of
+from ..store.rows import KeptStanding
+from .nagios_blocks import Program, Settings, settings_of, status_file, with_files
+
+# How often the status file is written, and how long it is waited for a monitor that doesn't answer, in seconds.
+EVERY = 10.0
+PAUSE = 1.0
+# Requests that are made together.
+AT_ONCE = 64
+MODE = 0o644
+FILES = ("commands.json", "periods.json", "passive.json")
+
+
+def log(line: str) -> None:
+    print(f"nagios files: {line}", flush=True)
+
+
+class Reader:
+    """What the database and the files of a site say."""
+
+    def __init__(self, site: pathlib.Path, program: Program) -> None:
+        self._site, self._program = site, program
+        self._setups: Dict[int, bytes] = {}
+        self._files: Tuple[bytes, ...] = ()
+        self._last_change = 0
+        self._last_state: Dict[str, str] = {}
+        self.settings: Dict[str, Settings] = {}
+
+    def read(self) -> List[KeptStanding]:
+        """The standings by name; the settings and what was before are brought up to date."""
+        database = sqlite3.connect(f"{(self._site / 'monitor.db').resolve().as_uri()}?mode=ro", uri=True, timeout=5)
+        try:
+            database.execute("BEGIN")
+            self._read_settings(database)
+            self._read_changes(database)
+            rows = database.execute(f"SELECT {', '.join(KeptStanding._fields)} FROM standings ORDER BY name").fetchall()
+        finally:
+            database.close()
+        return [KeptStanding(*row) for row in rows]
+
+    def _read_settings(self, database: sqlite3.Connection) -> None:
+        """Reads the setups over which the monitor goes, and the other files of the site; made anew only where they are others."""
+        setups = dict(database.execute("SELECT part, setup FROM generations ORDER BY id"))
+        files = tuple(path.read_bytes() if path.exists() else b"" for path in (self._site / name for name in FILES))
+        if setups == self._setups and files == self._files:
+            return
+        settings: Dict[str, Settings] = {}
+        for setup in setups.values():
+            settings.update(settings_of(json.loads(setup)))
+        try:
+            with_files(settings, *files)
+        except (ValueError, AttributeError) as error:
+            log(f"the files of the site are half read: {error}")  # somebody edits them, and hasn't reloaded
+        self._setups, self._files, self.settings = setups, files, settings
+
+    def _read_changes(self, database: sqlite3.Connection) -> None:
+        """Reads when objects left a state, by the changes that are new."""
+        for number, moment, name, state in database.execute("SELECT id, time, name, state FROM changes WHERE id > ? ORDER BY id", (self._last_change,)):
+            before = self._last_state.get(name, "OK" if ";" in name else "UP")
+            if before != state:
+                self._program.left.setdefault(name, {})[before] = moment
+            self._last_state[name], self._last_change = state, number
+
+
+class NagiosFiles:
+    """The files of one site, while they are kept."""
+
+    def __init__(self, site: pathlib.Path, folder: pathlib.Path, notifies: bool, every: float = EVERY) -> None:
+        self._site, self._folder, self._every = site, folder, every
+        folder.mkdir(parents=True, exist_ok=True)
+        self._program = Program(os.getppid(), int(time.time()), notifies)
+        self._reader = Reader(site, self._program)
+        self._pipe = Pipe(folder)
+        self._waiting: Deque[Tuple[str, Request]] = collections.deque()
+        self._services: Dict[str, List[str]] = {}
+        self._fault: Optional[str] = None
+        self._mark, self._count = f"pipe-{os.getpid()}-{time.time_ns()}", 0
+
+    def work(self) -> None:
+        """Works until its standard input ends."""
+        next_write = time.monotonic()
+        while True:
+            now = time.monotonic()
+            if now >= next_write:
+                self.write()
+                next_write = now + self._every
+            # While requests wait for the monitor no more are read: the pipe keeps them.
+            files = [sys.stdin.fileno(), *([] if self._waiting else [self._pipe.file])]
+            left = max(0.0, next_write - time.monotonic())
+            ready, _, _ = select.select(files, [], [], min(PAUSE, left) if self._waiting else left)
+            if sys.stdin.fileno() in ready and not os.read(sys.stdin.fileno(), 4096):
+                break
+            if self._pipe.file in ready:
+                self.hear(self._pipe.read())
+            self.ask()
+        for name, _ in self._waiting:
+            log(f"{name}: the monitor ended before it")
+        self._pipe.close()
+
+    # ---- the status file
+
+    def write(self) -> None:
+        """Writes the status file anew; where that can't be, the old one stays."""
+        try:
+            standings = self._reader.read()
+            self._services = services_of(standings)
+            replaced(self._folder / "status.dat", status_file(self._program, self._reader.settings, standings, time.time()).encode(errors="replace"))
+            fault = None
+        except (OSError, sqlite3.Error, ValueError) as error:
+            fault = f"status.dat isn't written: {error}"
+        if fault is not None and fault != self._fault:
+            log(fault)
+        self._fault = fault
+
+    # ---- the pipe
+
+    def hear(self, lines: Sequence[bytes]) -> None:
+        """Takes in lines of the pipe; one that isn't obeyed is named. Each request has a number, so that it isn't obeyed twice when it is asked twice."""
+        for line in lines:
+            try:
+                name, requests = requests_of(line, self._services)
+            except RequestFault as fault:
+                log(str(fault))
+                continue
+            for request in requests:
+                self._count += 1
+                self._waiting.append((name, {**request, "number": f"{self._mark}-{self._count}"}))
+
+    def ask(self) -> None:
+        """Has the monitor obey what waits. What it didn't answer, or can't obey now, is asked again."""
+        while self._waiting:
+            some = [self._waiting[place] for place in range(min(AT_ONCE, len(self._waiting)))]
+            try:
+                answers = control.ask_all(self._site, [json.dumps(request, ensure_ascii=False).encode(errors="replace") for _, request in some])
+            except MonitorFault:
+                return  # it begins, ends or reads its site; it is asked again
+            again = []
+            for asked, answer in zip(some, answers):
+                self._waiting.popleft()
+                told = json.loads(answer)
+                if told.get("again", False):
+                    again.append(asked)
+                elif "error" in told:
+                    log(f"{asked[0]}: {asked[1].get('name', '')}: {told['error']}")
+            self._waiting.extendleft(reversed(again))
+            if again or len(answers) < len(some):
+                return
+
+
+def services_of(standings: Sequence[KeptStanding]) -> Dict[str, List[str]]:
+    """The services of each host."""
+    services: Dict[str, List[str]] = {kept.name: [] for kept in standings if ";" not in kept.name}
+    for kept in standings:
+        host, is_service, description = kept.name.partition(";")
+        if is_service:
+            services.setdefault(host, []).append(description)
+    return services
+
+
+def replaced(path: pathlib.Path, data: bytes) -> None:
+    """Writes a file as a whole: who reads it has the old one or this."""
+    new = path.with_name(f"{path.name}.new")
+    new.unlink(missing_ok=True)
+    file = os.open(new, os.O_WRONLY | os.O_CREAT | os.O_EXCL | os.O_CLOEXEC, MODE)
+    with open(file, "wb") as there:
+        os.fchmod(file, MODE)
+        there.write(data)
+    new.replace(path)
+
+
+def main(given: Optional[List[str]] = None) -> int:
+    parser = argparse.ArgumentParser(prog="nagios_files", description="Keeps Nagios's own files of a site that is monitored.")
+    parser.add_argument("site", type=pathlib.Path, help="the folder of the site")
+    parser.add_argument("folder", type=pathlib.Path, help="where the files are kept")
+    parser.add_argument("--notifies", action="store_true", help="a command is run for changes")
+    parser.add_argument("--every", type=float, default=EVERY, metavar="SECONDS", help="how often status.dat is written")
+    words = parser.parse_args(given)
+    signal.signal(signal.SIGINT, signal.SIG_IGN)  # it ends with the monitor
+    try:
+        NagiosFiles(words.site, words.folder, words.notifies, words.every).work()
+    except (MonitorFault, OSError) as fault:
+        log(str(fault))
+        return 1
+    return 0
+
+
+if __name__ == "__main__":
+    sys.exit(main())

@@ -1,0 +1,1 @@
+"""The program: its words, its loop, and the processes beside it."""

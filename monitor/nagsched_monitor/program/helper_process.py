@@ -1,0 +1,63 @@
+"""A process of its own beside the monitor: it is begun with it, begun again where it ends, and ended with it. It reads its end from its standard input."""
+import contextlib
+import subprocess
+import time
+from typing import Callable, Optional, Sequence
+
+from .reading import process_words
+
+# From one beginning to the next at least, and how long it may take to end, in seconds. The pause is twice as long each time, up to the longest, where a
+# process ends sooner than that.
+PAUSE, LONGEST_PAUSE = 5.0, 60.0
+GRACE = 5.0
+
+
+class Beside:
+    """One process beside the monitor."""
+
+    def __init__(self, module: str, words: Sequence[str], log: Callable[[str], None], clock: Callable[[], float] = time.monotonic) -> None:
+        self._module, self._words, self._log, self._clock = module, words, log, clock
+        self._name = module.rpartition(".")[2]
+        self._process: Optional["subprocess.Popen[bytes]"] = None
+        self._begun = self._not_before = clock()
+        self._pause = PAUSE
+
+    def work(self) -> None:
+        """Begins the process, where it doesn't run."""
+        if self._process is not None:
+            status = self._process.poll()
+            if status is None:
+                return
+            self._pause = PAUSE if self._clock() - self._begun >= LONGEST_PAUSE else self._pause
+            self._not_before = self._begun + self._pause
+            self._pause = min(LONGEST_PAUSE, 2 * self._pause)
+            self._log(f"{self._name} ended with status {status}; it is begun again")
+            self._let_go()
+        if self._clock() >= self._not_before:
+            self._begun = self._clock()
+            try:
+                self._process = subprocess.Popen(process_words(self._module, list(self._words)), stdin=subprocess.PIPE)
+            except OSError as error:  # there is no room for a process now
+                self._not_before = self._begun + LONGEST_PAUSE
+                self._log(f"{self._name} can't be begun: {error}; it is tried again")
+
+    def _let_go(self) -> None:
+        if self._process is not None and self._process.stdin is not None:
+            self._process.stdin.close()
+        self._process = None
+
+    def process_id(self) -> Optional[int]:
+        return None if self._process is None else self._process.pid
+
+    def close(self) -> None:
+        """Ends the process."""
+        process = self._process
+        self._let_go()
+        if process is None:
+            return
+        try:
+            process.wait(timeout=GRACE)
+        except subprocess.TimeoutExpired:
+            process.kill()
+            with contextlib.suppress(subprocess.TimeoutExpired):
+                process.wait(timeout=GRACE)

@@ -1,0 +1,75 @@
+"""The loop of a monitor: one turn after another, what has to be seen to every second, and the catching of whatever a turn raises."""
+import traceback
+from typing import Callable, List, Optional, Sequence
+
+from ..core.clock import Clock
+from ..core.engine import Engine
+from .turn_timer import Pace
+
+CHORES_EVERY = 1_000
+# How long it is waited after a turn that raised something, in milliseconds; and after how many such turns in a row the process ends, with which status.
+AFTER_FAULT = 1_000
+MOST_FAULTS = 3
+BROKEN = 70
+
+
+class Loop:
+    """Turns, with what surrounds them."""
+
+    def __init__(self, engine: Engine, pace: Pace, clock: Clock, log: Callable[[str], None]) -> None:
+        self._engine, self._pace, self._clock, self._log = engine, pace, clock, log
+        # What is done before each turn, after it, and every second. Of the first two each returns the moment at which it wants the next turn, or None.
+        self.before: List[Callable[[], Optional[int]]] = []
+        self.after: List[Callable[[], Optional[int]]] = []
+        self.chores: List[Callable[[], None]] = []
+        # The exit status of the process, once the loop is to end.
+        self.status: Optional[int] = None
+        self._chores_at = 0
+        self._faults = 0
+
+    def stop(self) -> None:
+        self.status = 0 if self.status is None else self.status
+
+    def work(self) -> int:
+        """Works until it is stopped; returns the exit status."""
+        while self.status is None:
+            self.go_round()
+        return self.status
+
+    def go_round(self) -> None:
+        """One turn, and the rest after it."""
+        begun = self._clock.moment()
+        try:
+            wanted = self._turn(begun)
+            self._faults = 0
+        except Exception as error:  # whatever it is: monitoring goes on
+            wanted = begun + AFTER_FAULT
+            self._caught(error)
+        if self.status is None:
+            second = self._engine.scheduling.known.second()
+            self._pace.rest(begun, wanted, second)
+
+    def _turn(self, begun: int) -> int:
+        wanted = [each() for each in self.before]
+        self._engine.requests.begin_turn()
+        wanted.append(self._engine.turn())
+        wanted += [each() for each in self.after]
+        if begun >= self._chores_at:
+            self._chores_at = begun + CHORES_EVERY
+            for chore in self.chores:
+                chore()
+        return min(moment for moment in wanted if moment is not None)
+
+    def _caught(self, error: Exception) -> None:
+        self._faults += 1
+        self._engine.counters.fault()
+        for line in said(traceback.format_exception(type(error), error, error.__traceback__)):
+            self._log(line)
+        if self._faults >= MOST_FAULTS:
+            self._log(f"{MOST_FAULTS} turns in a row ended like this: the monitor ends with status {BROKEN}")
+            self.status = BROKEN
+
+
+def said(traced: Sequence[str]) -> List[str]:
+    """The lines of a traceback."""
+    return [f"fault: {line}" for each in traced for line in each.rstrip().split("\n")]

@@ -1,0 +1,25 @@
+"""Addresses at which something is served."""
+import ipaddress
+from typing import Tuple
+
+from ..faults import MonitorFault
+
+LAST_PORT = 65_535
+
+
+def place_of(given: str, of: str = "--page") -> Tuple[str, int]:
+    """Address and port of `ADDRESS:PORT`; an IPv6 address stands in brackets. A `MonitorFault` where `of` names no such place."""
+    address, colon, port = given.rpartition(":")
+    is_bracketed = address.startswith("[") and address.endswith("]")
+    if not colon or not port.isascii() or not port.isdigit() or len(port) > 5 or int(port) > LAST_PORT or ":" in address and not is_bracketed:
+        raise MonitorFault(f"{of}: no ADDRESS:PORT: {given!r}")
+    bare = address[1:-1] if is_bracketed else address
+    try:
+        return "127.0.0.1" if bare == "localhost" else str(ipaddress.ip_address(bare)), int(port)
+    except ValueError:
+        raise MonitorFault(f"{of}: no address: {address!r}") from None
+
+
+def is_own(given: str) -> bool:
+    """Whether a place is reached by the machine itself alone."""
+    return ipaddress.ip_address(place_of(given)[0]).is_loopback

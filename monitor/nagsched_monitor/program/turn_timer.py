@@ -1,0 +1,85 @@
+"""When the next turn of a monitor begins. A turn costs far more than one more check in it, so that what comes soon one after another shares one."""
+import select
+import time
+from typing import Callable, Optional, Protocol
+
+from ..core.clock import Clock
+
+# From one turn to the next at least, in seconds.
+BETWEEN_TURNS = 0.05
+# How long a check waits for the next one, and a result for the check that is due next, in seconds. Pairs of checks are twice as far from each other.
+MOST_SHARED = 0.08
+LONGEST_UNREPORTED = 2 * MOST_SHARED
+SECOND = 1_000
+
+
+class Poller(Protocol):
+    """What waits for files, and for time to pass."""
+
+    def wait(self, milliseconds: float) -> bool:
+        """Waits so long for something to come, and reads what came; False if nothing did."""
+
+    def sleep(self, milliseconds: float) -> None:
+        """Waits so long, whatever comes."""
+
+
+class FilePoller:
+    """The files of a process. Those that can be read are handed to `read`."""
+
+    def __init__(self, read: Callable[[int], None]) -> None:
+        self._read = read
+        self._poll = select.epoll()
+
+    def watch(self, file: int) -> None:
+        self._poll.register(file, select.EPOLLIN)
+
+    def unwatch(self, file: int) -> None:
+        self._poll.unregister(file)
+
+    def wait(self, milliseconds: float) -> bool:
+        ready = self._poll.poll(max(0.0, milliseconds) / SECOND)
+        for file, _ in ready:
+            self._read(file)
+        return bool(ready)
+
+    def sleep(self, milliseconds: float) -> None:
+        if milliseconds > 0:
+            time.sleep(milliseconds / SECOND)
+
+
+class Pace:
+    """The waiting between turns."""
+
+    def __init__(self, clock: Clock, poller: Poller) -> None:
+        self._clock, self._poller = clock, poller
+
+    def rest(self, begun: int, wanted: int, second: Optional[int]) -> None:
+        """Waits for the next turn, and reads what has come until then.
+
+        `begun` is when the last turn began, `wanted` when the next one is to begin at the latest, 0 for at once, and `second` when the check after that one is
+        due; all are moments."""
+        if wanted == 0:
+            self._poller.wait(0)
+            return
+        next_turn = turn_at(begun / SECOND, wanted / SECOND, None if second is None else second / SECOND)
+        self._sleep_until(begun / SECOND + BETWEEN_TURNS if next_turn is None else next_turn)
+        if self._poller.wait(0) or next_turn is not None or not self._poller.wait(wanted - self._clock.moment()):
+            return
+        now = self._clock.moment() / SECOND
+        self._sleep_until(wanted / SECOND if wanted / SECOND <= now + LONGEST_UNREPORTED else now + BETWEEN_TURNS)
+        self._poller.wait(0)
+
+    def _sleep_until(self, at: float) -> None:
+        self._poller.sleep(at * SECOND - self._clock.moment())
+
+
+def turn_at(begun: float, wanted: float, second: Optional[float]) -> Optional[float]:
+    """The time of the next turn, whatever comes before it; None if `wanted` is so far off that a result has a turn of its own.
+
+    A check that is due waits for the next one if that is due soon. The two are due together from then on, as far as their phases allow it."""
+    rested = begun + BETWEEN_TURNS
+    if wanted > begun + LONGEST_UNREPORTED:
+        return None
+    if second is not None and rested < second <= wanted + MOST_SHARED:
+        return second
+    return max(rested, wanted)

@@ -1,0 +1,122 @@
+"""One scheduler: a process of `nagsched live`, which answers each line. It is never waited for without a limit."""
+import os
+import select
+import subprocess
+import time
+from typing import List, Optional, Sequence
+
+from ..faults import ConversationEnded
+from .protocol import Answer, Call, read_answer
+
+READ_BYTES = 65_536
+# How long a scheduler may be silent while an answer is due, the first one, which comes after the setup and the saved state were read, and any other one;
+# and how long it may take to end, in seconds.
+OPENING, SILENCE = 30.0, 15.0
+GRACE = 5.0
+
+
+class Conversation:
+    """A scheduler over one setup."""
+
+    def __init__(self, program: str, setup: bytes, start: int, saved: Optional[bytes] = None) -> None:
+        """Over this setup, from its start on, or from the state that was saved."""
+        words = [program, "live", *([] if saved is None else ["--resume"]), "--start", str(start)]
+        try:
+            # In a session of its own: a Ctrl-C in the terminal is for the monitor, which saves the state before it ends.
+            self._process = subprocess.Popen(words, stdin=subprocess.PIPE, stdout=subprocess.PIPE, bufsize=0, start_new_session=True)
+        except OSError as error:
+            raise ConversationEnded(f"{program} can't be started: {error.strerror}") from None
+        assert self._process.stdin is not None and self._process.stdout is not None
+        self._there, self._back = self._process.stdin.fileno(), self._process.stdout.fileno()
+        os.set_blocking(self._there, False)
+        os.set_blocking(self._back, False)
+        self._unsent = setup + b"\n" + (b"" if saved is None else saved + b"\n")
+        self._missing = 0
+        self._patience = OPENING
+
+    def ask(self, calls: Sequence[Call]) -> List[Answer]:
+        """Makes these calls, and returns their answers."""
+        lines = [call.line() for call in calls]
+        answers: List[Answer] = []
+        for line, said in zip(lines, self.ask_lines(lines)):
+            answer = read_answer(said)
+            if answer is None:
+                raise ConversationEnded(f"the scheduler answered {said!r} to {line}")
+            answers.append(answer)
+        return answers
+
+    def ask_lines(self, lines: Sequence[str]) -> List[str]:
+        """Sends these lines, and returns the lines that answer them."""
+        self.begin(lines)
+        return self.finish()
+
+    def begin(self, lines: Sequence[str]) -> None:
+        """Sends these lines as far as there is room for them now."""
+        if lines:
+            self._unsent += "\n".join(lines).encode() + b"\n"
+            self._missing += len(lines)
+            self._write()
+
+    def finish(self) -> List[str]:
+        """The answers to all lines that were begun. No more can have come: each answers a line that was sent."""
+        parts: List[bytes] = []
+        deadline = time.monotonic() + self._patience
+        while self._missing > 0:
+            waited = select.poll()
+            waited.register(self._back, select.POLLIN)
+            if self._unsent:
+                waited.register(self._there, select.POLLOUT)
+            ready = dict(waited.poll(max(0.0, deadline - time.monotonic()) * 1000))
+            if not ready:
+                raise ConversationEnded(f"the scheduler gave no answer for {self._patience:g} seconds")
+            if self._there in ready:
+                self._write()
+            if self._back in ready:
+                parts.append(self._read(parts))
+                self._patience = SILENCE
+                deadline = time.monotonic() + SILENCE
+        lines = b"".join(parts)
+        if self._missing < 0 or lines and not lines.endswith(b"\n"):
+            raise ConversationEnded(f"the scheduler answered more than it was asked: {lines[-READ_BYTES:].decode(errors='replace')!r}")
+        return lines.decode(errors="replace").split("\n")[:-1]
+
+    def save(self) -> Optional[bytes]:
+        """The state of the scheduler as text; None if the program has no such word."""
+        (line,) = self.ask_lines(['["save"]'])
+        return line[len("saved ") :].encode() if line.startswith("saved ") else None
+
+    def process_id(self) -> int:
+        return self._process.pid
+
+    def close(self, grace: float = GRACE) -> None:
+        """Ends the scheduler's process; it is killed if it doesn't end by itself within so many seconds."""
+        for pipe in (self._process.stdin, self._process.stdout):
+            if pipe is not None:
+                pipe.close()
+        for seconds in (grace, GRACE):
+            try:
+                self._process.wait(timeout=seconds)
+                return
+            except subprocess.TimeoutExpired:
+                self._process.kill()
+
+    def _write(self) -> None:
+        try:
+            while self._unsent:
+                self._unsent = self._unsent[os.write(self._there, self._unsent) :]
+        except BlockingIOError:
+            pass  # the rest goes when there is room
+        except BrokenPipeError:
+            self._unsent = b""  # it has ended, and its last words say why
+
+    def _read(self, before: Sequence[bytes]) -> bytes:
+        part = os.read(self._back, READ_BYTES)
+        if not part:
+            words = b"".join(before).decode(errors="replace").rstrip("\n")
+            try:
+                status: object = self._process.wait(timeout=GRACE)
+            except subprocess.TimeoutExpired:
+                status = "unknown"
+            raise ConversationEnded(f"the scheduler ended with status {status}: {words}")
+        self._missing -= part.count(b"\n")
+        return part

@@ -1,0 +1,85 @@
+"""The states of all schedulers of a site put together, and what each part of another site goes on from."""
+import json
+import subprocess
+from dataclasses import dataclass
+from typing import AbstractSet, Any, Dict, List, Mapping, Tuple
+
+from ..faults import MonitorFault
+from ..site.site import Site
+from ..store.store import Store, Write
+
+Member = Dict[str, Any]
+# The states of schedulers by their parts.
+States = Mapping[int, bytes]
+# How long the program may take to test a state, in seconds.
+LIMIT = 60.0
+
+
+def put_together(states: States, mirrored: Mapping[int, AbstractSet[str]], site: Site, moment: int) -> Dict[int, bytes]:
+    """From which state each part of a site begins, by the states of the parts that there are, and the names of their mirrors.
+
+    A mirror stands as its original does. Runs go on from the greatest number of all parts, so that no late result fits a run of another part."""
+    found: Dict[str, Tuple[int, Member]] = {}
+    runs = 0
+    for part, state in states.items():
+        document = json.loads(state)
+        runs = max(runs, document["runs"])
+        found.update((it["name"], (part, it)) for it in document["objects"] if it["name"] not in mirrored.get(part, ()))
+    members: Dict[int, List[Member]] = {part: [] for part in range(len(site.setups))}
+    for name, watched in site.objects.items():
+        if name in found:
+            part, member = found[name]
+            members[watched.part].append(member if part == watched.part else ended(member, moment))
+    for part, names in site.mirrors.items():
+        members[part].extend(as_mirror(found[name][1]) for name in sorted(names) if name in found)
+    return {part: saved(of_part, runs, moment) for part, of_part in members.items()}
+
+
+def ended(member: Member, moment: int) -> Member:
+    """An object whose run, where one is out, is given up at a moment."""
+    if member["run"] is None:
+        return member
+    return {**member, "run": None, "next_check": moment if member["next_check"] is None else member["next_check"]}
+
+
+def as_mirror(member: Member) -> Member:
+    """An object as its mirror has it: it stands alike, and is never checked."""
+    return {**member, "run": None, "forced": False, "next_check": None, "enabled": False, "enabled_in_setup": False, "check_interval": 0}
+
+
+def saved(members: List[Member], runs: int, start: int) -> bytes:
+    """The state of a scheduler with these objects."""
+    return json.dumps({"format": 1, "objects": members, "runs": runs, "start": start}, ensure_ascii=False, separators=(",", ":")).encode()
+
+
+def carried(program: str, site: Site, part: int, state: bytes) -> List[str]:
+    """What the setup of a part changes of the saved objects that it keeps, a line each; mirrors change as their originals do.
+
+    Where one of the two is refused it is a fault, and nothing has changed."""
+    given = site.setups[part] + b"\n" + state + b"\n"
+    try:
+        ran = subprocess.run([program, "check", "--resume"], input=given, stdout=subprocess.PIPE, check=False, timeout=LIMIT)
+    except (OSError, subprocess.TimeoutExpired) as error:
+        raise MonitorFault(f"the saved state can't be tested: {error}") from None
+    lines = ran.stdout.decode(errors="replace").splitlines()
+    if ran.returncode:
+        raise MonitorFault(f"the saved state can't be taken over: {'; '.join(lines)}")
+    mirrors = site.mirrors.get(part, frozenset())
+    return [line for line in lines if is_change(line, mirrors)]
+
+
+def is_change(line: str, mirrors: AbstractSet[str]) -> bool:
+    """Whether a line of a check is a change of an object that is no mirror, or has runs that are given up."""
+    word, _, rest = line.partition(" ")
+    return word == "changed" and rest.partition(" ")[2] not in mirrors or word == "given_up" and rest != "0"
+
+
+@dataclass(frozen=True)
+class EndGeneration(Write):
+    """A part that the site has no more."""
+
+    part: int
+
+    def carry_out(self, store: Store) -> None:
+        for table in ("generations", "mirrors", "calls"):
+            store.delete(table, "part = ?", self.part)

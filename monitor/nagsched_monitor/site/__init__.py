@@ -1,0 +1,1 @@
+"""The files of a site, read and tested."""

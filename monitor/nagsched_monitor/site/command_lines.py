@@ -1,0 +1,103 @@
+"""The command lines of a site: each can be split, and has a program that is there, unless a worker elsewhere runs it."""
+import functools
+import pathlib
+import re
+import shlex
+import shutil
+import subprocess
+from dataclasses import dataclass
+from typing import Container, Dict, List, Sequence, Tuple
+
+from ..faults import SiteFault
+from .json_files import only_known, read_object, seconds
+
+# A line that no quote, no escape and no sign of a shell is in.
+PLAIN = re.compile(r"[\w ./:,=%@+!#*?$~^{}\[\]-]*", re.ASCII)
+
+
+# How long a shell may take to test a line, in seconds.
+LIMIT = 30.0
+
+
+@dataclass(frozen=True)
+class Command:
+    """A command line, split where no shell runs it."""
+
+    words: Sequence[str]
+    # How long the plugin may take, in seconds.
+    limit: float
+
+
+def read_commands(folder: pathlib.Path, objects: Container[str], queue_of: Container[str]) -> Dict[str, Command]:
+    """The command of each object. Each line can be split, and has a program that is there, unless a worker elsewhere runs it."""
+    commands = {}
+    is_program.cache_clear()
+    for name, members in read_object(folder, "commands.json", required=True).items():
+        place = f"commands.json: {name}"
+        if name not in objects:
+            raise SiteFault(f"{place}: there is no such object")
+        members = only_known(members, ("line", "shell", "limit"), place)
+        line, shell = members.get("line"), members.get("shell", False)
+        if not isinstance(line, str) or not isinstance(shell, bool):
+            raise SiteFault(f"{place}: a line is a text, and shell is true or false")
+        if "\0" in line:
+            raise SiteFault(f"{place}: its line has a zero byte")
+        if not is_whole(line):
+            raise SiteFault(f"{place}: its line has half a character")
+        limit = seconds(members.get("limit", 60), f"{place}: limit")
+        commands[name] = Command(shell_words(line, place) if shell else plain_words(line, place, name not in queue_of), limit)
+    return commands
+
+
+def is_whole(line: str) -> bool:
+    """Whether a line has no half of a character, as JSON may: no program can be handed that."""
+    try:
+        line.encode()
+    except UnicodeEncodeError:
+        return False
+    return True
+
+
+def plain_words(line: str, place: str, is_here: bool) -> List[str]:
+    """The words of a line that no shell runs; the first is a program that is there, where it is run here."""
+    words, signs = (line.split(), []) if PLAIN.fullmatch(line) else split_words(line, place)
+    if not words:
+        raise SiteFault(f"{place}: its line is empty")
+    if signs:
+        raise SiteFault(f'{place}: only a shell gives {signs[0]} a meaning: add "shell": true, or put it in quotes')
+    if is_here and not is_program(words[0]):
+        raise SiteFault(f"{place}: there is no program {words[0]}")
+    return words
+
+
+@functools.lru_cache(maxsize=None)
+def is_program(name: str) -> bool:
+    """Whether a program is there; what was found is forgotten when a site is read anew."""
+    return shutil.which(name) is not None
+
+
+def split_words(line: str, place: str) -> Tuple[List[str], List[str]]:
+    """The words of a line that has quotes or other signs, and what only a shell reads in it."""
+    try:
+        return shlex.split(line), shell_signs(line)
+    except ValueError as error:
+        raise SiteFault(f"{place}: its line can't be split into words: {error}") from None
+
+
+def shell_signs(line: str) -> List[str]:
+    """What stands in a line outside of quotes that only a shell takes for more than letters."""
+    signs = ";|&<>()"
+    lexer = shlex.shlex(line, posix=True, punctuation_chars=signs)
+    lexer.whitespace_split, lexer.commenters = True, ""
+    return [word for word in lexer if word and not word.strip(signs)]
+
+
+def shell_words(line: str, place: str) -> List[str]:
+    """The words by which a shell runs a line that it can read."""
+    try:
+        read = subprocess.run(["/bin/sh", "-n", "-c", line], stdin=subprocess.DEVNULL, stderr=subprocess.PIPE, check=False, timeout=LIMIT)
+    except (OSError, subprocess.TimeoutExpired) as error:
+        raise SiteFault(f"{place}: its line can't be tested: {error}") from None
+    if read.returncode != 0:
+        raise SiteFault(f"{place}: {read.stderr.decode(errors='replace').strip()}")
+    return ["/bin/sh", "-c", line]

@@ -1,0 +1,48 @@
+"""Reading the JSON files of a site: what is wrong in one is a `SiteFault` that names the place."""
+import json
+import pathlib
+from typing import Any, Dict, Sequence
+
+from ..faults import SiteFault
+
+MOST_SECONDS = 86_400
+# A result may be fresh for a year.
+MOST_FRESH = 31_536_000
+
+
+def read_object(folder: pathlib.Path, name: str, required: bool) -> Dict[str, Any]:
+    """The members of a file that is a JSON object. A file that may be left out has none then."""
+    path = folder / name
+    if not required and not path.exists():
+        return {}
+    try:
+        document = json.loads(path.read_bytes())
+    except OSError as error:
+        raise SiteFault(f"{name}: {error.strerror}") from None
+    except (ValueError, RecursionError) as error:
+        raise SiteFault(f"{name}: {error}") from None
+    if not isinstance(document, dict):
+        raise SiteFault(f"{name}: it has to be an object")
+    return document
+
+
+def only_known(members: object, known: Sequence[str], place: str) -> Dict[str, Any]:
+    """An object that has no other members than these."""
+    if not isinstance(members, dict):
+        raise SiteFault(f"{place}: it has to be an object")
+    for member in members:
+        if member not in known:
+            raise SiteFault(f"{place}: a member {member!r} isn't known here")
+    return members
+
+
+def seconds(value: object, place: str, most: int = MOST_SECONDS) -> float:
+    if isinstance(value, bool) or not isinstance(value, (int, float)) or not 0 < value <= most:
+        raise SiteFault(f"{place}: no number of seconds up to {most}: {value!r}")
+    return value
+
+
+def only_object(value: object, place: str) -> Dict[str, Any]:
+    if not isinstance(value, dict):
+        raise SiteFault(f"{place}: it has to be an object")
+    return value

@@ -1,0 +1,106 @@
+"""Mirrors: objects of one part that stand in another part too, where its objects need them as a parent, as their host or as a master.
+
+    {"part-2": {"gateway": "part-1", "gateway;ping": "part-1"}}
+
+in `mirrors.json` says of `part-2.json` that these two of its objects are mirrors of those of `part-1.json`. A mirror is never checked: it is off, and its
+intervals are 0. Each result of its original is reported to it too.
+"""
+import pathlib
+from dataclasses import dataclass
+from typing import AbstractSet, Any, Dict, FrozenSet, Mapping, Sequence, Tuple
+
+from ..faults import SiteFault
+from .json_files import only_object, read_object
+
+FILE = "mirrors.json"
+NEVER = {"enabled": False, "check_interval": 0, "retry_interval": 0}
+# The options by which results are judged, with what they are where a setup doesn't say.
+JUDGING: Mapping[str, Any] = {
+    "soft_state_dependencies": False, "use_aggressive_host_checking": False, "low_service_flap_threshold": 20, "high_service_flap_threshold": 30,
+    "low_host_flap_threshold": 20, "high_host_flap_threshold": 30,
+}
+
+# The master of a dependency, its criteria, and whether those of the master count.
+Dependency = Tuple[str, FrozenSet[str], bool]
+
+
+@dataclass(frozen=True)
+class Part:
+    """What is compared of the setup of a part."""
+
+    stem: str
+    options: Mapping[str, Any]
+    objects: Mapping[str, Mapping[str, Any]]
+    dependencies: Mapping[str, FrozenSet[Dependency]]
+    # The masters whose own dependencies count too.
+    handing_on: FrozenSet[str]
+
+    def differs(self, name: str, other: "Part") -> str:
+        """What an object has here that it hasn't there; nothing where it is judged alike."""
+        here, there = self.objects[name], other.objects[name]
+        if here["max_check_attempts"] != there["max_check_attempts"]:
+            return "max_check_attempts"
+        if set(here.get("parents", ())) != set(there.get("parents", ())):
+            return "parents"
+        if name in self.handing_on and self.dependencies.get(name) != other.dependencies.get(name):
+            return "dependencies, which count here for those that depend on it,"
+        return ""
+
+
+def part_of(stem: str, setup: Mapping[str, Any]) -> Part:
+    """A part by its setup, which is a good one."""
+    objects = {host["name"]: host for host in setup.get("hosts", ())} | {f"{it['host']};{it['description']}": it for it in setup.get("services", ())}
+    dependencies: Dict[str, FrozenSet[Dependency]] = {}
+    handing_on = set()
+    for it in (*setup.get("service_dependencies", ()), *setup.get("host_dependencies", ())):
+        inherits = it.get("inherits_parent", False)
+        dependency = (it["master"], frozenset(it["criteria"].split(",")), inherits)
+        dependencies[it["dependent"]] = dependencies.get(it["dependent"], frozenset()) | {dependency}
+        if inherits:
+            handing_on.add(it["master"])
+    return Part(stem, setup.get("options", {}), objects, dependencies, frozenset(handing_on))
+
+
+def read_mirrors(folder: pathlib.Path, setups: Mapping[str, Mapping[str, Any]]) -> Dict[int, AbstractSet[str]]:
+    """The names of the mirrors of each part that has some, by its number. The setups stand by the names of their files, without the ending."""
+    document = read_object(folder, FILE, required=False)
+    for stem, homes in document.items():
+        if stem not in setups:
+            raise SiteFault(f"{FILE}: {stem}: there is no {stem}.json")
+        only_object(homes, f"{FILE}: {stem}")
+    parts = {stem: part_of(stem, setup) for stem, setup in setups.items()} if document else {}
+    for stem, homes in document.items():
+        for name, home in homes.items():
+            test_mirror(name, parts[stem], home, parts, document)
+        test_options(parts[stem], [parts[home] for home in sorted(set(homes.values()))])
+    return {number: frozenset(document[stem]) for number, stem in enumerate(setups) if document.get(stem)}
+
+
+def test_mirror(name: str, part: Part, home: object, parts: Mapping[str, Part], document: Mapping[str, Mapping[str, Any]]) -> None:
+    """A mirror is never checked, and has its original in another part, by whose results it is judged alike."""
+    place = f"{FILE}: {part.stem}: {name}"
+    if name not in part.objects:
+        raise SiteFault(f"{place}: {part.stem}.json has no such object")
+    if not isinstance(home, str) or home not in parts:
+        raise SiteFault(f"{place}: the part of its original isn't there: {home!r}")
+    if home == part.stem:
+        raise SiteFault(f"{place}: its original stands in another part, and not in {home}")
+    if name not in parts[home].objects:
+        raise SiteFault(f"{place}: {home}.json has no such object")
+    if name in document.get(home, {}):
+        raise SiteFault(f"{place}: {home} has a mirror of it too, and not the original")
+    if any(part.objects[name].get(member) != value for member, value in NEVER.items()):
+        raise SiteFault(f'{place}: a mirror has "enabled":false, "check_interval":0 and "retry_interval":0')
+    differs = part.differs(name, parts[home])
+    if differs:
+        raise SiteFault(f"{place}: {differs} aren't those of its original in {home}.json")
+
+
+def test_options(part: Part, homes: Sequence[Part]) -> None:
+    """Where there are mirrors, no take waits for a limit, and results are judged alike."""
+    if homes and part.options.get("max_concurrent_checks", 0) != 0:
+        raise SiteFault(f"{FILE}: {part.stem}: max_concurrent_checks of a part with mirrors is 0: slots in monitor.json is the limit of all parts")
+    for home in homes:
+        for option, default in JUDGING.items():
+            if part.options.get(option, default) != home.options.get(option, default):
+                raise SiteFault(f"{FILE}: {part.stem}: {option} isn't that of {home.stem}, by which the originals of its mirrors are judged")

@@ -1,0 +1,241 @@
+"""A site: the folder that says what is monitored and how. It is read and tested whole before anything runs.
+
+    setup.json        the setup of the scheduler, or several: part-1.json, part-2.json and on
+    mirrors.json      which objects of a part are mirrors of those of another (may be left out)
+    commands.json     the command of each object by its full name
+    periods.json      time periods, and which objects go by which (may be left out)
+    passive.json      which objects are passive, and how fresh their results have to be (may be left out)
+    queues.json       which checks are made by workers on other machines (may be left out)
+    monitor.json      options of the monitor (may be left out)
+"""
+import datetime
+import json
+import pathlib
+import subprocess
+import zoneinfo
+from dataclasses import dataclass, replace
+from typing import AbstractSet, Any, Dict, List, Mapping, Optional, Sequence, Tuple
+
+from ..faults import SiteFault
+from .command_lines import Command, read_commands
+from .json_files import MOST_FRESH, MOST_SECONDS, only_known, only_object, read_object, seconds
+from .mirror_file import read_mirrors
+from .periods import Periods, read_periods
+from .queue_file import Queues, queue_of_each, read_queues
+from .whole_site import reading
+
+# How long a setup may take to be tested, in seconds.
+LIMIT = 300.0
+CODES_BY_LETTER = {"w": 1, "c": 2, "u": 3}
+
+
+@dataclass(frozen=True)
+class Watched:
+    """A host or a service, as the site has it."""
+
+    name: str
+    part: int
+    # The host of a service; None of a host.
+    host: Optional[str]
+    parents: Sequence[str]
+    check_interval: int
+    # Whether the setup has it enabled.
+    enabled: bool
+    command: Optional[Command] = None
+    period: Optional[str] = None
+    passive_only: bool = False
+    # Milliseconds within which a result has to come; None where it may take its time.
+    freshness: Optional[int] = None
+    # The queue of the worker that makes its checks; None where they are made here.
+    queue: Optional[str] = None
+
+    def is_host(self) -> bool:
+        return self.host is None
+
+
+@dataclass(frozen=True)
+class Options:
+    """How the monitor goes about it."""
+
+    slots: int = 64
+    cached_host_check_horizon: int = 15
+    timeout_code: int = 2
+    keep_days: int = 90
+
+
+@dataclass(frozen=True)
+class Site:
+    """A site that was read and is good."""
+
+    folder: pathlib.Path
+    # The setup of each part, on one line.
+    setups: Sequence[bytes]
+    objects: Mapping[str, Watched]
+    periods: Periods
+    options: Options
+    # The hosts that have a host as their parent, by its name.
+    children: Mapping[str, Sequence[str]]
+    zone: Optional[datetime.tzinfo]
+    # The objects whose results have to be fresh.
+    with_freshness: Sequence[str]
+    # The names of the mirrors of each part that has some.
+    mirrors: Mapping[int, AbstractSet[str]]
+    queues: Optional[Queues] = None
+
+
+def read_site(folder: pathlib.Path, program: str) -> Site:
+    """The site of a folder, or a `SiteFault` that names the file and what is wrong there."""
+    with reading(folder):
+        return read_files(folder, program)
+
+
+def read_files(folder: pathlib.Path, program: str) -> Site:
+    paths = setup_files(folder)
+    setups = [setup_line(path, program) for path in paths]
+    documents = {path.stem: json.loads(setup) for path, setup in zip(paths, setups)}
+    mirrors = read_mirrors(folder, documents)
+    objects = originals_of(documents, mirrors)
+    options, zone = read_options(folder)
+    queues = read_queues(folder, objects)
+    queue_of = queue_of_each(queues, objects)
+    commands = read_commands(folder, objects, queue_of)
+    periods, period_of = read_period_file(folder, objects, zone)
+    passive = read_passive(folder, objects)
+    for name, watched in objects.items():
+        only, freshness = passive.get(name, (False, None))
+        command, period, queue = commands.get(name), period_of.get(name), queue_of.get(name)
+        objects[name] = replace(watched, command=command, period=period, queue=queue, passive_only=only, freshness=freshness)
+        test_command(objects[name])
+    with_freshness = [name for name, watched in objects.items() if watched.freshness is not None]
+    return Site(folder, setups, objects, periods, options, children_of(objects), zone, with_freshness, mirrors, queues)
+
+
+# ---- setups
+
+
+def setup_files(folder: pathlib.Path) -> List[pathlib.Path]:
+    single = folder / "setup.json"
+    parts = sorted(folder.glob("part-*.json"), key=lambda path: (len(path.name), path.name))
+    if single.exists() and parts:
+        raise SiteFault(f"{single.name} and {parts[0].name} are both there: a site has either one setup or parts")
+    if not single.exists() and not parts:
+        raise SiteFault(f"{folder} has no setup.json and no part-1.json")
+    return [single] if single.exists() else parts
+
+
+def setup_line(path: pathlib.Path, program: str) -> bytes:
+    """A setup on one line, as the scheduler reads it; one that it refuses is a fault, in its own words."""
+    try:
+        setup = path.read_bytes()
+    except OSError as error:
+        raise SiteFault(f"{path.name}: {error.strerror}") from None
+    line = b""
+    for words in ((), ("--line",)):
+        try:
+            checked = subprocess.run([program, "check", *words], input=setup, stdout=subprocess.PIPE, check=False, timeout=LIMIT)
+        except (FileNotFoundError, PermissionError):
+            raise SiteFault(f"there is no program {program}: put it on the path, or name it with --program") from None
+        except OSError as error:
+            raise SiteFault(f"{program} can't be run: {error.strerror}") from None
+        except subprocess.TimeoutExpired:
+            raise SiteFault(f"{path.name}: {program} gives no answer within {LIMIT:g} seconds") from None
+        line = checked.stdout.rstrip(b"\n")
+        if checked.returncode != 0:
+            raise SiteFault(f"{path.name}: {'; '.join(line.decode(errors='replace').splitlines()) or 'the scheduler gives no answer'}")
+    return line
+
+
+def originals_of(documents: Mapping[str, Mapping[str, Any]], mirrors: Mapping[int, AbstractSet[str]]) -> Dict[str, Watched]:
+    """The objects of all parts, each once: mirrors aren't among them."""
+    objects: Dict[str, Watched] = {}
+    for part, (stem, setup) in enumerate(documents.items()):
+        for watched in objects_of(setup, part):
+            if watched.name in mirrors.get(part, ()):
+                continue
+            if watched.name in objects:
+                raise SiteFault(f"{stem}.json: {watched.name} is in another part already, and mirrors.json doesn't name it")
+            objects[watched.name] = watched
+    return objects
+
+
+def objects_of(setup: Mapping[str, Any], part: int) -> List[Watched]:
+    """The hosts and services of a good setup. Intervals become milliseconds."""
+    unit = setup.get("options", {}).get("interval_length", 60) * 1000
+    hosts = [
+        Watched(host["name"], part, None, tuple(host.get("parents", ())), host.get("check_interval", 5) * unit, host.get("enabled", True))
+        for host in setup.get("hosts", ())
+    ]
+    services = [
+        Watched(f"{it['host']};{it['description']}", part, it["host"], (), it.get("check_interval", 5) * unit, it.get("enabled", True))
+        for it in setup.get("services", ())
+    ]
+    return hosts + services
+
+
+def children_of(objects: Mapping[str, Watched]) -> Dict[str, List[str]]:
+    children: Dict[str, List[str]] = {}
+    for watched in objects.values():
+        for parent in watched.parents:
+            children.setdefault(parent, []).append(watched.name)
+    return children
+
+
+# ---- the other files
+
+
+def test_command(watched: Watched) -> None:
+    """Each object that is ever checked has a command."""
+    if watched.command is None and not (watched.passive_only and watched.freshness is None) and watched.enabled:
+        raise SiteFault(f"commands.json: {watched.name} has no command")
+    if watched.command is None and watched.freshness is not None:
+        raise SiteFault(f"commands.json: {watched.name} has no command, which is run where no result came within its freshness")
+
+
+def read_period_file(folder: pathlib.Path, objects: Mapping[str, Watched], zone: Optional[zoneinfo.ZoneInfo]) -> Tuple[Periods, Dict[str, str]]:
+    """The periods of a site, and the period of each object that has one."""
+    document = only_known(read_object(folder, "periods.json", required=False), ("periods", "objects"), "periods.json")
+    periods = read_periods(only_object(document.get("periods", {}), "periods.json: periods"), "periods.json")
+    period_of = only_object(document.get("objects", {}), "periods.json: objects")
+    for name, period in period_of.items():
+        if name not in objects:
+            raise SiteFault(f"periods.json: {name}: there is no such object")
+        if not isinstance(period, str) or period not in periods:
+            raise SiteFault(f"periods.json: {name}: there is no period {period!r}")
+    return Periods(periods, zone), period_of
+
+
+def read_passive(folder: pathlib.Path, objects: Mapping[str, Watched]) -> Dict[str, Tuple[bool, Optional[int]]]:
+    """Of each object that is named: whether it is passive only, and its freshness in milliseconds."""
+    passive = {}
+    for name, members in read_object(folder, "passive.json", required=False).items():
+        place = f"passive.json: {name}"
+        if name not in objects:
+            raise SiteFault(f"{place}: there is no such object")
+        members = only_known(members, ("only", "freshness"), place)
+        only, freshness = members.get("only", False), members.get("freshness")
+        if not isinstance(only, bool):
+            raise SiteFault(f"{place}: only is true or false")
+        passive[name] = only, None if freshness is None else round(seconds(freshness, f"{place}: freshness", MOST_FRESH) * 1000)
+    return passive
+
+
+def read_options(folder: pathlib.Path) -> Tuple[Options, Optional[zoneinfo.ZoneInfo]]:
+    """The options, and the zone of the site: the machine's where none is named."""
+    members = only_known(
+        read_object(folder, "monitor.json", required=False),
+        ("slots", "cached_host_check_horizon", "service_check_timeout_state", "keep_days", "zone"),
+        "monitor.json",
+    )
+    for name, most in (("slots", 10_000), ("cached_host_check_horizon", MOST_SECONDS), ("keep_days", 36_500)):
+        value = members.get(name, 1)
+        if isinstance(value, bool) or not isinstance(value, int) or not (0 if name != "slots" else 1) <= value <= most:
+            raise SiteFault(f"monitor.json: {name}: no whole number up to {most}: {value!r}")
+    letter = members.pop("service_check_timeout_state", "c")
+    if not isinstance(letter, str) or letter not in CODES_BY_LETTER:
+        raise SiteFault(f"monitor.json: service_check_timeout_state is w, c or u, and no {letter!r}")
+    zone = members.pop("zone", None)
+    try:
+        read_zone = None if zone is None else zoneinfo.ZoneInfo(zone)
+    except (TypeError, ValueError, zoneinfo.ZoneInfoNotFoundError):
+        raise SiteFault(f"monitor.json: there is no zone {zone!r}") from None
+    return Options(timeout_code=CODES_BY_LETTER[letter], **members), read_zone

@@ -1,0 +1,120 @@
+"""What the monitor counts of itself: results, how far checks start behind their times, saves. What is counted goes on over a restart.
+
+The names of the figures that are kept, and what each is:
+
+    checks.STATE          results that were reported, by the state in which each left its object
+    checks.given_up       checks that were given up, since their runner ended
+    checks.not_started    checks that this machine couldn't start: it had no files, processes or memory for them
+    faults                turns that ended with a fault of the monitor's own
+    checks.refused        results that came too late
+    late.BOUND            checks that began at most so many seconds behind their times, and more than the bound before; `late.more` those behind all bounds
+    late.sum              the seconds by which all of these were late, together
+    calls, saves          calls that were made of the scheduler, and states that were saved
+    saved_at              when the state was saved last, in seconds since 1970
+    moment                the moment at which these were written
+    begun_at, written_at  when this monitor began, and when it wrote its figures last
+    checks_a_second       results a second, over the last minute
+    latest_start          by how many seconds a check was late at most, since this monitor began
+    latest_start_lately   the same of the last minute or two
+"""
+import bisect
+import collections
+from dataclasses import dataclass
+from typing import DefaultDict, Deque, Dict, Mapping, Optional, Tuple
+
+from ..core.clock import Clock
+from .store import Store, Write
+
+# How often figures are written, and over how long a rate is taken, in milliseconds.
+EVERY = 5_000
+MINUTE = 60_000
+# The bounds of the histogram of late starts, in seconds.
+BOUNDS = (0.05, 0.1, 0.25, 0.5, 1.0, 2.5, 5.0, 10.0, 30.0, 60.0)
+BUCKETS = tuple(f"late.{bound:g}" for bound in BOUNDS) + ("late.more",)
+RESULTS = ("OK", "WARNING", "CRITICAL", "UNKNOWN", "UP", "DOWN", "UNREACHABLE", "given_up", "refused", "not_started")
+GONE_ON_WITH = tuple(f"checks.{result}" for result in RESULTS) + BUCKETS + ("late.sum", "saves", "saved_at", "faults")
+
+
+@dataclass(frozen=True)
+class KeepFigures(Write):
+    """Figures by their names."""
+
+    values: Mapping[str, float]
+
+    def carry_out(self, store: Store) -> None:
+        for name, value in self.values.items():
+            store.delete("figures", "name = ?", name)
+            store.insert("figures", None, (name, float(value)))
+
+
+class Counters:
+    """The figures of a monitor that runs, in memory."""
+
+    def __init__(self, kept: Mapping[str, float], clock: Clock) -> None:
+        self._clock = clock
+        self._values: DefaultDict[str, float] = collections.defaultdict(float, {name: kept[name] for name in GONE_ON_WITH if name in kept})
+        self._begun = clock.wall()
+        self._made = 0
+        self._latest = 0
+        self._written: Dict[str, float] = {}
+        self._written_at: Optional[int] = None
+        # How many results there were at moments of the last minute; the latest start of the minute that runs, and of the one before.
+        self._moments: Deque[Tuple[int, int]] = collections.deque([(clock.moment(), 0)])
+        self._minute, self._lately, self._before = clock.moment(), 0, 0
+
+    def result(self, result: str) -> None:
+        """A result was reported: the state in which it left its object, `given_up` or `refused`."""
+        self._values[f"checks.{result}"] += 1
+        if result not in ("given_up", "refused", "not_started"):
+            self._made += 1
+
+    def fault(self) -> None:
+        """A turn ended with a fault of the monitor's own."""
+        self._values["faults"] += 1
+
+    def started(self, late: int) -> None:
+        """A check began so many milliseconds behind its time."""
+        seconds = max(0, late) / 1000
+        self._values[BUCKETS[bisect.bisect_left(BOUNDS, seconds)]] += 1
+        self._values["late.sum"] += seconds
+        self._latest, self._lately = max(self._latest, late), max(self._lately, late)
+
+    def saved(self) -> None:
+        """The state was saved."""
+        self._values["saves"] += 1
+        self._values["saved_at"] = self._clock.wall()
+
+    # ---- what is written
+
+    def are_due(self, now: int) -> bool:
+        """Whether it is time to write them: every five seconds."""
+        return self._written_at is None or now - self._written_at >= EVERY
+
+    def write(self, calls: int) -> KeepFigures:
+        """The figures that aren't what they were when they were written last. `calls` is how many calls were made."""
+        values = self._all(self._clock.moment(), calls)
+        return KeepFigures({name: value for name, value in values.items() if self._written.get(name) != value})
+
+    def written(self, figures: KeepFigures) -> None:
+        """These were written."""
+        self._written_at = self._clock.moment()
+        self._written.update(figures.values)
+
+    def _all(self, now: int, calls: int) -> Dict[str, float]:
+        lately = self._latest_lately(now)
+        of_this_run = {"calls": calls, "begun_at": self._begun, "written_at": self._clock.wall(), "checks_a_second": self._rate(now), "moment": now}
+        return {**self._values, **of_this_run, "latest_start": self._latest / 1000, "latest_start_lately": lately / 1000}
+
+    def _rate(self, now: int) -> float:
+        """Results a second, over the last minute or since the monitor began."""
+        self._moments.append((now, self._made))
+        while len(self._moments) > 2 and self._moments[1][0] <= now - MINUTE:
+            self._moments.popleft()
+        first, made = self._moments[0]
+        return round((self._made - made) * 1000 / (now - first), 3) if now > first else 0.0
+
+    def _latest_lately(self, now: int) -> int:
+        if now - self._minute >= MINUTE:
+            self._before = self._lately if now - self._minute < 2 * MINUTE else 0
+            self._minute, self._lately = now, 0
+        return max(self._lately, self._before)

@@ -1,0 +1,240 @@
+"""The database of a site: one SQLite file, which is all that the monitor keeps.
+
+    generations   of each part the setup that its scheduler was opened over, the start, and the state from which it went on, if it was saved
+    mirrors       of each part that has mirrors their names, as JSON
+    calls         the calls that were made since, with the words of the plugin where one reported; each is kept before it is made
+    switches      whether an operator has an object's checks on
+    passive       results that came through the socket and weren't reported yet
+    changes       changes of state, by the number of the call that made them
+    outbox        changes that the command for changes hasn't taken yet
+    standings     how each object stands, a second old at most
+    figures       what the monitor counts of itself, a name and a number each
+    requests      the answers to the last thousand requests that had numbers
+    aside         calls after which a scheduler ends: they aren't made again
+    damaged       rows of changes, standings and figures that were changed since they were written
+
+Each row has a checksum over its table and its members, so that a row that was changed since is found.
+"""
+import contextlib
+import fcntl
+import os
+import pathlib
+import sqlite3
+from typing import Callable, Dict, Iterator, List, Optional, Sequence, Set, Tuple
+
+from ..faults import DamagedRow, MonitorFault, NotStored
+from ..scheduler.protocol import Abandon, Take, read_call
+from .rows import (
+    FOR_PEOPLE, GENERATIONS, INDEXES, INSERTS, TABLES, VERSION, Cell, Generation, KeptCall, KeptResult, KeptStanding, LastChanges, checksum_of, names_of,
+)
+
+
+class Store:
+    """The database of one monitor. A second one of the same site is refused."""
+
+    def __init__(self, folder: pathlib.Path, log: Callable[[str], None] = lambda line: None) -> None:
+        self.path, self._log = folder / "monitor.db", log
+        self._lock: Optional[int] = locked(folder)
+        try:
+            self._database = self._opened()
+            self._verify()
+        except sqlite3.Error as error:
+            self.close()
+            raise MonitorFault(f"{self.path}: {error}") from None
+        except MonitorFault:
+            self.close()
+            raise
+        self.last_call = max(self._greatest("calls"), self._greatest("generations", "last_call"))
+        self.last_result = self._greatest("passive")
+
+    def _opened(self) -> sqlite3.Connection:
+        """The database, for its owner only, with a table for everything."""
+        os.close(os.open(self.path, os.O_RDWR | os.O_CREAT | os.O_CLOEXEC, 0o600))
+        database = sqlite3.connect(self.path, isolation_level=None, timeout=5)
+        try:
+            for setting in ("journal_mode=WAL", "synchronous=FULL", "wal_autocheckpoint=1000"):
+                database.execute(f"PRAGMA {setting}")
+            database.execute("BEGIN IMMEDIATE")
+            self._take_over(database)
+            for table, members in TABLES.items():
+                database.execute(f"CREATE TABLE IF NOT EXISTS {table} (id INTEGER PRIMARY KEY, {members}, checksum TEXT)")
+            for index in INDEXES:
+                database.execute(f"CREATE INDEX IF NOT EXISTS {index}")
+            database.execute("COMMIT")
+        except (sqlite3.Error, MonitorFault):
+            database.close()
+            raise
+        return database
+
+    def _take_over(self, database: sqlite3.Connection) -> None:
+        """Takes over a database of the version before: its standings had no phases."""
+        (version,) = database.execute("PRAGMA user_version").fetchone()
+        if version > VERSION:
+            raise MonitorFault(f"{self.path}: it has version {version}, and this monitor reads versions up to {VERSION}")
+        if version == VERSION:
+            return
+        rows = []
+        if database.execute("SELECT 1 FROM sqlite_master WHERE name = 'standings'").fetchone():
+            rows = [row for row in database.execute("SELECT * FROM standings") if row[-1] == checksum_of("standings", row[0], row[1:-1])]
+            database.execute("DROP TABLE standings")
+        database.execute(f"CREATE TABLE standings (id INTEGER PRIMARY KEY, {TABLES['standings']}, checksum TEXT)")
+        for number, *cells, _ in rows:
+            database.execute(INSERTS["standings"], (number, *cells, None, checksum_of("standings", number, [*cells, None])))
+        database.execute(f"PRAGMA user_version = {VERSION}")
+
+    def close(self) -> None:
+        if self._lock is not None:
+            if hasattr(self, "_database"):
+                self._database.close()
+            os.close(self._lock)
+            self._lock = None
+
+    # ---- reading
+
+    def _verify(self) -> None:
+        """Tests each row's checksum but for those of the history, and that no call is missing between two."""
+        for table in TABLES:
+            if table not in ("changes", "damaged"):
+                self._sound(table, self._database.execute(f"SELECT * FROM {table} ORDER BY id").fetchall())
+        first, last, count = self._database.execute("SELECT min(id), max(id), count(*) FROM calls").fetchone()
+        if count and last - first + 1 != count:
+            raise DamagedRow(f"{self.path}: {last - first + 1 - count} rows of calls are missing")
+
+    def _sound(self, table: str, rows: Sequence[Sequence[Cell]]) -> List[Sequence[Cell]]:
+        """Those of these rows that are as they were written, without their checksums. Others are a fault, or set aside if only people read them."""
+        sound = []
+        for row in rows:
+            number, *cells, checksum = row
+            if checksum == checksum_of(table, int(str(number)), cells):
+                sound.append(row[:-1])
+                continue
+            if table not in FOR_PEOPLE:
+                raise DamagedRow(f"{self.path}: row {number!r} of {table} was changed since it was written")
+            self._log(f"row {number!r} of {table} was changed since it was written: it is in the table damaged now")
+            with contextlib.suppress(sqlite3.Error):
+                self.insert("damaged", None, (table, ascii(row)))
+                self.delete(table, "id = ?", number)
+        return sound
+
+    @contextlib.contextmanager
+    def _reading(self) -> Iterator[None]:
+        """What can't be read now is told as what can't be stored."""
+        try:
+            yield
+        except sqlite3.Error as error:
+            raise NotStored(f"{self.path}: {error}") from None
+
+    def _greatest(self, table: str, member: str = "id") -> int:
+        (greatest,) = self._database.execute(f"SELECT max({member}) FROM {table}").fetchone()
+        return int(greatest or 0)
+
+    def generations(self) -> Dict[int, Generation]:
+        """The last generation of each part."""
+        return {row[0]: Generation(*(*row[:-1], names_of(row[-1]))) for row in self._database.execute(GENERATIONS)}
+
+    def calls_since(self, part: int, number: int) -> List[KeptCall]:
+        """The calls of a part after the call with this number, but for those that were set aside."""
+        return self.calls_between(part, number, self.last_call)
+
+    def calls_between(self, part: int, number: int, last: int) -> List[KeptCall]:
+        """Those of them up to the call with the number `last`."""
+        rows = "SELECT id, part, line, words FROM calls WHERE part = ? AND id > ? AND id <= ? AND id NOT IN (SELECT id FROM aside) ORDER BY id"
+        with self._reading():
+            return [KeptCall(*row) for row in self._database.execute(rows, (part, number, last))]
+
+    def last_moment(self) -> int:
+        """The greatest moment that was kept. Behind a save no call may have one, so that the figures have one as well."""
+        moments = [0, int(self.figures().get("moment", 0)), *(generation.start for generation in self.generations().values())]
+        for (line,) in self._database.execute("SELECT line FROM calls ORDER BY id DESC"):
+            call = read_call(line)
+            if isinstance(call, (Take, Abandon)):
+                moments.append(call.now)
+                break
+        return max(moments)
+
+    def switches(self) -> Dict[str, bool]:
+        return {name: bool(on) for name, on in self._database.execute("SELECT name, is_on FROM switches")}
+
+    def waiting(self) -> List[KeptResult]:
+        return [KeptResult(*row) for row in self._database.execute("SELECT id, name, code, words FROM passive ORDER BY id")]
+
+    def requests(self) -> Dict[str, str]:
+        """The answers to requests that had numbers."""
+        return dict(self._database.execute("SELECT number, answer FROM requests ORDER BY id"))
+
+    def outbox(self, count: int = -1) -> List[Tuple[int, str]]:
+        """The documents that the command for changes hasn't taken, the oldest first; so many of them at most."""
+        with self._reading():
+            return list(self._database.execute("SELECT id, document FROM outbox ORDER BY id LIMIT ?", (count,)))
+
+    def changes_after(self, number: int) -> Set[int]:
+        """The numbers of the stored changes after the call with this number."""
+        return {each for (each,) in self._database.execute("SELECT id FROM changes WHERE id > ?", (number,))}
+
+    def figures(self) -> Dict[str, float]:
+        return {name: float(value) for name, value in self._database.execute("SELECT name, value FROM figures")}
+
+    def standings(self) -> List[Tuple[int, KeptStanding]]:
+        """The standings that were kept, each with the number of its row."""
+        rows = self._database.execute(f"SELECT id, {', '.join(KeptStanding._fields)} FROM standings")
+        return [(number, KeptStanding(*cells)) for number, *cells in rows]
+
+    def last_changes(self, name: str) -> Optional[LastChanges]:
+        """Since when an object is in its last state, and in its last hard one, by the stored changes; None if it has none."""
+        last: Optional[LastChanges] = None
+        with self._reading():
+            rows = self._database.execute("SELECT * FROM changes WHERE name = ? ORDER BY id", (name,)).fetchall()
+        for _, time, _, state, kind, *_ in self._sound("changes", rows):
+            if last is None or last.state != state:
+                last = LastChanges(str(state), float(str(time)), *((None, None) if last is None else (last.hard_state, last.hard_since)))
+            if kind == "HARD" and last.hard_state != state:
+                last.hard_state, last.hard_since = str(state), float(str(time))
+        return last
+
+    # ---- writing
+
+    def write(self, *writes: "Write") -> None:
+        """Writes all of these or nothing, and syncs it. `NotStored` where the disk is full or the file can't be written."""
+        last_call = self.last_call
+        try:
+            self._database.execute("BEGIN IMMEDIATE")
+            for write in writes:
+                write.carry_out(self)
+            self._database.execute("COMMIT")
+        except sqlite3.Error as error:
+            self.last_call = last_call
+            with contextlib.suppress(sqlite3.Error):
+                if self._database.in_transaction:
+                    self._database.execute("ROLLBACK")
+            raise NotStored(f"{self.path}: {error}") from None
+
+    def insert(self, table: str, number: Optional[int], cells: Sequence[Cell]) -> None:
+        """Writes a row; without a number it has the next one."""
+        number = self._greatest(table) + 1 if number is None else number
+        self.insert_all(table, [(number, cells)])
+
+    def insert_all(self, table: str, rows: Sequence[Tuple[int, Sequence[Cell]]]) -> None:
+        """Writes rows, each with its number."""
+        if rows:
+            self._database.executemany(INSERTS[table], [(number, *cells, checksum_of(table, number, cells)) for number, cells in rows])
+
+    def delete(self, table: str, condition: str, *cells: Cell) -> None:
+        self._database.execute(f"DELETE FROM {table} WHERE {condition}", cells)
+
+
+def locked(folder: pathlib.Path) -> int:
+    """The lock of a site, which one monitor holds."""
+    lock = os.open(folder / "monitor.lock", os.O_RDWR | os.O_CREAT | os.O_CLOEXEC, 0o600)
+    try:
+        fcntl.flock(lock, fcntl.LOCK_EX | fcntl.LOCK_NB)
+    except BlockingIOError:
+        os.close(lock)
+        raise MonitorFault(f"another monitor runs on {folder}") from None
+    return lock
+
+
+class Write:
+    """Something that is written together with others, or not at all."""
+
+    def carry_out(self, store: Store) -> None:
+        raise NotImplementedError
