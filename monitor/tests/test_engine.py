@@ -10,8 +10,9 @@ from nagsched_monitor.run import gearman
 from nagsched_monitor.run.runners import Finished, Gone, Job, Lost
 from nagsched_monitor.scheduler.live_process import Conversation
 from nagsched_monitor.scheduler.schedulers import Schedulers
+from nagsched_monitor.site.site import read_site
 
-from .simulated import BEGIN, SimulatedClock, SimulatedMonitor, SiteTest, fine, host, service
+from .simulated import BEGIN, PROGRAM, SimulatedClock, SimulatedMonitor, SiteTest, fine, host, service
 
 
 def schedulers_of(monitor: SimulatedMonitor) -> Schedulers:
@@ -199,6 +200,20 @@ class Faults(SiteTest):
         monitor.run(200)
         self.assertGreaterEqual(len(monitor.starts()["web"]), 5)
         self.assertEqual(monitor.engine.made, len(monitor.runners.started))
+
+    def test_a_scheduler_that_cant_be_had_at_a_reload(self) -> None:
+        """The site is taken over as a whole, and new objects are checked as soon as their scheduler is there."""
+        self.write_site([host("web")], [])
+        monitor = self.monitor(fine)
+        monitor.run(70)
+        self.write_site([host("web"), host("new")], [])
+        with mock.patch.object(schedulers_of(monitor), "_converse", side_effect=ConversationEnded("no room for a process")):
+            monitor.engine.reload(read_site(self.folder, PROGRAM))
+            self.assertEqual((set(monitor.engine.objects), set(monitor.site.objects)), ({"web", "new"}, {"web", "new"}))
+            monitor.run(20)
+        monitor.run(120)
+        self.assertEqual([len(monitor.starts()[name]) for name in ("web", "new")], [4, 3])
+        self.assertIsNotNone(monitor.engine.objects["new"].phase)
 
     def test_a_call_after_which_the_scheduler_ends(self) -> None:
         """It is set aside with its number, the others go on, and a start isn't held up by it."""

@@ -47,6 +47,8 @@ class Scheduling:
         self._later: List[Write] = []
         self._standings = Standings(store, clock)
         self._printed: List[KeptChange] = []
+        # Whether there are objects of which it isn't known yet how they stand.
+        self._has_unknown = False
         # The changes that were stored before this monitor started: answers that are heard again are no changes.
         self._stored_changes: AbstractSet[int] = frozenset()
 
@@ -99,12 +101,18 @@ class Scheduling:
     def reload(self, site: Site) -> List[str]:
         """Goes on with another site; if that can't be, nothing has changed. Returns what the setups change of objects that stay, a line each."""
         changed = self._go_over(site)
-        try:
-            self._ask_unknown()
-        except ConversationEnded as error:
-            self._log(f"how new objects stand isn't known before their first results: {error}")
+        self._has_unknown = True
+        self._ask_new()
         self._standings.become(self.known.objects)
         return changed
+
+    def _ask_new(self) -> None:
+        """Asks for the standings of new objects; if their scheduler can't be had now, it is asked with the next calls."""
+        try:
+            self._ask_unknown()
+            self._has_unknown = False
+        except ConversationEnded as error:
+            self._log(f"how new objects stand isn't known yet: {error}")
 
     def _go_over(self, site: Site) -> List[str]:
         """Goes on with a site: if its parts are others than those that are open, from the states of all of them, put together."""
@@ -186,6 +194,8 @@ class Scheduling:
 
     def make(self) -> List[Heard]:
         """Makes the calls that were stored, and returns what is heard. Those of a scheduler that can't be had now are made when it is there again."""
+        if self._has_unknown and not self.schedulers.down():
+            self._ask_new()
         return self._hear(self.schedulers.exchange())
 
     def _hear(self, made: Sequence[Made], is_again: bool = False) -> List[Heard]:
