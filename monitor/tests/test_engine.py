@@ -231,7 +231,7 @@ class Faults(SiteTest):
         aside = [line for line in monitor.lines if "is set aside" in line]
         self.assertRegex(aside[0], r'call \d+ is set aside, .*\["report","web",\d+,2\]')
         self.assertGreaterEqual(len(monitor.starts()["db"]), 5)
-        self.assertGreaterEqual(len(monitor.starts()["web"]), 3)
+        self.assertTrue(4 <= len(monitor.starts()["web"]) <= 6, monitor.starts())
         monitor.close()
         after = self.monitor(fine, monitor.clock, converse=Poisoned)
         after.run(100)
