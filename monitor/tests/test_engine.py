@@ -307,7 +307,7 @@ class Faults(SiteTest):
         self.assertEqual((len(monitor.runners.started), len(stuck)), (1, 1))
         self.assertGreaterEqual(monitor.engine.made, 4)
         setattr(monitor.runners, "events", lambda: [Gone(stuck.pop())] if stuck else events())
-        monitor.run(30)
+        monitor.run(35)
         self.assertEqual(len(monitor.runners.started), 3)
 
     def test_the_state_is_saved_while_it_runs(self) -> None:
