@@ -231,7 +231,7 @@ class Faults(SiteTest):
         aside = [line for line in monitor.lines if "is set aside" in line]
         self.assertRegex(aside[0], r'call \d+ is set aside, .*\["report","web",\d+,2\]')
         self.assertGreaterEqual(len(monitor.starts()["db"]), 5)
-        self.assertGreaterEqual(len(monitor.starts()["web"]), 3)
+        self.assertTrue(4 <= len(monitor.starts()["web"]) <= 6, monitor.starts())
         monitor.close()
         after = self.monitor(fine, monitor.clock, converse=Poisoned)
         after.run(100)
@@ -307,7 +307,7 @@ class Faults(SiteTest):
         self.assertEqual((len(monitor.runners.started), len(stuck)), (1, 1))
         self.assertGreaterEqual(monitor.engine.made, 4)
         setattr(monitor.runners, "events", lambda: [Gone(stuck.pop())] if stuck else events())
-        monitor.run(30)
+        monitor.run(35)
         self.assertEqual(len(monitor.runners.started), 3)
 
     def test_the_state_is_saved_while_it_runs(self) -> None:

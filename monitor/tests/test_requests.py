@@ -1,4 +1,5 @@
 """What can be asked of a monitor: each word, and each bad line, which gets an error and changes nothing."""
+import contextlib
 import json
 import socket
 import threading
@@ -223,6 +224,17 @@ class Socket(SiteTest):
         self.assertTrue(comes(lambda: not self.turn(made) and len(self.heard) == 1_001))
         self.assertEqual([line for line in self.heard if line != b"other"], [b"%d" % number for number in range(1_000)])
 
+    def test_long_requests_have_a_turn_each(self) -> None:
+        made = self.serving()
+        there = self.asking()
+        there.sendall(b'one\n{"do":"status"}\n{"do":"status"}\ntwo\n')
+        heard = []
+        for _ in range(6):
+            self.turn(made)
+            heard.append(len(self.heard))
+        self.assertEqual(sorted(set(heard) - {0}), [2, 3, 4])
+        self.assertEqual(self.heard, [b"one", b'{"do":"status"}', b'{"do":"status"}', b"two"])
+
     def test_one_that_reads_slowly_holds_up_nobody(self) -> None:
         made = self.serving(b"x" * 1_000_000 + b"\n")
         slow = self.asking()
@@ -232,9 +244,15 @@ class Socket(SiteTest):
         other.settimeout(30)
         other.sendall(b"two\n")
         got: List[bytes] = []
-        reading = threading.Thread(target=lambda: got.extend(iter(lambda: other.recv(1 << 20), b"")), daemon=True)
-        reading.start()
-        self.assertTrue(comes(lambda: self.turn(made) or sum(map(len, got)) == 1_000_001))
+        other.setblocking(False)
+
+        def is_answered() -> bool:
+            self.turn(made)
+            with contextlib.suppress(BlockingIOError):
+                got.append(other.recv(1 << 20))
+            return sum(map(len, got)) == 1_000_001
+
+        self.assertTrue(comes(is_answered))
         slow.settimeout(30)
         read = 0
 

@@ -20,7 +20,7 @@ class Even(SiteTest):
     def assert_even(self, monitor: SimulatedMonitor) -> None:
         """The checks of the last minute: about 10 in each second."""
         counts = monitor.checks_a_second()[-62:-2]
-        self.assertTrue(7 <= min(counts) and max(counts) <= 13, counts)
+        self.assertTrue(6 <= min(counts) and max(counts) <= 14, counts)
 
     def test_a_pause_of_nine_seconds(self) -> None:
         self.site()

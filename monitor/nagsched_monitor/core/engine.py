@@ -34,6 +34,8 @@ PAUSE = 10_000
 LONGEST_WAIT = 1_000
 CHANGES_WAIT = 100
 NO_REST = 0
+# How long a check whose result was refused waits for the next one, in milliseconds.
+AFTER_REFUSAL = 60_000
 # The state is saved after so many calls, or so many milliseconds; where it can't be, it is tried again.
 SAVE_CALLS = 50_000
 SAVE_AFTER = 300_000
@@ -331,7 +333,7 @@ class Engine:
         self._log(f"{known.name}: the result of run {call.run} came too late ({answer.why})")
         self.counters.result("refused")
         if heard.run is not None and heard.run.number == call.run:
-            heard.run.owner = Owner.NOBODY
+            heard.run.owner, heard.run.again = Owner.NOBODY, self._now + AFTER_REFUSAL
 
     def _taken(self, known: Known) -> None:
         """Gives a run its owner: the passive result that waits, the plugin that still runs, or a new one."""

@@ -178,4 +178,5 @@ def abandoned(run: Run, now: int) -> List[AskedOf]:
     """The calls by which a run is abandoned; its check is made again, forced if it was."""
     part, name = run.place
     abandon: AskedOf = (part, Abandon(name, run.number, now), None)
-    return [abandon, (part, Reschedule(name, now, True), None)] if run.forced else [abandon]
+    is_set = run.forced or run.again is not None
+    return [abandon, (part, Reschedule(name, now if run.again is None else run.again, run.forced), None)] if is_set else [abandon]

@@ -36,6 +36,8 @@ class Run:
     result: Optional[KeptResult] = None
     # Whether the check was forced: so is the next try.
     forced: bool = False
+    # Where it is abandoned, the moment at which its check is made again; None for at once.
+    again: Optional[int] = None
     # When it was taken, in seconds since 1970 of the wall clock.
     began: Optional[float] = None
 

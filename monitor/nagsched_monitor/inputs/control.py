@@ -21,6 +21,8 @@ LINES_IN_TURN = 64
 UNREAD_BYTES = 64 * 1024 * 1024
 MOST_CLIENTS = 200
 IDLE = 300.0
+# A line with this may take long: it is the last one of its client in a turn.
+LONG_REQUEST = b'"status"'
 
 
 @dataclass
@@ -114,8 +116,9 @@ class Control:
 
     def _hand_on(self, file: int, client: Client) -> None:
         *lines, rest = client.unread.split(b"\n", LINES_IN_TURN)
-        client.unread = rest
-        for line in lines:
+        long = next((place for place, line in enumerate(lines, 1) if LONG_REQUEST in line), len(lines))
+        client.unread = b"\n".join([*lines[long:], rest])
+        for line in lines[:long]:
             client.asked += 1
             self._ask(Request(line, partial(self._reply, file, client)))
         if len(rest) > LONGEST_LINE and b"\n" not in rest:
