@@ -13,18 +13,18 @@ from .waiting import comes
 
 class Faults(SiteTest):
     def test_one_is_caught(self) -> None:
-        """Its traceback is in the log, it is counted, and monitoring goes on."""
+        """Its traceback is in the log, it is counted, and monitoring goes on, also after two in a row, twice."""
         self.write_site([host("web")], [])
         monitor = self.monitor(fine)
         monitor.work(10)
-        with mock.patch.object(monitor.engine, "turn", side_effect=[KeyError("what"), ZeroDivisionError, monitor.clock.now + 1000]):
-            for _ in range(3):
+        with mock.patch.object(monitor.engine, "turn", side_effect=2 * [KeyError("what"), ZeroDivisionError, monitor.clock.now + 1000]):
+            for _ in range(6):
                 monitor.loop.go_round()
         self.assertIn("fault: KeyError: 'what'", monitor.lines)
         monitor.work(120)
         self.assertEqual((monitor.loop.status, len(monitor.starts()["web"])), (None, 3))
         monitor.engine.close()
-        self.assertEqual(monitor.store.figures()["faults"], 2)
+        self.assertEqual(monitor.store.figures()["faults"], 4)
 
     def test_three_in_a_row_end_the_process(self) -> None:
         self.write_site([host("web")], [])

@@ -287,6 +287,9 @@ class Engine:
         for request in self._asked:
             step: Step = self.requests.plan(request)
             plan.calls += step.calls
+            for _, call, _ in step.calls:
+                if isinstance(call, Reschedule):
+                    self._wanted.pop(call.name, None)  # an operator's word counts
             plan.writes += step.writes
             plan.then += step.then
             plan.last += step.last
