@@ -329,6 +329,7 @@ def loops(held, library):
 def installed(held, library):
     """Both examples over what tools/install.sh puts down: the header, the library and its pkg-config file, the Python module."""
     prefix, env = library.folder / "installed", os.environ | {"NAGSCHED_BUILT": str(library.prefix)}
+    ran(TOP / "monitor" / "build_runner.sh")
     made = ran("bash", TOP / "tools" / "install.sh", prefix, env=env)
     held.compare("tools/install.sh", 0, made.returncode)
     found = env | {"PKG_CONFIG_PATH": str(prefix / "lib/pkgconfig"), "LD_LIBRARY_PATH": str(prefix / "lib")}

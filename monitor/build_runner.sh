@@ -6,4 +6,9 @@ set -eu
 here=$(cd "$(dirname "$0")" && pwd)
 file=${1:-$here/out/nagsched-runner}
 mkdir -p "$(dirname "$file")"
-cc -std=c11 -O2 -Wall -Wextra -Wconversion -Werror ${CFLAGS--static} -o "$file" "$here"/runner/*.c -lm
+# The file is replaced as a whole, since a monitor may run it while it is built again.
+made=$(mktemp "$file.XXXXXX")
+trap 'rm -f "$made"' EXIT
+cc -std=c11 -O2 -Wall -Wextra -Wconversion -Werror ${CFLAGS--static} -o "$made" "$here"/runner/*.c -lm
+chmod 755 "$made"
+mv "$made" "$file"
