@@ -222,7 +222,7 @@ class Signed(Working):
             document = self.document(["true"], **{"job": str(random.random()), "time": self.now, "until": self.now + 30, **members})
             try:
                 door.job_of(document)
-            except Exception:
+            except gearman_worker.Refusal:
                 return False
             return True
 
