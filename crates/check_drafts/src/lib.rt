@@ -23,7 +23,7 @@ mod place;
 pub use dependency::{Criteria, Dependency, HOST_LETTERS, SERVICE_LETTERS};
 pub use draft::{CheckDraft, DependencyDraft, Drafts, HostDraft, ServiceDraft, text};
 pub use error::LoadError;
-pub use fault::{Count, Fault, RangeFault, ShapeFault};
+pub use fault::{Count, End, EndFault, Fault, NameFault, RangeFault, ShapeFault, Unread};
 pub use limits::{
     MAX_ATTEMPTS, MAX_CONCURRENT_CHECKS, MAX_DELAY, MAX_DEPENDENCIES, MAX_DOCUMENT_BYTES,
     MAX_FACTOR, MAX_FLAP_THRESHOLD, MAX_INTERVAL, MAX_INTERVAL_LENGTH, MAX_NAME_BYTES, MAX_OBJECTS,
@@ -31,7 +31,7 @@ pub use limits::{
 };
 pub use member::{DefaultValue, Kind, Member};
 pub use members::members_at;
-pub use name::{full_name, is_name};
+pub use name::{full_name, name_fault};
 pub use object::Object;
 pub use options::{DelayMethod, InterleaveFactor, Options};
 pub use place::{Part, Place};
