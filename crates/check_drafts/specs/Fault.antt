@@ -35,7 +35,8 @@ pub data WrongNumber : Type 0 where
 pub data Fault : Type 0 where
   too_long : Fault
   not_json : Fault
-  shape : Place → WrongShape → Fault
+  -- what is wrong by the table of members; the reader never fails where that is nothing
+  shape : Place → Option WrongShape → Fault
   too_many : Count → ℕ → Fault
   bad_name : Place → NameFault → Fault
   -- the second index is that of the earlier item
@@ -84,7 +85,7 @@ range_seen (range_faults.HostThresholds low high) = host_thresholds low high
 abbrev pub seen : declared.Fault → Fault
 seen faults.TooLong = too_long
 seen (faults.NotJson u) = not_json
-seen (faults.Shape p w) = shape p (shape_seen w)
+seen (faults.Shape p w) = shape p (Some (shape_seen w))
 seen (faults.TooMany c n) = too_many c n
 seen (faults.BadName p w) = bad_name p w
 seen (faults.Duplicate p i) = duplicate p i
