@@ -1,13 +1,13 @@
 -- What becomes of the objects when a scheduler goes on over a setup from a saved state.
-use Rattle.std.specs.Prelude.{ℕ, ◌==◌, ◌&&◌, Bool, false, not, nat_lt, List, [], count_by, drop, Option, Some, None, is_none, is_some, option_map, if◌then◌else◌}
+use Rattle.std.specs.Prelude.{ℕ, ◌==◌, ◌&&◌, Bool, false, not, nat_lt, List, [], count_by, drop, Option, Some, None, is_none, is_some, option_map, zip, if◌then◌else◌}
 use Rattle.check_drafts.specs.declared.object.Object.{Object}
 use Rattle.check_objects.specs.Configuration.{Configuration, host_count, number_of, objects_of}
 use Rattle.check_saved.specs.Saved.{Saved, SavedObject, saved_named}
 use Rattle.check_saved.specs.Scheduling.{Scheduling}
-use Rattle.check_sched.specs.Report.{milliseconds}
 use Rattle.check_sched.specs.Roster.{running_among}
 use Rattle.check_sched.specs.Saved.{each_object, is_same_switch, keeps_limit, objects_kept}
 use Rattle.check_sched.specs.State.{limit_of}
+use Rattle.check_spread.specs.Spread.{milliseconds}
 use Rattle.check_changes.specs.declared.figures.Figures.{Figures}
 use Rattle.check_changes.specs.declared.kept.Kept.{Kept}
 
@@ -50,6 +50,10 @@ abbrev pub given_up_count : Configuration → Saved → ℕ
 given_up_count setup saved =
     let objects = objects_before_limit setup saved in
     if keeps_limit setup objects then 0 else running_among (drop (host_count setup) objects)
+
+-- how many objects are out in the first of two lists by number, and aren't in the second
+abbrev pub ended_among : List Scheduling → List Scheduling → ℕ
+ended_among before after = count_by (λ p. is_some p.0.run && is_none p.1.run) (zip before after)
 
 -- whether an object is kept and out
 abbrev pub is_out : Option Kept → Bool

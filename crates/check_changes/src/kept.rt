@@ -2,11 +2,11 @@
 
 ghost use Rattle.std.specs.Prelude.{◌≡◌, ◌≤◌, IfOk, length};
 ghost use Rattle.check_objects.specs.Configuration.{IsSetup};
-ghost use Rattle.check_sched.specs.Report.{milliseconds};
 ghost use Rattle.check_changes.specs.Changes.{kept_by, kept_of};
 
 use check_objects::{MAX_INTERVAL, Object, Setup};
 use check_saved::{Saved, SavedObject};
+use check_spread::milliseconds;
 use std::alloc::{AllocError, Global};
 
 /// An object that is kept: one of the setup whose full name the saved state has.
@@ -54,13 +54,4 @@ fn compare(setup: &Setup, object: &Object, saved: &SavedObject) -> Kept
         interval: milliseconds(setup, object.check_interval) != saved.interval,
         enabled: object.enabled != saved.setup_enabled,
     }
-}
-
-/// An interval of units of `interval_length`, in milliseconds.
-fn milliseconds(setup: &Setup, interval: u64) -> u64
-    requires valid_setup { IsSetup setup.now }
-    requires interval { interval ≤ MAX_INTERVAL }
-    ensures { result ≡ milliseconds setup.now interval }
-{
-    interval * setup.options().interval_length * 1000
 }

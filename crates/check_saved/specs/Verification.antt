@@ -1,5 +1,5 @@
 -- Verifying what a saved state says, once it is in the right shape: one test after another, each over the whole of it.
-use Rattle.std.specs.Prelude.{ℕ, ◌^◌, ◌<◌, ◌==◌, ◌&&◌, ◌||◌, Bool, true, false, not, List, length, map, position, min, Option, Some, None, option_map}
+use Rattle.std.specs.Prelude.{ℕ, ◌^◌, ◌<◌, ◌==◌, ◌&&◌, ◌||◌, Bool, true, false, not, List, length, map, position, Option, Some, None, option_map}
 use Rattle.std.specs.Prelude.{Result, Ok, Err, bytes_eq, nat_le, nat_lt, if◌then◌else◌}
 use Rattle.std.specs.List.{after_first, before_first, list_all}
 use Rattle.check_drafts.specs.Agreement.{◌>>=◌, refused_at}
@@ -15,6 +15,7 @@ use Rattle.check_saved.specs.declared.fault.SavedFault.{SavedFault}
 use Rattle.check_saved.specs.declared.fault.SavedFault.TheVariants as faults
 use Rattle.check_saved.specs.Saved.{Saved, SavedObject}
 use Rattle.check_saved.specs.Scheduling.{OpenRun, is_in_time, is_timed_if_forced}
+use Rattle.check_spread.specs.Spread.{earlier}
 
 -- ---- how many
 
@@ -103,16 +104,10 @@ is_same_run (Some one) (Some other) = one == other
 is_same_run (Some one) None = false
 is_same_run None other = false
 
--- the earlier of two places; either by itself where the other is none
-abbrev pub earlier_place : Option ℕ → Option ℕ → Option ℕ
-earlier_place None other = other
-earlier_place (Some place) None = Some place
-earlier_place (Some place) (Some other) = Some (min place other)
-
 -- every object can be as it is, and no two are out under one number; else the first that can't be, or that is out under the number of an earlier one
 abbrev pub lawful_objects : ℕ → List SavedObject → Result (Unit {0}) SavedFault
 lawful_objects runs objects =
-    refused_at faults.Unlawful (earlier_place (position (λ o. not (can_be runs o)) objects) (first_repeat is_same_run (map run_number objects)))
+    refused_at faults.Unlawful (earlier (position (λ o. not (can_be runs o)) objects) (first_repeat is_same_run (map run_number objects)))
 
 -- ---- all of it
 

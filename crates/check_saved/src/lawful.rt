@@ -5,7 +5,8 @@ ghost use Rattle.check_drafts.specs.Keys.{first_repeat};
 ghost use Rattle.check_rules.specs.State.{is_of_sort};
 ghost use Rattle.check_saved.specs.SavedFault.{Gives};
 ghost use Rattle.check_saved.specs.Scheduling.{is_timed};
-ghost use Rattle.check_saved.specs.Verification.{can_be, can_have_results, can_stand, earlier_place, is_as_pending};
+ghost use Rattle.check_saved.specs.Verification.{can_be, can_have_results, can_stand, is_as_pending};
+ghost use Rattle.check_spread.specs.Spread.{earlier};
 ghost use Rattle.check_saved.specs.Verification.{is_numbered, is_same_run, lawful_objects, run_number};
 
 use crate::fault::SavedFault;
@@ -30,9 +31,9 @@ pub(crate) fn verify_lawful(
     }
 }
 
-/// The earlier of two places; either by itself where the other is none.
+/// The earlier of two places, or the only one, or None if there is none.
 fn earlier(one: Option<usize>, other: Option<usize>) -> Option<usize>
-    ensures { result ≡ earlier_place one other }
+    ensures { result ≡ earlier one other }
 {
     match (one, other) {
         (Some(one), Some(other)) => Some(one.min(other)),

@@ -28,5 +28,5 @@ mod verification;
 mod words;
 
 pub use fault::SavedFault;
-pub use limits::MAX_SAVED_BYTES;
+pub use limits::{MAX_RUNS, MAX_SAVED_BYTES};
 pub use saved::{Saved, SavedObject, SavedRun};

@@ -3,6 +3,7 @@
 ghost use Rattle.std.specs.Prelude.{◌≡◌};
 
 use check_rules::{Standing, State};
+use check_spread::LAST_MOMENT;
 use std::marker::Model;
 
 /// A check that was out when its scheduler was put down. Contracts see it as a record `OpenRun`.
@@ -86,6 +87,7 @@ impl Model for Saved {
 }
 
 impl Saved {
+    ghost use Rattle.std.specs.Prelude.{◌≤◌};
     ghost use Rattle.check_saved.specs.Saved.{IsSaved};
 
     /// What was saved of these objects, of a scheduler that started at `start`, in milliseconds, and
@@ -103,7 +105,8 @@ impl Saved {
 
     /// The moment at which scheduling started, in milliseconds: at most 2^60.
     pub fn start(&self) -> u64
-        ensures { result ≡ self.now.start }
+        ensures value { result ≡ self.now.start }
+        ensures moment { result ≤ LAST_MOMENT }
     {
         self.start
     }
@@ -117,15 +120,9 @@ impl Saved {
 
     /// What is saved of each object: at most 4,096.
     pub fn objects(&self) -> &[SavedObject]
-        ensures { result.now ≡ self.now.objects }
+        ensures value { result.now ≡ self.now.objects }
+        ensures saved { IsSaved self.now }
     {
         &self.objects
-    }
-
-    /// A law without code: what `IsSaved` says is true of everything that is saved.
-    pub fn is_saved(&self)
-        ensures { IsSaved self.now }
-    {
-        let _ = &self.objects;
     }
 }

@@ -28,8 +28,6 @@ impl Saved {
         ensures fits { IfOk result (λ text. length text.items ≤ 16777216) }
         ensures reads_back { IfOk result (λ text. saved_of_text text.items ≡ Ok self.now) }
     {
-        // By what is true of it, its text is short enough to be read.
-        self.is_saved();
         let tree = saved_value(alloc, self)?;
         let text = tree.to_vec(alloc)?;
         Ok(text)

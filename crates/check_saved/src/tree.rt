@@ -3,6 +3,7 @@ ghost use Rattle.std.specs.Prelude.{◌≡◌, IfOk, OnOk, map, true};
 ghost use Rattle.std.specs.List.{list_all};
 ghost use Rattle.serde_json.specs.View.{members_view, view};
 ghost use Rattle.check_saved.specs.Members.{is_narrow, scheduling_members, setup_members, standing_members, state_members};
+ghost use Rattle.check_saved.specs.Saved.{IsSaved};
 ghost use Rattle.check_saved.specs.Tree.{object_tree, run_tree, saved_tree};
 
 use crate::letters::letters_of;
@@ -15,6 +16,7 @@ use std::alloc::{AllocError, Global};
 /// The tree of all that is saved.
 pub(crate) fn saved_value(alloc: Global, saved: &Saved) -> Result<Value, AllocError>
     ensures tree { IfOk result (λ tree. view tree ≡ saved_tree saved.now) }
+    ensures saved { OnOk result (IsSaved saved.now) }
     ensures narrow { OnOk result (list_all is_narrow saved.now.objects ≡ true) }
 {
     let objects = object_values(alloc, saved.objects())?;

@@ -8,10 +8,11 @@ ghost use Rattle.check_saved.specs.Verification.{is_attempt, is_full_name, is_in
 
 use crate::draft::{ObjectDraft, SavedDraft, SchedulingDraft};
 use crate::fault::SavedFault;
-use crate::limits::{LAST_MOMENT, LAST_TIME, MAX_RUNS};
+use crate::limits::MAX_RUNS;
 use crate::name::is_full_name;
 use crate::saved::SavedRun;
 use check_drafts::{MAX_ATTEMPTS, MAX_OBJECTS};
+use check_spread::{LAST_MOMENT, LAST_TIME};
 use indexmap::IndexSet;
 use std::alloc::Global;
 

@@ -6,7 +6,7 @@ use Rattle.check_objects.specs.Configuration.{Configuration, objects_of}
 use Rattle.check_rules.specs.declared.standing.Standing.{Standing}
 use Rattle.check_rules.specs.Standing.{is_soft_problem}
 use Rattle.check_sched.specs.declared.intervals.Intervals.{Intervals}
-use Rattle.check_sched.specs.Report.{milliseconds}
+use Rattle.check_spread.specs.Spread.{milliseconds}
 
 -- those of one object
 abbrev pub intervals_for : Configuration → Object → Intervals

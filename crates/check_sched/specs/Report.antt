@@ -1,5 +1,5 @@
 -- What the result of a check makes of an object, and to when one is put off.
-use Rattle.std.specs.Prelude.{ℕ, ◌+◌, ◌*◌, ◌==◌, Bool, true, not, List, Option, Some, None, option_and_then, slice_get, if◌then◌else◌}
+use Rattle.std.specs.Prelude.{ℕ, ◌+◌, ◌==◌, Bool, true, not, List, Option, Some, None, option_and_then, slice_get, if◌then◌else◌}
 use Rattle.std.specs.Option.{option_or}
 use Rattle.check_drafts.specs.declared.object.Object.{Object}
 use Rattle.check_objects.specs.Configuration.{Configuration, objects_of, host_of}
@@ -11,6 +11,7 @@ use Rattle.check_rules.specs.Flapping.{is_flapping, kept_after}
 use Rattle.check_rules.specs.Standing.{is_down, is_soft_problem}
 use Rattle.check_rules.specs.Reachability.{host_state_of}
 use Rattle.check_rules.specs.Verdict.{verdict_on}
+use Rattle.check_spread.specs.Spread.{milliseconds}
 use Rattle.check_sched.specs.State.{flap_thresholds_of, max_attempts_of, results_at, standing_at}
 
 -- The state that the code of an object's check means, by its host, if it is a service: that of a host
@@ -46,10 +47,6 @@ flaps_with setup standings results number found =
 -- is a soft problem, else the check interval. ("Service and Host Check Scheduling", "State Types".)
 abbrev pub interval_after : Object → Standing → ℕ
 interval_after o standing = if is_soft_problem standing then o.retry_interval else o.check_interval
-
--- an interval in milliseconds: interval_length is in seconds
-abbrev pub milliseconds : Configuration → ℕ → ℕ
-milliseconds setup interval = interval * setup.options.interval_length * 1000
 
 -- The time of the next check is the interval after the start of this one; an interval of 0 gives
 -- none. (Our own profile.)

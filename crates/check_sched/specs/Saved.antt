@@ -10,13 +10,12 @@ use Rattle.check_rules.specs.declared.standing.Kind.TheVariants as kind
 use Rattle.check_rules.specs.declared.standing.Standing.{Standing}
 use Rattle.check_rules.specs.Standing.{is_soft_problem, pending_standing}
 use Rattle.check_rules.specs.State.{is_problem}
-use Rattle.check_sched.specs.Report.{milliseconds}
 use Rattle.check_sched.specs.Roster.{running_among}
 use Rattle.check_sched.specs.Scheduling.{ended, freed_time, opening_object}
 use Rattle.check_saved.specs.Saved.{Saved, SavedObject, saved_named}
 use Rattle.check_saved.specs.Scheduling.{Scheduling}
 use Rattle.check_sched.specs.State.{State, is_host, limit_of, results_at, scheduling_at, standing_at}
-use Rattle.check_spread.specs.Spread.{initial_times}
+use Rattle.check_spread.specs.Spread.{earlier, initial_times, milliseconds}
 
 -- ---- what is saved
 
@@ -53,12 +52,6 @@ abbrev pub is_same_switch : Bool → Bool → Bool
 is_same_switch true other = other
 is_same_switch false other = not other
 
--- the earlier of two times; either by itself where the other is none
-abbrev pub earlier_time : Option ℕ → Option ℕ → Option ℕ
-earlier_time None other = other
-earlier_time (Some time) None = Some time
-earlier_time (Some time) (Some other) = Some (min time other)
-
 -- Whether the next time stays as it was saved: the check interval and the setup's switch are the same, or the object is out, or its next check
 -- is forced.
 abbrev pub keeps_time : Configuration → Object → SavedObject → Bool
@@ -70,7 +63,7 @@ keeps_time setup object saved =
 -- same of the object.
 abbrev pub scheduling_kept : Configuration → Option ℕ → Object → SavedObject → Scheduling
 scheduling_kept setup first object saved = record {
-  next = if keeps_time setup object saved then saved.scheduling.next else earlier_time saved.scheduling.next first;
+  next = if keeps_time setup object saved then saved.scheduling.next else earlier saved.scheduling.next first;
   run = saved.scheduling.run;
   enabled = if is_same_switch object.enabled saved.setup_enabled then saved.scheduling.enabled else object.enabled;
   forced = saved.scheduling.forced;

@@ -5,10 +5,9 @@ ghost use Rattle.check_objects.specs.Configuration.{IsSetup};
 ghost use Rattle.std.specs.Option.{option_or};
 ghost use Rattle.check_sched.specs.Intervals.{AreFew, interval_by, intervals_for, intervals_of, next_by, time_past};
 
-use crate::report::milliseconds;
 use check_objects::{MAX_INTERVAL, Object, Setup};
 use check_rules::Standing;
-use check_spread::{LAST_MOMENT, LAST_TIME};
+use check_spread::{LAST_MOMENT, LAST_TIME, milliseconds};
 use std::alloc::{AllocError, Global};
 
 /// The intervals of an object in milliseconds: from a check to the next, and to the next while the object

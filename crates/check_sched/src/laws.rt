@@ -10,7 +10,7 @@ ghost use Rattle.check_objects.specs.Configuration.{Configuration, IsSetup, name
 ghost use Rattle.check_spread.specs.declared.limits.TheConstants.{LAST_MOMENT, LAST_TIME};
 ghost use Rattle.check_rules.specs.declared.standing.Standing.{Standing};
 ghost use Rattle.check_rules.specs.Standing.{is_soft_problem, pending_standing};
-ghost use Rattle.check_sched.specs.declared.sched.TheConstants.{MAX_RUNS};
+ghost use Rattle.check_saved.specs.declared.limits.TheConstants.{MAX_RUNS};
 ghost use Rattle.check_sched.specs.declared.call.Call.{Call};
 ghost use Rattle.check_saved.specs.Saved.{IsSaved, Saved, SavedObject, saved_named};
 ghost use Rattle.check_saved.specs.Written.{IsWritable};

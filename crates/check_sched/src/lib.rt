@@ -30,6 +30,6 @@ mod roster;
 mod sched;
 
 pub use call::{Call, Refusal, Reply};
-pub use check_saved::{Saved, SavedRun};
+pub use check_saved::{MAX_RUNS, Saved, SavedRun};
 pub use check_spread::{LAST_MOMENT, LAST_TIME};
-pub use sched::{MAX_RUNS, Sched};
+pub use sched::Sched;

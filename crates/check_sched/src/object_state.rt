@@ -4,41 +4,11 @@ use crate::call::Refusal;
 use check_saved::SavedRun;
 use std::marker::Model;
 
-/// A check that was handed out and hasn't come back: its number, and the moment at which it was
-/// handed out, in milliseconds.
-#[derive(Clone, Copy)]
-pub(crate) struct Run {
-    pub(crate) number: u64,
-    pub(crate) start: u64,
-}
-
-impl Model for Run {
-    ghost use Rattle.check_saved.specs.Scheduling.{OpenRun};
-
-    ghost Value = { OpenRun };
-
-    ghost view = { λ run. record { number = run.number; start = run.start } };
-
-    ghost inverse = { λ run. record { number = run.number; start = run.start } };
-}
-
-impl Run {
-    ghost use Rattle.std.specs.Prelude.{◌≡◌};
-
-    /// The number under which the check was handed out.
-    pub(crate) fn number(&self) -> u64
-        ensures { result ≡ self.now.number }
-    {
-        self.number
-    }
-
-    /// The moment at which it was handed out.
-    pub(crate) fn start(&self) -> u64
-        ensures { result ≡ self.now.start }
-    {
-        self.start
-    }
-}
+/// The run in the field of an object that isn't being checked.
+const NO_RUN: SavedRun = SavedRun {
+    number: 0,
+    start: 0,
+};
 
 /// The scheduling of one object: the time of its next check in milliseconds, the run of the check
 /// that is out, whether its active checks are enabled, and whether its next check is forced.
@@ -49,7 +19,7 @@ impl Run {
 #[derive(Drop)]
 pub(crate) struct ObjectState {
     time: u64,
-    run: Run,
+    run: SavedRun,
     has_time: bool,
     has_run: bool,
     enabled: bool,
@@ -70,7 +40,7 @@ impl Model for ObjectState {
 #[derive(Clone, Copy)]
 pub(crate) enum Change {
     /// Begin this run: the object loses its next time and its forced mark.
-    Begin(Run),
+    Begin(SavedRun),
     /// End the run: the object has its next check at this time, if at all.
     End(Option<u64>),
     /// Put the next check off to this time, if there is to be one.
@@ -94,10 +64,7 @@ impl ObjectState {
     {
         ObjectState {
             time: first.unwrap_or(0),
-            run: Run {
-                number: 0,
-                start: 0,
-            },
+            run: NO_RUN,
             has_time: first.is_some(),
             has_run: false,
             enabled,
@@ -114,19 +81,9 @@ impl ObjectState {
     ) -> ObjectState
         ensures { result ≡ record { next = next; run = run; enabled = enabled; forced = forced } }
     {
-        let out = match run {
-            Some(run) => Run {
-                number: run.number,
-                start: run.start,
-            },
-            None => Run {
-                number: 0,
-                start: 0,
-            },
-        };
         ObjectState {
             time: next.unwrap_or(0),
-            run: out,
+            run: run.unwrap_or(NO_RUN),
             has_time: next.is_some(),
             has_run: run.is_some(),
             enabled,
@@ -141,22 +98,11 @@ impl ObjectState {
         if self.has_time { Some(self.time) } else { None }
     }
 
-    /// The run of the check that is out, if one is.
-    fn run(&self) -> Option<Run>
+    /// The run of the check that was handed out and hasn't come back, if there is one.
+    pub(crate) fn run(&self) -> Option<SavedRun>
         ensures { result ≡ self.now.run }
     {
         if self.has_run { Some(self.run) } else { None }
-    }
-
-    /// The run of the check that is out, if one is, as it is saved.
-    pub(crate) fn saved_run(&self) -> Option<SavedRun>
-        ensures { result ≡ self.now.run }
-    {
-        let run = self.run()?;
-        Some(SavedRun {
-            number: run.number(),
-            start: run.start(),
-        })
     }
 
     /// Whether the object is being checked.
@@ -171,7 +117,7 @@ impl ObjectState {
         ensures { result ≡ option_map (λ run. run.number) self.now.run }
     {
         match self.run() {
-            Some(run) => Some(run.number()),
+            Some(run) => Some(run.number),
             None => None,
         }
     }
@@ -245,12 +191,12 @@ impl ObjectState {
     }
 
     /// The run of this number, or why there is none.
-    pub(crate) fn run_under(&self, number: u64) -> Result<Run, Refusal>
+    pub(crate) fn run_under(&self, number: u64) -> Result<SavedRun, Refusal>
         ensures { result ≡ run_under number self.now.run }
     {
         match self.run() {
             None => Err(Refusal::NotRunning),
-            Some(run) if run.number() == number => Ok(run),
+            Some(run) if run.number == number => Ok(run),
             Some(_) => Err(Refusal::WrongRun),
         }
     }

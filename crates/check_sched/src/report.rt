@@ -1,15 +1,15 @@
 //! What the result of a check makes of an object's standing, and to when an object is put off.
 
-ghost use Rattle.std.specs.Prelude.{◌≡◌, ◌<◌, ◌≤◌, ◌*◌, IfSome, length, Some, true};
+ghost use Rattle.std.specs.Prelude.{◌≡◌, ◌<◌, ◌≤◌, IfSome, length, Some, true};
 ghost use Rattle.check_objects.specs.Configuration.{IsSetup, host_of, object_count};
 ghost use Rattle.check_rules.specs.State.{is_another_state, is_host_state, is_problem};
 ghost use Rattle.check_sched.specs.State.{IsStandingOf, flap_thresholds_of, is_host, max_attempts_of, standing_at};
 ghost use Rattle.check_sched.specs.Report.{is_host_up, judged};
-ghost use Rattle.check_sched.specs.Report.{milliseconds, put_off_until, state_found, time_after};
+ghost use Rattle.check_sched.specs.Report.{put_off_until, state_found, time_after};
 
-use check_objects::{MAX_INTERVAL, MAX_INTERVAL_LENGTH, Setup};
+use check_objects::{MAX_INTERVAL, Setup};
 use check_rules::{Code, Standing, State, host_state, service_state, verdict};
-use check_spread::{LAST_MOMENT, LAST_TIME};
+use check_spread::{LAST_MOMENT, LAST_TIME, milliseconds};
 
 /// The state of the object with this number after its check returned this code, beside the standings
 /// of all objects, by number.
@@ -136,14 +136,4 @@ fn time_after(setup: &Setup, start: u64, interval: u64) -> Option<u64>
         return None;
     }
     Some(start + milliseconds(setup, interval))
-}
-
-/// An interval of units of `interval_length`, in milliseconds.
-pub(crate) fn milliseconds(setup: &Setup, interval: u64) -> u64
-    requires valid_setup { IsSetup setup.now }
-    requires interval { interval ≤ MAX_INTERVAL }
-    ensures value { result ≡ milliseconds setup.now interval }
-    ensures within { result ≤ MAX_INTERVAL * MAX_INTERVAL_LENGTH * 1000 }
-{
-    interval * setup.options().interval_length * 1000
 }

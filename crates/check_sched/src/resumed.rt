@@ -3,13 +3,13 @@
 
 ghost use Rattle.std.specs.Prelude.{◌≡◌, ◌≤◌, option_map};
 ghost use Rattle.check_objects.specs.Configuration.{IsSetup};
-ghost use Rattle.check_sched.specs.Saved.{earlier_time, is_same_switch, keeps_time, scheduling_kept, scheduling_of, soft_kept, standing_kept, standing_of};
+ghost use Rattle.check_sched.specs.Saved.{is_same_switch, keeps_time, scheduling_kept, scheduling_of, soft_kept, standing_kept, standing_of};
 
 use crate::object_state::ObjectState;
-use crate::report::milliseconds;
 use check_objects::{MAX_INTERVAL, Object, Setup};
 use check_rules::{Kind, Standing, pending};
 use check_saved::SavedObject;
+use check_spread::{earlier, milliseconds};
 
 /// The scheduling of an object to which the spread gives this first time. A new one begins as at an
 /// opening.
@@ -44,7 +44,7 @@ fn scheduling_kept(
     let next = if keeps_time(setup, object, saved) {
         saved.next
     } else {
-        earlier_time(saved.next, first)
+        earlier(saved.next, first)
     };
     let enabled = if is_same_switch(object.enabled, saved.setup_enabled) {
         saved.enabled
@@ -73,17 +73,6 @@ fn is_same_switch(one: bool, other: bool) -> bool
     ensures { result ≡ is_same_switch one other }
 {
     one == other
-}
-
-/// The earlier of two times; either by itself where the other is none.
-fn earlier_time(one: Option<u64>, other: Option<u64>) -> Option<u64>
-    ensures { result ≡ earlier_time one other }
-{
-    match (one, other) {
-        (Some(time), Some(later)) => Some(time.min(later)),
-        (Some(time), None) => Some(time),
-        (None, _) => other,
-    }
 }
 
 /// The standing of an object, a host or a service: that of a new one is pending.

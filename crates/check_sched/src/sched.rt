@@ -28,9 +28,6 @@ mod operators;
 mod resuming;
 mod saving;
 
-/// How many runs are handed out at most.
-pub const MAX_RUNS: u64 = 1 << 60;
-
 /// A scheduler over a setup. Contracts see it as a record `State`: the setup, the start, the state,
 /// the standing and the last results of each object by number, and how many runs were handed out.
 #[derive(Drop)]
@@ -73,6 +70,7 @@ impl Sched {
     pub fn new(alloc: Global, setup: Setup, start: u64) -> Result<Sched, Setup>
         requires { start ≤ LAST_MOMENT }
         ensures ok { IfOk result (λ scheduler. scheduler ≡ opening setup start) }
+        ensures state { IfOk result IsState }
         ensures valid_setup { OnOk result (IsSetup setup) }
         ensures err { IfErr result (λ handed_back. handed_back ≡ setup) }
     {
@@ -170,14 +168,6 @@ impl Sched {
         }
     }
 
-    /// A law without code: each scheduler is in a state that one can be in. For the proofs of what
-    /// stands on it.
-    pub fn is_state(&self)
-        ensures { IsState self.now }
-    {
-        let _ = &self.setup;
-    }
-
     /// How many words its board has: one for each object, and so at most 4,096. The board is what a
     /// lock shows of the scheduler to those who don't hold it.
     pub fn words(&self) -> u32
@@ -265,7 +255,7 @@ impl Sched {
         requires { number < object_count self.now.setup }
         ensures { result ≡ option_and_then (λ o. o.run) (slice_get self.now.objects number) }
     {
-        self.roster.at(number).saved_run()
+        self.roster.at(number).run()
     }
 }
 

@@ -1,5 +1,5 @@
 -- The times of the first checks ("Service and Host Check Scheduling": inter-check delay, service interleaving).
-use Rattle.std.specs.Prelude.{ℕ, ◌+◌, ◌*◌, ◌/◌, ◌%◌, ◌==◌, ◌&&◌, ◌||◌, Bool, not, List, ◌++◌, length, map, filter, count_by, sum_by, nat_lt, nat_le, Option}
+use Rattle.std.specs.Prelude.{ℕ, ◌+◌, ◌*◌, ◌/◌, ◌%◌, ◌==◌, ◌&&◌, ◌||◌, Bool, not, List, ◌++◌, length, map, min, filter, count_by, sum_by, nat_lt, nat_le, Option}
 use Rattle.std.specs.Prelude.{Some, None, if◌then◌else◌}
 use Rattle.std.specs.Int.{div_ceil}
 use Rattle.std.specs.List.{enumerate_from}
@@ -18,6 +18,10 @@ use Rattle.check_spread.specs.declared.spread.Scheduled.{Scheduled}
 -- profile.)
 abbrev pub is_scheduled : Object → Bool
 is_scheduled o = o.enabled && not (o.check_interval == 0)
+
+-- An interval in milliseconds: interval_length is the length of a unit in seconds.
+abbrev pub milliseconds : Configuration → ℕ → ℕ
+milliseconds setup interval = interval * setup.options.interval_length * 1000
 
 -- the check interval in milliseconds: a unit lasts so many seconds
 abbrev pub interval_of : ℕ → Object → ℕ
@@ -76,6 +80,16 @@ first_time spread objects position object =
 -- the times of the first checks of one sort of object, by position
 abbrev pub first_times : Spread → List Object → List (Option ℕ)
 first_times spread objects = map (λ p. first_time spread objects p.0 p.1) (enumerate_from 0 objects)
+
+-- Of two times the one that pick chooses, or the only one, or none.
+abbrev pub picked : (ℕ → ℕ → ℕ) → Option ℕ → Option ℕ → Option ℕ
+picked pick None other = other
+picked pick (Some one) None = Some one
+picked pick (Some one) (Some other) = Some (pick one other)
+
+-- the earlier of two times, or the only one, or none
+abbrev pub earlier : Option ℕ → Option ℕ → Option ℕ
+earlier one other = picked min one other
 
 -- the number of services for each host, rounded up; 1 where there is no service
 abbrev pub smart_factor : ℕ → ℕ → ℕ

@@ -1,8 +1,8 @@
 -- What an operator asks of a setup at a glance.
-use Rattle.std.specs.Prelude.{ℕ, min, max, ◌==◌, ◌&&◌, Bool, not, List, [], ◌∷◌, length, take, drop, count_by, sum_by, Option, Some, None}
+use Rattle.std.specs.Prelude.{ℕ, max, ◌==◌, ◌&&◌, Bool, not, List, [], ◌∷◌, length, take, drop, count_by, sum_by, Option, Some, None}
 use Rattle.check_drafts.specs.declared.object.Object.{Object}
 use Rattle.check_objects.specs.Configuration.{Configuration, host_count, masters_of, parents_by_host}
-use Rattle.check_spread.specs.Spread.{all_objects, factor_by, initial_times, is_scheduled}
+use Rattle.check_spread.specs.Spread.{all_objects, earlier, factor_by, initial_times, is_scheduled, picked}
 use Rattle.check_summary.specs.Chains.{longest_chain}
 use Rattle.check_summary.specs.declared.chains.Chains.{Chains}
 use Rattle.check_summary.specs.declared.counts.Links.{Links}
@@ -44,24 +44,14 @@ reasons_among objects =
 
 -- ---- the first and the last of the first checks
 
--- the one of two times that is picked, where there are such
-abbrev pub picked : (ℕ → ℕ → ℕ) → Option ℕ → Option ℕ → Option ℕ
-picked pick None u = u
-picked pick (Some t) None = Some t
-picked pick (Some t) (Some u) = Some (pick t u)
-
--- the sooner of two times, where there are such
-abbrev pub sooner : Option ℕ → Option ℕ → Option ℕ
-sooner t u = picked min t u
-
--- the later of two times, where there are such
+-- the later of two times, or the only one, or none
 abbrev pub later : Option ℕ → Option ℕ → Option ℕ
 later t u = picked max t u
 
 -- the least of the times that there are
 abbrev pub earliest : List (Option ℕ) → Option ℕ
 earliest [] = None
-earliest (t ∷ ts) = sooner t (earliest ts)
+earliest (t ∷ ts) = earlier t (earliest ts)
 
 -- the greatest of the times that there are
 abbrev pub latest : List (Option ℕ) → Option ℕ

@@ -1,7 +1,9 @@
 //! The first and the last of the first checks.
 
 ghost use Rattle.std.specs.Prelude.{◌≡◌};
-ghost use Rattle.check_summary.specs.Summary.{earliest, latest, later, sooner, span_of};
+ghost use Rattle.check_summary.specs.Summary.{earliest, latest, later, span_of};
+
+use check_spread::earlier;
 
 /// When the first checks of one sort of object are due, in milliseconds: from `first` to `last`. Both
 /// are None where no object of the sort is scheduled.
@@ -27,7 +29,7 @@ fn find_first(times: &[Option<u64>]) -> Option<u64>
 {
     let mut first = None;
     for time in times {
-        first = sooner(first, *time);
+        first = earlier(first, *time);
     }
     first
 }
@@ -43,18 +45,7 @@ fn find_last(times: &[Option<u64>]) -> Option<u64>
     last
 }
 
-/// The sooner of two times, where there are such.
-fn sooner(found: Option<u64>, time: Option<u64>) -> Option<u64>
-    ensures { result ≡ sooner found time }
-{
-    match (found, time) {
-        (Some(found), Some(time)) => Some(found.min(time)),
-        (None, time) => time,
-        (found, None) => found,
-    }
-}
-
-/// The later of two times, where there are such.
+/// The later of two times, or the only one, or None if there is none.
 fn later(found: Option<u64>, time: Option<u64>) -> Option<u64>
     ensures { result ≡ later found time }
 {

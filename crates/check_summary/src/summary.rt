@@ -2,14 +2,13 @@
 
 ghost use Rattle.std.specs.Prelude.{◌≡◌, ◌≤◌, IfOk, length};
 ghost use Rattle.check_objects.specs.Configuration.{IsSetup};
-ghost use Rattle.check_spread.specs.Spread.{all_objects, factor_by};
 ghost use Rattle.check_summary.specs.Summary.{summary_of};
 
 use crate::chains::{Chains, find_chains};
 use crate::counts::{Links, Reasons, count_links, count_reasons};
 use crate::spans::{Span, find_span};
-use check_objects::{DelayMethod, InterleaveFactor, Object, Setup};
-use check_spread::{LAST_MOMENT, initial_times};
+use check_objects::{DelayMethod, Setup};
+use check_spread::{LAST_MOMENT, copy_objects, initial_times, interleave_factor};
 use std::alloc::{AllocError, Global};
 
 /// What an operator asks of a setup at a glance. Times are moments in milliseconds, as the scheduler
@@ -48,7 +47,7 @@ impl Summary {
     {
         let times = initial_times(alloc, setup, start)?;
         let (host_times, service_times) = times.split_at(setup.hosts());
-        let objects = collect_objects(alloc, setup)?;
+        let objects = copy_objects(alloc, setup)?;
         let options = setup.options();
         Ok(Summary {
             hosts: setup.hosts(),
@@ -71,29 +70,4 @@ fn count_services(setup: &Setup) -> usize
     ensures setup { IsSetup setup.now }
 {
     setup.len() - setup.hosts()
-}
-
-/// The interleave factor: the one that the setup names, or how many services a host has on average,
-/// rounded up, and 1 where there is no service.
-fn interleave_factor(setup: &Setup) -> usize
-    ensures { result ≡ factor_by setup.now.options.service_interleave_factor
-        (length setup.now.services) (length setup.now.hosts) }
-{
-    let services = count_services(setup);
-    match setup.options().service_interleave_factor {
-        InterleaveFactor::Fixed(factor) => factor as usize,
-        InterleaveFactor::Smart if services == 0 => 1,
-        InterleaveFactor::Smart => services.div_ceil(setup.hosts()),
-    }
-}
-
-/// All objects in the order of their numbers.
-fn collect_objects(alloc: Global, setup: &Setup) -> Result<Vec<Object>, AllocError>
-    ensures { IfOk result (λ objects. objects.items ≡ all_objects setup.now) }
-{
-    let mut objects = Vec::with_capacity(alloc, setup.len())?;
-    for number in 0..setup.len() {
-        objects.push(*setup.object(number as u32))?;
-    }
-    Ok(objects)
 }

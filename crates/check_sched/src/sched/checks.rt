@@ -10,14 +10,15 @@ ghost use Rattle.check_sched.specs.Step.{eligible, is_forced, is_held_back, is_o
 ghost use Rattle.check_sched.specs.Report.{put_off_until};
 ghost use Rattle.check_sched.specs.Reply.{NamesObjectOf, TellsTimesUpTo, reply_of};
 
-use super::{MAX_RUNS, Sched};
+use super::Sched;
 use crate::call::{Call, Refusal, Reply};
 use crate::candidate::{Candidate, if_due};
 use crate::intervals::{next_by, next_past};
-use crate::object_state::{Change, Run};
+use crate::object_state::Change;
 use crate::report::{flap_thresholds, is_changed, judged, put_off_until, state_found};
 use crate::results::Results;
 use check_rules::{Code, Standing, State, blocked};
+use check_saved::{MAX_RUNS, SavedRun};
 use check_spread::{LAST_MOMENT, LAST_TIME};
 
 impl Sched {
@@ -109,7 +110,7 @@ impl Sched {
         ensures reply { result ≡ Reply.Taken object (self.old.runs + 1) }
     {
         self.runs += 1;
-        let run = Run {
+        let run = SavedRun {
             number: self.runs,
             start: now,
         };
@@ -143,7 +144,7 @@ impl Sched {
     {
         let state = self.object(object)?;
         let running = state.run_under(run)?;
-        let start = running.start();
+        let start = running.start;
         let already = state.next();
         if code == Code::Ok && self.is_steady(object) {
             Ok(self.stay(object, start, already))

@@ -6,6 +6,7 @@ ghost use Rattle.check_saved.specs.Saved.{IsSaved};
 ghost use Rattle.check_spread.specs.Spread.{initial_times};
 ghost use Rattle.check_sched.specs.Intervals.{intervals_of};
 ghost use Rattle.check_sched.specs.Places.{ArePlaces};
+ghost use Rattle.check_sched.specs.State.{IsState};
 ghost use Rattle.check_sched.specs.Saved.{given_up, objects_kept, objects_resumed, results_of, results_resumed, resumed, standings_resumed, within_limit};
 
 use super::Sched;
@@ -56,6 +57,7 @@ impl Sched {
     pub fn resume(alloc: Global, setup: Setup, saved: &Saved, start: u64) -> Result<Sched, Setup>
         requires { start ≤ LAST_MOMENT }
         ensures ok { IfOk result (λ scheduler. scheduler ≡ resumed setup saved.now start) }
+        ensures state { IfOk result IsState }
         ensures valid_setup { OnOk result (IsSetup setup) }
         ensures err { IfErr result (λ handed_back. handed_back ≡ setup) }
     {
@@ -104,8 +106,6 @@ fn resumed_parts(
     ensures intervals { IfOk result (λ parts. parts.intervals.items ≡ intervals_of setup.now) }
     ensures steady { IfOk result (λ parts. parts.steady.items ≡ replicate (object_count setup.now) false) }
 {
-    // for the proof: what is true of everything that is saved
-    saved.is_saved();
     let places = places(alloc, setup, saved)?;
     let objects = resumed_objects(alloc, setup, saved, &places, start)?;
     Ok(Parts {

@@ -5,8 +5,8 @@ ghost use Rattle.check_objects.specs.Configuration.{Named, object_count, objects
 ghost use Rattle.check_sched.specs.Saved.{saved_object, saved_of};
 
 use super::Sched;
-use crate::report::milliseconds;
 use check_saved::{Saved, SavedObject};
+use check_spread::milliseconds;
 use std::alloc::{AllocError, Global};
 
 impl Sched {
@@ -17,8 +17,6 @@ impl Sched {
     pub fn save(&self, alloc: Global) -> Result<Saved, AllocError>
         ensures { IfOk result (λ saved. saved ≡ saved_of self.now) }
     {
-        // for the proof: what is saved of a state that a scheduler can be in is well formed
-        self.is_state();
         let objects = self.saved_objects(alloc)?;
         Ok(Saved::of(self.start, self.runs, objects))
     }
@@ -50,7 +48,7 @@ impl Sched {
             standing: self.standings[number as usize],
             results,
             next: state.next(),
-            run: state.saved_run(),
+            run: state.run(),
             enabled: state.is_enabled(),
             forced: state.is_forced(),
             interval: milliseconds(&self.setup, object.check_interval),
