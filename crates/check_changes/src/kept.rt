@@ -9,7 +9,7 @@ use check_saved::{Saved, SavedObject};
 use check_spread::milliseconds;
 use std::alloc::{AllocError, Global};
 
-/// An object that is kept: one of the setup whose full name the saved state has.
+/// An object that is kept: an object of the setup whose full name is in the saved state.
 #[derive(Clone, Copy, Debug, PartialEq, Eq)]
 pub struct Kept {
     /// Whether a check of it is out.
@@ -18,11 +18,11 @@ pub struct Kept {
     pub attempts: bool,
     /// Whether the setup has another check interval for it, in milliseconds.
     pub interval: bool,
-    /// Whether of the two setups one has its active checks enabled and the other hasn't.
+    /// Whether one of the two setups has its active checks enabled, and the other doesn't.
     pub enabled: bool,
 }
 
-/// Every object of the setup by number, where it is kept. An Err means out of memory.
+/// Every object of the setup by number, or None if it is new. An Err means out of memory.
 pub(crate) fn list_kept(
     alloc: Global,
     setup: &Setup,
@@ -42,7 +42,7 @@ pub(crate) fn list_kept(
     Ok(kept)
 }
 
-/// What the setup makes of an object that is kept.
+/// Compares an object that is kept with its saved object.
 fn compare(setup: &Setup, object: &Object, saved: &SavedObject) -> Kept
     requires valid_setup { IsSetup setup.now }
     requires interval { object.now.check_interval ≤ MAX_INTERVAL }

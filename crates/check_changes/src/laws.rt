@@ -7,10 +7,10 @@ ghost use Rattle.check_sched.specs.Roster.{running_among};
 ghost use Rattle.check_sched.specs.Saved.{objects_kept, objects_resumed};
 ghost use Rattle.check_changes.specs.Changes.{ended_among, figures_of};
 
-/// Each object of a setup is kept or new (`setup`). The number of kept objects that are out, whatever
-/// their first times are, is the number of those that are still out after the scheduler resumes plus
-/// the number of runs given up (`runs`). The runs given up are those of the objects that are out
-/// before and aren't out after the scheduler resumes (`given_up`).
+/// Each object of a setup is kept or new (`setup`). The number of kept objects that are out, for any first
+/// times, is the number of those that are still out after the resume plus the number of runs that are
+/// abandoned (`runs`). The abandoned runs are those of the objects that are out before and aren't out after
+/// the resume (`given_up`).
 pub fn figures_add_up()
     ensures setup { (setup : Configuration) → (saved : Saved)
         → (figures_of setup saved).kept + (figures_of setup saved).new ≡ object_count setup }

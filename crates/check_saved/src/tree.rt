@@ -13,7 +13,7 @@ use check_rules::Standing;
 use serde_json::{Map, Value, json, put};
 use std::alloc::{AllocError, Global};
 
-/// The tree of all that is saved.
+/// The tree of a saved state.
 pub(crate) fn saved_value(alloc: Global, saved: &Saved) -> Result<Value, AllocError>
     ensures tree { IfOk result (λ tree. view tree ≡ saved_tree saved.now) }
     ensures saved { OnOk result (IsSaved saved.now) }
@@ -58,7 +58,7 @@ fn object_value(alloc: Global, object: &SavedObject) -> Result<Value, AllocError
     Ok(Value::Object(members))
 }
 
-/// Puts the members that say how an object stands.
+/// Puts the members for the standing of an object.
 #[tactic(auto, unfolding(crate::specs::Members::standing_members))]
 fn put_standing(
     members: &mut Map<String, Value>,
@@ -79,7 +79,7 @@ fn put_standing(
     )
 }
 
-/// Puts the members that name an object's states.
+/// Puts the members for an object's states.
 #[tactic(auto, unfolding(crate::specs::Members::state_members))]
 fn put_states(
     members: &mut Map<String, Value>,
@@ -109,7 +109,7 @@ fn put_states(
     )
 }
 
-/// Puts the members that say when an object is checked.
+/// Puts the members for the scheduling of an object.
 #[tactic(auto, unfolding(crate::specs::Members::scheduling_members))]
 fn put_scheduling(
     members: &mut Map<String, Value>,
@@ -125,7 +125,7 @@ fn put_scheduling(
     put(members, alloc, "forced", Value::Bool(object.forced))
 }
 
-/// Puts the members that say what its setup says of an object.
+/// Puts the members for an object's values in its setup.
 #[tactic(auto, unfolding(crate::specs::Members::setup_members))]
 fn put_setup(
     members: &mut Map<String, Value>,

@@ -1,4 +1,4 @@
-//! What the scheduler keeps of one object between calls.
+//! The scheduling of one object, which the scheduler stores between calls.
 
 use crate::call::Refusal;
 use check_saved::SavedRun;
@@ -14,8 +14,8 @@ const NO_RUN: SavedRun = SavedRun {
 /// that is out, whether its active checks are enabled, and whether its next check is forced.
 /// Contracts see it as a record `Scheduling` of the same.
 ///
-/// It takes half a line of the cache, 32 bytes, where two options would take 48: a byte says whether
-/// there is a next time, and one whether there is a run. What a field holds that isn't there says nothing.
+/// It takes half a cache line, 32 bytes, instead of the 48 of two options: one byte says whether there is
+/// a next time, and another whether there is a run. If there is none, its field has no meaning.
 #[derive(Drop)]
 pub(crate) struct ObjectState {
     time: u64,
@@ -36,7 +36,7 @@ impl Model for ObjectState {
     ghost view = { scheduling_of };
 }
 
-/// What is done to one object: all but `Begin` leave the number of runs as it was, or end one.
+/// A change of one object. All but `Begin` leave the number of runs as it was, or end one.
 #[derive(Clone, Copy)]
 pub(crate) enum Change {
     /// Begin this run: the object loses its next time and its forced mark.
@@ -136,7 +136,7 @@ impl ObjectState {
         self.forced
     }
 
-    /// The time for which the object waits: its next time, where it doesn't run and is enabled or
+    /// The time for which the object waits: its next time, if it doesn't run and is enabled or
     /// forced.
     pub(crate) fn candidate_time(&self) -> Option<u64>
         ensures { result ≡ candidate_time self.now }
@@ -148,7 +148,7 @@ impl ObjectState {
         }
     }
 
-    /// Does this to the object.
+    /// Makes this change.
     pub(crate) fn change(&mut self, change: Change)
         ensures { self.new ≡ changed change self.old }
     {
@@ -172,7 +172,7 @@ impl ObjectState {
         }
     }
 
-    /// Gives up the run of the check that is out, if one is, at this moment.
+    /// Abandons the run of the check that is out, if there is one, at this moment.
     pub(crate) fn give_up(&mut self, now: u64)
         ensures { self.new ≡ given_up now self.old }
     {
@@ -190,7 +190,7 @@ impl ObjectState {
         self.time = next.unwrap_or(0);
     }
 
-    /// The run of this number, or why there is none.
+    /// The run of this number, or why the object has no such run.
     pub(crate) fn run_under(&self, number: u64) -> Result<SavedRun, Refusal>
         ensures { result ≡ run_under number self.now.run }
     {

@@ -1,4 +1,4 @@
-//! Where in what was saved each object of a setup is.
+//! The place of each object of a setup in a saved state.
 
 ghost use Rattle.std.specs.Prelude.{◌≡◌, ◌<◌, IfOk, OnOk, length, option_map};
 ghost use Rattle.check_objects.specs.Configuration.{Configuration, name_of, object_count};
@@ -9,7 +9,8 @@ use check_objects::Setup;
 use check_saved::{Saved, SavedObject};
 use std::alloc::{AllocError, Global};
 
-/// Of each object of the setup by number, the place of what was saved under its name, if anything was.
+/// For each object of the setup by number, the place of the saved object with its name, if there is one.
+/// An Err means out of memory.
 pub(crate) fn places(
     alloc: Global,
     setup: &Setup,
@@ -29,7 +30,7 @@ pub(crate) fn places(
     Ok(places)
 }
 
-/// What was saved of the object with this number, if anything was.
+/// The saved object for the object with this number, if there is one.
 pub(crate) fn kept<'a>(
     saved: &'a Saved,
     places: &[Option<usize>],

@@ -3,13 +3,12 @@
 //! scheduling starts.
 //!
 //! The rules are those of the Nagios Core 4 manual, chapter "Service and Host Check Scheduling"
-//! (inter-check delay, service interleaving, maximum check spread); where the manual leaves a
-//! choice, the profile of this project makes it, and the item says so.
+//! (inter-check delay, service interleaving, maximum check spread). If the manual leaves a choice, the
+//! profile of this project makes it, and the item says so.
 //!
-//! The modules: `times` has the times of all objects of a setup, and what other crates compute of
-//! intervals and times in the same way; `spread` has the time of one rank, and `visits` the order in
-//! which objects are visited. `limits` has the limits of moments and times, and `laws` says them as
-//! numbers.
+//! The modules: `times` has the times of all objects of a setup, and functions of intervals and times
+//! that other crates share. `spread` has the time of one rank, and `visits` the order in which objects are
+//! visited. `limits` has the limits of moments and times, and `laws` gives them as numbers.
 
 pub mod laws;
 mod limits;

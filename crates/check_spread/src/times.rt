@@ -14,13 +14,13 @@ use check_objects::{
 };
 use std::alloc::{AllocError, Global};
 
-/// The time of the first check of each object of the setup, by number, in milliseconds, where
-/// scheduling starts at the moment `start`, in milliseconds. None for an object that isn't
-/// scheduled at first: one that is disabled or whose check interval is 0.
+/// The time of the first check of each object of the setup, by number, in milliseconds. Scheduling
+/// starts at the moment `start`, in milliseconds. The time is None for an object that isn't scheduled
+/// at first: it is disabled, or its check interval is 0.
 ///
 /// Hosts and services are spread each by their own inter-check delay method and maximum spread, and
-/// services are interleaved. (Manual: "Service and Host Check Scheduling"; the rounding of the
-/// smart delay, and that the maximum spread acts only on it, are our own profile.) It takes time
+/// services are interleaved. (Manual: "Service and Host Check Scheduling"; our own profile defines the
+/// rounding of the smart delay, and applies the maximum spread to the smart delay only.) It takes time
 /// linear in the objects. An Err means out of memory.
 #[tactic(auto, unfolding(crate::specs::Spread::initial_times))]
 pub fn initial_times(
@@ -73,7 +73,7 @@ fn push_first_times(
     Ok(())
 }
 
-/// How the first checks of hosts are spread, which is without interleaving, and those of services.
+/// The spread of the first checks of hosts, without interleaving, and that of services.
 fn find_spreads(setup: &Setup, start: u64) -> (Spread, Spread)
     requires start { start ≤ LAST_MOMENT }
     requires valid_setup { IsSetup setup.now }
@@ -125,7 +125,7 @@ pub fn milliseconds(setup: &Setup, interval: u64) -> u64
     interval * setup.options().interval_length * 1000
 }
 
-/// The earlier of two times, or the only one, or None if there is none.
+/// The earlier of two times. If only one is given, it is that one; without a time it is None.
 pub fn earlier(one: Option<u64>, other: Option<u64>) -> Option<u64>
     ensures { result ≡ earlier one other }
 {

@@ -5,15 +5,15 @@ ghost use Rattle.check_summary.specs.Summary.{earliest, latest, later, span_of};
 
 use check_spread::earlier;
 
-/// When the first checks of one sort of object are due, in milliseconds: from `first` to `last`. Both
-/// are None where no object of the sort is scheduled.
+/// The times at which the first checks of one sort of object are due, in milliseconds, from `first` to
+/// `last`. Both are None if no object of the sort is scheduled.
 #[derive(Clone, Copy, Debug, PartialEq, Eq)]
 pub struct Span {
     pub first: Option<u64>,
     pub last: Option<u64>,
 }
 
-/// From when to when these times are.
+/// The span of these times.
 pub(crate) fn find_span(times: &[Option<u64>]) -> Span
     ensures { result ≡ span_of times.now }
 {
@@ -23,7 +23,7 @@ pub(crate) fn find_span(times: &[Option<u64>]) -> Span
     }
 }
 
-/// The least of the times that there are.
+/// The least of the times, if there is one.
 fn find_first(times: &[Option<u64>]) -> Option<u64>
     ensures { result ≡ earliest times.now }
 {
@@ -34,7 +34,7 @@ fn find_first(times: &[Option<u64>]) -> Option<u64>
     first
 }
 
-/// The greatest of the times that there are.
+/// The greatest of the times, if there is one.
 fn find_last(times: &[Option<u64>]) -> Option<u64>
     ensures { result ≡ latest times.now }
 {
@@ -45,7 +45,7 @@ fn find_last(times: &[Option<u64>]) -> Option<u64>
     last
 }
 
-/// The later of two times, or the only one, or None if there is none.
+/// The later of two times. If only one is given, it is that one; without a time it is None.
 fn later(found: Option<u64>, time: Option<u64>) -> Option<u64>
     ensures { result ≡ later found time }
 {

@@ -1,4 +1,4 @@
-//! What an operator asks of a setup, all together.
+//! All figures of the summary of a setup.
 
 ghost use Rattle.std.specs.Prelude.{◌≡◌, ◌≤◌, IfOk, length};
 ghost use Rattle.check_objects.specs.Configuration.{IsSetup};
@@ -11,8 +11,8 @@ use check_objects::{DelayMethod, Setup};
 use check_spread::{LAST_MOMENT, copy_objects, initial_times, interleave_factor};
 use std::alloc::{AllocError, Global};
 
-/// What an operator asks of a setup at a glance. Times are moments in milliseconds, as the scheduler
-/// would set them that starts at the moment that was given.
+/// The summary of a setup. Times are moments in milliseconds, as a scheduler sets them that starts at the
+/// given moment.
 #[derive(Clone, Copy, Debug, PartialEq, Eq)]
 pub struct Summary {
     /// How many hosts there are.
@@ -27,20 +27,20 @@ pub struct Summary {
     pub chains: Chains,
     /// How the first checks of hosts are spread.
     pub host_delay: DelayMethod,
-    /// From when to when the first checks of hosts are due.
+    /// The span of the first checks of hosts.
     pub host_span: Span,
     /// How the first checks of services are spread.
     pub service_delay: DelayMethod,
-    /// From when to when the first checks of services are due.
+    /// The span of the first checks of services.
     pub service_span: Span,
-    /// By how many positions a visit of the services goes on (manual: Service and Host Check
+    /// The number of positions from one visit of a service to the next (manual: Service and Host Check
     /// Scheduling, service interleaving).
     pub interleave_factor: usize,
 }
 
 impl Summary {
-    /// What there is to report of a setup whose scheduling starts at the moment `start`, in
-    /// milliseconds. It takes time linear in the objects and their links. An Err means out of memory.
+    /// The summary of a setup whose scheduling starts at the moment `start`, in milliseconds. It takes time
+    /// linear in the objects and their links. An Err means out of memory.
     pub fn of(alloc: Global, setup: &Setup, start: u64) -> Result<Summary, AllocError>
         requires { start ≤ LAST_MOMENT }
         ensures exact { IfOk result (λ summary. summary ≡ summary_of setup.now start) }
