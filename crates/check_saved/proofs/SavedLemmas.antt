@@ -29,7 +29,8 @@ use Rattle.check_saved.specs.declared.fault.SavedFault.{SavedFault}
 use Rattle.check_saved.specs.declared.fault.SavedFault.TheVariants as faults
 use Rattle.check_saved.specs.Saved.{IsFullName, IsSaved, IsSavedObject, Saved, SavedObject}
 use Rattle.check_saved.specs.Scheduling.{OpenRun, is_in_time, is_timed_if_forced}
-use Rattle.check_saved.specs.Verification.{can_be, can_have_results, can_stand, distinct_names, earlier_place, few_objects, good_names, is_as_pending, is_attempt, is_full_name, is_hard, is_in_range, is_numbered, is_same_run, is_semicolon, lawful_objects, run_number, tests_of_draft, verified}
+use Rattle.check_spread.specs.Spread.{earlier}
+use Rattle.check_saved.specs.Verification.{can_be, can_have_results, can_stand, distinct_names, few_objects, good_names, is_as_pending, is_attempt, is_full_name, is_hard, is_in_range, is_numbered, is_same_run, is_semicolon, lawful_objects, run_number, tests_of_draft, verified}
 use Rattle.check_saved.proofs.NameLemmas.{all_by_prefix}
 
 -- ---- nothing was refused
@@ -44,7 +45,7 @@ ranged_by true b o e = cc
 ranged_by false true o e = cc
 ranged_by false false o e = (refl, refl, nowhere (λ i. faults.Range (Some i)) o e)
 
-neither : (one other : Option ℕ) → earlier_place one other ≡ None → (one ≡ None) × (other ≡ None)
+neither : (one other : Option ℕ) → earlier one other ≡ None → (one ≡ None) × (other ≡ None)
 neither None other e = (refl, e)
 neither (Some i) None e = cc
 neither (Some i) (Some j) e = cc

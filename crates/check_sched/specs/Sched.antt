@@ -6,7 +6,7 @@ use Rattle.check_sched.specs.Intervals.{intervals_of}
 use Rattle.check_sched.specs.Steady.{IsSteadyIn}
 use Rattle.check_sched.specs.declared.sched.Sched.TheInside.{Inside}
 
--- the state that the fields hold; the marks are scratch, and no part of it
+-- the state in the fields; the marks are scratch space, and no part of it
 abbrev pub state_of : Inside → State
 state_of s = record {
   setup = s.setup;
@@ -17,7 +17,7 @@ state_of s = record {
   runs = s.runs;
 }
 
--- what is true of the fields of every scheduler
+-- the facts that hold of the fields of every scheduler
 pub record IsKept (s : Inside) : Type 0 where
   pub state : IsState (state_of s)
   -- one mark for each object
@@ -26,6 +26,6 @@ pub record IsKept (s : Inside) : Type 0 where
   pub hosts : s.roster.hosts ≡ host_count s.setup
   -- the intervals in milliseconds are those of the setup
   pub intervals : s.intervals.items ≡ intervals_of s.setup
-  -- what is marked as steady is so
+  -- each object that is marked as steady is steady
   pub steady_each : length s.steady.items ≡ object_count s.setup
   pub steady : (number : ℕ) → slice_get s.steady.items number ≡ Some true → IsSteadyIn (state_of s) number

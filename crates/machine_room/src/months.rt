@@ -68,7 +68,7 @@ fn watch_setup<O: Outside, F: Files>(
     let setup = files.setup(alloc)?;
     let kept = files.state(alloc)?;
     let mut book = begin(alloc, setup, kept, start, room)?;
-    let mut runs = out_at(alloc, book.sched(), start)?;
+    let mut runs = out_at(alloc, &book, start)?;
     for _ in rt.forever() {
         let (next, end) = generation(rt, alloc, book, outside, files, &mut runs, room)?;
         book = match end {

@@ -3,10 +3,12 @@
 ghost use Rattle.std.specs.Prelude.{◌≡◌, ℕ, ◌≤◌, ◌<◌, ◌⊎◌, Some, None};
 ghost use Rattle.std.specs.Prelude.{Any, Contains, IfOk, IfSome};
 ghost use Rattle.std.specs.List.{All};
+ghost use Rattle.check_book.specs.Books.{sched_of};
 ghost use Rattle.check_sched.specs.State.{run_number_of};
 ghost use Rattle.machine_room.specs.Loop.{IsOut, IsWake, due_after, left_by, limit_at, names, run_of};
 
-use check_sched::{Call, LAST_MOMENT, Reply, Sched};
+use check_book::Book;
+use check_sched::{Call, LAST_MOMENT, Reply};
 use std::alloc::{AllocError, Global};
 
 /// How long a plugin may run, in milliseconds.
@@ -26,14 +28,15 @@ pub(crate) struct Run {
     pub(crate) limit: u64,
 }
 
-/// The checks that a scheduler has out, all of them, with this limit.
-pub(crate) fn out_at(alloc: Global, sched: &Sched, limit: u64) -> Result<Vec<Run>, AllocError>
+/// Lists the runs of all checks of a book's scheduler that are out, each with this limit.
+pub(crate) fn out_at(alloc: Global, book: &Book, limit: u64) -> Result<Vec<Run>, AllocError>
     ensures out { IfOk result (λ runs.
-        All (λ run. IsOut sched.now run × (run.limit ≡ limit)) runs.items) }
+        All (λ run. IsOut (sched_of book.now) run × (run.limit ≡ limit)) runs.items) }
     ensures all { IfOk result (λ runs. (object number : ℕ)
-        → run_number_of object sched.now ≡ Some number
+        → run_number_of object (sched_of book.now) ≡ Some number
         → Contains runs.items (run_of object number limit)) }
 {
+    let sched = book.sched();
     let mut runs = Vec::new(alloc);
     for place in 0..sched.setup().len() {
         let object = place as u32;
@@ -45,8 +48,6 @@ pub(crate) fn out_at(alloc: Global, sched: &Sched, limit: u64) -> Result<Vec<Run
             })?;
         }
     }
-    // for the proof: it has as many objects as its setup
-    sched.is_state();
     Ok(runs)
 }
 

@@ -34,3 +34,6 @@ invariant_of-result c =
       steady = λ number set. absurd (none_marked c.len-3.result number
           (sym (ap (λ marks. slice_get marks number) (c.in-Ok-vec-2.ensures.items_if_clones_equal (λ y e. e))) ∙ set));
     }
+
+pub returns-clause-state : goal.returns-clause-state
+returns-clause-state c = (invariant_of-result c).state

@@ -42,3 +42,6 @@ invariant_of-result c =
       steady_each = ap length made.steady ∙ length-replicate (object_count setup) false;
       steady = λ number set. absurd (none_marked (object_count setup) number (sym (ap (λ marks. slice_get marks number) made.steady) ∙ set));
     }
+
+pub returns-clause-state : goal.returns-clause-state
+returns-clause-state c = (invariant_of-result c).state
