@@ -39,6 +39,7 @@ DEFINITIONS = [
     TOP / "crates" / "check_records" / "specs" / "SavedFaults.antt",
 ]
 STATUSES = TOP / "crates" / "nagsched_c" / "src" / "status.rt"
+KINDS = TOP / "crates" / "check_records" / "src" / "kinds.rt"
 # Each enumeration of the header: its name in Python, what its names begin with in C, and which functions of the definition number it.
 ENUMERATIONS = {
     "nagsched_result": ("Result", "NAGSCHED_"),
@@ -92,12 +93,20 @@ def numbers_of(text, pattern):
             for name, body in re.findall(pattern, text, re.M | re.S)}
 
 
+def constants(source):
+    """The numbers of the constants in a source file, by their names."""
+    return {name: int(number) for name, number in re.findall(r"const (\w+): u32 = (\d+);", source.read_text(encoding="utf-8"))}
+
+
 def defined_numbers():
-    """The numbers that the definition gives, by the function that gives them, with the names of C."""
+    """The numbers that the definition gives, by the function that gives them, with the names of C. A number is a constant or a literal."""
     text = "\n".join(definition.read_text(encoding="utf-8") for definition in DEFINITIONS)
+    kinds = constants(KINDS)
     found = collections.defaultdict(dict)
-    for function, name, number in re.findall(r"^(\w+) \(?(?:reply\.Refused )?\w+\.(\w+)\b[^=\n]*\)? = (?:\w*(?:_struct|_nowhere|_at) |record \{ kind = )?(\d+)", text, re.M):
-        found[function][re.sub(r"(?<!^)(?=[A-Z])", "_", name).upper()] = int(number)
+    value = r"(?:\w*(?:_struct|_nowhere|_at) |record \{\s+kind = )?(\d+|[A-Z]\w+)"
+    for function, name, number in re.findall(rf"^(\w+) \(?(?:reply\.Refused )?\w+\.(\w+)\b[^=\n]*\)? = {value}", text, re.M):
+        if number.isdigit() or number in kinds:
+            found[function][re.sub(r"(?<!^)(?=[A-Z])", "_", name).upper()] = int(kinds.get(number, number))
     return found
 
 
@@ -108,8 +117,8 @@ def same_numbers(held):
     defined = defined_numbers()
     held.compare("enumerations in Python", sorted(python), sorted(name for name, *_ in ENUMERATIONS.values()))
     held.compare("enumerations of the header", sorted(ENUMERATIONS), sorted(header))
-    statuses = {name: int(number) for name, number in re.findall(r"const (\w+): u32 = (\d+);", STATUSES.read_text(encoding="utf-8"))}
-    held.compare("the numbers of nagsched_result in the library", {f"NAGSCHED_{name}": number for name, number in statuses.items()}, header["nagsched_result"])
+    statuses = {f"NAGSCHED_{name}": number for name, number in constants(STATUSES).items()}
+    held.compare("the numbers of nagsched_result in the library", statuses, header["nagsched_result"])
     for name, (in_python, prefix, *functions) in ENUMERATIONS.items():
         in_header = {member.removeprefix(prefix): number for member, number in header[name].items()}
         held.compare(f"the numbers of {name} in Python", in_header, python[in_python])
