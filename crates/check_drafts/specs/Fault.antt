@@ -3,7 +3,6 @@ use Rattle.std.specs.Prelude.{ℕ, List, Option, Some, None, Result}
 use Rattle.check_drafts.specs.declared.error.LoadError.{LoadError}
 use Rattle.check_drafts.specs.declared.error.LoadError.TheVariants as errors
 use Rattle.check_drafts.specs.declared.fault.Count.{Count}
-use Rattle.check_drafts.specs.declared.fault.End.{End}
 use Rattle.check_drafts.specs.declared.fault.EndFault.{EndFault}
 use Rattle.check_drafts.specs.declared.fault.Fault as declared
 use Rattle.check_drafts.specs.declared.fault.Fault.TheVariants as faults
@@ -35,7 +34,8 @@ pub data WrongNumber : Type 0 where
 pub data Fault : Type 0 where
   too_long : Fault
   not_json : Fault
-  shape : Place → WrongShape → Fault
+  -- what is wrong by the table of members; the reader never fails where that is nothing
+  shape : Place → Option WrongShape → Fault
   too_many : Count → ℕ → Fault
   bad_name : Place → NameFault → Fault
   -- the second index is that of the earlier item
@@ -84,7 +84,7 @@ range_seen (range_faults.HostThresholds low high) = host_thresholds low high
 abbrev pub seen : declared.Fault → Fault
 seen faults.TooLong = too_long
 seen (faults.NotJson u) = not_json
-seen (faults.Shape p w) = shape p (shape_seen w)
+seen (faults.Shape p w) = shape p (Some (shape_seen w))
 seen (faults.TooMany c n) = too_many c n
 seen (faults.BadName p w) = bad_name p w
 seen (faults.Duplicate p i) = duplicate p i
