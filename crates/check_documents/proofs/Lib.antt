@@ -1,6 +1,6 @@
 pub mod TreeLemmas
 pub mod CriteriaLemmas
-pub mod FaultLemmas
+pub mod KeyLemmas
 pub mod ReadingLaws
 pub mod ShapeLaws
 pub mod ReadLemmas

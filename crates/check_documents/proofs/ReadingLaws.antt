@@ -16,13 +16,17 @@ use Rattle.check_drafts.specs.declared.place.Part.TheVariants as part
 use Rattle.check_drafts.specs.Fault as fault
 use Rattle.check_drafts.specs.Member.{Row}
 use Rattle.check_drafts.specs.Members as members
-use Rattle.check_drafts.proofs.RefusalLemmas.{twice_not}
-use Rattle.check_documents.specs.Criteria.{criteria_of}
-use Rattle.check_documents.specs.Faults.{first_of, first_unknown, has_kind, is_misfit, is_missing, is_other, keys_in, wrong_member, wrong_object}
-use Rattle.check_documents.specs.Reading.{check_draft, delay_in, delay_method, dependency_draft, dependency_members, document_members, factor_in, host_draft, host_letters, host_members, interleave_factor, names, option_members, options_but_thresholds, options_of, service_draft, service_letters, service_members, with_thresholds}
+use Rattle.check_documents.specs.Criteria.{criteria_of, host_letters, service_letters}
+use Rattle.check_documents.specs.Values.{delay_method, interleave_factor}
+use Rattle.check_documents.specs.Shapes.{first_of, first_unknown, has_kind, is_misfit, is_missing, is_other, keys_in, names, wrong_member, wrong_object}
+use Rattle.check_documents.specs.Reading.{check_draft, delay_in, dependency_draft, dependency_members, document_members, factor_in, host_draft, host_members, option_members, options_but_thresholds, options_of, service_draft, service_members, with_thresholds}
 use Rattle.check_documents.specs.Tree.{has_only, is_among, member_or, number_in, only_members, switch_in, texts_in, texts_of, whole_number, ◌>=>◌}
 
--- ---- nothing is found where all pass
+-- ---- nothing is found if all pass
+
+twice_not : (b : Bool) → not (not b) ≡ b
+twice_not true = refl
+twice_not false = refl
 
 prefix_by : (b : Bool) (k n : ℕ) (rest : Bool) → nat_lt k n ≡ not rest → nat_lt (cond b (1 + k) 0) (suc n) ≡ not (b && rest)
 prefix_by true k n true e = grind (arith, nat_tests, e)

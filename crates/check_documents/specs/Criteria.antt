@@ -1,5 +1,5 @@
 -- The criteria of a dependency, by the letters of their text.
-use Rattle.std.specs.Prelude.{ℕ, ◌==◌, ◌&&◌, ◌||◌, Bool, List, Option, Some, None, codes, bytes_eq, if◌then◌else◌}
+use Rattle.std.specs.Prelude.{ℕ, ◌==◌, ◌&&◌, ◌||◌, Bool, List, [], ◌∷◌, Option, Some, None, codes, bytes_eq, if◌then◌else◌}
 use Rattle.std.specs.List.{list_any, list_all, slice_split}
 use Rattle.check_drafts.specs.declared.dependency.Criteria.{Criteria}
 use Rattle.check_documents.specs.declared.criteria.Found.{Found}
@@ -51,3 +51,11 @@ with_piece letters found piece = record {
 -- the criteria of a text that has only these letters
 unfoldable pub criteria_of : List (List ℕ) → List ℕ → Option Criteria
 criteria_of letters text = if are_letters letters text then Some (criteria_in text) else None
+
+-- the letters of criteria between services
+abbrev pub service_letters : List (List ℕ)
+service_letters = codes "o" ∷ codes "w" ∷ codes "u" ∷ codes "c" ∷ codes "p" ∷ codes "n" ∷ []
+
+-- the letters of criteria between hosts
+abbrev pub host_letters : List (List ℕ)
+host_letters = codes "o" ∷ codes "u" ∷ codes "d" ∷ codes "p" ∷ codes "n" ∷ []

@@ -3,7 +3,9 @@ pub use Rattle.check_drafts.specs.Drafted
 pub use Rattle.check_drafts.specs.LoadError
 pub mod Tree
 pub mod Criteria
+pub mod Values
+pub mod Shapes
 pub mod Reading
+pub mod Lists
 pub mod Places
-pub mod Faults
 pub mod Feeds

@@ -1,11 +1,11 @@
--- The drafts of a document, by its tree. A document that is not of this shape is refused.
-use Rattle.std.specs.Prelude.{ℕ, ◌+◌, Bool, true, List, [], ◌∷◌, Option, Some, None, option_and_then, Result, Ok, Err, ok_or, codes, bytes_eq, map}
+-- The drafts of a document, by its tree; or its first fault of shape, and what is wrong there by the table of members.
+use Rattle.std.specs.Prelude.{ℕ, ◌+◌, Bool, true, List, [], ◌∷◌, Option, Some, None, option_and_then, Result, Ok, Err, ok_or}
 use Rattle.std.specs.Prelude.{if◌then◌else◌}
 use Rattle.serde_json.specs.Data.{Data, Items, no_items, item}
 use Rattle.serde_json.specs.Find.{get, as_str, as_array}
 use Rattle.check_drafts.specs.declared.draft.CheckDraft.{CheckDraft}
-use Rattle.check_drafts.specs.declared.error.LoadError.{LoadError}
-use Rattle.check_drafts.specs.declared.error.LoadError.TheVariants as errors
+use Rattle.check_drafts.specs.Fault as fault
+use Rattle.check_drafts.specs.Fault.{Fault}
 use Rattle.check_drafts.specs.declared.options.Options.{Options}
 use Rattle.check_drafts.specs.declared.options.DelayMethod.{DelayMethod}
 use Rattle.check_drafts.specs.declared.options.DelayMethod.TheVariants as method
@@ -19,34 +19,33 @@ use Rattle.check_drafts.specs.declared.member.DefaultValue.TheVariants as defaul
 use Rattle.check_drafts.specs.declared.member.Kind.TheVariants as kind
 use Rattle.check_drafts.specs.Member.{Row}
 use Rattle.check_drafts.specs.Members as members
-use Rattle.check_documents.specs.Criteria.{criteria_of}
+use Rattle.check_drafts.specs.Members.{members_at}
+use Rattle.check_documents.specs.Criteria.{criteria_of, host_letters, service_letters}
+use Rattle.check_documents.specs.Shapes.{names, wrong_at, wrong_value}
+use Rattle.check_documents.specs.Values.{delay_method, interleave_factor}
 use Rattle.check_drafts.specs.Draft.{HostDraft, ServiceDraft, DependencyDraft, Drafts}
 use Rattle.check_drafts.specs.Agreement.{◌>>=◌}
 use Rattle.check_drafts.specs.Place.{the_document, the_options, the_hosts, host_at, the_services, service_at, list_of_part, item_of_part}
-use Rattle.check_documents.specs.Tree.{has_only, whole_number, member_of, number_in, read_by, switch_in, texts_in, ◌>=>◌}
+use Rattle.check_documents.specs.Tree.{has_only, member_of, number_in, read_by, switch_in, texts_in, ◌>=>◌}
 
 -- ---- lists
 
 -- the items of a list from the one at index i on, each in its shape
-abbrev pub items_from : {A : Type 0} → (Data → Option A) → (ℕ → Place) → ℕ → Items → Result (List A) LoadError
+abbrev pub items_from : {A : Type 0} → (Data → Option A) → (ℕ → Place) → ℕ → Items → Result (List A) Fault
 items_from shape place i no_items = Ok []
 items_from shape place i (item d ds) = do
-  first ← ok_or (shape d) (errors.Shape (place i))
+  first ← ok_or (shape d) (wrong_at (place i) d)
   more ← items_from shape place (i + 1) ds
   Ok (first ∷ more)
 
 -- a member that is a list of such items; without it there are none
-abbrev pub list_of : {A : Type 0} → (Data → Option A) → Place → (ℕ → Place) → Option Data → Result (List A) LoadError
+abbrev pub list_of : {A : Type 0} → (Data → Option A) → Place → (ℕ → Place) → Option Data → Result (List A) Fault
 list_of shape whole place None = Ok []
 list_of shape whole place (Some d) = do
-  items ← ok_or (as_array d) (errors.Shape whole)
+  items ← ok_or (as_array d) (wrong_at whole d)
   items_from shape place 0 items
 
 -- ---- hosts and services
-
--- the names of members
-abbrev pub names : List Row → List (List ℕ)
-names ms = map (λ m. m.name) ms
 
 -- how an object is checked
 unfoldable pub check_draft : Data → Option CheckDraft
@@ -97,16 +96,8 @@ dependency_draft letters d = if has_only dependency_members d then
     Some (record { dependent = dependent; master = master; criteria = criteria; inherits = inherits }))))))
     else None
 
--- the letters of criteria between services
-abbrev pub service_letters : List (List ℕ)
-service_letters = codes "o" ∷ codes "w" ∷ codes "u" ∷ codes "c" ∷ codes "p" ∷ codes "n" ∷ []
-
--- the letters of criteria between hosts
-abbrev pub host_letters : List (List ℕ)
-host_letters = codes "o" ∷ codes "u" ∷ codes "d" ∷ codes "p" ∷ codes "n" ∷ []
-
 -- the dependencies of one sort
-abbrev pub dependencies_in : Part → List (List ℕ) → Option Data → Result (List DependencyDraft) LoadError
+abbrev pub dependencies_in : Part → List (List ℕ) → Option Data → Result (List DependencyDraft) Fault
 dependencies_in p letters value = list_of (dependency_draft letters) (list_of_part p) (item_of_part p) value
 
 -- ---- options
@@ -118,26 +109,6 @@ option_members = names members.option_members
 abbrev pub has_option_members : Option Data → Bool
 has_option_members None = true
 has_option_members (Some d) = has_only option_members d
-
--- a value by the text that a member is, or the other where it is no text
-abbrev pub by_text : {A : Type 0} → (List ℕ → Option A) → Option A → Option (List ℕ) → Option A
-by_text lettered other None = other
-by_text lettered other (Some text) = lettered text
-
--- the methods that have a letter
-abbrev pub lettered_method : List ℕ → Option DelayMethod
-lettered_method text =
-    if bytes_eq text (codes "n") then Some method.NoDelay
-    else if bytes_eq text (codes "d") then Some method.Dumb
-    else if bytes_eq text (codes "s") then Some method.Smart
-    else None
-
--- a number is a delay in milliseconds
-abbrev pub delay_method : Data → Option DelayMethod
-delay_method d = by_text lettered_method (whole_number d >=> λ n. Some (method.Fixed n)) (as_str d)
-
-abbrev pub interleave_factor : Data → Option InterleaveFactor
-interleave_factor d = by_text (λ text. if bytes_eq text (codes "s") then Some factor.Smart else None) (whole_number d >=> λ n. Some (factor.Fixed n)) (as_str d)
 
 -- the method that holds without a member
 abbrev pub delay_by_default : Option DefaultValue → Option DelayMethod
@@ -203,6 +174,10 @@ with_thresholds value options =
 abbrev pub options_of : Option Data → Option Options
 options_of value = if has_option_members value then options_but_thresholds value >=> with_thresholds value else None
 
+-- the fault of the options
+abbrev pub wrong_options : Option Data → Fault
+wrong_options value = fault.shape the_options (value >=> wrong_value (members_at the_options))
+
 -- ---- the document
 
 abbrev pub document_members : List (List ℕ)
@@ -210,12 +185,12 @@ document_members = names members.document_members
 
 -- The document itself is tested first, then its options, hosts, services, and the dependencies between services and
 -- between hosts.
-unfoldable pub drafts_of : Data → Result Drafts LoadError
+unfoldable pub drafts_of : Data → Result Drafts Fault
 drafts_of d = if has_only document_members d then (do
-  options ← ok_or (options_of (get members.options.name d)) (errors.Shape the_options)
+  options ← ok_or (options_of (get members.options.name d)) (wrong_options (get members.options.name d))
   hosts ← list_of host_draft the_hosts host_at (get members.hosts.name d)
   services ← list_of service_draft the_services service_at (get members.services.name d)
   service_dependencies ← dependencies_in part.ServiceDependencies service_letters (get members.service_dependencies.name d)
   host_dependencies ← dependencies_in part.HostDependencies host_letters (get members.host_dependencies.name d)
   Ok (record { options = options; hosts = hosts; services = services; service_dependencies = service_dependencies; host_dependencies = host_dependencies }))
-    else Err (errors.Shape the_document)
+    else Err (wrong_at the_document d)

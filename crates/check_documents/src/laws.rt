@@ -1,13 +1,12 @@
 //! Laws of the definitions, each the contract of a function without parameters and code.
-ghost use Rattle.std.specs.Prelude.{◌≡◌, Err, is_none, is_some, Some, true};
+ghost use Rattle.std.specs.Prelude.{◌≡◌, is_none, is_some, Some};
 ghost use Rattle.serde_json.specs.Data.{Data};
 ghost use Rattle.check_drafts.specs.declared.member.Kind.TheVariants as kind;
 ghost use Rattle.check_drafts.specs.Members as members;
-ghost use Rattle.check_documents.specs.Faults.{wrong_object, wrong_shape_at};
-ghost use Rattle.check_documents.specs.Reading.{dependency_draft, document_members, drafts_of, host_draft, host_letters, options_of, service_draft, service_letters};
+ghost use Rattle.check_documents.specs.Criteria.{host_letters, service_letters};
+ghost use Rattle.check_documents.specs.Reading.{dependency_draft, document_members, host_draft, options_of, service_draft};
+ghost use Rattle.check_documents.specs.Shapes.{wrong_object};
 ghost use Rattle.check_documents.specs.Tree.{has_only};
-
-use check_drafts::{LoadError, Place};
 
 /// Reading the document and its options goes by the table of members: each is read exactly where
 /// nothing is wrong with it by the table. So the names, the kinds and what is required are the table's;
@@ -36,12 +35,4 @@ pub fn dependencies_are_read_by_the_table()
         ≡ is_none (wrong_object (members.dependency_members kind.ServiceLetters) d) }
     ensures between_hosts { (d : Data) → is_some (dependency_draft host_letters d)
         ≡ is_none (wrong_object (members.dependency_members kind.HostLetters) d) }
-{}
-
-/// A document whose shape is refused at a place has something wrong with the value there, by the table
-/// of members. So what a fault says of a shape is never a filler.
-#[tactic(auto, using(crate::proofs::ShapeLaws::wrong_there))]
-pub fn a_refused_shape_is_wrong()
-    ensures { (d : Data) → (place : Place) → drafts_of d ≡ Err (LoadError.Shape place)
-        → is_some (wrong_shape_at d place) ≡ true }
 {}

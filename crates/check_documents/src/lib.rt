@@ -1,22 +1,17 @@
 //! A setup document: from its bytes to a tree, and from the tree to drafts.
 //!
-//! [`read_tree`] refuses what is no JSON, [`read_drafts`] what hasn't the right shape. What else is
-//! wrong with drafts `check_faults` reports. [`fault_of`] adds to a refusal which member or which
-//! count of the document is at fault.
+//! [`read_tree`] refuses a document that isn't JSON, [`read_drafts`] one without the right shape. The
+//! crate `check_faults` reports all other faults of drafts.
 #![tactic(auto)]
 
-mod counts;
 mod criteria;
-mod faults;
 pub mod laws;
 mod lists;
 mod places;
-mod ranges;
 mod reading;
 mod shapes;
 mod tree;
 
-pub use faults::fault_of;
 pub use places::{items, value_at};
 pub use reading::read_drafts;
 pub use tree::read_tree;

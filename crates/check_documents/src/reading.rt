@@ -1,14 +1,19 @@
-//! Reading drafts from a document's tree. Here every fault of shape is found, and no other.
-ghost use Rattle.std.specs.Prelude.{◌≡◌, option_map};
+//! Reading drafts from a document's tree. Every fault of shape is found here, and no other fault is.
+ghost use Rattle.std.specs.Prelude.{◌≡◌, map, ok_or, option_map};
 ghost use Rattle.serde_json.specs.View.{view};
-ghost use Rattle.check_drafts.specs.LoadError.{Gives};
+ghost use Rattle.check_drafts.specs.Fault.{Tells};
 ghost use Rattle.check_drafts.specs.Draft as spec;
 ghost use Rattle.check_drafts.specs.Drafted.{host, service, dependency, drafts_view};
-ghost use Rattle.check_documents.specs.Reading.{host_draft, service_draft, check_draft, dependency_draft, drafts_of, delay_method, interleave_factor, delay_in, factor_in, delay_by_default, factor_by_default, options_of, options_but_thresholds, with_thresholds, has_option_members};
+ghost use Rattle.check_drafts.specs.Place.{host_at, service_at, the_hosts, the_services};
+ghost use Rattle.check_drafts.specs.declared.place.Part.TheVariants as part;
+ghost use Rattle.check_documents.specs.Criteria.{host_letters, service_letters};
+ghost use Rattle.check_documents.specs.Reading.{dependencies_in, host_draft, list_of, service_draft, check_draft, dependency_draft, drafts_of, delay_in, factor_in, delay_by_default, factor_by_default, options_of, options_but_thresholds, with_thresholds, has_option_members, wrong_options};
+ghost use Rattle.check_documents.specs.Values.{delay_method, interleave_factor};
 ghost use Rattle.check_drafts.specs.Member.{as_row};
 
 use crate::criteria::read_criteria;
-use crate::lists::{Item, read_list};
+use crate::lists::{Item, fault_of, read_list};
+use crate::shapes::shape_fault;
 use crate::tree::{has_only, member, number_in, switch_in, texts_in};
 use check_drafts::members::{
     CHECK_INTERVAL, CRITERIA, DEPENDENT, DESCRIPTION, DOCUMENT_MEMBERS, ENABLED,
@@ -21,36 +26,30 @@ use check_drafts::members::{
     SOFT_STATE_DEPENDENCIES, USE_AGGRESSIVE_HOST_CHECKING,
 };
 use check_drafts::{
-    CheckDraft, DefaultValue, DelayMethod, DependencyDraft, Drafts, HOST_LETTERS, HostDraft,
-    InterleaveFactor, LoadError, Member, Options, Part, Place, SERVICE_LETTERS, ServiceDraft,
+    CheckDraft, DefaultValue, DelayMethod, DependencyDraft, Drafts, Fault, HOST_LETTERS, HostDraft,
+    InterleaveFactor, Member, Options, Part, Place, SERVICE_LETTERS, ServiceDraft,
 };
 use serde_json::Value;
 use std::alloc::Global;
 
 /// The drafts of a document's tree, or its first fault of shape, in the order of the document's
-/// members in [`Part`]. `Memory` may come in place of either.
+/// members in [`Part`], with what is wrong there by the table of members. If memory runs out, the
+/// fault is `Memory`.
 #[tactic(auto, unfolding(crate::specs::Reading::drafts_of))]
-pub fn read_drafts<'v>(alloc: Global, tree: &'v Value) -> Result<Drafts<'v>, LoadError>
-    ensures { Gives drafts_view result (drafts_of (view tree.now)) }
+pub fn read_drafts<'v>(alloc: Global, tree: &'v Value) -> Result<Drafts<'v>, Fault>
+    ensures { Tells drafts_view result (drafts_of (view tree.now)) }
 {
     if !has_only(tree, &DOCUMENT_MEMBERS) {
-        return Err(LoadError::Shape(Place::DOCUMENT));
+        return Err(shape_fault(Place::DOCUMENT, tree));
     }
-    let options = read_options(tree.get(OPTIONS.name)).ok_or(LoadError::Shape(Place::OPTIONS))?;
-    let hosts = read_list(alloc, tree.get(HOSTS.name), Part::Hosts, &[])?;
-    let services = read_list(alloc, tree.get(SERVICES.name), Part::Services, &[])?;
-    let service_dependencies = read_list(
+    let options = read_options(tree.get(OPTIONS.name))?;
+    let hosts = read_hosts(alloc, tree.get(HOSTS.name))?;
+    let services = read_services(alloc, tree.get(SERVICES.name))?;
+    let service_dependencies = read_service_dependencies(
         alloc,
         tree.get(SERVICE_DEPENDENCIES.name),
-        Part::ServiceDependencies,
-        &SERVICE_LETTERS,
     )?;
-    let host_dependencies = read_list(
-        alloc,
-        tree.get(HOST_DEPENDENCIES.name),
-        Part::HostDependencies,
-        &HOST_LETTERS,
-    )?;
+    let host_dependencies = read_host_dependencies(alloc, tree.get(HOST_DEPENDENCIES.name))?;
     Ok(Drafts {
         options,
         hosts,
@@ -60,8 +59,71 @@ pub fn read_drafts<'v>(alloc: Global, tree: &'v Value) -> Result<Drafts<'v>, Loa
     })
 }
 
-/// The options; what the document doesn't name has its default.
-fn read_options(value: Option<&Value>) -> Option<Options>
+fn read_hosts<'v>(alloc: Global, value: Option<&'v Value>) -> Result<Vec<HostDraft<'v>>, Fault>
+    ensures { Tells (λ hosts. map host hosts.items) result
+        (list_of host_draft the_hosts host_at (option_map (λ v. view v.now) value.entry)) }
+{
+    match read_list(alloc, value, Part::Hosts, &[]) {
+        Ok(hosts) => Ok(hosts),
+        Err(fault) => Err(fault_of(fault)),
+    }
+}
+
+fn read_services<'v>(
+    alloc: Global,
+    value: Option<&'v Value>,
+) -> Result<Vec<ServiceDraft<'v>>, Fault>
+    ensures { Tells (λ services. map service services.items) result
+        (list_of service_draft the_services service_at (option_map (λ v. view v.now) value.entry)) }
+{
+    match read_list(alloc, value, Part::Services, &[]) {
+        Ok(services) => Ok(services),
+        Err(fault) => Err(fault_of(fault)),
+    }
+}
+
+fn read_service_dependencies<'v>(
+    alloc: Global,
+    value: Option<&'v Value>,
+) -> Result<Vec<DependencyDraft<'v>>, Fault>
+    ensures { Tells (λ dependencies. map dependency dependencies.items) result
+        (dependencies_in part.ServiceDependencies service_letters
+        (option_map (λ v. view v.now) value.entry)) }
+{
+    match read_list(alloc, value, Part::ServiceDependencies, &SERVICE_LETTERS) {
+        Ok(dependencies) => Ok(dependencies),
+        Err(fault) => Err(fault_of(fault)),
+    }
+}
+
+fn read_host_dependencies<'v>(
+    alloc: Global,
+    value: Option<&'v Value>,
+) -> Result<Vec<DependencyDraft<'v>>, Fault>
+    ensures { Tells (λ dependencies. map dependency dependencies.items) result
+        (dependencies_in part.HostDependencies host_letters
+        (option_map (λ v. view v.now) value.entry)) }
+{
+    match read_list(alloc, value, Part::HostDependencies, &HOST_LETTERS) {
+        Ok(dependencies) => Ok(dependencies),
+        Err(fault) => Err(fault_of(fault)),
+    }
+}
+
+/// The options, or their fault of shape.
+fn read_options(value: Option<&Value>) -> Result<Options, Fault>
+    ensures { Tells (λ options. options) result
+        (ok_or (options_of (option_map (λ v. view v.now) value.entry))
+        (wrong_options (option_map (λ v. view v.now) value.entry))) }
+{
+    match options_of(value) {
+        Some(options) => Ok(options),
+        None => Err(shape_fault(Place::OPTIONS, value.unwrap())),
+    }
+}
+
+/// The options, or None if they have another shape. What the document doesn't name has its default.
+fn options_of(value: Option<&Value>) -> Option<Options>
     ensures { result ≡ options_of (option_map (λ v. view v.now) value.entry) }
 {
     if !has_option_members(value) {
@@ -70,8 +132,7 @@ fn read_options(value: Option<&Value>) -> Option<Options>
     with_thresholds(value, options_but_thresholds(value)?)
 }
 
-/// The options, each with its default where it isn't named, but the thresholds of flapping, for which 0
-/// stands.
+/// The options, each with its default if it isn't named, except for the thresholds of flapping, which are 0.
 #[tactic(auto, unfolding(crate::specs::Reading::options_but_thresholds))]
 fn options_but_thresholds(value: Option<&Value>) -> Option<Options>
     ensures { result ≡ options_but_thresholds (option_map (λ v. view v.now) value.entry) }

@@ -1,44 +1,44 @@
 //! What is wrong with the shape of a value, by the table of members.
-ghost use Rattle.std.specs.Prelude.{◌≡◌, bytes_eq, find, is_some, map, not, option_map, position, string_bytes, unwrap_or};
+ghost use Rattle.std.specs.Prelude.{◌≡◌, bytes_eq, find, is_some, map, not, option_map, position, string_bytes, true};
 ghost use Rattle.std.specs.List.{list_any};
 ghost use Rattle.std.specs.BTreeMap.{keys};
 ghost use Rattle.serde_json.specs.Find.{as_str};
 ghost use Rattle.serde_json.specs.View.{view, members_view};
-ghost use Rattle.check_drafts.specs.Fault.{no_object, shape_seen};
+ghost use Rattle.check_drafts.specs.Fault.{seen, shape_seen};
 ghost use Rattle.check_drafts.specs.Member.{as_row};
+ghost use Rattle.check_drafts.specs.Members.{members_at};
 ghost use Rattle.check_documents.specs.Criteria.{criteria_of};
-ghost use Rattle.check_documents.specs.Faults.{first_unknown, has_kind, is_misfit, is_missing, is_other, wrong_list, wrong_member, wrong_object, wrong_shape_at};
-ghost use Rattle.check_documents.specs.Reading.{names};
+ghost use Rattle.check_documents.specs.Shapes.{first_unknown, has_kind, is_misfit, is_missing, is_other, names, wrong_at, wrong_list, wrong_member, wrong_object, wrong_value};
 ghost use Rattle.check_documents.specs.Tree.{is_among, ◌>=>◌};
 
 use crate::criteria::read_criteria;
-use crate::places::value_at;
 use crate::reading::{delay_method, interleave_factor};
 use crate::tree::{is_known, texts};
-use check_drafts::{HOST_LETTERS, Kind, Member, Place, SERVICE_LETTERS, ShapeFault, members_at};
+use check_drafts::{
+    Fault, HOST_LETTERS, Kind, Member, Place, SERVICE_LETTERS, ShapeFault, members_at,
+};
 use serde_json::{Map, Value};
 
-/// What is wrong with the shape of what stands at a place that was refused. Of any other place it is
-/// that it is no object.
-pub(crate) fn shape_fault(tree: &Value, place: Place) -> ShapeFault
-    ensures { shape_seen result ≡ unwrap_or (wrong_shape_at (view tree.now) place) no_object }
+/// The fault of a value at a place whose shape is wrong by the table.
+pub(crate) fn shape_fault(place: Place, value: &Value) -> Fault
+    requires { is_some (wrong_value (members_at place) (view value.now)) ≡ true }
+    ensures { seen result ≡ wrong_at place (view value.now) }
 {
-    shape_fault_at(tree, place).unwrap_or(ShapeFault::NotAnObject)
+    Fault::Shape(place, wrong_shape(place, value).unwrap())
 }
 
-/// What is wrong with the shape of what stands at a place. None where nothing is.
-fn shape_fault_at(tree: &Value, place: Place) -> Option<ShapeFault>
-    ensures { option_map shape_seen result ≡ wrong_shape_at (view tree.now) place }
+/// What is wrong with the shape of the value at a place, or None if nothing is.
+fn wrong_shape(place: Place, value: &Value) -> Option<ShapeFault>
+    ensures { option_map shape_seen result ≡ wrong_value (members_at place) (view value.now) }
 {
-    let value = value_at(tree, place)?;
     match members_at(place) {
-        Some(members) => object_fault(value, members),
-        None => list_fault(value),
+        Some(members) => wrong_object(value, members),
+        None => wrong_list(value),
     }
 }
 
-/// What is wrong with a value that has to be a list. None where nothing is.
-fn list_fault(value: &Value) -> Option<ShapeFault>
+/// What is wrong with a value that has to be a list. None if nothing is.
+fn wrong_list(value: &Value) -> Option<ShapeFault>
     ensures { option_map shape_seen result ≡ wrong_list (view value.now) }
 {
     if value.as_array().is_some() {
@@ -48,18 +48,18 @@ fn list_fault(value: &Value) -> Option<ShapeFault>
     }
 }
 
-/// What is wrong with a value that has to be an object with such members. None where nothing is.
-fn object_fault(value: &Value, members: &[Member]) -> Option<ShapeFault>
+/// What is wrong with a value that has to be an object with such members. None if nothing is.
+fn wrong_object(value: &Value, members: &[Member]) -> Option<ShapeFault>
     ensures { option_map shape_seen result ≡ wrong_object (map as_row members.now) (view value.now) }
 {
     match value.as_object() {
-        Some(object) => member_fault(value, object, members),
+        Some(object) => wrong_member(value, object, members),
         None => Some(ShapeFault::NotAnObject),
     }
 }
 
-/// Which member of an object, whose own members these are, is at fault. None where none is.
-fn member_fault(
+/// Which member of an object, whose own members these are, is at fault. None if none is.
+fn wrong_member(
     value: &Value,
     object: &Map<String, Value>,
     members: &[Member],

@@ -7,24 +7,33 @@ ghost use Rattle.serde_json.specs.Find.{as_str};
 ghost use Rattle.check_documents.specs.Tree.{tree_of, has_only, member_of, number_in, switch_in, texts_in};
 ghost use Rattle.check_drafts.specs.Member.{as_row};
 ghost use Rattle.check_drafts.specs.Text.{text};
-ghost use Rattle.check_drafts.specs.LoadError.{Gives};
+ghost use Rattle.check_drafts.specs.Fault.{Tells, not_json};
 
-use check_drafts::{LoadError, Member};
-use serde_json::{Map, Value};
+use check_drafts::{Fault, Member, Unread};
+use serde_json::{Error, Map, Value};
 use std::alloc::Global;
 
-/// The tree that `serde_json` reads from the bytes. `NotJson` where it gives no reading, and `Memory`
-/// where that is because memory was refused.
-pub fn read_tree(alloc: Global, bytes: &[u8]) -> Result<Value, LoadError>
-    ensures { Gives view result (ok_or (tree_of bytes.now) LoadError.NotJson) }
+/// The tree that `serde_json` reads from the bytes. `NotJson` if there is no reading, with where it
+/// stops; `Memory` if memory ran out.
+pub fn read_tree(alloc: Global, bytes: &[u8]) -> Result<Value, Fault>
+    ensures { Tells view result (ok_or (tree_of bytes.now) not_json) }
 {
     match Value::from_slice(alloc, bytes) {
         Ok(tree) => Ok(tree),
         Err(e) => Err(if e.is_memory() {
-            LoadError::Memory
+            Fault::Memory
         } else {
-            LoadError::NotJson
+            Fault::NotJson(unread(&e))
         }),
+    }
+}
+
+/// Where reading stopped.
+fn unread(error: &Error) -> Unread {
+    Unread {
+        line: error.line(),
+        column: error.column(),
+        is_at_end: error.is_eof(),
     }
 }
 

@@ -1,7 +1,7 @@
 use Rattle.std.proofs.Common.{◌≡◌, drop, find, map}
 use Rattle.serde_json.specs.View.{view}
 use Rattle.check_drafts.specs.Member.{as_row}
-use Rattle.check_documents.specs.Faults.{is_misfit}
+use Rattle.check_documents.specs.Shapes.{is_misfit}
 use Rattle.check_documents.proofs.shapes.first_misfit.Given as goal
 
 abbrev pub invariant-loop-member : goal.invariant-loop-member

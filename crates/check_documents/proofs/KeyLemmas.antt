@@ -1,20 +1,15 @@
--- Members and items of a document counted, and the first unknown one.
-use Rattle.std.proofs.Common.{◌≡◌, ℕ, not, List, [], ◌∷◌, map, length, String, Global, string_bytes, refl, sym, ap, ◌∙◌, arith, bytes_eq}
+-- The members of an object of the code, and the first unknown one.
+use Rattle.std.proofs.Common.{◌≡◌, ℕ, not, List, [], ◌∷◌, map, String, Global, string_bytes, refl, sym, ap, ◌∙◌, bytes_eq}
 use Rattle.std.specs.List.{list_any, position}
 use Rattle.std.specs.Map.{keys_of}
-use Rattle.serde_json.specs.View.{items_view, members_view}
+use Rattle.serde_json.specs.View.{members_view}
 use Rattle.serde_json.specs.declared.value.Value.{Value}
 use Rattle.check_drafts.proofs.ListLemmas.{position-map, position-same}
 use Rattle.check_drafts.specs.declared.member.Member.{Member}
 use Rattle.check_drafts.specs.Member.{as_row}
-use Rattle.check_documents.specs.Reading.{names}
-use Rattle.check_documents.specs.Faults.{first_unknown, item_count, keys_in}
+use Rattle.check_documents.specs.Shapes.{first_unknown, keys_in, names}
 use Rattle.check_documents.specs.Tree.{is_among}
 use Rattle.check_documents.proofs.TreeLemmas.{among_names}
-
-pub counted : (vs : List Value) → length vs ≡ item_count (items_view vs)
-counted [] = refl
-counted (v ∷ vs) = let e = counted vs in grind (arith, e)
 
 keys_seen : (es : List (String Global × Value)) → keys_in (members_view es) ≡ map string_bytes (keys_of es)
 keys_seen [] = refl
