@@ -13,4 +13,5 @@ mod names;
 mod ranges;
 mod verification;
 
+pub use links::full_names;
 pub use verification::verify;

@@ -103,8 +103,8 @@ fn verify_both_sorts(
     )
 }
 
-/// The full names of the services.
-fn full_names(alloc: Global, services: &[ServiceDraft<'_>]) -> Result<Vec<String>, AllocError>
+/// The full names of services, in the document's order. An Err means out of memory.
+pub fn full_names(alloc: Global, services: &[ServiceDraft<'_>]) -> Result<Vec<String>, AllocError>
     ensures { IfOk result (λ names.
         map string_bytes names.items ≡ full_names (map service services.now)) }
 {

@@ -10,9 +10,7 @@ ghost use Rattle.check_drafts.specs.Drafted.{host, service, drafts_view, texts, 
 ghost use Rattle.check_numbers.specs.Entries.{objects_in, host_entry, service_entry, sorted_host, sorted_service};
 ghost use Rattle.check_drafts.specs.Text.{text};
 
-use check_drafts::{
-    CheckDraft, Drafts, HostDraft, Object, ServiceDraft, full_name, text,
-};
+use check_drafts::{CheckDraft, Drafts, HostDraft, Object, ServiceDraft, full_name, text};
 use indexmap::{IndexMap, IndexSet};
 use serde_json::Value;
 use smallvec::SmallVec;
