@@ -4,4 +4,5 @@ pub mod KeyLemmas
 pub mod ReadingLaws
 pub mod ShapeLaws
 pub mod ReadLemmas
+pub mod FieldLaws
 pub mod FeedLemmas

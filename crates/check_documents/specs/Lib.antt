@@ -7,5 +7,6 @@ pub mod Values
 pub mod Shapes
 pub mod Reading
 pub mod Lists
+pub mod Fields
 pub mod Places
 pub mod Feeds

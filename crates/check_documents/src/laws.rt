@@ -1,10 +1,13 @@
 //! Laws of the definitions, each the contract of a function without parameters and code.
-ghost use Rattle.std.specs.Prelude.{◌≡◌, is_none, is_some, Some};
+ghost use Rattle.std.specs.Prelude.{◌≡◌, ℕ, is_none, is_some, List, Option, Some};
 ghost use Rattle.serde_json.specs.Data.{Data};
 ghost use Rattle.check_drafts.specs.declared.member.Kind.TheVariants as kind;
+ghost use Rattle.check_drafts.specs.declared.options.Options.{Options};
+ghost use Rattle.check_drafts.specs.Draft.{DependencyDraft, HostDraft, ServiceDraft};
 ghost use Rattle.check_drafts.specs.Members as members;
 ghost use Rattle.check_documents.specs.Criteria.{host_letters, service_letters};
 ghost use Rattle.check_documents.specs.Reading.{dependency_draft, document_members, host_draft, options_of, service_draft};
+ghost use Rattle.check_documents.specs.Fields.{IsDependencyBy, IsHostBy, IsOptionsBy, IsServiceBy};
 ghost use Rattle.check_documents.specs.Shapes.{wrong_object};
 ghost use Rattle.check_documents.specs.Tree.{has_only};
 
@@ -35,4 +38,14 @@ pub fn dependencies_are_read_by_the_table()
         ≡ is_none (wrong_object (members.dependency_members kind.ServiceLetters) d) }
     ensures between_hosts { (d : Data) → is_some (dependency_draft host_letters d)
         ≡ is_none (wrong_object (members.dependency_members kind.HostLetters) d) }
+{}
+
+/// Each field of what is read is read from the member of its name.
+pub fn fields_are_their_members()
+    ensures host { (d : Data) (h : HostDraft) → host_draft d ≡ Some h → IsHostBy d h }
+    ensures service { (d : Data) (s : ServiceDraft) → service_draft d ≡ Some s → IsServiceBy d s }
+    ensures dependency { (letters : List (List ℕ)) (d : Data) (x : DependencyDraft)
+        → dependency_draft letters d ≡ Some x → IsDependencyBy letters d x }
+    ensures options { (value : Option Data) (o : Options) → options_of value ≡ Some o
+        → IsOptionsBy value o }
 {}

@@ -1,5 +1,5 @@
 -- A line stays without a line feed where a character is pushed that is none.
-use Rattle.std.proofs.Common.{◌≡◌, ◌≢◌, ℕ, zero, suc, ◌+◌, ◌/◌, ◌^◌, ◌≤◌, ◌<◌, ◌==◌, Bool, true, false, cond, List, [], ◌∷◌, ◌++◌, map, decimal, refl, ap, ◌∙◌, subst, sym, arith}
+use Rattle.std.proofs.Common.{◌≡◌, ◌≢◌, ℕ, zero, suc, ◌+◌, ◌/◌, ◌^◌, ◌≤◌, ◌<◌, ◌==◌, Bool, true, false, cond, List, [], ◌∷◌, ◌++◌, map, decimal, refl, ap, ◌∙◌, subst, sym, arith, ne_eqb}
 use Rattle.std.proofs.lemmas.Bool.Decides.{nat_tests}
 use Rattle.std.proofs.lemmas.Fmt.{decimal_digit, decimal-digits_of}
 use Rattle.std.specs.Int.Digits.{digits_of}
@@ -8,6 +8,10 @@ use Rattle.std.specs.Char.{encode_utf8}
 use Rattle.std.proofs.lemmas.List.Elements.{All-nil, All-cons, All-append}
 use lib.Dec.{ltb}
 use lib.Utf8.{next}
+use Rattle.std.specs.List.{AllByRecursion}
+use Rattle.json.specs.Lex.{tokens}
+use Rattle.json.specs.Print.{print}
+use Rattle.check_documents.proofs.FeedLemmas.{compact_free}
 use Rattle.check_explain.specs.Feeds.{HasNoFeed, has_feed}
 
 above : (n : ℕ) → 11 ≤ n → n ≢ 10
@@ -60,3 +64,12 @@ digits_flat (d ∷ ds) = rw (below_digits d, digits_flat ds) refl
 pub number_flat : (n : ℕ) → n < 2 ^ 64 → has_feed (decimal n) ≡ false
 number_flat zero h = rw (decimal_digit 0 (omega arith)) refl
 number_flat (suc n) h = ap has_feed (decimal-digits_of (suc n) (omega arith) h) ∙ digits_flat (digits_of 10 (suc n))
+
+-- ---- JSON in its compact form
+
+flat : (line : List ℕ) → AllByRecursion (λ b. b ≢ 10) line → has_feed line ≡ false
+flat [] h = refl
+flat (b ∷ bs) h = rw (ne_eqb b 10 h.0, flat bs h.1) refl
+
+pub compact_flat : (text line : List ℕ) → text ≡ line → line ≡ print (tokens line) → has_feed text ≡ false
+compact_flat text line same compact = ap has_feed same ∙ flat line (compact_free line compact)

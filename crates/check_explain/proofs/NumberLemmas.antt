@@ -1,4 +1,4 @@
--- A good document has only whole numbers: each member of each object is read, and where a number is read it is a whole one.
+-- A document that is read has only whole numbers: each member of each object is read, and each number that is read is a whole one.
 use Rattle.std.proofs.Common.{◌≡◌, ℕ, ◌+◌, List, [], ◌∷◌, Option, Some, None, Bool, true, false, cond, ◌||◌, bytes_eq, Ok, refl, sym, ap, ◌∙◌, subst}
 use Rattle.std.specs.Prelude.{codes, ok_or, option_and_then, ℤ, Float}
 use Rattle.std.proofs.lemmas.Bool.{and_parts, or_parts}
@@ -7,7 +7,6 @@ use Rattle.serde_json.specs.Data.{unsigned, negative, float, Data, null, boolean
 use Rattle.serde_json.specs.Find.{get, get_member, as_bool, as_str, as_array}
 use Rattle.serde_json.specs.Written.{has_float, items_have_float, members_have_float}
 use Rattle.check_drafts.specs.declared.draft.CheckDraft.{CheckDraft}
-use Rattle.check_drafts.specs.declared.error.LoadError.TheVariants as errors
 use Rattle.check_drafts.specs.declared.options.Options.{Options}
 use Rattle.check_drafts.specs.declared.options.DelayMethod.{DelayMethod}
 use Rattle.check_drafts.specs.declared.options.DelayMethod.TheVariants as method
@@ -17,17 +16,16 @@ use Rattle.check_drafts.specs.declared.place.Place.{Place}
 use Rattle.check_drafts.specs.declared.place.Part.TheVariants as part
 use Rattle.check_drafts.specs.Draft.{HostDraft, ServiceDraft, DependencyDraft, Drafts}
 use Rattle.check_drafts.specs.Agreement.{◌>>=◌}
-use Rattle.check_drafts.specs.Place.{the_options, the_hosts, host_at, the_services, service_at}
-use Rattle.check_documents.specs.Criteria.{criteria_of}
+use Rattle.check_drafts.specs.Place.{the_hosts, host_at, the_services, service_at}
+use Rattle.check_documents.specs.Criteria.{criteria_of, host_letters, service_letters}
+use Rattle.check_documents.specs.Shapes.{wrong_at}
+use Rattle.check_documents.specs.Values.{delay_method, interleave_factor}
 use Rattle.check_documents.specs.Tree.{tree_of, is_among, only_members, has_only, whole_number, member_or, texts_of, texts_in, ◌>=>◌}
-use Rattle.check_documents.specs.Reading.{items_from, list_of, check_draft, host_draft, service_draft, dependency_members, dependency_draft, service_letters, host_letters, option_members}
-use Rattle.check_documents.specs.Reading.{delay_method, interleave_factor, options_but_thresholds, with_thresholds, options_of, document_members, dependencies_in, drafts_of}
+use Rattle.check_documents.specs.Reading.{items_from, list_of, check_draft, host_draft, service_draft, dependency_members, dependency_draft, option_members}
+use Rattle.check_documents.specs.Reading.{options_but_thresholds, with_thresholds, options_of, document_members, dependencies_in, drafts_of, wrong_options}
 use Rattle.check_documents.proofs.ReadLemmas.{from_ok_or, guarded, guarded_ok, linked, next}
-use Rattle.check_numbers.specs.Configuration.{Configuration}
-use Rattle.check_objects.specs.Setup.{setup_of, setup_of_tree}
 use Rattle.check_explain.specs.Numbers.{has_other_number, items_have_other, members_have_other}
 use Rattle.check_explain.proofs.KeyLemmas.{IsSorted, AreSorted, HasSorted, OrSorted, found_behind, found_first, sorted_get, tree_is_sorted}
-use Rattle.check_explain.proofs.LineLemmas.{setup_by_tree, short_document}
 
 -- ---- members by name
 
@@ -197,7 +195,7 @@ module _ {A : Type 0} (shape : Data → Option A) (each : (d : Data) (x : A) →
   items_whole : (place : ℕ → Place) (i : ℕ) (ds : Items) (xs : List A) → AreSorted ds → items_from shape place i ds ≡ Ok xs → items_have_other ds ≡ false
   items_whole place i no_items xs s e = refl
   items_whole place i (item d ds) xs s e =
-      next (ok_or (shape d) (errors.Shape (place i))) _ xs (items_have_other (item d ds) ≡ false) (λ x is rest.
+      next (ok_or (shape d) (wrong_at (place i) d)) _ xs (items_have_other (item d ds) ≡ false) (λ x is rest.
       next (items_from shape place (i + 1) ds) _ xs (items_have_other (item d ds) ≡ false) (λ more are last.
       let one : has_other_number d ≡ false = each d x s.0 (from_ok_or (shape d) _ x is) in
       let others : items_have_other ds ≡ false = items_whole place (i + 1) ds more s.1 are in
@@ -205,7 +203,7 @@ module _ {A : Type 0} (shape : Data → Option A) (each : (d : Data) (x : A) →
       rest) e
 
   array_of_whole : (whole : Place) (place : ℕ → Place) (d : Data) (xs : List A) → IsSorted d
-      → (ok_or (as_array d) (errors.Shape whole) >>= λ items. items_from shape place 0 items) ≡ Ok xs → has_other_number d ≡ false
+      → (ok_or (as_array d) (wrong_at whole d) >>= λ items. items_from shape place 0 items) ≡ Ok xs → has_other_number d ≡ false
   array_of_whole whole place null xs s e = refl
   array_of_whole whole place (boolean b) xs s e = refl
   array_of_whole whole place (number n) xs s e = cc
@@ -285,7 +283,7 @@ drafts_whole : (d : Data) (drafts : Drafts) → IsSorted d → drafts_of d ≡ O
 unfolding drafts_of
 drafts_whole d drafts s e =
     guarded_ok (has_only document_members d) _ _ drafts (has_other_number d ≡ false) (λ only members.
-    next (ok_or (options_of (get (codes "options") d)) (errors.Shape the_options)) _ drafts (has_other_number d ≡ false) (λ options ho ro.
+    next (ok_or (options_of (get (codes "options") d)) (wrong_options (get (codes "options") d))) _ drafts (has_other_number d ≡ false) (λ options ho ro.
     next (list_of host_draft the_hosts host_at (get (codes "hosts") d)) _ drafts (has_other_number d ≡ false) (λ hosts hh rh.
     next (list_of service_draft the_services service_at (get (codes "services") d)) _ drafts (has_other_number d ≡ false) (λ services hs rs.
     next (dependencies_in part.ServiceDependencies service_letters (get (codes "service_dependencies") d)) _ drafts (has_other_number d ≡ false) (λ between hb rb.
@@ -294,16 +292,9 @@ drafts_whole d drafts s e =
     (options_whole (get (codes "options") d) options (sorted_get (codes "options") d s) (from_ok_or _ _ options ho), (list_whole host_draft host_whole the_hosts host_at (get (codes "hosts") d) hosts (sorted_get (codes "hosts") d s) hh, (list_whole service_draft service_whole the_services service_at (get (codes "services") d) services (sorted_get (codes "services") d s) hs, (list_whole (dependency_draft service_letters) (dependency_whole service_letters) _ _ _ between (sorted_get (codes "service_dependencies") d s) hb, (list_whole (dependency_draft host_letters) (dependency_whole host_letters) _ _ _ among (sorted_get (codes "host_dependencies") d s) ha, tt))))))
     rb) rs) rh) ro) members) e
 
-setup_whole : (d : Data) (c : Configuration) → IsSorted d → setup_of_tree d ≡ Ok c → has_other_number d ≡ false
-unfolding setup_of_tree
-setup_whole d c s e = next (drafts_of d) _ c (has_other_number d ≡ false) (λ drafts is rest. drafts_whole d drafts s is) e
-
--- each number in a good document is a whole one
-pub whole_numbers : (document : List ℕ) (d : Data) (c : Configuration) → setup_of document ≡ Ok c → tree_of document ≡ Some d → has_other_number d ≡ false
-whole_numbers document d c good is =
-    let few = short_document document c good in
-    let read : ok_or (tree_of document) errors.NotJson ≡ Ok d = rw (is) refl in
-    setup_whole d c (tree_is_sorted document d is) (sym (setup_by_tree document d few read) ∙ good)
+-- each number in a document that is read is a whole one
+pub whole_numbers : (document : List ℕ) (d : Data) (drafts : Drafts) → tree_of document ≡ Some d → drafts_of d ≡ Ok drafts → has_other_number d ≡ false
+whole_numbers document d drafts is read = drafts_whole d drafts (tree_is_sorted document d is) read
 
 -- ---- floats
 

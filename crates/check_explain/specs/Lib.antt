@@ -1,10 +1,10 @@
 pub mod Feeds
 pub mod Shown
-pub mod Explanation
-pub mod Counts
-pub mod Rounds
-pub mod Links
-pub mod Onward
+pub mod Places
+pub mod Shapes
+pub mod Names
 pub mod Ranges
-pub mod DocumentLine
+pub mod Counts
+pub mod Cycles
+pub mod Explanation
 pub mod Numbers

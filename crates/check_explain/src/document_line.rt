@@ -1,39 +1,34 @@
 //! The line of a setup document: the text of its tree.
 
-ghost use Rattle.std.specs.Prelude.{◌≡◌, ◌≤◌, ◌<◌, IfOk, IfErr, IsOk, length};
+ghost use Rattle.std.specs.Prelude.{◌≡◌, ◌≤◌, ◌<◌, ◌⊎◌, ℕ, IfOk, IfErr, List, Some, false, length};
 ghost use Rattle.json.specs.Lex.{tokens};
 ghost use Rattle.json.specs.Print.{print};
-ghost use Rattle.serde_json.specs.Written.{compact_text};
-ghost use Rattle.check_drafts.specs.Fault.{seen};
+ghost use Rattle.serde_json.specs.View.{view};
+ghost use Rattle.serde_json.specs.Written.{compact_text, has_float};
 ghost use Rattle.check_documents.specs.Feeds.{HasNoFeed};
-ghost use Rattle.check_objects.specs.Setup.{examined, setup_of};
-ghost use Rattle.check_explain.specs.DocumentLine.{IsFault, OfTree};
+ghost use Rattle.check_documents.specs.Tree.{tree_of};
 
-use check_documents::read_tree;
-use check_objects::{Fault, MAX_DOCUMENT_BYTES, Setup};
+use check_drafts::{Fault, MAX_DOCUMENT_BYTES};
+use serde_json::Value;
 use std::alloc::Global;
 
-/// Writes a setup document, which may stand over many lines, in JSON's compact form, without a line
-/// feed in it or at its end. What is written is read to the same setup.
+/// Writes the document with this tree in JSON's compact form, without a line feed in it or at its end.
+/// What is written is read to the same tree (`same`). The clauses `text` and `too_long` are about trees
+/// without a float: a good setup has none.
 ///
-/// Of a document that is refused the fault is returned, as `Setup::examine` gives it. One whose compact
-/// form has more than 16,777,216 bytes is `TooLong`. `Memory` may come in place of any other answer.
-pub fn write_line(alloc: Global, document: &[u8]) -> Result<Vec<u8>, Fault>
-    ensures same { IfOk result (λ line. setup_of line.items ≡ setup_of document.now) }
-    ensures good { IfOk result (λ line. IsOk (setup_of document.now)) }
+/// The error is `TooLong` if the line has more than 16,777,216 bytes, or `Memory`.
+pub fn write_line(alloc: Global, tree: &Value) -> Result<Vec<u8>, Fault>
+    ensures same { IfOk result (λ line. (document : List ℕ) → tree_of document ≡ Some (view tree.now)
+        → tree_of line.items ≡ Some (view tree.now)) }
     ensures one_line { IfOk result (λ line. HasNoFeed line.items) }
     ensures compact { IfOk result (λ line. line.items ≡ print (tokens line.items)) }
-    ensures text { IfOk result (λ line.
-        OfTree document.now (λ tree. line.items ≡ compact_text tree)) }
+    ensures text { IfOk result (λ line. has_float (view tree.now) ≡ false
+        → line.items ≡ compact_text (view tree.now)) }
     ensures fits { IfOk result (λ line. length line.items ≤ 16777216) }
-    ensures fault { IfErr result (λ e. IsFault (examined document.now) (seen e)) }
-    ensures too_long { IfErr result (λ e. e ≡ Fault.TooLong → IsOk (setup_of document.now)
-        → OfTree document.now (λ tree. 16777216 < length (compact_text tree))) }
+    ensures err { IfErr result (λ e. (e ≡ Fault.TooLong) ⊎ (e ≡ Fault.Memory)) }
+    ensures too_long { IfErr result (λ e. e ≡ Fault.TooLong → has_float (view tree.now) ≡ false
+        → 16777216 < length (compact_text (view tree.now))) }
 {
-    Setup::examine(alloc, document)?;
-    let Ok(tree) = read_tree(alloc, document) else {
-        return Err(Fault::Memory);
-    };
     let Ok(line) = tree.to_vec(alloc) else {
         return Err(Fault::Memory);
     };

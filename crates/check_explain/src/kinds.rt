@@ -1,4 +1,7 @@
 //! How a kind of members and a value are written.
+ghost use Rattle.std.specs.Prelude.{◌≡◌, ◌++◌, OnOk, false};
+ghost use Rattle.check_explain.specs.Feeds.{has_feed};
+ghost use Rattle.check_explain.specs.Shapes.{Begins};
 
 use crate::line::Line;
 use check_drafts::Kind;
@@ -6,7 +9,9 @@ use serde_json::Value;
 use std::alloc::{AllocError, Global};
 
 /// A kind in words, as the end of a sentence.
-pub(crate) fn kind_words(kind: Kind) -> &'static str {
+pub(crate) fn kind_words(kind: Kind) -> &'static str
+    ensures { has_feed result.now ≡ false }
+{
     match kind {
         Kind::Part(_) => "a part of the document",
         Kind::Text => "a text",
@@ -20,9 +25,10 @@ pub(crate) fn kind_words(kind: Kind) -> &'static str {
     }
 }
 
-/// Appends what a value is, as the end of a sentence: a text, a number and the like itself, and of an
-/// array or an object that it is one.
-pub(crate) fn push_value(alloc: Global, line: &mut Line, value: &Value) -> Result<(), AllocError> {
+/// Appends a value. For an array or an object it appends only which of the two it is.
+pub(crate) fn push_value(alloc: Global, line: &mut Line, value: &Value) -> Result<(), AllocError>
+    ensures { OnOk result (Begins line.old line.new) }
+{
     match value {
         Value::Null => line.push_words("null"),
         Value::Bool(true) => line.push_words("true"),
@@ -34,7 +40,9 @@ pub(crate) fn push_value(alloc: Global, line: &mut Line, value: &Value) -> Resul
     }
 }
 
-fn push_any_number(alloc: Global, line: &mut Line, value: &Value) -> Result<(), AllocError> {
+fn push_any_number(alloc: Global, line: &mut Line, value: &Value) -> Result<(), AllocError>
+    ensures { OnOk result (Begins line.old line.new) }
+{
     let number = value.to_string(alloc)?;
     line.push_words(number.as_str())
 }

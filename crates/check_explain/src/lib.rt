@@ -3,15 +3,13 @@
 //!
 //! [`explain`] says in plain words why a document is refused: at which place, by the name that stands
 //! there, which member is at fault, and what is wrong with it. [`write_line`] writes a document as the
-//! one line that a run and a conversation want it to be. [`write_schema`] writes the JSON schema of a
+//! one line that a run and a conversation read. [`write_schema`] writes the JSON schema of a
 //! document, from the table of its members.
 //!
 //! The modules: `line` has a line that never gets a line feed, `places` what stands at a place and how
-//! it is written, `kinds` how kinds and values are, `shapes`, `ranges`, `names`, `counts` and `cycle` (over
-//! `links`) the faults by sort, `no_fault` that a document has none of a sort; `explanation` puts them
-//! together. `document_line` writes the line of a document, and `laws` says what is so of every good one
-//! and of those that are refused for a count or a cycle; `schema` writes the schema, over `layout`, which
-//! lays JSON text out.
+//! it is written, `kinds` how kinds and values are, `shapes`, `names`, `ranges`, `counts` and `cycle` the
+//! faults by sort; `explanation` puts them together. `document_line` writes the line of a document, and
+//! `laws` says what is so of every good one; `schema` writes the schema.
 
 mod counts;
 mod cycle;
@@ -21,9 +19,7 @@ mod kinds;
 pub mod laws;
 mod layout;
 mod line;
-mod links;
 mod names;
-mod no_fault;
 mod places;
 mod ranges;
 mod schema;

@@ -1,7 +1,7 @@
 //! A line of text that grows, and never has a line feed in it.
 ghost use Rattle.std.specs.Prelude.{◌≡◌, ◌≢◌, ◌<◌, ◌++◌, ◌∷◌, false, [], OnOk, decimal, option_map, string_bytes};
 ghost use Rattle.std.specs.Char.{digit_char, encode_utf8};
-ghost use Rattle.check_explain.specs.Explanation.{named};
+ghost use Rattle.check_explain.specs.Places.{named};
 ghost use Rattle.check_explain.specs.Feeds.{has_feed, HasNoFeed};
 ghost use Rattle.check_explain.specs.Shown.{cut, escape_of, escaped, shown};
 
@@ -30,7 +30,7 @@ impl Model for Line {
 }
 
 impl Line {
-    /// A line without a byte.
+    /// An empty line.
     pub(crate) fn new(alloc: Global) -> Line
         ensures { result ≡ [] }
     {
@@ -47,33 +47,15 @@ impl Line {
         self.text
     }
 
-    /// Appends another line.
-    pub(crate) fn push_line(&mut self, line: &Line) -> Result<(), AllocError>
-        ensures text { OnOk result (self.new ≡ self.old ++ line.now) }
-    {
-        self.text.push_str(line.text.as_str())
-    }
-
-    /// Appends words of ours, with a space in place of each line feed.
+    /// Appends words without a line feed.
     pub(crate) fn push_words(&mut self, words: &str) -> Result<(), AllocError>
-        ensures text { OnOk result (has_feed words.now ≡ false → self.new ≡ self.old ++ words.now) }
+        requires { has_feed words.now ≡ false }
+        ensures text { OnOk result (self.new ≡ self.old ++ words.now) }
     {
-        if words.bytes().any(|byte| byte == b'\n') {
-            self.push_flat(words)
-        } else {
-            self.text.push_str(words)
-        }
+        self.text.push_str(words)
     }
 
-    /// Appends a text, with a space in place of each line feed.
-    fn push_flat(&mut self, text: &str) -> Result<(), AllocError> {
-        for character in text.chars() {
-            self.push_char(without_feed(character))?;
-        }
-        Ok(())
-    }
-
-    /// Appends a character that is no line feed.
+    /// Appends a character that isn't a line feed.
     fn push_char(&mut self, character: char) -> Result<(), AllocError>
         requires { character ≢ 10 }
         ensures text { OnOk result (self.new ≡ self.old ++ encode_utf8 character) }
@@ -90,7 +72,7 @@ impl Line {
         self.push_words(buffer.format(number))
     }
 
-    /// Appends a text of the document as a JSON string, cut behind 80 characters.
+    /// Appends a text of the document as a JSON string, cut after 80 characters.
     pub(crate) fn push_text(&mut self, text: &str) -> Result<(), AllocError>
         ensures text { OnOk result (self.new ≡ self.old ++ shown text.now) }
     {
@@ -99,27 +81,22 @@ impl Line {
         self.push_words("\"")
     }
 
-    /// Appends words of ours and a text of the document.
-    pub(crate) fn push_named(&mut self, words: &str, text: &str) -> Result<(), AllocError>
-        ensures text { OnOk result (has_feed words.now ≡ false
-            → self.new ≡ self.old ++ (words.now ++ shown text.now)) }
-    {
-        self.push_words(words)?;
-        self.push_text(text)
-    }
-
-    /// Appends words of ours and a name, where there is one.
+    /// Appends what a name is, and the name, if there is one.
     pub(crate) fn push_name(&mut self, role: &str, name: Option<&str>) -> Result<(), AllocError>
-        ensures text { OnOk result (has_feed role.now ≡ false
-            → self.new ≡ self.old ++ named role.now (option_map (λ name. name.now) name.entry)) }
+        requires { has_feed role.now ≡ false }
+        ensures text { OnOk result (self.new
+            ≡ self.old ++ named role.now (option_map (λ name. name.now) name.entry)) }
     {
         match name {
-            Some(name) => self.push_named(role, name),
+            Some(name) => {
+                self.push_words(role)?;
+                self.push_text(name)
+            }
             None => Ok(()),
         }
     }
 
-    /// Appends a text as it stands in a JSON string; behind 80 characters dots stand for the rest.
+    /// Appends a text as it stands in a JSON string; after 80 characters dots stand for the rest.
     pub(crate) fn push_cut(&mut self, text: &str) -> Result<(), AllocError>
         ensures text { OnOk result (self.new ≡ self.old ++ cut text.now) }
     {
@@ -171,11 +148,4 @@ impl Line {
             None => Ok(()),
         }
     }
-}
-
-/// The character, or a space in place of a line feed.
-fn without_feed(character: char) -> char
-    ensures { result ≢ 10 }
-{
-    if character == '\n' { ' ' } else { character }
 }

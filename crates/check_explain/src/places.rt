@@ -1,9 +1,10 @@
 //! How a place of a document is written: by its part, its index and the name that stands there.
-ghost use Rattle.std.specs.Prelude.{◌≡◌, ◌++◌, OnOk, option_and_then, option_map};
+ghost use Rattle.std.specs.Prelude.{◌≡◌, ◌++◌, OnOk, false, option_map};
 ghost use Rattle.serde_json.specs.View.{view};
 ghost use Rattle.check_drafts.specs.declared.place.Part.TheVariants as part;
-ghost use Rattle.check_explain.specs.Explanation.{after_space, both, name_shown, part_text, place_text, text_in, texts_in};
-ghost use Rattle.check_documents.specs.Places.{value_at};
+ghost use Rattle.check_explain.specs.Feeds.{has_feed};
+ghost use Rattle.check_drafts.specs.Members.{part_name};
+ghost use Rattle.check_explain.specs.Places.{after_space, name_shown, name_text, part_text, place_text, text_in, texts_in};
 
 use crate::line::Line;
 use check_documents::value_at;
@@ -11,14 +12,14 @@ use check_drafts::{Part, Place};
 use serde_json::Value;
 use std::alloc::AllocError;
 
-/// The text of a member of an object, or None where it has no such text.
+/// The text of a member of an object, or None if it has no such text.
 pub(crate) fn text_of<'v>(item: &'v Value, member: &str) -> Option<&'v str>
     ensures { option_map (λ text. text.now) result ≡ text_in member.now (view item.now) }
 {
     item.get(member).and_then(Value::as_str)
 }
 
-/// The texts of two members of an object, or None where it doesn't have both.
+/// The texts of two members of an object, or None if it doesn't have both.
 pub(crate) fn texts_of<'v>(item: &'v Value, first: &str, second: &str) -> Option<(&'v str, &'v str)>
     ensures { option_map (λ p. (p.0.now, p.1.now)) result
         ≡ texts_in first.now second.now (view item.now) }
@@ -29,8 +30,8 @@ pub(crate) fn texts_of<'v>(item: &'v Value, first: &str, second: &str) -> Option
     }
 }
 
-/// Appends a place, a colon and a space: its part, and of an item of a list its index and the name
-/// that stands there.
+/// Appends a place, a colon and a space: the part, and for an item of a list its index and the name that
+/// stands there.
 pub(crate) fn push_place(line: &mut Line, tree: &Value, place: Place) -> Result<(), AllocError>
     ensures { OnOk result (line.new ≡ line.old ++ place_text (view tree.now) place) }
 {
@@ -39,7 +40,7 @@ pub(crate) fn push_place(line: &mut Line, tree: &Value, place: Place) -> Result<
     line.push_words(": ")
 }
 
-/// Appends a part of the document, and the index in its list where there is one.
+/// Appends a part of the document, and the index in its list if there is one.
 pub(crate) fn push_part_and_index(
     line: &mut Line,
     part: Part,
@@ -47,7 +48,7 @@ pub(crate) fn push_part_and_index(
 ) -> Result<(), AllocError>
     ensures { OnOk result (line.new ≡ line.old ++ part_text part index) }
 {
-    line.push_words(part.name())?;
+    line.push_words(part_words(part))?;
     match index {
         Some(index) => {
             line.push_words(" ")?;
@@ -57,20 +58,27 @@ pub(crate) fn push_part_and_index(
     }
 }
 
-/// Appends a space and the name of what stands at a place, where it has one.
-fn push_name_at(line: &mut Line, tree: &Value, place: Place) -> Result<(), AllocError>
-    ensures { OnOk result (line.new ≡ line.old
-        ++ after_space (option_and_then (name_shown place.part) (value_at (view tree.now) place))) }
+/// The name of a part of the document.
+pub(crate) fn part_words(part: Part) -> &'static str
+    ensures text { result.now ≡ part_name part }
+    ensures flat { has_feed result.now ≡ false }
+{
+    part.name()
+}
+
+/// Appends a space and the name that stands at a place, if there is one.
+pub(crate) fn push_name_at(line: &mut Line, tree: &Value, place: Place) -> Result<(), AllocError>
+    ensures { OnOk result (line.new ≡ line.old ++ name_text (view tree.now) place) }
 {
     match value_at(tree, place) {
-        Some(item) => push_name(line, item, place.part),
+        Some(item) => push_item_name(line, item, place.part),
         None => Ok(()),
     }
 }
 
-/// Appends a space and the name of an item of a part: of a host or a service its full name, of a
-/// dependency both of its ends. An item without a name adds nothing.
-pub(crate) fn push_name(line: &mut Line, item: &Value, part: Part) -> Result<(), AllocError>
+/// Appends a space and the name of an item of a part: the name of a host, the full name of a service, or
+/// both ends of a dependency. Nothing is appended for an item without a name.
+fn push_item_name(line: &mut Line, item: &Value, part: Part) -> Result<(), AllocError>
     ensures { OnOk result (line.new ≡ line.old ++ after_space (name_shown part (view item.now))) }
 {
     match part {

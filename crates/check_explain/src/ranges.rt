@@ -1,64 +1,59 @@
-//! Numbers out of their ranges.
+//! Numbers out of their limits.
 ghost use Rattle.std.specs.Prelude.{◌≡◌, ◌++◌, OnOk};
 ghost use Rattle.serde_json.specs.View.{view};
 ghost use Rattle.check_drafts.specs.Fault.{range_seen};
 ghost use Rattle.check_drafts.specs.Member.{as_row, limits_of};
-ghost use Rattle.check_explain.specs.Explanation.{stray_member};
-ghost use Rattle.check_explain.specs.Ranges.{above_text, between_text, beyond_text, crossed_text, limits_text, number_of, number_text};
-ghost use Rattle.check_explain.specs.Ranges.{range_text};
+ghost use Rattle.check_explain.specs.Ranges.{above_text, between_text, limits_text, number_text, range_text, wrong_number_text};
 
 use crate::line::Line;
+use crate::places::push_place;
 use check_drafts::members::{
     HIGH_HOST_FLAP_THRESHOLD, HIGH_SERVICE_FLAP_THRESHOLD, LOW_HOST_FLAP_THRESHOLD,
     LOW_SERVICE_FLAP_THRESHOLD,
 };
-use check_drafts::{Kind, Member, RangeFault};
+use check_drafts::{Kind, Member, Place, RangeFault};
 use serde_json::Value;
 use std::alloc::AllocError;
 
-/// The member whose number is out of its range: of two thresholds the low one.
-pub(crate) fn stray_member(fault: RangeFault) -> &'static str
-    ensures { result.now ≡ stray_member (range_seen fault) }
-{
-    match fault {
-        RangeFault::Beyond(member) => member.name,
-        RangeFault::ServiceThresholds => LOW_SERVICE_FLAP_THRESHOLD.name,
-        RangeFault::HostThresholds => LOW_HOST_FLAP_THRESHOLD.name,
-    }
-}
-
-/// Appends which number is out of its range, and what it can be.
+/// Appends which number is out of its limits, and what it can be.
 pub(crate) fn push_range(
     line: &mut Line,
-    value: &Value,
+    tree: &Value,
+    place: Place,
     fault: RangeFault,
 ) -> Result<(), AllocError>
-    ensures { OnOk result
-        (line.new ≡ line.old ++ range_text (range_seen fault) (view value.now)) }
+    ensures { OnOk result (line.new ≡ line.old ++ range_text (view tree.now) place (range_seen fault)) }
+{
+    push_place(line, tree, place)?;
+    push_wrong_number(line, fault)
+}
+
+fn push_wrong_number(line: &mut Line, fault: RangeFault) -> Result<(), AllocError>
+    ensures { OnOk result (line.new ≡ line.old ++ wrong_number_text (range_seen fault)) }
 {
     match fault {
-        RangeFault::Beyond(member) => push_beyond(line, value, member),
-        RangeFault::ServiceThresholds => push_crossed(
-            line,
-            value,
-            LOW_SERVICE_FLAP_THRESHOLD,
-            HIGH_SERVICE_FLAP_THRESHOLD,
-        ),
-        RangeFault::HostThresholds => push_crossed(
-            line,
-            value,
-            LOW_HOST_FLAP_THRESHOLD,
-            HIGH_HOST_FLAP_THRESHOLD,
-        ),
+        RangeFault::Beyond(member, number) => {
+            push_number(line, member, number)?;
+            push_limits(line, member.kind)
+        }
+        RangeFault::ServiceThresholds(low, high) => {
+            push_number(line, LOW_SERVICE_FLAP_THRESHOLD, low)?;
+            push_above(line, HIGH_SERVICE_FLAP_THRESHOLD, high)
+        }
+        RangeFault::HostThresholds(low, high) => {
+            push_number(line, LOW_HOST_FLAP_THRESHOLD, low)?;
+            push_above(line, HIGH_HOST_FLAP_THRESHOLD, high)
+        }
     }
 }
 
-/// Appends the number of a member, and what it can be.
-fn push_beyond(line: &mut Line, value: &Value, member: Member) -> Result<(), AllocError>
-    ensures { OnOk result (line.new ≡ line.old ++ beyond_text (as_row member) (view value.now)) }
+/// Appends the number of a member.
+fn push_number(line: &mut Line, member: Member, number: u64) -> Result<(), AllocError>
+    ensures { OnOk result (line.new ≡ line.old ++ number_text (as_row member) number) }
 {
-    push_is(line, number_of(value, member))?;
-    push_limits(line, member.kind)
+    line.push_text(member.name)?;
+    line.push_words(" is ")?;
+    line.push_number(number)
 }
 
 /// Appends the least and the most that a number of a kind can be.
@@ -80,42 +75,12 @@ fn push_between(line: &mut Line, low: u64, high: u64) -> Result<(), AllocError>
     line.push_number(high)
 }
 
-/// Appends the low threshold of flapping, and the high one, which it is above.
-fn push_crossed(
-    line: &mut Line,
-    options: &Value,
-    low: Member,
-    high: Member,
-) -> Result<(), AllocError>
-    ensures { OnOk result (line.new
-        ≡ line.old ++ crossed_text (as_row low) (as_row high) (view options.now)) }
-{
-    push_is(line, number_of(options, low))?;
-    push_above(line, high.name, number_of(options, high))
-}
-
-fn push_is(line: &mut Line, number: u64) -> Result<(), AllocError>
-    ensures { OnOk result (line.new ≡ line.old ++ number_text number) }
-{
-    line.push_words(" is ")?;
-    line.push_number(number)
-}
-
-fn push_above(line: &mut Line, name: &str, number: u64) -> Result<(), AllocError>
-    ensures { OnOk result (line.new ≡ line.old ++ above_text name.now number) }
+/// Appends the member that a number can't be above, and its number.
+fn push_above(line: &mut Line, member: Member, number: u64) -> Result<(), AllocError>
+    ensures { OnOk result (line.new ≡ line.old ++ above_text (as_row member) number) }
 {
     line.push_words("; it can't be above ")?;
-    line.push_text(name)?;
+    line.push_text(member.name)?;
     line.push_words(", which is ")?;
     line.push_number(number)
-}
-
-/// The number of a member, or its default where it isn't there.
-fn number_of(value: &Value, member: Member) -> u64
-    ensures { result ≡ number_of (as_row member) (view value.now) }
-{
-    match value.get(member.name).and_then(Value::as_u64) {
-        Some(number) => number,
-        None => member.default_number().unwrap_or(0),
-    }
 }

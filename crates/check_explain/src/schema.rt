@@ -1,7 +1,7 @@
 //! The JSON schema of a setup document, from the table of its members.
 
 use crate::layout::Layout;
-use crate::names::misnamed_member;
+use crate::names::name_member;
 use check_drafts::members::DOCUMENT_MEMBERS;
 use check_drafts::{
     DefaultValue, HOST_LETTERS, Kind, MAX_DEPENDENCIES, MAX_NAME_BYTES, MAX_OBJECTS, MAX_PARENTS,
@@ -112,7 +112,7 @@ fn push_required(layout: &mut Layout, members: &[Member]) -> Result<(), AllocErr
 
 /// Writes what a member is: its kind with its limits, its default, and what it is for.
 fn push_member(layout: &mut Layout, part: Part, member: Member) -> Result<(), AllocError> {
-    push_kind(layout, member.kind, member.name == misnamed_member(part))?;
+    push_kind(layout, member.kind, member.name == name_member(part))?;
     if let Some(default) = member.default {
         push_default(layout, default, member.kind)?;
     }

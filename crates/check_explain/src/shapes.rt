@@ -1,45 +1,77 @@
-//! Faults of shape: a member that is unknown, missing or of the wrong kind.
-ghost use Rattle.std.specs.Prelude.{◌≡◌, ◌++◌, OnOk, option_and_then, option_map, slice_get};
+//! Faults of shape: a member that is unknown, missing or of another kind.
+ghost use Rattle.std.specs.Prelude.{◌≡◌, ◌++◌, [], OnOk, Some, codes, false, option_map, slice_get};
 ghost use Rattle.std.specs.BTreeMap.{keys};
-ghost use Rattle.serde_json.specs.Find.{as_object};
 ghost use Rattle.serde_json.specs.View.{members_view, view};
 ghost use Rattle.check_drafts.specs.Fault.{shape_seen};
-ghost use Rattle.check_explain.specs.Explanation.{key_at, misshapen};
+ghost use Rattle.check_explain.specs.Feeds.{has_feed};
+ghost use Rattle.check_explain.specs.Shapes.{key_at, key_of, missing_text, unknown_text, Begins, IsOfShape};
+ghost use Rattle.check_explain.specs.Shown.{shown};
 
 use crate::kinds::{kind_words, push_value};
 use crate::line::Line;
-use check_drafts::{Kind, Member, ShapeFault};
+use crate::places::push_place;
+use check_documents::value_at;
+use check_drafts::{Kind, Member, Place, ShapeFault};
 use serde_json::{Map, Value};
 use std::alloc::{AllocError, Global};
 
-/// Appends which member of a value is at fault.
-pub(crate) fn push_misshapen(
+/// Appends what is wrong with the shape of the value at a place.
+pub(crate) fn push_shape(
+    alloc: Global,
     line: &mut Line,
-    value: &Value,
+    tree: &Value,
+    place: Place,
     fault: ShapeFault,
 ) -> Result<(), AllocError>
-    ensures { OnOk result (line.new ≡ line.old ++ misshapen (view value.now) (shape_seen fault)) }
+    ensures { OnOk result (line.old ≡ []
+        → IsOfShape (view tree.now) place (Some (shape_seen fault)) line.new) }
 {
+    push_place(line, tree, place)?;
     match fault {
-        ShapeFault::NotAnArray | ShapeFault::NotAnObject => Ok(()),
-        ShapeFault::Unknown(index) => line.push_name("a member ", key_at(value, index)),
-        ShapeFault::Missing(member) => line.push_named("the member ", member.name),
-        ShapeFault::Misfit(member) => line.push_text(member.name),
+        ShapeFault::NotAnArray => push_wrong_kind(alloc, line, tree, place, "an array"),
+        ShapeFault::NotAnObject => push_wrong_kind(alloc, line, tree, place, "an object"),
+        ShapeFault::Unknown(index) => push_unknown(line, tree, place, index),
+        ShapeFault::Missing(member) => push_missing(line, member),
+        ShapeFault::Misfit(member) => push_misfit(alloc, line, tree, place, member),
     }
 }
 
-/// The name of the member at this index, by the order of an object's names.
-fn key_at(value: &Value, index: usize) -> Option<&str>
-    ensures { option_map (λ key. key.now) result
-        ≡ option_and_then (key_at index) (as_object (view value.now)) }
+/// Appends that a value isn't of this kind.
+fn push_wrong_kind(
+    alloc: Global,
+    line: &mut Line,
+    tree: &Value,
+    place: Place,
+    kind: &str,
+) -> Result<(), AllocError>
+    requires { has_feed kind.now ≡ false }
+    ensures { OnOk result (Begins (line.old ++ codes "this is ") line.new) }
 {
-    match value.as_object() {
-        Some(object) => key_of(object, index),
-        None => None,
+    line.push_words("this is ")?;
+    if let Some(value) = value_at(tree, place) {
+        push_value(alloc, line, value)?;
     }
+    line.push_words("; it has to be ")?;
+    line.push_words(kind)
 }
 
-fn key_of(object: &Map<String, Value>, index: usize) -> Option<&str>
+/// Appends that the member at this index isn't known.
+fn push_unknown(line: &mut Line, tree: &Value, place: Place, index: usize) -> Result<(), AllocError>
+    ensures { OnOk result (line.new ≡ line.old ++ unknown_text (view tree.now) place index) }
+{
+    line.push_name("a member ", key_of(tree, place, index))?;
+    line.push_words(" isn't known here")
+}
+
+/// The name of the member at this index of the object at a place, by the order of its members' names.
+fn key_of(tree: &Value, place: Place, index: usize) -> Option<&str>
+    ensures { option_map (λ key. key.now) result ≡ key_of (view tree.now) place index }
+{
+    let object = value_at(tree, place).and_then(Value::as_object)?;
+    key_at(object, index)
+}
+
+fn key_at(object: &Map<String, Value>, index: usize) -> Option<&str>
     ensures { option_map (λ key. key.now) result
         ≡ key_at index (members_view object.now.entries) }
 {
@@ -55,56 +87,43 @@ fn nth_key(object: &Map<String, Value>, index: usize) -> Option<&String>
     object.keys().nth(index)
 }
 
-/// Appends what is wrong with the shape of a value, or with the member of it that is at fault.
-pub(crate) fn push_shape(
+/// Appends that a member is missing.
+fn push_missing(line: &mut Line, member: Member) -> Result<(), AllocError>
+    ensures { OnOk result (line.new ≡ line.old ++ missing_text member.name.now) }
+{
+    line.push_words("the member ")?;
+    line.push_text(member.name)?;
+    line.push_words(" is missing")
+}
+
+/// Appends that the value of a member isn't of its kind.
+fn push_misfit(
     alloc: Global,
     line: &mut Line,
-    value: &Value,
-    fault: ShapeFault,
-) -> Result<(), AllocError> {
-    match fault {
-        ShapeFault::NotAnArray => push_other_kind(alloc, line, value, "an array"),
-        ShapeFault::NotAnObject => push_other_kind(alloc, line, value, "an object"),
-        ShapeFault::Unknown(_) => line.push_words(" isn't known here"),
-        ShapeFault::Missing(_) => line.push_words(" is missing"),
-        ShapeFault::Misfit(member) => push_misfit(alloc, line, value, member),
+    tree: &Value,
+    place: Place,
+    member: Member,
+) -> Result<(), AllocError>
+    ensures { OnOk result (Begins (line.old ++ shown member.name.now) line.new) }
+{
+    line.push_text(member.name)?;
+    match value_at(tree, place).and_then(|object| object.get(member.name)) {
+        Some(value) => push_other_kind(alloc, line, value, member.kind),
+        None => Ok(()),
     }
 }
 
-/// Appends that a value isn't of this kind.
+/// Appends what a value is, and what it has to be.
 fn push_other_kind(
     alloc: Global,
     line: &mut Line,
     value: &Value,
-    kind: &str,
-) -> Result<(), AllocError> {
-    line.push_words("this is ")?;
-    push_value(alloc, line, value)?;
-    line.push_words("; it has to be ")?;
-    line.push_words(kind)
-}
-
-/// Appends that the value of a member is of the wrong kind.
-fn push_misfit(
-    alloc: Global,
-    line: &mut Line,
-    value: &Value,
-    member: Member,
-) -> Result<(), AllocError> {
-    match value.get(member.name) {
-        Some(value) => push_wrong_kind(alloc, line, value, member.kind),
-        None => line.push_words(" isn't there"),
-    }
-}
-
-fn push_wrong_kind(
-    alloc: Global,
-    line: &mut Line,
-    value: &Value,
     kind: Kind,
-) -> Result<(), AllocError> {
+) -> Result<(), AllocError>
+    ensures { OnOk result (Begins line.old line.new) }
+{
     match (kind, value.as_array()) {
-        (Kind::Texts, Some(values)) => push_no_text(alloc, line, values),
+        (Kind::Texts, Some(values)) => push_wrong_text(alloc, line, values),
         _ => {
             line.push_words(" is ")?;
             push_value(alloc, line, value)?;
@@ -114,26 +133,28 @@ fn push_wrong_kind(
     }
 }
 
-/// Appends the first value of an array of texts that is no text.
-fn push_no_text(alloc: Global, line: &mut Line, values: &[Value]) -> Result<(), AllocError> {
-    for (index, value) in values.iter().enumerate() {
-        if value.as_str().is_none() {
-            return push_no_text_at(alloc, line, index, value);
+/// Appends the first value of an array of texts that isn't a text.
+fn push_wrong_text(alloc: Global, line: &mut Line, values: &[Value]) -> Result<(), AllocError>
+    ensures { OnOk result (Begins line.old line.new) }
+{
+    match first_wrong_text(values) {
+        Some((index, value)) => {
+            line.push_words(" ")?;
+            line.push_number(index as u64)?;
+            line.push_words(" is ")?;
+            push_value(alloc, line, value)?;
+            line.push_words("; it has to be a text")
         }
+        None => Ok(()),
     }
-    Ok(())
 }
 
-/// Appends that the value at this index of an array of texts is no text.
-fn push_no_text_at(
-    alloc: Global,
-    line: &mut Line,
-    index: usize,
-    value: &Value,
-) -> Result<(), AllocError> {
-    line.push_words(" ")?;
-    line.push_number(index as u64)?;
-    line.push_words(" is ")?;
-    push_value(alloc, line, value)?;
-    line.push_words("; it has to be a text")
+/// The first of these values that isn't a text, and its index.
+fn first_wrong_text(values: &[Value]) -> Option<(usize, &Value)> {
+    for (index, value) in values.iter().enumerate() {
+        if value.as_str().is_none() {
+            return Some((index, value));
+        }
+    }
+    None
 }

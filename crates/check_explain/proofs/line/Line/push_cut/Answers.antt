@@ -31,7 +31,7 @@ returns-in-Some-next c =
     record {
       text = on_ok_weaker c.push_words.result (λ appended. cut_off (80 - c.loop-shown.shown) c.in-Some-next.field-0 c.loop-shown.left.rest.now
           c.next-2.new.self.rest.now c.loop-shown.self c.push_words.new.self _ c.loop-shown.invariant.utf8 c.in-Some-next.ensures.steps.0 done
-          (appended refl) c.loop-shown.invariant.whole) c.push_words.ensures.text;
+          appended c.loop-shown.invariant.whole) c.push_words.ensures.text;
     }
 
 pub returns-in-None-next : goal.returns-in-None-next
