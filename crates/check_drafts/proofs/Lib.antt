@@ -2,3 +2,4 @@ pub mod ListLemmas
 pub mod RepeatLemmas
 pub mod PastEnds
 pub mod RefusalLemmas
+pub mod NameLemmas

@@ -1,13 +1,16 @@
 -- Where no test refuses anything, each passes; where no item of a list is refused, all pass.
-use Rattle.std.proofs.Common.{◌≡◌, ℕ, suc, ◌+◌, ◌&&◌, not, Bool, true, false, cond, List, [], ◌∷◌, length, Option, Some, None, refl, sym, ap, ◌∙◌, Result, Ok, Err, arith}
+use Rattle.std.proofs.Common.{◌≡◌, ℕ, suc, ◌+◌, ◌≤◌, ◌&&◌, not, Bool, true, false, cond, List, [], ◌∷◌, drop, length, map, Option, Some, None, refl, sym, ap, ◌∙◌, Result, Ok, Err, arith}
 use Rattle.std.specs.Prelude.{nat_lt}
 use Rattle.std.specs.List.{list_all, position, prefix_len}
 use Rattle.std.proofs.lemmas.Bool.Decides.{nat_tests}
-use Rattle.check_drafts.specs.declared.error.LoadError.TheVariants as errors
+use Rattle.std.proofs.lemmas.List.{drop_all}
+use Rattle.check_drafts.specs.declared.fault.End.{End}
+use Rattle.check_drafts.specs.declared.fault.End.TheVariants as end
 use Rattle.check_drafts.specs.declared.place.Part.{Part}
 use Rattle.check_drafts.specs.Draft.{DependencyDraft}
-use Rattle.check_drafts.specs.Ends.{has_known_ends, known_ends}
-use Rattle.check_drafts.specs.Agreement.{◌>>=◌, refused_at}
+use Rattle.check_drafts.specs.Ends.{has_known_ends, is_known, known_at, known_both, known_end, known_ends, wrong_end}
+use Rattle.check_drafts.specs.Fault as fault
+use Rattle.check_drafts.specs.Agreement.{◌>>=◌, each_from, refused_as, refused_at, unless}
 use Rattle.check_drafts.specs.Place.{item_of_part}
 use Rattle.check_drafts.proofs.ListLemmas.{missed}
 
@@ -25,6 +28,16 @@ rest_ok (Err x) f y e = cc
 pub nowhere : {E : Type 0} (fault : ℕ → E) (o : Option ℕ) → refused_at fault o ≡ Ok tt → o ≡ None
 nowhere fault None e = refl
 nowhere fault (Some i) e = cc
+
+-- nothing is refused where nothing is found
+pub nothing_found : {E : Type 0} (o : Option E) → unless o ≡ Ok tt → o ≡ None
+nothing_found None e = refl
+nothing_found (Some x) e = cc
+
+-- nothing is refused, however the refusal is seen
+pub still_ok : {E F : Type 0} (see : E → F) (r : Result (Unit {0}) E) → refused_as see r ≡ Ok tt → r ≡ Ok tt
+still_ok see (Ok u) e = refl
+still_ok see (Err x) e = cc
 
 prefix_all_by : {A : Type 0} (p : A → Bool) (x : A) (xs : List A) (b : Bool) → p x ≡ b → (nat_lt (prefix_len p xs) (length xs) ≡ false → list_all p xs ≡ true)
     → nat_lt (cond b (1 + prefix_len p xs) 0) (suc (length xs)) ≡ false → (b && list_all p xs) ≡ true
@@ -45,12 +58,52 @@ all_by_position p xs e =
     let agree : (λ x. not (not (p x))) ≡ p = λ i x. twice_not (p x) i in
     ap (λ q. list_all q xs) (sym agree) ∙ prefix_all (λ x. not (not (p x))) xs (missed _ _ e)
 
+-- ---- the items of a list, one after another
+
+module _ {A B E : Type 0} (test : ℕ → B → Result (Unit {0}) E) (view : A → B) where
+  -- an item is refused
+  pub each_here : (xs : List A) (i : ℕ) (x : A) (e : E) → drop i xs ≡ x ∷ drop (i + 1) xs → test i (view x) ≡ Err e
+      → each_from test i (map view (drop i xs)) ≡ Err e
+  each_here xs i x e rest refused = ap (λ l. each_from test i (map view l)) rest ∙ ap (λ r. r >>= λ _. each_from test (i + 1) (map view (drop (i + 1) xs))) refused
+
+  -- an item passes
+  pub each_later : (xs : List A) (i : ℕ) (x : A) → drop i xs ≡ x ∷ drop (i + 1) xs → test i (view x) ≡ Ok tt
+      → each_from test i (map view (drop i xs)) ≡ each_from test (i + 1) (map view (drop (i + 1) xs))
+  each_later xs i x rest passed = ap (λ l. each_from test i (map view l)) rest ∙ ap (λ r. r >>= λ _. each_from test (i + 1) (map view (drop (i + 1) xs))) passed
+
+  -- no item is left
+  pub each_done : (xs : List A) (i : ℕ) → length xs ≤ i → each_from test i (map view (drop i xs)) ≡ Ok tt
+  each_done xs i past = ap (λ l. each_from test i (map view l)) (drop_all i xs past)
+
+-- where each item passes, what a test shows of an item is true of all
+pub all_of_each : {A E : Type 0} (test : ℕ → A → Result (Unit {0}) E) (p : A → Bool) → ((i : ℕ) (x : A) → test i x ≡ Ok tt → p x ≡ true)
+    → (i : ℕ) (xs : List A) → each_from test i xs ≡ Ok tt → list_all p xs ≡ true
+all_of_each test p shows i [] e = refl
+all_of_each test p shows i (x ∷ xs) e =
+    let here = shows i x (first_ok (test i x) (λ _. each_from test (i + 1) xs) tt e) in
+    let more = all_of_each test p shows (i + 1) xs (rest_ok (test i x) (λ _. each_from test (i + 1) xs) tt e) in
+    rw (here, more) refl
+
 -- ---- the ends of dependencies
 
 -- the dependents and masters of these dependencies have one of these names
 abbrev pub have_known_ends : List (List ℕ) → List DependencyDraft → Bool
 have_known_ends names ds = list_all (has_known_ends names) ds
 
+end_known_by : (b : Bool) (names others : List (List ℕ)) (e : End) (name : List ℕ) → is_known names name ≡ b → known_end names others e name ≡ Ok tt
+    → is_known names name ≡ true
+end_known_by true names others e name known passed = known
+end_known_by false names others e name known passed =
+    let refused : known_end names others e name ≡ Err (wrong_end others e name) = ap (λ b. cond b (Ok tt) (Err (wrong_end others e name))) known in cc
+
+end_known : (names others : List (List ℕ)) (e : End) (name : List ℕ) → known_end names others e name ≡ Ok tt → is_known names name ≡ true
+end_known names others e name passed = end_known_by (is_known names name) names others e name refl passed
+
 -- where no dependency is refused, the ends of each are known
-pub ends_known : (p : Part) (names : List (List ℕ)) (ds : List DependencyDraft) → known_ends p names ds ≡ Ok tt → have_known_ends names ds ≡ true
-ends_known p names ds e = all_by_position (has_known_ends names) ds (nowhere (λ i. errors.UnknownMaster (item_of_part p i)) _ e)
+pub ends_known : (p : Part) (names others : List (List ℕ)) (ds : List DependencyDraft) → known_ends p names others ds ≡ Ok tt → have_known_ends names ds ≡ true
+ends_known p names others ds e =
+    all_of_each (known_at p names others) (has_known_ends names) (λ i d passed.
+    let both = still_ok (fault.unknown_end (item_of_part p i)) (known_both names others d) passed in
+    let dependent = end_known names others end.Dependent d.dependent (first_ok (known_end names others end.Dependent d.dependent) _ tt both) in
+    let master = end_known names others end.Master d.master (rest_ok (known_end names others end.Dependent d.dependent) _ tt both) in
+    rw (dependent, master) refl) 0 ds e

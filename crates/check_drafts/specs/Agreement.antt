@@ -1,6 +1,6 @@
 -- How a function of the code agrees with what the definitions say, running out of memory aside. The code's error is of any
 -- type; `refusal` says which refusal an error is, if it isn't that the code is out of memory.
-use Rattle.std.specs.Prelude.{◌≡◌, ℕ, List, ◌++◌, Option, Some, None, Result, Ok, Err}
+use Rattle.std.specs.Prelude.{◌≡◌, ℕ, ◌+◌, List, [], ◌∷◌, ◌++◌, Option, Some, None, Result, Ok, Err}
 
 infixl 10 ◌>>=◌
 -- what follows, unless there was a refusal before it
@@ -16,6 +16,25 @@ with_front front rest = rest >>= λ more. Ok (front ++ more)
 abbrev pub refused_at : {E : Type 0} → (ℕ → E) → Option ℕ → Result (Unit {0}) E
 refused_at fault None = Ok tt
 refused_at fault (Some i) = Err (fault i)
+
+-- the refusal that is found, or none
+abbrev pub unless : {E : Type 0} → Option E → Result (Unit {0}) E
+unless None = Ok tt
+unless (Some e) = Err e
+
+-- the same, with the refusal seen as another
+abbrev pub refused_as : {A E F : Type 0} → (E → F) → Result A E → Result A F
+refused_as fault (Ok x) = Ok x
+refused_as fault (Err e) = Err (fault e)
+
+-- Every item of a list, the first of which has this index, passes a test; else the refusal of the first one that doesn't.
+abbrev pub each_from : {A E : Type 0} → (ℕ → A → Result (Unit {0}) E) → ℕ → List A → Result (Unit {0}) E
+each_from test i [] = Ok tt
+each_from test i (x ∷ xs) = test i x >>= λ _. each_from test (i + 1) xs
+
+-- the same of a whole list
+abbrev pub each : {A E : Type 0} → (ℕ → A → Result (Unit {0}) E) → List A → Result (Unit {0}) E
+each test xs = each_from test 0 xs
 
 -- the refusal is the one that is defined; where there is none the code is out of memory, which says nothing
 abbrev pub Fails : {Y R : Type 0} → Option R → Result Y R → Type 0

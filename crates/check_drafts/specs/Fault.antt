@@ -3,7 +3,6 @@ use Rattle.std.specs.Prelude.{ℕ, List, Option, Some, None, Result}
 use Rattle.check_drafts.specs.declared.error.LoadError.{LoadError}
 use Rattle.check_drafts.specs.declared.error.LoadError.TheVariants as errors
 use Rattle.check_drafts.specs.declared.fault.Count.{Count}
-use Rattle.check_drafts.specs.declared.fault.End.{End}
 use Rattle.check_drafts.specs.declared.fault.EndFault.{EndFault}
 use Rattle.check_drafts.specs.declared.fault.Fault as declared
 use Rattle.check_drafts.specs.declared.fault.Fault.TheVariants as faults

@@ -1,5 +1,5 @@
 -- What hosts and services are known by, and whether a key comes twice.
-use Rattle.std.specs.Prelude.{ℕ, ◌&&◌, Bool, false, List, Option, map, length, take, position, slice_get, option_map, unwrap_or, bytes_eq}
+use Rattle.std.specs.Prelude.{ℕ, ◌&&◌, Bool, false, List, Option, map, length, take, position, slice_get, option_and_then, option_map, unwrap_or, bytes_eq}
 use Rattle.std.specs.List.{list_any, range_with_len}
 use Rattle.check_drafts.specs.Draft.{HostDraft, ServiceDraft}
 
@@ -10,6 +10,10 @@ stands_before same keys i = unwrap_or (option_map (λ key. list_any (same key) (
 -- the least place whose key stands before it
 abbrev pub first_repeat : {K : Type 0} → (K → K → Bool) → List K → Option ℕ
 first_repeat same keys = position (stands_before same keys) (range_with_len 0 (length keys))
+
+-- the index of the first key that is the same as the one at this index
+abbrev pub first_like : {K : Type 0} → (K → K → Bool) → List K → ℕ → ℕ
+first_like same keys i = unwrap_or (option_and_then (λ key. position (same key) keys) (slice_get keys i)) i
 
 -- what hosts are known by
 abbrev pub names_of : List HostDraft → List (List ℕ)

@@ -31,7 +31,7 @@ pub use limits::{
 };
 pub use member::{DefaultValue, Kind, Member};
 pub use members::members_at;
-pub use name::{full_name, name_fault};
+pub use name::{full_name, is_name, name_fault};
 pub use object::Object;
 pub use options::{DelayMethod, InterleaveFactor, Options};
 pub use place::{Part, Place};

@@ -1,18 +1,15 @@
 //! Which texts may be names, and the names of services.
-ghost use Rattle.std.specs.Prelude.{◌≡◌, IfOk, IsOkUnless, find, not, string_bytes};
-ghost use Rattle.check_drafts.specs.Name.{full_name, is_name_byte, name_fault};
+ghost use Rattle.std.specs.Prelude.{◌≡◌, IfOk, find, not, string_bytes};
+ghost use Rattle.check_drafts.specs.Name.{full_name, is_name, is_name_byte, name_fault};
 
-use crate::error::LoadError;
 use crate::fault::NameFault;
 use crate::limits::MAX_NAME_BYTES;
-use std::alloc::Global;
+use std::alloc::{AllocError, Global};
 
-/// The full name of a service: a semicolon parts the host's name from the description.
-///
-/// `Memory` where it can't be made.
-pub fn full_name(alloc: Global, host: &str, description: &str) -> Result<String, LoadError>
-    ensures name { IfOk result (λ s. string_bytes s ≡ full_name (host.now, description.now)) }
-    ensures memory { IsOkUnless result LoadError.Memory }
+/// The full name of a service: a semicolon separates the host's name from the description. An Err means
+/// out of memory.
+pub fn full_name(alloc: Global, host: &str, description: &str) -> Result<String, AllocError>
+    ensures { IfOk result (λ s. string_bytes s ≡ full_name (host.now, description.now)) }
 {
     Ok(format!(in alloc; "{host};{description}")?)
 }
@@ -31,6 +28,16 @@ pub fn name_fault(name: &str) -> Option<NameFault>
     match bad_byte(name.as_bytes()) {
         Some(byte) => Some(NameFault::Byte(byte)),
         None => None,
+    }
+}
+
+/// Whether a text may be the name of a host or the description of a service.
+pub fn is_name(name: &str) -> bool
+    ensures { result ≡ is_name name.now }
+{
+    match name_fault(name) {
+        Some(_) => false,
+        None => true,
     }
 }
 

@@ -1,49 +1,51 @@
--- The first fault of a list, the parents counted, and the first key that stood before.
-use Rattle.std.proofs.Common.{◌≡◌, ℕ, Bor, bytes_eq, ◌||◌, ◌&&◌, ◌+◌, not, Bool, true, false, cond, List, [], ◌∷◌, ◌++◌, map, length, drop}
-use Rattle.std.proofs.Common.{Option, Some, None, refl, sym, ap, ◌∙◌, Ok, Err, append_assoc}
-use Rattle.std.specs.Prelude.{sum_by}
-use Rattle.std.specs.List.{list_any, position}
-use Rattle.std.proofs.lemmas.List.{map-append}
+-- Parents counted, the first key that stood before, and sets of texts.
+use Rattle.std.proofs.Common.{◌≡◌, ℕ, Bor, bytes_eq, ◌||◌, ◌+◌, ◌<◌, ◌≤◌, not, Bool, true, false, cond, List, [], ◌∷◌, ◌++◌, map, length, drop, take, get_or, subst, option_map}
+use Rattle.std.proofs.Common.{Option, Some, refl, sym, ap, ◌∙◌, Ok, Err, append_assoc, arith}
+use Rattle.std.specs.Prelude.{All, nat_lt, option_and_then, slice_get, sum_by, unwrap_or}
+use Rattle.std.specs.List.{list_any, position, position_or_len}
+use Rattle.std.proofs.lemmas.Bool.Decides.{nat_tests}
+use Rattle.std.proofs.lemmas.Grind.{common_steps}
+use Rattle.std.proofs.lemmas.List.{map-append, take_more}
+use Rattle.std.proofs.lemmas.List.Elements.{All-append, All-from_recursion}
 use Rattle.check_drafts.specs.declared.draft.HostDraft.{HostDraft}
-use Rattle.check_drafts.specs.declared.error.LoadError.{LoadError}
-use Rattle.check_drafts.specs.Agreement.{refused_at}
-use Rattle.check_drafts.specs.Ends.{has_known_ends, is_known, known_ends}
-use Rattle.check_drafts.specs.declared.error.LoadError.TheVariants as errors
-use Rattle.check_drafts.specs.declared.place.Part.{Part}
+use Rattle.check_drafts.specs.declared.fault.End.TheVariants as end
+use Rattle.check_drafts.specs.declared.fault.EndFault.TheVariants as wrong
+use Rattle.check_drafts.specs.Agreement.{◌>>=◌, each, refused_as, refused_at}
 use Rattle.check_drafts.specs.declared.place.Place.{Place}
+use Rattle.check_drafts.specs.Ends.{is_known, known_at, known_dependencies, known_ends}
+use Rattle.check_drafts.specs.Keys.{first_like}
+use Rattle.check_drafts.specs.declared.place.Part.TheVariants as part
+use Rattle.check_drafts.specs.declared.place.Part.{Part}
 use Rattle.check_drafts.specs.Draft as spec
+use Rattle.check_drafts.specs.Fault as fault
 use Rattle.check_drafts.specs.Place.{item_of_part}
 use Rattle.std.proofs.lemmas.List.Folds.{list_any-append}
 use Rattle.std.proofs.lemmas.Slice.Eq.{bytes_eq-Decides}
 use Rattle.check_drafts.specs.Drafted.{host, texts}
-use Rattle.check_drafts.proofs.ListLemmas.{list_any-map, position-map, position-same}
+use Rattle.check_drafts.proofs.ListLemmas.{list_any-map, one_found, one_missed, position-back, position-front, position-map}
 use Rattle.check_drafts.proofs.RepeatLemmas.{repeat_after}
-
-pub refused_some : (fault : ℕ → LoadError) (o : Option ℕ) (i : ℕ) → Some i ≡ o → refused_at fault o ≡ Err (fault i)
-refused_some fault o i e = ap (refused_at fault) (sym e)
-
-pub refused_none : (fault : ℕ → LoadError) (o : Option ℕ) → None ≡ o → refused_at fault o ≡ Ok tt
-refused_none fault o e = ap (refused_at fault) (sym e)
-
--- the first place of a list, seen through a view
-pub refused_there : {A B : Type 0} (fault : ℕ → LoadError) (test : B → Bool) (view : A → B) (xs : List A) (i : ℕ) → Some i ≡ position (λ x. test (view x)) xs
-    → refused_at fault (position test (map view xs)) ≡ Err (fault i)
-refused_there fault test view xs i e = refused_some fault _ i (e ∙ sym (position-map test view xs))
-
--- no place of a list, seen through a view
-pub refused_nowhere : {A B : Type 0} (fault : ℕ → LoadError) (test : B → Bool) (view : A → B) (xs : List A) → None ≡ position (λ x. test (view x)) xs
-    → refused_at fault (position test (map view xs)) ≡ Ok tt
-refused_nowhere fault test view xs e = refused_none fault _ (e ∙ sym (position-map test view xs))
-
--- the first number beyond its limits
-pub ranged_there : {A B : Type 0} (place : ℕ → Place) (test : B → Bool) (view : A → B) (xs : List A) (i : ℕ) (p : Place) → p ≡ place i
-    → Some i ≡ position (λ x. test (view x)) xs → Err (errors.Range p) ≡ refused_at (λ j. errors.Range (place j)) (position test (map view xs))
-ranged_there place test view xs i p at e = ap (λ q. Err (errors.Range q)) at ∙ sym (refused_there (λ j. errors.Range (place j)) test view xs i e)
+use Rattle.check_faults.specs.Verification.{in_word}
 
 -- ---- parents counted
 
 abbrev pub parents_from : ℕ → List HostDraft → ℕ
 parents_from i hs = sum_by (λ h. length h.parents) (map host (drop i hs))
+
+word_by : (b : Bool) (n r : ℕ) → nat_lt n 18446744073709551615 ≡ b → (n < 18446744073709551615 → r ≡ n) → (18446744073709551615 ≤ n → r ≡ 18446744073709551615)
+    → r ≡ cond b n 18446744073709551615
+word_by true n r e below above = below (grind (arith, nat_tests, e))
+word_by false n r e below above = above (grind (arith, nat_tests, e))
+
+pub word_is : (n r : ℕ) → (n < 18446744073709551615 → r ≡ n) → (18446744073709551615 ≤ n → r ≡ 18446744073709551615) → r ≡ in_word n
+word_is n r below above = word_by (nat_lt n 18446744073709551615) n r refl below above
+
+few_by : (b : Bool) (n most : ℕ) → nat_lt n 18446744073709551615 ≡ b → most < 18446744073709551615 → cond b n 18446744073709551615 ≤ most → n ≤ most
+few_by true n most e small h = h
+few_by false n most e small h = omega (arith, small, h)
+
+-- a count that is at most so many, as far as 64 bits count, is
+pub few_in_word : (n most : ℕ) → most < 18446744073709551615 → in_word n ≤ most → n ≤ most
+few_in_word n most small h = few_by (nat_lt n 18446744073709551615) n most refl small h
 
 -- ---- keys one after another: D are drafts of the code, K what its set holds of them, and L how the definitions see that
 
@@ -105,9 +107,59 @@ known_more keys new key before t false same known is agree name =
     ∙ known_push (texts keys) key.now name ∙ ap (λ b. b || (bytes_eq name key.now || false)) (agree name)
     ∙ ap (λ x. is_known before name || (bytes_eq name x || false)) same ∙ sym (known_push before t name)
 
--- the same dependencies have unknown ends, where the same texts are known
-pub same_ends : (p : Part) (names others : List (List ℕ)) (ds : List spec.DependencyDraft)
-    → ((name : List ℕ) → is_known names name ≡ is_known others name) → known_ends p names ds ≡ known_ends p others ds
-same_ends p names others ds same =
-    ap (refused_at (λ i. errors.UnknownMaster (item_of_part p i)))
-    (position-same (λ d. not (has_known_ends names d)) (λ d. not (has_known_ends others d)) (λ d i. not (same d.dependent i && same d.master i)) ds)
+-- the same dependencies have the same faults, where the same texts are known
+pub same_ends : (p : Part) (names others more less : List (List ℕ)) (ds : List spec.DependencyDraft)
+    → ((name : List ℕ) → is_known names name ≡ is_known others name) → ((name : List ℕ) → is_known more name ≡ is_known less name)
+    → known_ends p names more ds ≡ known_ends p others less ds
+same_ends p names others more less ds same alike =
+    let test : known_at p names more ≡ known_at p others less = λ j i d. refused_as (fault.unknown_end (item_of_part p i))
+    (cond (same d.dependent j) (Ok tt) (Err (cond (alike d.dependent j) (wrong.OtherSort end.Dependent) (wrong.Unknown end.Dependent))) >>= λ _.
+    cond (same d.master j) (Ok tt) (Err (cond (alike d.master j) (wrong.OtherSort end.Master) (wrong.Unknown end.Master)))) in
+    ap (λ t. each t ds) test
+
+-- all dependencies have the same faults, where the same full names are known
+pub same_dependencies : (services others hosts : List (List ℕ)) (ds : spec.Drafts) → ((name : List ℕ) → is_known services name ≡ is_known others name)
+    → known_dependencies services hosts ds ≡ known_dependencies others hosts ds
+same_dependencies services others hosts ds same =
+    let first = same_ends part.ServiceDependencies services others hosts hosts ds.service_dependencies same (λ name. refl) in
+    let then = same_ends part.HostDependencies hosts hosts services others ds.host_dependencies (λ name. refl) same in
+    λ i. first i >>= λ _. then i
+
+-- ---- the first key that is like another
+
+found_here : {A : Type 0} (p : A → Bool) (x : A) (xs : List A) (n : ℕ) (b : Bool) → p x ≡ b → (b || list_any p xs) ≡ true → n ≡ position_or_len p (x ∷ xs)
+    → (list_any p xs ≡ true → position p xs ≡ Some (position_or_len p xs)) → position p (x ∷ xs) ≡ Some n
+found_here p x xs n true here any is later =
+    let zero_is : position_or_len p (x ∷ xs) ≡ 0 = rw here refl in
+    position-front p (x ∷ []) xs 0 (one_found p x here) ∙ ap Some (sym (is ∙ zero_is))
+found_here p x xs n false here any is later =
+    let one_is : position_or_len p (x ∷ xs) ≡ 1 + position_or_len p xs = rw here refl in
+    position-back p (x ∷ []) xs (one_missed p x here) ∙ ap (option_map (λ j. 1 + j)) (later any) ∙ ap Some (sym (is ∙ one_is))
+
+found_by : {A : Type 0} (p : A → Bool) (xs : List A) (n : ℕ) → list_any p xs ≡ true → n ≡ position_or_len p xs → position p xs ≡ Some n
+found_by p [] n any is = cc
+found_by p (x ∷ xs) n any is = found_here p x xs n (p x) refl any is (λ more. found_by p xs (position_or_len p xs) more refl)
+
+pub like_the_first : {K L : Type 0} (same : L → L → Bool) (seen : K → L) (all : List L) (ks : List K) (more : List L) (i first : ℕ) (key : L)
+    → all ≡ map seen ks ++ more → slice_get all i ≡ Some key → list_any (λ k. same key (seen k)) ks ≡ true → first ≡ position_or_len (λ k. same key (seen k)) ks
+    → first_like same all i ≡ first
+like_the_first same seen all ks more i first key parts at known is =
+    let place : position (same key) all ≡ Some first = ap (position (same key)) parts
+    ∙ position-front (same key) (map seen ks) more first (position-map (same key) seen ks ∙ found_by (λ k. same key (seen k)) ks first known is) in
+    ap (λ o. unwrap_or (option_and_then (λ k. position (same k) all) o) i) at ∙ ap (λ o. unwrap_or o i) place
+
+-- a repeat is told at its place, with the first item that is like it
+pub repeated_at : (place : ℕ → Place) (like : ℕ → ℕ) (o : Option ℕ) (i : ℕ) (p : Place) (first : ℕ) → o ≡ Some i → p ≡ place i → like i ≡ first
+    → refused_at (λ j. fault.duplicate (place j) (like j)) o ≡ Err (fault.duplicate p first)
+repeated_at place like o i p first at here is =
+    ap (refused_at (λ j. fault.duplicate (place j) (like j))) at ∙ (λ k. Err (fault.duplicate (sym here k) (is k)))
+
+-- ---- items so far
+
+pub all_next : {A : Type 0} (P : A → Type 0) (xs : List A) (i : ℕ) (x : A) → All P (take i xs) → i < length xs → x ≡ get_or xs i x → P x → All P (take (i + 1) xs)
+all_next P xs i x before below is here =
+    let more : take (i + 1) xs ≡ take i xs ++ x ∷ [] = take_more xs i x below ∙ ap (λ y. take i xs ++ y ∷ []) (sym is) in
+    subst (All P) (sym more) (All-append P (take i xs) (x ∷ []) before (All-from_recursion P (x ∷ []) (here, tt)))
+
+pub get_or_same : {A : Type 0} (xs : List A) (i : ℕ) (d e : A) → i < length xs → get_or xs i d ≡ get_or xs i e
+get_or_same xs i d e below = grind (arith, common_steps)

@@ -1,142 +1,171 @@
--- Verifying drafts, which are in the right shape: one test after another, each over all drafts.
-use Rattle.std.specs.Prelude.{ℕ, ◌+◌, ◌&&◌, ◌||◌, Bool, true, not, List, length, map, sum_by, position, Result, Ok, Err, bytes_eq, nat_lt, nat_le}
-use Rattle.std.specs.Prelude.{if◌then◌else◌}
-use Rattle.std.specs.List.{list_all}
+-- Verifying drafts, which are in the right shape: one test after another, each over all drafts. What a test refuses is the fault of the first item that
+-- doesn't pass it.
+use Rattle.std.specs.Prelude.{ℕ, ◌+◌, List, length, map, option_map, sum_by, position, not, Result, Ok, Err, bytes_eq, nat_lt, nat_le, if◌then◌else◌}
 use Rattle.check_drafts.specs.declared.draft.CheckDraft.{CheckDraft}
-use Rattle.check_drafts.specs.declared.error.LoadError.{LoadError}
-use Rattle.check_drafts.specs.declared.error.LoadError.TheVariants as errors
+use Rattle.check_drafts.specs.declared.fault.Count.{Count}
+use Rattle.check_drafts.specs.declared.fault.Count.TheVariants as count
 use Rattle.check_drafts.specs.declared.options.DelayMethod.{DelayMethod}
 use Rattle.check_drafts.specs.declared.options.DelayMethod.TheVariants as method
 use Rattle.check_drafts.specs.declared.options.InterleaveFactor.{InterleaveFactor}
 use Rattle.check_drafts.specs.declared.options.InterleaveFactor.TheVariants as factor
 use Rattle.check_drafts.specs.declared.options.Options.{Options}
-use Rattle.check_drafts.specs.Agreement.{◌>>=◌, refused_at}
-use Rattle.check_drafts.specs.Keys.{first_repeat, names_of, key_of, same_key}
+use Rattle.check_drafts.specs.Agreement.{◌>>=◌, each, refused_as, refused_at, unless}
+use Rattle.check_drafts.specs.Fault as fault
+use Rattle.check_drafts.specs.Fault.{Fault, WrongNumber}
+use Rattle.check_drafts.specs.Keys.{first_like, first_repeat, names_of, key_of, same_key}
 use Rattle.check_drafts.specs.Member.{Row, is_within_limits}
 use Rattle.check_drafts.specs.Members as members
-use Rattle.check_drafts.specs.Name.{is_name}
+use Rattle.check_drafts.specs.Name.{name_fault}
 use Rattle.check_drafts.specs.Place.{the_options, host_at, service_at}
-use Rattle.check_drafts.specs.Draft.{HostDraft, ServiceDraft, DependencyDraft, Drafts}
+use Rattle.check_drafts.specs.Draft.{HostDraft, ServiceDraft, Drafts}
 use Rattle.check_drafts.specs.Ends.{is_known, full_names, known_dependencies}
 
 -- ---- counts
 
--- at most 16,384 parents of all hosts together
-abbrev pub has_few_parents : List HostDraft → Bool
-has_few_parents hosts = nat_le (sum_by (λ h. length h.parents) hosts) 16384
+-- a number as far as 64 bits count
+abbrev pub in_word : ℕ → ℕ
+in_word n = if nat_lt n 18446744073709551615 then n else 18446744073709551615
 
--- at most 4,096 hosts and services together, and few parents
-abbrev pub few_objects : List HostDraft → List ServiceDraft → Result (Unit {0}) LoadError
-few_objects hosts services = if nat_lt 4096 (length hosts + length services) || not (has_few_parents hosts) then Err errors.TooMany else Ok tt
+-- there are at most so many of these
+abbrev pub at_most : Count → ℕ → ℕ → Result (Unit {0}) Fault
+at_most what most n = if nat_lt most n then Err (fault.too_many what n) else Ok tt
 
--- at most 16,384 dependencies of both sorts together
-abbrev pub few_dependencies : List DependencyDraft → List DependencyDraft → Result (Unit {0}) LoadError
-few_dependencies of_services of_hosts = if nat_lt 16384 (length of_services + length of_hosts) then Err errors.TooMany else Ok tt
+-- how many parents all hosts have together
+abbrev pub parent_count : List HostDraft → ℕ
+parent_count hosts = sum_by (λ h. length h.parents) hosts
 
-abbrev pub few_items : Drafts → Result (Unit {0}) LoadError
-few_items drafts = few_objects drafts.hosts drafts.services >>= λ _. few_dependencies drafts.service_dependencies drafts.host_dependencies
+-- at most 4,096 hosts and services together, 16,384 parents of all hosts, and 16,384 dependencies of both sorts
+abbrev pub few_items : Drafts → Result (Unit {0}) Fault
+few_items drafts =
+    at_most count.Objects 4096 (in_word (length drafts.hosts + length drafts.services)) >>= λ _.
+    (at_most count.Parents 16384 (in_word (parent_count drafts.hosts)) >>= λ _.
+    at_most count.Dependencies 16384 (in_word (length drafts.service_dependencies + length drafts.host_dependencies)))
 
 -- ---- names
 
--- every host has a name that is one; else the first that hasn't
-abbrev pub good_host_names : List HostDraft → Result (Unit {0}) LoadError
-good_host_names hosts = refused_at (λ i. errors.BadName (host_at i)) (position (λ h. not (is_name h.name)) hosts)
+-- the host at this index has a name that is one
+abbrev pub good_host_name : ℕ → HostDraft → Result (Unit {0}) Fault
+good_host_name i h = unless (option_map (fault.bad_name (host_at i)) (name_fault h.name))
 
--- every service has a description that is one; else the first that hasn't
-abbrev pub good_descriptions : List ServiceDraft → Result (Unit {0}) LoadError
-good_descriptions services = refused_at (λ i. errors.BadName (service_at i)) (position (λ s. not (is_name s.description)) services)
+-- the service at this index has a description that is one
+abbrev pub good_description : ℕ → ServiceDraft → Result (Unit {0}) Fault
+good_description i s = unless (option_map (fault.bad_name (service_at i)) (name_fault s.description))
 
-abbrev pub good_names : List HostDraft → List ServiceDraft → Result (Unit {0}) LoadError
-good_names hosts services = good_host_names hosts >>= λ _. good_descriptions services
+-- every host has a name that is one, and every service a description
+abbrev pub good_names : List HostDraft → List ServiceDraft → Result (Unit {0}) Fault
+good_names hosts services = each good_host_name hosts >>= λ _. each good_description services
 
 -- ---- repeats
 
--- the names of the hosts, if each occurs once; else the first that occurred before
-abbrev pub host_names : List HostDraft → Result (List (List ℕ)) LoadError
-host_names hosts = refused_at (λ i. errors.Duplicate (host_at i)) (first_repeat bytes_eq (names_of hosts)) >>= λ _. Ok (names_of hosts)
+-- every host has a name of its own; else the first host whose name occurred before, and the first host with that name
+abbrev pub no_repeated_hosts : List HostDraft → Result (Unit {0}) Fault
+no_repeated_hosts hosts = refused_at (λ i. fault.duplicate (host_at i) (first_like bytes_eq (names_of hosts) i)) (first_repeat bytes_eq (names_of hosts))
 
--- every service occurs once; else the first that occurred before
-abbrev pub no_repeated_services : List ServiceDraft → Result (Unit {0}) LoadError
-no_repeated_services services = refused_at (λ i. errors.Duplicate (service_at i)) (first_repeat same_key (map key_of services))
+-- the names of the hosts, if every host has a name of its own
+abbrev pub host_names : List HostDraft → Result (List (List ℕ)) Fault
+host_names hosts = no_repeated_hosts hosts >>= λ _. Ok (names_of hosts)
+
+-- no two services have both the same host and the same description; else the first that occurred before, and the first that is like it
+abbrev pub no_repeated_services : List ServiceDraft → Result (Unit {0}) Fault
+no_repeated_services services =
+    refused_at (λ i. fault.duplicate (service_at i) (first_like same_key (map key_of services) i)) (first_repeat same_key (map key_of services))
 
 -- ---- links
 
--- every parent of every host is there; else the first host with one that isn't
-abbrev pub known_parents : List (List ℕ) → List HostDraft → Result (Unit {0}) LoadError
-known_parents names hosts = refused_at (λ i. errors.UnknownHost (host_at i)) (position (λ h. not (list_all (is_known names) h.parents)) hosts)
+-- every parent of the host at this index is there; else the first that isn't
+abbrev pub known_parents_at : List (List ℕ) → ℕ → HostDraft → Result (Unit {0}) Fault
+known_parents_at names i h = refused_at (fault.unknown_parent i) (position (λ p. not (is_known names p)) h.parents)
 
--- the host of every service is there; else the first service whose isn't
-abbrev pub known_hosts : List (List ℕ) → List ServiceDraft → Result (Unit {0}) LoadError
-known_hosts names services = refused_at (λ i. errors.UnknownHost (service_at i)) (position (λ s. not (is_known names s.host)) services)
+-- every parent of every host is there
+abbrev pub known_parents : List (List ℕ) → List HostDraft → Result (Unit {0}) Fault
+known_parents names hosts = each (known_parents_at names) hosts
+
+-- the host of the service at this index is there
+abbrev pub known_host_at : List (List ℕ) → ℕ → ServiceDraft → Result (Unit {0}) Fault
+known_host_at names i s = if is_known names s.host then Ok tt else Err (fault.unknown_host i)
+
+-- the host of every service is there
+abbrev pub known_hosts : List (List ℕ) → List ServiceDraft → Result (Unit {0}) Fault
+known_hosts names services = each (known_host_at names) services
 
 -- what is named is there: parents, the hosts of services, and what depends and is depended on
-abbrev pub known_links : List (List ℕ) → Drafts → Result (Unit {0}) LoadError
+abbrev pub known_links : List (List ℕ) → Drafts → Result (Unit {0}) Fault
 known_links names drafts =
     known_parents names drafts.hosts >>= λ _.
     (known_hosts names drafts.services >>= λ _. known_dependencies (full_names drafts.services) names drafts)
 
 -- ---- limits
 
--- both intervals and the attempts are within their limits
-abbrev pub is_in_range : CheckDraft → Bool
-is_in_range c =
-    is_within_limits members.check_interval c.check_interval
-    && is_within_limits members.retry_interval c.retry_interval
-    && is_within_limits members.max_check_attempts c.max_check_attempts
+-- a number is within the limits of its member
+abbrev pub within : Row → ℕ → Result (Unit {0}) WrongNumber
+within m n = if is_within_limits m n then Ok tt else Err (fault.beyond m n)
 
 -- a fixed delay is within the limits of its member
-abbrev pub is_delay_in_range : Row → DelayMethod → Bool
-is_delay_in_range m (method.Fixed delay) = is_within_limits m delay
-is_delay_in_range m other = true
+abbrev pub delay_within : Row → DelayMethod → Result (Unit {0}) WrongNumber
+delay_within m (method.Fixed delay) = within m delay
+delay_within m other = Ok tt
 
 -- a fixed factor is within the limits of its member
-abbrev pub is_factor_in_range : Row → InterleaveFactor → Bool
-is_factor_in_range m factor.Smart = true
-is_factor_in_range m (factor.Fixed n) = is_within_limits m n
+abbrev pub factor_within : Row → InterleaveFactor → Result (Unit {0}) WrongNumber
+factor_within m factor.Smart = Ok tt
+factor_within m (factor.Fixed n) = within m n
+
+-- both intervals and the attempts are within their limits
+abbrev pub check_within : CheckDraft → Result (Unit {0}) WrongNumber
+check_within c =
+    within members.check_interval c.check_interval >>= λ _.
+    (within members.retry_interval c.retry_interval >>= λ _. within members.max_check_attempts c.max_check_attempts)
 
 -- each number of the options but the thresholds of flapping is within the limits of its member
-abbrev pub are_numbers_in_range : Options → Bool
-are_numbers_in_range o =
-    is_within_limits members.interval_length o.interval_length
-    && is_delay_in_range members.service_inter_check_delay_method o.service_inter_check_delay_method
-    && is_within_limits members.max_service_check_spread o.max_service_check_spread
-    && is_factor_in_range members.service_interleave_factor o.service_interleave_factor
-    && is_delay_in_range members.host_inter_check_delay_method o.host_inter_check_delay_method
-    && is_within_limits members.max_host_check_spread o.max_host_check_spread
-    && is_within_limits members.max_concurrent_checks o.max_concurrent_checks
+abbrev pub numbers_within : Options → Result (Unit {0}) WrongNumber
+numbers_within o =
+    within members.interval_length o.interval_length >>= λ _.
+    (delay_within members.service_inter_check_delay_method o.service_inter_check_delay_method >>= λ _.
+    (within members.max_service_check_spread o.max_service_check_spread >>= λ _.
+    (factor_within members.service_interleave_factor o.service_interleave_factor >>= λ _.
+    (delay_within members.host_inter_check_delay_method o.host_inter_check_delay_method >>= λ _.
+    (within members.max_host_check_spread o.max_host_check_spread >>= λ _. within members.max_concurrent_checks o.max_concurrent_checks)))))
 
--- a low and a high threshold are within the limits of their members, and the low one isn't above the high one
-abbrev pub are_in_order : Row → Row → ℕ → ℕ → Bool
-are_in_order low high l h = is_within_limits low l && is_within_limits high h && nat_le l h
+-- the thresholds of flapping are within the limits of their members
+abbrev pub thresholds_within : Options → Result (Unit {0}) WrongNumber
+thresholds_within o =
+    within members.low_service_flap_threshold o.low_service_flap_threshold >>= λ _.
+    (within members.high_service_flap_threshold o.high_service_flap_threshold >>= λ _.
+    (within members.low_host_flap_threshold o.low_host_flap_threshold >>= λ _. within members.high_host_flap_threshold o.high_host_flap_threshold))
 
--- the thresholds of flapping are within their limits, and in their order
-abbrev pub are_thresholds_in_range : Options → Bool
-are_thresholds_in_range o =
-    are_in_order members.low_service_flap_threshold members.high_service_flap_threshold o.low_service_flap_threshold o.high_service_flap_threshold
-    && are_in_order members.low_host_flap_threshold members.high_host_flap_threshold o.low_host_flap_threshold o.high_host_flap_threshold
+-- the first of two numbers isn't above the second
+abbrev pub in_order : (ℕ → ℕ → WrongNumber) → ℕ → ℕ → Result (Unit {0}) WrongNumber
+in_order wrong low high = if nat_le low high then Ok tt else Err (wrong low high)
 
--- Each number of the options is within the limits of its member, and the low thresholds of flapping aren't above the high ones.
-abbrev pub are_options_in_range : Options → Bool
-are_options_in_range o = are_numbers_in_range o && are_thresholds_in_range o
+-- the low thresholds of flapping aren't above the high ones
+abbrev pub thresholds_in_order : Options → Result (Unit {0}) WrongNumber
+thresholds_in_order o =
+    in_order fault.service_thresholds o.low_service_flap_threshold o.high_service_flap_threshold >>= λ _.
+    in_order fault.host_thresholds o.low_host_flap_threshold o.high_host_flap_threshold
 
-abbrev pub good_options : Options → Result (Unit {0}) LoadError
-good_options options = if are_options_in_range options then Ok tt else Err (errors.Range the_options)
+-- the numbers of the options are within their limits, in the order of the table, and the thresholds in their order
+abbrev pub options_within : Options → Result (Unit {0}) WrongNumber
+options_within o = numbers_within o >>= λ _. (thresholds_within o >>= λ _. thresholds_in_order o)
 
--- the first host with a number beyond its limits
-abbrev pub good_host_ranges : List HostDraft → Result (Unit {0}) LoadError
-good_host_ranges hosts = refused_at (λ i. errors.Range (host_at i)) (position (λ h. not (is_in_range h.check)) hosts)
+abbrev pub good_options : Options → Result (Unit {0}) Fault
+good_options options = refused_as (fault.range the_options) (options_within options)
 
--- the first service with a number beyond its limits
-abbrev pub good_service_ranges : List ServiceDraft → Result (Unit {0}) LoadError
-good_service_ranges services = refused_at (λ i. errors.Range (service_at i)) (position (λ s. not (is_in_range s.check)) services)
+-- the numbers of the host at this index are within their limits
+abbrev pub good_host_range : ℕ → HostDraft → Result (Unit {0}) Fault
+good_host_range i h = refused_as (fault.range (host_at i)) (check_within h.check)
 
-abbrev pub good_ranges : Options → List HostDraft → List ServiceDraft → Result (Unit {0}) LoadError
-good_ranges options hosts services = good_options options >>= λ _. (good_host_ranges hosts >>= λ _. good_service_ranges services)
+-- the numbers of the service at this index are within their limits
+abbrev pub good_service_range : ℕ → ServiceDraft → Result (Unit {0}) Fault
+good_service_range i s = refused_as (fault.range (service_at i)) (check_within s.check)
+
+-- all numbers are within their limits
+abbrev pub good_ranges : Options → List HostDraft → List ServiceDraft → Result (Unit {0}) Fault
+good_ranges options hosts services = good_options options >>= λ _. (each good_host_range hosts >>= λ _. each good_service_range services)
 
 -- ---- all of them
 
--- the first refusal after the shape, if there is one
-unfoldable pub is_faultless : Drafts → Result (Unit {0}) LoadError
+-- the first fault after the shape, if there is one
+unfoldable pub is_faultless : Drafts → Result (Unit {0}) Fault
 is_faultless drafts =
     few_items drafts >>= λ _.
     (good_names drafts.hosts drafts.services >>= λ _.
@@ -144,31 +173,3 @@ is_faultless drafts =
     (no_repeated_services drafts.services >>= λ _.
     (known_links names drafts >>= λ _.
     good_ranges drafts.options drafts.hosts drafts.services))))
-
--- ---- all of them but the ends of dependencies
-
--- what a later test refuses, where an earlier one that is asked only then refuses nothing
-abbrev pub behind : Result (Unit {0}) LoadError → Result (Unit {0}) LoadError → Result (Unit {0}) LoadError
-behind earlier (Ok u) = Ok u
-behind earlier (Err e) = earlier >>= λ _. Err e
-
--- the first number beyond its limits, if there is one; an unknown end of a dependency comes before it
-abbrev pub ranges_behind_ends : List (List ℕ) → Drafts → Result (Unit {0}) LoadError
-ranges_behind_ends names drafts =
-    behind (known_dependencies (full_names drafts.services) names drafts) (good_ranges drafts.options drafts.hosts drafts.services)
-
--- the first refusal of those that are looked for once each host's name stands once
-abbrev pub faultless_behind_names : List (List ℕ) → Drafts → Result (Unit {0}) LoadError
-faultless_behind_names names drafts =
-    no_repeated_services drafts.services >>= λ _.
-    (known_parents names drafts.hosts >>= λ _.
-    (known_hosts names drafts.services >>= λ _.
-    ranges_behind_ends names drafts))
-
--- The first refusal after the shape, if there is one that isn't only of an unknown end: where nothing else is at fault, the
--- ends of dependencies are asked when they are numbered.
-unfoldable pub is_faultless_but_ends : Drafts → Result (Unit {0}) LoadError
-is_faultless_but_ends drafts =
-    few_items drafts >>= λ _.
-    (good_names drafts.hosts drafts.services >>= λ _.
-    (host_names drafts.hosts >>= λ names. faultless_behind_names names drafts))

@@ -1,7 +1,17 @@
-//! What is wrong with the drafts of a setup document, except for dependencies on what isn't there and
-//! for cycles: [`verify_but_ends`].
+//! What is wrong with the drafts of a setup document, except for cycles: [`verify`].
+//!
+//! The modules, in the order of the tests:
+//! - `counts`: how many items there are;
+//! - `names`: names, and names that occur twice;
+//! - `links`: parents, the hosts of services, and the ends of dependencies;
+//! - `ranges`: numbers and their limits.
 #![tactic(auto)]
 
+mod counts;
+mod links;
+mod names;
+mod ranges;
 mod verification;
 
-pub use verification::verify_but_ends;
+pub use links::full_names;
+pub use verification::verify;

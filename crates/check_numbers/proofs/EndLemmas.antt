@@ -1,26 +1,20 @@
 -- The ends of dependencies by number: each name is looked up among the names of its own sort.
-use Rattle.std.proofs.Common.{◌≡◌, ℕ, ◌+◌, ◌<◌, Bool, true, false, cond, List, [], ◌∷◌, ◌++◌, map, drop, length, Option, Some, None}
-use Rattle.std.proofs.Common.{option_map, String, Global, string_bytes, bytes_eq, refl, sym, ap, subst, ◌∙◌, Result, Ok, Err, arith}
-use Rattle.std.specs.Prelude.{nat_lt, unwrap_or, IfOk, IsOkUnless}
+use Rattle.std.proofs.Common.{◌≡◌, ℕ, zero, suc, ◌+◌, ◌<◌, Bool, true, false, List, [], ◌∷◌, ◌++◌, get_or, map, length, Some}
+use Rattle.std.proofs.Common.{option_map, String, Global, string_bytes, bytes_eq, refl, sym, ap, ◌∙◌, arith}
+use Rattle.std.specs.Prelude.{is_some, nat_lt, unwrap_or}
 use Rattle.std.specs.List.{list_all, position}
 use Rattle.std.specs.Map.{keys_of}
 use Rattle.std.proofs.lemmas.List.{length-map, length-append, map-append}
 use Rattle.check_drafts.specs.declared.dependency.Dependency.{Dependency}
-use Rattle.check_drafts.specs.declared.error.LoadError.{LoadError}
-use Rattle.check_drafts.specs.declared.error.LoadError.TheVariants as errors
-use Rattle.check_drafts.specs.declared.place.Part.TheVariants as part
-use Rattle.check_drafts.specs.Agreement.{◌>>=◌, Fails}
 use Rattle.check_drafts.specs.Draft.{DependencyDraft, Drafts}
-use Rattle.check_drafts.specs.Ends.{is_known, has_known_ends, known_ends, known_dependencies}
-use Rattle.check_drafts.specs.LoadError.{Gives, refusal}
-use Rattle.check_drafts.proofs.RefusalLemmas.{ends_known}
-use Rattle.check_drafts.proofs.ListLemmas.{position-map, position-back, one_missed}
+use Rattle.check_drafts.specs.Ends.{is_known, has_known_ends}
+use Rattle.check_drafts.proofs.ListLemmas.{position-map}
 use Rattle.link_order.proofs.TestLemmas.{and_first, and_second}
 use Rattle.check_numbers.specs.declared.numbering.Host.{Host}
 use Rattle.check_numbers.specs.declared.numbering.Service.{Service}
 use Rattle.check_numbers.specs.Configuration.{Named, named_host, named_service, number_among}
 use Rattle.check_numbers.specs.Entries.{host_entry, service_entry, names_in, objects_in}
-use Rattle.check_numbers.specs.Numbering.{number_in, numbered_behind, numbered_dependency, dependency_lists, dependencies_by_number, listed_dependencies}
+use Rattle.check_numbers.specs.Numbering.{number_in, numbered_behind, numbered_dependency, dependency_lists, dependencies_by_number}
 use Rattle.check_numbers.proofs.DependencyLemmas.{dependents_below}
 use Rattle.check_numbers.proofs.NameLemmas.{found, nowhere}
 use Rattle.check_numbers.proofs.ObjectLemmas.{number_front, number_back}
@@ -33,45 +27,21 @@ pub place_of_name : {T : Type 0} (entries : List (String Global × T)) (name : L
 place_of_name entries name =
     position-map (λ k. bytes_eq name (string_bytes k)) (λ e. e.0) entries ∙ sym (position-map (bytes_eq name) (λ e. string_bytes e.0) entries)
 
-number_known_by : (others : ℕ) (names : List (List ℕ)) (name : List ℕ) (b : Bool) → is_known names name ≡ b
-    → option_map (λ i. others + i) (position (bytes_eq name) names) ≡ cond b (Some (others + number_in names name)) None
-number_known_by others names name true e =
-    let f = found (bytes_eq name) names e in
-    ap (option_map (λ i. others + i)) f.place ∙ ap (λ o. Some (others + unwrap_or o 0)) (sym f.place)
-number_known_by others names name false e = ap (option_map (λ i. others + i)) (nowhere (bytes_eq name) names e)
+-- a name that is known has a number
+pub number_known : (others : ℕ) (names : List (List ℕ)) (name : List ℕ) (index : ℕ) → Some index ≡ position (bytes_eq name) names
+    → others + index ≡ others + number_in names name
+number_known others names name index e = ap (λ o. others + unwrap_or o 0) e
 
--- a name that is known has a number, and no other name has
-pub number_known : (others : ℕ) (names : List (List ℕ)) (name : List ℕ)
-    → option_map (λ i. others + i) (position (bytes_eq name) names) ≡ cond (is_known names name) (Some (others + number_in names name)) None
-number_known others names name = number_known_by others names name (is_known names name) refl
+-- a name that is known has a place
+pub place_known : (names : List (List ℕ)) (name : List ℕ) → is_known names name ≡ true → is_some (position (bytes_eq name) names) ≡ true
+place_known names name e = let f = found (bytes_eq name) names e in ap is_some f.place
 
--- a value that is there only where a test holds: it held
-pub was_known : {A : Type 0} (b : Bool) (x y : A) → Some y ≡ cond b (Some x) None → (b ≡ true) × (y ≡ x)
-was_known true x y e = (refl, cc)
-was_known false x y e = cc
-
--- ---- one dependency after another
-
-counted_on : (i : ℕ) (o : Option ℕ) → option_map (λ j. i + j) (option_map (λ j. 1 + j) o) ≡ option_map (λ j. (i + 1) + j) o
-counted_on i None = refl
-counted_on i (Some j) = ap Some (omega arith)
-
--- the first place where the test holds is further on, where it does not hold here and did not before
-pub place_is_later : {A B : Type 0} (test : B → Bool) (view : A → B) (xs : List A) (i : ℕ) (x : A) → drop i xs ≡ x ∷ drop (i + 1) xs
-    → position test (map view xs) ≡ option_map (λ j. i + j) (position test (map view (drop i xs))) → test (view x) ≡ false
-    → position test (map view xs) ≡ option_map (λ j. (i + 1) + j) (position test (map view (drop (i + 1) xs)))
-place_is_later test view xs i x rest so_far e =
-    so_far ∙ ap (λ l. option_map (λ j. i + j) (position test (map view l))) rest
-    ∙ ap (option_map (λ j. i + j)) (position-back test (view x ∷ []) (map view (drop (i + 1) xs)) (one_missed test (view x) e))
-    ∙ counted_on i (position test (map view (drop (i + 1) xs)))
-
--- ---- what was listed, or memory
-
--- a value that is made of what is defined, unless memory ran out
-gives_or_memory : {X Y : Type 0} (view : X → Y) (result : Result X LoadError) (expected : Result Y LoadError) (value : Y)
-    → IfOk result (λ x. view x ≡ value) → IsOkUnless result errors.Memory → expected ≡ Ok value → Gives view result expected
-gives_or_memory view (Ok x) expected value is memory e = e ∙ ap Ok (sym is)
-gives_or_memory view (Err x) expected value is memory e = subst (λ f. Fails (refusal f) expected) (sym memory) tt
+-- what is true of all items of a list is true of each
+pub one_of_all : {A B : Type 0} (test : B → Bool) (view : A → B) (xs : List A) (i : ℕ) (d : A) → i < length xs → list_all test (map view xs) ≡ true
+    → test (view (get_or xs i d)) ≡ true
+one_of_all test view [] i d below h = absurd (omega (arith, below))
+one_of_all test view (x ∷ xs) zero d below h = and_first (test (view x)) _ h
+one_of_all test view (x ∷ xs) (suc i) d below h = one_of_all test view xs i d (omega (arith, below)) (and_second (test (view x)) _ h)
 
 -- ---- numbers of one sort, and those among all objects
 
@@ -147,21 +117,21 @@ module _ (hosts : List (String Global × Host)) (services : List (String Global 
   some_object [] hs h k some = some_host hs k some
   some_object (d ∷ ss) hs h k some = some_service (d ∷ ss) h (omega arith)
 
-  -- what numbers of dependencies are where no end is unknown: those of objects, in the order of the drafts
+  -- what numbers of dependencies are: those of objects, in the order of the drafts
   pub record AreNumbered (drafts : Drafts) (count : ℕ) (all : List (ℕ × Dependency)) : Type 0 where
-    pub known : known_dependencies (names_in services) (names_in hosts) drafts ≡ Ok tt
     pub dependents : list_all (λ d. nat_lt d.0 count) all ≡ true
     pub lists : dependency_lists count all ≡ dependencies_by_number objects drafts
 
   pub all_numbered : (drafts : Drafts) (host_count service_count : ℕ) (ss hs : List DependencyDraft) (none of_services all : List (ℕ × Dependency))
       → ((name : List ℕ) → is_known (names_in services) name ≡ true → is_known (names_in hosts) name ≡ false)
       → ss ≡ drafts.service_dependencies → hs ≡ drafts.host_dependencies → host_count ≡ length hosts → service_count ≡ length services
-      → known_ends part.ServiceDependencies (names_in services) ss ≡ Ok tt → known_ends part.HostDependencies (names_in hosts) hs ≡ Ok tt
+      → list_all (has_known_ends (names_in services)) drafts.service_dependencies ≡ true
+      → list_all (has_known_ends (names_in hosts)) drafts.host_dependencies ≡ true
       → none ≡ [] → of_services ≡ none ++ map (numbered_behind host_count (names_in services)) ss
       → all ≡ of_services ++ map (numbered_behind 0 (names_in hosts)) hs → AreNumbered drafts (host_count + service_count) all
   all_numbered drafts host_count service_count ss hs none of_services all apart of_ss of_hs hosts_are services_are service_ends host_ends start first then =
-      let known_ss = ends_known part.ServiceDependencies (names_in services) ss service_ends in
-      let known_hs = ends_known part.HostDependencies (names_in hosts) hs host_ends in
+      let known_ss = ap (list_all (has_known_ends (names_in services))) of_ss ∙ service_ends in
+      let known_hs = ap (list_all (has_known_ends (names_in hosts))) of_hs ∙ host_ends in
       let numbers : all ≡ map (numbered_dependency objects) (ss ++ hs) =
       then
       ∙ ap (λ l. l ++ map (numbered_behind 0 (names_in hosts)) hs)
@@ -170,18 +140,6 @@ module _ (hosts : List (String Global × Host)) (services : List (String Global 
       ∙ sym (map-append (numbered_dependency objects) ss hs) in
       let count : host_count + service_count ≡ length objects = omega (arith, hosts_are, services_are, objects_counted) in
       record {
-        known =
-            (λ i. known_ends part.ServiceDependencies (names_in services) (sym of_ss i) >>= λ _.
-            known_ends part.HostDependencies (names_in hosts) (sym of_hs i))
-            ∙ (λ i. service_ends i >>= λ _. host_ends i);
         dependents = (λ i. list_all (λ d. nat_lt d.0 (count i)) (numbers i)) ∙ dependents_below objects (ss ++ hs) (some_object ss hs known_ss known_hs);
         lists = (λ i. dependency_lists (count i) (numbers i)) ∙ (λ i. dependency_lists (length objects) (map (numbered_dependency objects) (of_ss i ++ of_hs i)));
       }
-
-  -- lists of them are what is defined, unless memory ran out
-  pub lists_given : {X : Type 0} (view : X → List (List Dependency)) (result : Result X LoadError) (drafts : Drafts) (count : ℕ) (all : List (ℕ × Dependency))
-      → AreNumbered drafts count all → IfOk result (λ x. view x ≡ dependency_lists count all) → IsOkUnless result errors.Memory
-      → Gives view result (listed_dependencies (names_in services) (names_in hosts) objects drafts)
-  lists_given view result drafts count all are lists memory =
-      gives_or_memory view result _ (dependency_lists count all) lists memory
-      (ap (λ r. r >>= λ _. Ok (dependencies_by_number objects drafts)) are.known ∙ ap Ok (sym are.lists))

@@ -1,17 +1,14 @@
 -- The numbers of objects: hosts in the order of their names' bytes, then services in the order of their hosts' names and then of their descriptions.
-use Rattle.std.specs.Prelude.{ℕ, ◌+◌, ◌==◌, List, [], ◌++◌, map, position, bytes_eq, unwrap_or, length, Result, Ok}
+use Rattle.std.specs.Prelude.{ℕ, ◌+◌, ◌==◌, List, [], ◌++◌, map, position, bytes_eq, unwrap_or, length}
 use Rattle.std.specs.List.{count_by, filter, flat_map, range_with_len}
 use Rattle.std.specs.declared.cmp.Ordering.{Ordering}
 use Rattle.std.specs.Ordering.{is_lt}
 use Rattle.check_drafts.specs.declared.dependency.Dependency.{Dependency}
 use Rattle.check_drafts.specs.declared.draft.CheckDraft.{CheckDraft}
-use Rattle.check_drafts.specs.declared.error.LoadError.{LoadError}
 use Rattle.check_drafts.specs.declared.object.Object.{Object}
 use Rattle.check_numbers.specs.Configuration.{Named, Host, Service, Configuration, objects_of, number_among}
 use Rattle.check_drafts.specs.Name.{full_name, text_order, pair_order}
 use Rattle.check_drafts.specs.Draft.{HostDraft, ServiceDraft, DependencyDraft, Drafts}
-use Rattle.check_drafts.specs.Agreement.{◌>>=◌}
-use Rattle.check_drafts.specs.Ends.{known_dependencies}
 use Rattle.check_drafts.specs.Keys.{key_of}
 
 -- ---- the order
@@ -99,11 +96,6 @@ all_dependencies drafts = drafts.service_dependencies ++ drafts.host_dependencie
 -- of each of these objects its dependencies, in the document's order
 abbrev pub dependencies_by_number : List Named → Drafts → List (List Dependency)
 dependencies_by_number objects drafts = dependency_lists (length objects) (map (numbered_dependency objects) (all_dependencies drafts))
-
--- of each of these objects its dependencies, where both ends of each are there: of a service's among the first names, of a host's among the others;
--- else the first dependency with an end that isn't there
-abbrev pub listed_dependencies : List (List ℕ) → List (List ℕ) → List Named → Drafts → Result (List (List Dependency)) LoadError
-listed_dependencies services hosts objects drafts = known_dependencies services hosts drafts >>= λ _. Ok (dependencies_by_number objects drafts)
 
 -- the setup of drafts without a fault
 abbrev pub configuration : Drafts → Configuration

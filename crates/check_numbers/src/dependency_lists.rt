@@ -1,18 +1,17 @@
 //! The dependencies of each object by number, and an order of the objects that they agree with.
-ghost use Rattle.std.specs.Prelude.{◌≡◌, ◌≤◌, ◌+◌, ◌++◌, ℕ, List, length, map, nat_lt, true, false, if◌then◌else◌, Some, None, IfOk, OnOk, IsOkUnless, MatchOption};
+ghost use Rattle.std.specs.Prelude.{◌≡◌, ◌≤◌, ◌+◌, ◌++◌, ℕ, List, length, map, nat_lt, true, false, IfOk, OnOk};
 ghost use Rattle.std.specs.List.{list_all};
 ghost use Rattle.link_order.specs.Cycles.{are_within};
 ghost use Rattle.link_order.specs.Ordering.{IsAnswer};
 ghost use Rattle.link_order.specs.Orders.{IsOrder};
 ghost use Rattle.check_numbers.specs.Configuration.{masters_in};
 ghost use Rattle.check_drafts.specs.Drafted.{dependency, drafts_view};
-ghost use Rattle.check_drafts.specs.Ends.{is_known, has_known_ends, known_ends};
-ghost use Rattle.check_drafts.specs.LoadError.{Gives};
+ghost use Rattle.check_drafts.specs.Ends.{is_known, has_known_ends};
 ghost use Rattle.check_numbers.specs.Entries.{names_in, objects_in};
-ghost use Rattle.check_numbers.specs.Numbering.{number_in, numbered_behind, listed_dependencies, dependency_lists};
+ghost use Rattle.check_numbers.specs.Numbering.{number_in, numbered_behind, dependencies_by_number, dependency_lists};
 
 use crate::numbering::{Host, Service};
-use check_drafts::{Dependency, DependencyDraft, Drafts, LoadError, Part, Place};
+use check_drafts::{Dependency, DependencyDraft, Drafts};
 use indexmap::IndexMap;
 use link_order::{OrderOrCycle, empty_lists, order_by_links, push_at};
 use smallvec::SmallVec;
@@ -24,108 +23,99 @@ pub type Dependencies = SmallVec<Dependency, 1>;
 
 // ---- numbers
 
-/// The dependencies of each object by number, in the document's order; or the first dependency with
-/// an end that isn't there, those of services before those of hosts. `Memory` may come in place of
-/// either.
+/// The dependencies of each object by number, in the document's order, if both ends of each one are
+/// there. An Err means out of memory.
 pub fn list_dependencies(
     alloc: Global,
     drafts: &Drafts<'_>,
     hosts: &IndexMap<String, Host>,
     services: &IndexMap<String, Service>,
-) -> Result<Vec<Dependencies>, LoadError>
+) -> Result<Vec<Dependencies>, AllocError>
     requires few { length (objects_in hosts.now.entries services.now.entries) ≤ 4096 }
     requires apart { (name : List ℕ) → is_known (names_in services.now.entries) name ≡ true
         → is_known (names_in hosts.now.entries) name ≡ false }
-    ensures exact { Gives (λ lists. map (λ list. list.items) lists.items) result
-        (listed_dependencies (names_in services.now.entries) (names_in hosts.now.entries)
-        (objects_in hosts.now.entries services.now.entries) (drafts_view drafts.now)) }
+    requires of_services { list_all (has_known_ends (names_in services.now.entries))
+        (drafts_view drafts.now).service_dependencies ≡ true }
+    requires of_hosts { list_all (has_known_ends (names_in hosts.now.entries))
+        (drafts_view drafts.now).host_dependencies ≡ true }
+    ensures { IfOk result (λ lists. map (λ list. list.items) lists.items
+        ≡ dependencies_by_number (objects_in hosts.now.entries services.now.entries)
+        (drafts_view drafts.now)) }
 {
     let mut numbered = Vec::new(alloc);
     let host_count = hosts.len();
     number_dependencies(
         &mut numbered,
-        Part::ServiceDependencies,
         &drafts.service_dependencies,
         host_count as u32,
         services,
     )?;
-    number_dependencies(
-        &mut numbered,
-        Part::HostDependencies,
-        &drafts.host_dependencies,
-        0,
-        hosts,
-    )?;
+    number_dependencies(&mut numbered, &drafts.host_dependencies, 0, hosts)?;
     list_by_dependent(alloc, host_count + services.len(), &numbered)
 }
 
 /// Adds each dependency by the numbers of its dependent and its master among these objects, which
-/// stand behind so many others; or returns the first one with an end that isn't among them.
+/// come after so many others. An Err means out of memory.
 fn number_dependencies<T>(
     numbered: &mut Vec<(u32, Dependency)>,
-    part: Part,
     drafts: &[DependencyDraft<'_>],
     others: u32,
     objects: &IndexMap<String, T>,
-) -> Result<(), LoadError>
+) -> Result<(), AllocError>
     requires few { others + length objects.now.entries ≤ 4096 }
-    ensures exact { Gives (λ u. u) result
-        (known_ends part (names_in objects.now.entries) (map dependency drafts.now)) }
-    ensures numbers { OnOk result (numbered.new.items ≡ numbered.old.items
+    requires known { list_all (has_known_ends (names_in objects.now.entries))
+        (map dependency drafts.now) ≡ true }
+    ensures { OnOk result (numbered.new.items ≡ numbered.old.items
         ++ map (numbered_behind others (names_in objects.now.entries)) (map dependency drafts.now)) }
 {
-    for (index, draft) in drafts.iter().enumerate() {
-        match number_dependency(*draft, others, objects) {
-            Some(dependency) => numbered.push(dependency)?,
-            None => return Err(LoadError::UnknownMaster(Place::item(part, index))),
-        }
+    for draft in drafts {
+        numbered.push(number_dependency(*draft, others, objects))?;
     }
     Ok(())
 }
 
-/// The dependency behind the number of its dependent, both ends among these objects, which stand
-/// behind so many others. None where an end isn't among them.
+/// The number of a dependency's dependent, and the dependency by number, both ends among these objects,
+/// which come after so many others.
 fn number_dependency<T>(
     draft: DependencyDraft<'_>,
     others: u32,
     objects: &IndexMap<String, T>,
-) -> Option<(u32, Dependency)>
-    requires { others + length objects.now.entries ≤ 4096 }
-    ensures { result ≡ if has_known_ends (names_in objects.now.entries) (dependency draft.entry)
-        then Some (numbered_behind others (names_in objects.now.entries) (dependency draft.entry))
-        else None }
+) -> (u32, Dependency)
+    requires few { others + length objects.now.entries ≤ 4096 }
+    requires known { has_known_ends (names_in objects.now.entries) (dependency draft) ≡ true }
+    ensures { result
+        ≡ numbered_behind others (names_in objects.now.entries) (dependency draft.entry) }
 {
-    let dependent = number_behind(others, objects, draft.dependent)?;
-    let master = number_behind(others, objects, draft.master)?;
+    let dependent = number_behind(others, objects, draft.dependent);
+    let master = number_behind(others, objects, draft.master);
     let dependency = Dependency {
         master,
         criteria: draft.criteria,
         inherits: draft.inherits,
     };
-    Some((dependent, dependency))
+    (dependent, dependency)
 }
 
-/// The number of the object with this name among these, which stand behind so many others. None where
-/// there is no such object.
-fn number_behind<T>(others: u32, objects: &IndexMap<String, T>, name: &str) -> Option<u32>
-    requires { others + length objects.now.entries ≤ 4096 }
-    ensures { result ≡ if is_known (names_in objects.now.entries) name.now
-        then Some (others + number_in (names_in objects.now.entries) name.now) else None }
+/// The number of the object with this name among these, which come after so many others.
+fn number_behind<T>(others: u32, objects: &IndexMap<String, T>, name: &str) -> u32
+    requires few { others + length objects.now.entries ≤ 4096 }
+    requires known { is_known (names_in objects.now.entries) name.now ≡ true }
+    ensures { result ≡ others + number_in (names_in objects.now.entries) name.now }
 {
-    let index = objects.get_index_of(name)?;
-    Some(others + index as u32)
+    let index = objects.get_index_of(name).unwrap();
+    others + index as u32
 }
 
-/// The dependencies of each of so many objects, those of an object in the order in which they stand.
+/// The dependencies of each of so many objects, those of an object in the same order. An Err means out of
+/// memory.
 fn list_by_dependent(
     alloc: Global,
     count: usize,
     numbered: &[(u32, Dependency)],
-) -> Result<Vec<Dependencies>, LoadError>
+) -> Result<Vec<Dependencies>, AllocError>
     requires { list_all (λ d. nat_lt d.0 count) numbered.now ≡ true }
-    ensures lists { IfOk result (λ lists. map (λ list. list.items) lists.items
+    ensures { IfOk result (λ lists. map (λ list. list.items) lists.items
         ≡ dependency_lists count numbered.now) }
-    ensures memory { IsOkUnless result LoadError.Memory }
 {
     let mut lists = empty_lists(alloc, count)?;
     for (dependent, dependency) in numbered {
@@ -137,21 +127,20 @@ fn list_by_dependent(
 // ---- the order
 
 /// The numbers of the objects in an order in which each comes after all that it depends on; or the
-/// objects of a cycle, each of which depends on the next one, and the last on the first. The only
-/// error is `Memory`.
+/// objects of a cycle, each of which depends on the next one, and the last on the first. An Err means out
+/// of memory.
 pub fn order_by_masters(
     alloc: Global,
     dependencies: &[Dependencies],
-) -> Result<OrderOrCycle, LoadError>
+) -> Result<OrderOrCycle, AllocError>
     requires few { length dependencies.now ≤ 4096 }
     requires within { are_within (length dependencies.now)
         (map masters_in (map (λ list. list.items) dependencies.now)) ≡ true }
-    ensures order { IfOk result
+    ensures { IfOk result
         (IsAnswer (map masters_in (map (λ list. list.items) dependencies.now))) }
-    ensures memory { IsOkUnless result LoadError.Memory }
 {
     let links = master_links(alloc, dependencies)?;
-    Ok(order_by_links(alloc, &links)?)
+    order_by_links(alloc, &links)
 }
 
 /// The masters of each object, by number, where its dependencies are given so. An Err means out of

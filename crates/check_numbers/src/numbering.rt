@@ -1,6 +1,6 @@
 //! The numbers of objects: hosts in the order of their names' bytes, then services in the order of
 //! their hosts' names and then of their descriptions; and the links between them by number.
-ghost use Rattle.std.specs.Prelude.{◌≡◌, ◌≤◌, ◌<◌, length, map, bytes_eq, IfOk, OnOk, IsOkUnless, All, None, true, false, [], ◌∷◌, ◌++◌, string_bytes};
+ghost use Rattle.std.specs.Prelude.{◌≡◌, ◌≤◌, ◌<◌, length, map, bytes_eq, IfOk, OnOk, All, None, true, false, [], ◌∷◌, ◌++◌, string_bytes};
 ghost use Rattle.std.specs.List.{list_all, list_any};
 ghost use Rattle.check_numbers.specs.Numbering.{numbered, hosts_in_order, services_in_order, number_in, numbered_host, numbered_service, object_of};
 ghost use Rattle.check_drafts.specs.Name.{is_host_name, full_name};
@@ -10,13 +10,11 @@ ghost use Rattle.check_drafts.specs.Drafted.{host, service, drafts_view, texts, 
 ghost use Rattle.check_numbers.specs.Entries.{objects_in, host_entry, service_entry, sorted_host, sorted_service};
 ghost use Rattle.check_drafts.specs.Text.{text};
 
-use check_drafts::{
-    CheckDraft, Drafts, HostDraft, LoadError, Object, ServiceDraft, full_name, text,
-};
+use check_drafts::{CheckDraft, Drafts, HostDraft, Object, ServiceDraft, full_name, text};
 use indexmap::{IndexMap, IndexSet};
 use serde_json::Value;
 use smallvec::SmallVec;
-use std::alloc::Global;
+use std::alloc::{AllocError, Global};
 use std::collections::BTreeMap;
 
 /// The parents of a host, by number. Most hosts have few.
@@ -41,12 +39,12 @@ pub struct Service {
 }
 
 /// The hosts and the services of drafts, each at the index that is its number among those of its sort.
-/// Each has a name of its own, and no service's host has a semicolon in its name. `Memory` where they
-/// can't be made.
+/// Each has a name of its own, and no service's host has a semicolon in its name. An Err means out of
+/// memory.
 pub fn number_objects(
     alloc: Global,
     drafts: &Drafts<'_>,
-) -> Result<(IndexMap<String, Host>, IndexMap<String, Service>), LoadError>
+) -> Result<(IndexMap<String, Host>, IndexMap<String, Service>), AllocError>
     requires few { length drafts.now.hosts.items ≤ 4096 }
     requires names { first_repeat bytes_eq (names_of (drafts_view drafts.now).hosts) ≡ None }
     requires keys { first_repeat same_key (map key_of (drafts_view drafts.now).services) ≡ None }
@@ -57,7 +55,6 @@ pub fn number_objects(
         map host_entry objects.0.entries ≡ (numbered (drafts_view drafts.now)).hosts) }
     ensures services { IfOk result (λ objects.
         map service_entry objects.1.entries ≡ (numbered (drafts_view drafts.now)).services) }
-    ensures memory { IsOkUnless result LoadError.Memory }
 {
     let hosts = sort_hosts(alloc, &drafts.hosts)?;
     let services = sort_services(alloc, &drafts.services)?;
@@ -74,12 +71,11 @@ pub fn number_objects(
 fn sort_hosts<'v>(
     alloc: Global,
     drafts: &[HostDraft<'v>],
-) -> Result<BTreeMap<&'v str, (Object, &'v [Value])>, LoadError>
+) -> Result<BTreeMap<&'v str, (Object, &'v [Value])>, AllocError>
     requires attempts { All (λ h. HasFewAttempts h.check) drafts.now }
     requires distinct { first_repeat bytes_eq (names_of (map host drafts.now)) ≡ None }
-    ensures order { IfOk result (λ m.
+    ensures { IfOk result (λ m.
         map sorted_host m.entries ≡ hosts_in_order (map host drafts.now)) }
-    ensures memory { IsOkUnless result LoadError.Memory }
 {
     let mut sorted = BTreeMap::new(alloc);
     for draft in drafts {
@@ -93,12 +89,11 @@ fn sort_hosts<'v>(
 fn sort_services<'v>(
     alloc: Global,
     drafts: &[ServiceDraft<'v>],
-) -> Result<BTreeMap<(&'v str, &'v str), Object>, LoadError>
+) -> Result<BTreeMap<(&'v str, &'v str), Object>, AllocError>
     requires attempts { All (λ s. HasFewAttempts s.check) drafts.now }
     requires distinct { first_repeat same_key (map key_of (map service drafts.now)) ≡ None }
-    ensures order { IfOk result (λ m.
+    ensures { IfOk result (λ m.
         map sorted_service m.entries ≡ services_in_order (map service drafts.now)) }
-    ensures memory { IsOkUnless result LoadError.Memory }
 {
     let mut sorted = BTreeMap::new(alloc);
     for draft in drafts {
@@ -125,9 +120,8 @@ fn object(check: CheckDraft) -> Object
 fn number_names<'v>(
     alloc: Global,
     sorted: &BTreeMap<&'v str, (Object, &'v [Value])>,
-) -> Result<IndexSet<&'v str>, LoadError>
-    ensures names { IfOk result (λ s. texts s.keys ≡ map (λ e. e.0) (map sorted_host sorted.now.entries)) }
-    ensures memory { IsOkUnless result LoadError.Memory }
+) -> Result<IndexSet<&'v str>, AllocError>
+    ensures { IfOk result (λ s. texts s.keys ≡ map (λ e. e.0) (map sorted_host sorted.now.entries)) }
 {
     let mut names = IndexSet::with_capacity(alloc, sorted.len())?;
     for name in sorted.keys() {
@@ -152,11 +146,10 @@ fn number_parents(
     alloc: Global,
     parents: &[Value],
     names: &IndexSet<&str>,
-) -> Result<Parents, LoadError>
+) -> Result<Parents, AllocError>
     requires { length names.now.keys ≤ 4096 }
-    ensures numbers { IfOk result (λ v.
+    ensures { IfOk result (λ v.
         v.items ≡ map (number_in (texts names.now.keys)) (map text parents.now)) }
-    ensures memory { IsOkUnless result LoadError.Memory }
 {
     let mut numbers = SmallVec::new(alloc);
     for parent in parents {
@@ -172,11 +165,10 @@ fn index_hosts(
     alloc: Global,
     sorted: BTreeMap<&str, (Object, &[Value])>,
     names: &IndexSet<&str>,
-) -> Result<IndexMap<String, Host>, LoadError>
+) -> Result<IndexMap<String, Host>, AllocError>
     requires { length names.now.keys ≤ 4096 }
-    ensures hosts { IfOk result (λ m. map host_entry m.entries
+    ensures { IfOk result (λ m. map host_entry m.entries
         ≡ map (numbered_host (texts names.now.keys)) (map sorted_host sorted.entry.entries)) }
-    ensures memory { IsOkUnless result LoadError.Memory }
 {
     let mut hosts = IndexMap::with_capacity(alloc, sorted.len())?;
     for (name, (object, parents)) in sorted {
@@ -192,12 +184,11 @@ fn index_services(
     alloc: Global,
     sorted: BTreeMap<(&str, &str), Object>,
     names: &IndexSet<&str>,
-) -> Result<IndexMap<String, Service>, LoadError>
+) -> Result<IndexMap<String, Service>, AllocError>
     requires few { length names.now.keys ≤ 4096 }
     requires parted { list_all (λ e. is_host_name e.0.0.now) sorted.entries ≡ true }
-    ensures services { IfOk result (λ m. map service_entry m.entries
+    ensures { IfOk result (λ m. map service_entry m.entries
         ≡ map (numbered_service (texts names.now.keys)) (map sorted_service sorted.entry.entries)) }
-    ensures memory { IsOkUnless result LoadError.Memory }
 {
     let mut services = IndexMap::with_capacity(alloc, sorted.len())?;
     for ((host, description), object) in sorted {
@@ -227,11 +218,10 @@ pub fn object_number(
 }
 
 /// Puts a new name behind those of the map.
-fn append<T: Drop>(map: &mut IndexMap<String, T>, name: String, value: T) -> Result<(), LoadError>
+fn append<T: Drop>(map: &mut IndexMap<String, T>, name: String, value: T) -> Result<(), AllocError>
     requires { list_any (λ e. bytes_eq (string_bytes name) (string_bytes e.0)) map.old.entries
         ≡ false }
-    ensures last { OnOk result (map.new.entries ≡ map.old.entries ++ (name, value) ∷ []) }
-    ensures memory { IsOkUnless result LoadError.Memory }
+    ensures { OnOk result (map.new.entries ≡ map.old.entries ++ (name, value) ∷ []) }
 {
     map.insert(name, value)?;
     Ok(())

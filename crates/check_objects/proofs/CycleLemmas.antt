@@ -1,42 +1,57 @@
 -- The refusals of cycles: one of dependencies before one of parents.
-use Rattle.std.proofs.Common.{◌≡◌, Bool, true, false, cond, List, Option, Some, None, Result, Ok, Err, sym, ap, ◌∙◌, refl}
-use Rattle.check_drafts.specs.declared.error.LoadError.{LoadError}
+use Rattle.std.proofs.Common.{◌≡◌, true, false, cond, Option, Some, None, Ok, Err, ap, ◌∙◌}
 use Rattle.check_drafts.specs.declared.error.LoadError.TheVariants as errors
-use Rattle.check_numbers.specs.Configuration.{Configuration, Host, masters_of, parents_by_host}
+use Rattle.check_drafts.specs.Agreement.{◌>>=◌}
+use Rattle.check_drafts.specs.Draft.{Drafts}
+use Rattle.check_drafts.specs.Fault as fault
+use Rattle.check_drafts.specs.Fault.{Fault, but_memory}
+use Rattle.check_numbers.specs.Configuration.{Configuration, masters_of, parents_by_host}
+use Rattle.check_numbers.specs.Numbering.{configuration}
 use Rattle.link_order.specs.Cycles.{has_cycle}
-use Rattle.check_drafts.specs.Agreement.{◌>>=◌, Fails}
-use Rattle.check_objects.specs.Setup.{no_parent_cycle, without_parent_cycle, without_cycles}
-
--- an error that one answer has is the other's too, running out of memory aside
-pub fails_later : {A B R : Type 0} (refusal : Option R) (r : Result A R) (s : Result B R) → Fails refusal r
-    → ((x : R) → r ≡ Err x → s ≡ Err x) → Fails refusal s
-fails_later None r s h f = tt
-fails_later (Some x) r s h f = f x h
-
-abbrev pub told : Bool → Result (Unit {0}) LoadError
-told b = cond b (Err errors.ParentCycle) (Ok tt)
-
-same_error : {A : Type 0} (b : Bool) (c : A) (x : LoadError) → told b ≡ Err x → cond b (Err errors.ParentCycle) (Ok c) ≡ Err x
-same_error true c x h = let same : errors.ParentCycle ≡ x = cc in ap Err same
-same_error false c x h = cc
+use Rattle.check_objects.specs.Setup.{without_parent_cycle, without_cycles, AreRefusedFor, IsParentFault}
 
 after_dependencies : (c : Configuration) → has_cycle (masters_of c) ≡ false → without_cycles c ≡ without_parent_cycle c
 after_dependencies c free = ap (λ b. cond b (Err errors.DependencyCycle) (Ok c) >>= without_parent_cycle) free
-
-pub cyclic_parents : (c : Configuration) (hosts : List Host) (x : LoadError) → hosts ≡ c.hosts → has_cycle (masters_of c) ≡ false
-    → no_parent_cycle hosts ≡ Err x → without_cycles c ≡ Err x
-cyclic_parents c hosts x are free h = after_dependencies c free ∙ same_error (has_cycle (parents_by_host c)) c x (ap no_parent_cycle (sym are) ∙ h)
-
-no_cycle_by : (b : Bool) (u : Unit {0}) → told b ≡ Ok u → b ≡ false
-no_cycle_by true u h = cc
-no_cycle_by false u h = refl
-
-pub no_cycle_of : (c : Configuration) (hosts : List Host) (u : Unit {0}) → hosts ≡ c.hosts → no_parent_cycle hosts ≡ Ok u
-    → has_cycle (parents_by_host c) ≡ false
-no_cycle_of c hosts u are h = no_cycle_by (has_cycle (parents_by_host c)) u (ap no_parent_cycle (sym are) ∙ h)
 
 pub acyclic_setup : (c : Configuration) → has_cycle (masters_of c) ≡ false → has_cycle (parents_by_host c) ≡ false → without_cycles c ≡ Ok c
 acyclic_setup c free no_parents = after_dependencies c free ∙ ap (λ b. cond b (Err errors.ParentCycle) (Ok c)) no_parents
 
 pub cyclic_dependencies : (c : Configuration) → has_cycle (masters_of c) ≡ true → without_cycles c ≡ Err errors.DependencyCycle
 cyclic_dependencies c cyclic = ap (λ b. cond b (Err errors.DependencyCycle) (Ok c) >>= without_parent_cycle) cyclic
+
+cyclic_parents : (c : Configuration) → has_cycle (masters_of c) ≡ false → has_cycle (parents_by_host c) ≡ true → without_cycles c ≡ Err errors.ParentCycle
+cyclic_parents c free cyclic = after_dependencies c free ∙ ap (λ b. cond b (Err errors.ParentCycle) (Ok c)) cyclic
+
+-- a cycle of parents refuses drafts whose dependencies have none
+pub parents_refuse : (ds : Drafts) (o : Option Fault) → has_cycle (masters_of (configuration ds)) ≡ false → IsParentFault ds o → AreRefusedFor ds o
+parents_refuse ds None free is = tt
+parents_refuse ds (Some (fault.parent_cycle cycle)) free is = ((free, is.1), cyclic_parents (configuration ds) free is.0)
+parents_refuse ds (Some fault.too_long) free is = absurd is
+parents_refuse ds (Some fault.not_json) free is = absurd is
+parents_refuse ds (Some (fault.shape p w)) free is = absurd is
+parents_refuse ds (Some (fault.too_many c n)) free is = absurd is
+parents_refuse ds (Some (fault.bad_name p w)) free is = absurd is
+parents_refuse ds (Some (fault.duplicate p i)) free is = absurd is
+parents_refuse ds (Some (fault.unknown_parent h i)) free is = absurd is
+parents_refuse ds (Some (fault.unknown_host s)) free is = absurd is
+parents_refuse ds (Some (fault.unknown_end p w)) free is = absurd is
+parents_refuse ds (Some (fault.range p w)) free is = absurd is
+parents_refuse ds (Some (fault.dependency_cycle p cycle)) free is = absurd is
+parents_refuse ds (Some fault.memory) free is = absurd is
+
+-- ---- what is known of a fault is known of an error that isn't that memory ran out
+
+pub seen_error : (P : Option Fault → Type 0) → P None → (f : Fault) → P (Some f) → P (but_memory f)
+seen_error P none fault.memory is = none
+seen_error P none fault.too_long is = is
+seen_error P none fault.not_json is = is
+seen_error P none (fault.shape p w) is = is
+seen_error P none (fault.too_many c n) is = is
+seen_error P none (fault.bad_name p w) is = is
+seen_error P none (fault.duplicate p i) is = is
+seen_error P none (fault.unknown_parent h i) is = is
+seen_error P none (fault.unknown_host s) is = is
+seen_error P none (fault.unknown_end p w) is = is
+seen_error P none (fault.range p w) is = is
+seen_error P none (fault.dependency_cycle p cycle) is = is
+seen_error P none (fault.parent_cycle cycle) is = is

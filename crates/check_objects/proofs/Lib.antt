@@ -6,6 +6,6 @@ pub mod CountLaws
 pub mod NumberedLemmas
 pub mod EndLemmas
 pub mod LinkLemmas
-pub mod ExaminedLemmas
-pub mod StrayLemmas
-pub mod RangeLemmas
+pub mod RoundLemmas
+pub mod NamedCycleLemmas
+pub mod IndexLemmas

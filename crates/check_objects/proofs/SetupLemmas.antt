@@ -4,15 +4,12 @@ use Rattle.std.proofs.Common.{None, bytes_eq, refl, sym, ap, subst, ◌∙◌, R
 use Rattle.std.specs.Prelude.{nat_lt, nat_le, unwrap_or, All}
 use Rattle.std.specs.List.{AllByRecursion, list_any, list_all, position_or_len}
 use Rattle.std.specs.List.Sorted.{IsStrictlySortedBy}
-use Rattle.std.proofs.Math.Bool.{and_assoc}
 use Rattle.std.proofs.lemmas.Bool.{cases_lt}
 use Rattle.std.proofs.lemmas.Bool.Decides.{nat_tests}
 use Rattle.std.proofs.lemmas.List.{length-map, length-append, map-append}
 use Rattle.std.proofs.lemmas.List.Elements.{All-from_recursion}
 use Rattle.std.proofs.lemmas.List.Folds.{list_all-append}
 use Rattle.std.proofs.lemmas.Slice.Eq.{bytes_eq-Decides}
-use Rattle.check_drafts.specs.declared.error.LoadError.{LoadError}
-use Rattle.check_drafts.specs.declared.error.LoadError.TheVariants as errors
 use Rattle.check_drafts.specs.declared.dependency.Dependency.{Dependency}
 use Rattle.check_drafts.specs.declared.draft.CheckDraft.{CheckDraft}
 use Rattle.check_drafts.specs.declared.options.DelayMethod.{DelayMethod}
@@ -22,21 +19,20 @@ use Rattle.check_drafts.specs.declared.options.InterleaveFactor.TheVariants as f
 use Rattle.check_drafts.specs.declared.options.Options.{Options}
 use Rattle.check_drafts.specs.declared.member.DefaultValue.{DefaultValue}
 use Rattle.check_drafts.specs.declared.member.Kind.TheVariants as kind
-use Rattle.check_drafts.specs.Member.{is_within_limits}
+use Rattle.check_drafts.specs.Member.{Row, is_between, is_within_limits, limits_of}
 use Rattle.check_drafts.specs.Members as members
 use Rattle.check_drafts.specs.declared.object.Object.{Object}
 use Rattle.check_numbers.specs.Configuration.{Configuration, Host, IsSetup, IsWithin, IsDelayInRange, IsFactorInRange, is_object_in_range, named_host}
 use Rattle.check_numbers.specs.Configuration.{named_service, objects_of, object_count, masters_in, masters_of, parents_by_host, host_count}
 use Rattle.check_drafts.specs.Name.{full_name, is_host_name, is_name, text_order, pair_order}
-use Rattle.check_numbers.specs.Configuration.{pair_of, IsSameSort}
+use Rattle.check_numbers.specs.Configuration.{dependencies_of, pair_of, IsSameSort}
 use Rattle.link_order.specs.Cycles.{has_cycle, are_within}
 use Rattle.check_drafts.specs.Draft.{Drafts, HostDraft, ServiceDraft, DependencyDraft}
 use Rattle.check_drafts.specs.Ends.{full_names, is_known}
 use Rattle.check_faults.specs.Verification.{is_faultless}
 use Rattle.check_drafts.specs.Keys.{names_of, key_of}
-use Rattle.check_faults.specs.Verification.{good_ranges, good_host_ranges, good_options, good_service_ranges}
-use Rattle.check_faults.specs.Verification.{is_in_range, is_delay_in_range, is_factor_in_range, are_in_order, are_numbers_in_range, are_thresholds_in_range, are_options_in_range}
-use Rattle.check_drafts.specs.Agreement.{◌>>=◌}
+use Rattle.check_faults.specs.Verification as verified
+use Rattle.check_drafts.specs.Fault.{WrongNumber, beyond, host_thresholds, range, service_thresholds}
 use Rattle.check_drafts.specs.Place.{host_at, service_at}
 use Rattle.check_numbers.specs.Numbering.{number_in, dependencies_among, numbered_host, numbered_service, hosts_in_order, services_in_order, names_in_order}
 use Rattle.check_numbers.specs.Numbering.{numbered, configuration, numbered_dependency, all_dependencies, object_of, body_of}
@@ -49,7 +45,7 @@ use Rattle.check_objects.proofs.NumberedLemmas.{AreAlike, host_names_are, pairs_
 use Rattle.check_objects.proofs.NumberedLemmas.{listed_few, host_end, service_end, ends_alike, both_hold, alike_among}
 use Rattle.check_numbers.proofs.DependencyLemmas.{dependents_below, masters_below, masters_within_lists, length-dependency_lists, list_of_object}
 use Rattle.check_numbers.proofs.NumberLaws.{hosts_counted, services_counted}
-use Rattle.check_drafts.proofs.RefusalLemmas.{all_by_position, first_ok, have_known_ends, nowhere, rest_ok}
+use Rattle.check_drafts.proofs.RefusalLemmas.{all_of_each, first_ok, have_known_ends, rest_ok, still_ok}
 use Rattle.check_faults.proofs.FaultlessLemmas.{IsFaultless, faultless}
 
 -- ---- hosts' names have no semicolon
@@ -138,21 +134,25 @@ at_most n high e = grind (arith, nat_tests, e)
 within : (low high n : ℕ) → (nat_le low n && nat_le n high) ≡ true → IsWithin low high n
 within low high n e = let b = both_true (nat_le low n) (nat_le n high) e in (at_most low n b.0, at_most n high b.1)
 
+allowed_by : (b : Bool) (w : WrongNumber) (r : Result (Unit {0}) WrongNumber) → r ≡ cond b (Ok tt) (Err w) → r ≡ Ok tt → b ≡ true
+allowed_by true w r is e = refl
+allowed_by false w r is e = let refused : Err w ≡ Ok tt = sym is ∙ e in cc
+
+-- a number that passes is within the limits of its member
+allowed : (m : Row) (n : ℕ) → verified.within m n ≡ Ok tt → is_within_limits m n ≡ true
+allowed m n e = allowed_by (is_within_limits m n) (beyond m n) (verified.within m n) refl e
+
 delay_in_range : (name : List ℕ) (default : Option DefaultValue) (m : DelayMethod)
-    → is_delay_in_range (record { name = name; kind = kind.Delay; default = default }) m ≡ true → IsDelayInRange m
+    → verified.delay_within (record { name = name; kind = kind.Delay; default = default }) m ≡ Ok tt → IsDelayInRange m
 delay_in_range name default method.NoDelay e = tt
 delay_in_range name default method.Dumb e = tt
 delay_in_range name default method.Smart e = tt
-delay_in_range name default (method.Fixed delay) e = let w = within 0 86400000 delay e in w.1
+delay_in_range name default (method.Fixed delay) e = let w = within 0 86400000 delay (allowed (record { name = name; kind = kind.Delay; default = default }) delay e) in w.1
 
 factor_in_range : (name : List ℕ) (default : Option DefaultValue) (f : InterleaveFactor)
-    → is_factor_in_range (record { name = name; kind = kind.Factor; default = default }) f ≡ true → IsFactorInRange f
+    → verified.factor_within (record { name = name; kind = kind.Factor; default = default }) f ≡ Ok tt → IsFactorInRange f
 factor_in_range name default factor.Smart e = tt
-factor_in_range name default (factor.Fixed n) e = within 1 4096 n e
-
-options_by : (b : Bool) (fault : LoadError) (y : Result (Unit {0}) LoadError) → y ≡ Ok tt → cond b (Ok tt) (Err fault) ≡ y → b ≡ true
-options_by true fault y o e = refl
-options_by false fault y o e = cc
+factor_in_range name default (factor.Fixed n) e = within 1 4096 n (allowed (record { name = name; kind = kind.Factor; default = default }) n e)
 
 -- both thresholds are percents, and the low one isn't above the high one
 record AreThresholds (low high : ℕ) : Type 0 where
@@ -160,13 +160,11 @@ record AreThresholds (low high : ℕ) : Type 0 where
   percent_high : high ≤ 100
   ordered : low ≤ high
 
-thresholds : (low high : ℕ) → ((nat_le 0 low && nat_le low 100) && (nat_le 0 high && nat_le high 100) && nat_le low high) ≡ true → AreThresholds low high
-thresholds low high e =
-    let b = both_true ((nat_le 0 low && nat_le low 100) && (nat_le 0 high && nat_le high 100)) (nat_le low high) e in
-    let c = both_true (nat_le 0 low && nat_le low 100) (nat_le 0 high && nat_le high 100) b.0 in
-    let l = within 0 100 low c.0 in
-    let h = within 0 100 high c.1 in
-    record { percent_low = l.1; percent_high = h.1; ordered = at_most low high b.1 }
+ordered_by : (wrong : ℕ → ℕ → WrongNumber) (low high : ℕ) → verified.in_order wrong low high ≡ Ok tt → low ≤ high
+ordered_by wrong low high e = at_most low high (allowed_by (nat_le low high) (wrong low high) (verified.in_order wrong low high) refl e)
+
+percent : (m : Row) (n : ℕ) → m.kind ≡ kind.Number 0 100 → verified.within m n ≡ Ok tt → n ≤ 100
+percent m n is e = let w = within 0 100 n (ap (λ k. is_between (limits_of k) n) (sym is) ∙ allowed m n e) in w.1
 
 -- the options are within their limits
 record HasOptionsInRange (o : Options) : Type 0 where
@@ -180,68 +178,89 @@ record HasOptionsInRange (o : Options) : Type 0 where
   service_flap : AreThresholds o.low_service_flap_threshold o.high_service_flap_threshold
   host_flap : AreThresholds o.low_host_flap_threshold o.high_host_flap_threshold
 
-options_in_range : (o : Options) → are_options_in_range o ≡ true → HasOptionsInRange o
+options_in_range : (o : Options) → verified.options_within o ≡ Ok tt → HasOptionsInRange o
 options_in_range o e =
-    let both = both_true (are_numbers_in_range o) (are_thresholds_in_range o) e in
-    let a = both_true _ (is_within_limits members.max_concurrent_checks o.max_concurrent_checks) both.0 in
-    let b = both_true _ (is_within_limits members.max_host_check_spread o.max_host_check_spread) a.0 in
-    let c = both_true _ (is_delay_in_range members.host_inter_check_delay_method o.host_inter_check_delay_method) b.0 in
-    let d = both_true _ (is_factor_in_range members.service_interleave_factor o.service_interleave_factor) c.0 in
-    let f = both_true _ (is_within_limits members.max_service_check_spread o.max_service_check_spread) d.0 in
-    let g = both_true (is_within_limits members.interval_length o.interval_length)
-    (is_delay_in_range members.service_inter_check_delay_method o.service_inter_check_delay_method) f.0 in
-    let t = both_true (are_in_order members.low_service_flap_threshold members.high_service_flap_threshold o.low_service_flap_threshold o.high_service_flap_threshold)
-    (are_in_order members.low_host_flap_threshold members.high_host_flap_threshold o.low_host_flap_threshold o.high_host_flap_threshold) both.1 in
-    let concurrent = within 0 1000000 o.max_concurrent_checks a.1 in
+    let numbers = first_ok (verified.numbers_within o) _ tt e in
+    let after_numbers = rest_ok (verified.numbers_within o) _ tt e in
+    let limits = first_ok (verified.thresholds_within o) _ tt after_numbers in
+    let order = rest_ok (verified.thresholds_within o) _ tt after_numbers in
+    let a = verified.within members.interval_length o.interval_length in
+    let b = verified.delay_within members.service_inter_check_delay_method o.service_inter_check_delay_method in
+    let c = verified.within members.max_service_check_spread o.max_service_check_spread in
+    let d = verified.factor_within members.service_interleave_factor o.service_interleave_factor in
+    let f = verified.delay_within members.host_inter_check_delay_method o.host_inter_check_delay_method in
+    let g = verified.within members.max_host_check_spread o.max_host_check_spread in
+    let after_a = rest_ok a _ tt numbers in
+    let after_b = rest_ok b _ tt after_a in
+    let after_c = rest_ok c _ tt after_b in
+    let after_d = rest_ok d _ tt after_c in
+    let after_f = rest_ok f _ tt after_d in
+    let low_service = verified.within members.low_service_flap_threshold o.low_service_flap_threshold in
+    let high_service = verified.within members.high_service_flap_threshold o.high_service_flap_threshold in
+    let low_host = verified.within members.low_host_flap_threshold o.low_host_flap_threshold in
+    let after_low = rest_ok low_service _ tt limits in
+    let after_high = rest_ok high_service _ tt after_low in
+    let services = verified.in_order service_thresholds o.low_service_flap_threshold o.high_service_flap_threshold in
+    let concurrent = within 0 1000000 o.max_concurrent_checks (allowed members.max_concurrent_checks o.max_concurrent_checks (rest_ok g _ tt after_f)) in
     record {
-      interval_length = within 1 86400 o.interval_length g.0;
-      service_delay = delay_in_range members.service_inter_check_delay_method.name members.service_inter_check_delay_method.default o.service_inter_check_delay_method g.1;
-      service_spread = within 1 525600 o.max_service_check_spread f.1;
-      service_factor = factor_in_range members.service_interleave_factor.name members.service_interleave_factor.default o.service_interleave_factor d.1;
-      host_delay = delay_in_range members.host_inter_check_delay_method.name members.host_inter_check_delay_method.default o.host_inter_check_delay_method c.1;
-      host_spread = within 1 525600 o.max_host_check_spread b.1;
+      interval_length = within 1 86400 o.interval_length (allowed members.interval_length o.interval_length (first_ok a _ tt numbers));
+      service_delay =
+          delay_in_range members.service_inter_check_delay_method.name members.service_inter_check_delay_method.default o.service_inter_check_delay_method
+          (first_ok b _ tt after_a);
+      service_spread = within 1 525600 o.max_service_check_spread (allowed members.max_service_check_spread o.max_service_check_spread (first_ok c _ tt after_b));
+      service_factor =
+          factor_in_range members.service_interleave_factor.name members.service_interleave_factor.default o.service_interleave_factor
+          (first_ok d _ tt after_c);
+      host_delay =
+          delay_in_range members.host_inter_check_delay_method.name members.host_inter_check_delay_method.default o.host_inter_check_delay_method
+          (first_ok f _ tt after_d);
+      host_spread = within 1 525600 o.max_host_check_spread (allowed members.max_host_check_spread o.max_host_check_spread (first_ok g _ tt after_f));
       concurrent_checks = concurrent.1;
-      service_flap = thresholds o.low_service_flap_threshold o.high_service_flap_threshold t.0;
-      host_flap = thresholds o.low_host_flap_threshold o.high_host_flap_threshold t.1;
+      service_flap = record {
+        percent_low = percent members.low_service_flap_threshold o.low_service_flap_threshold refl (first_ok low_service _ tt limits);
+        percent_high = percent members.high_service_flap_threshold o.high_service_flap_threshold refl (first_ok high_service _ tt after_low);
+        ordered = ordered_by service_thresholds o.low_service_flap_threshold o.high_service_flap_threshold (first_ok services _ tt order);
+      };
+      host_flap = record {
+        percent_low = percent members.low_host_flap_threshold o.low_host_flap_threshold refl (first_ok low_host _ tt after_high);
+        percent_high = percent members.high_host_flap_threshold o.high_host_flap_threshold refl (rest_ok low_host _ tt after_high);
+        ordered = ordered_by host_thresholds o.low_host_flap_threshold o.high_host_flap_threshold (rest_ok services _ tt order);
+      };
     }
-
-good_options_in_range : (options : Options) (hosts : List HostDraft) (services : List ServiceDraft) → good_ranges options hosts services ≡ Ok tt
-    → HasOptionsInRange options
-good_options_in_range options hosts services e =
-    options_in_range options (options_by (are_options_in_range options) _ (Ok tt) refl
-    (first_ok (good_options options) (λ _. good_host_ranges hosts >>= λ _. good_service_ranges services) tt e))
 
 no_least : (n : ℕ) → nat_le 0 n ≡ true
 no_least n = grind (arith, nat_tests)
 
--- the limits of the members that say how an object is checked are those of a setup's objects
-same_limits : (c : CheckDraft) → is_object_in_range (object_of c) ≡ is_in_range c
-same_limits c =
-    rw (no_least c.check_interval, no_least c.retry_interval)
-    (and_assoc (nat_le c.check_interval 525600 && nat_le c.retry_interval 525600) (nat_le 1 c.max_check_attempts) (nat_le c.max_check_attempts 255))
-
-all_same : {A : Type 0} (p q : A → Bool) → ((x : A) → p x ≡ q x) → (xs : List A) → list_all p xs ≡ list_all q xs
-all_same p q agree xs = let e : p ≡ q = λ i x. agree x i in ap (λ t. list_all t xs) e
+-- the numbers of a draft that passes are within the limits of a setup's objects
+check_in_range : (c : CheckDraft) → verified.check_within c ≡ Ok tt → is_object_in_range (object_of c) ≡ true
+check_in_range c e =
+    let interval = verified.within members.check_interval c.check_interval in
+    let retry = verified.within members.retry_interval c.retry_interval in
+    let after = rest_ok interval _ tt e in
+    let a = both_true (nat_le 0 c.check_interval) (nat_le c.check_interval 525600) (allowed members.check_interval c.check_interval (first_ok interval _ tt e)) in
+    let b = both_true (nat_le 0 c.retry_interval) (nat_le c.retry_interval 525600) (allowed members.retry_interval c.retry_interval (first_ok retry _ tt after)) in
+    let d = both_true (nat_le 1 c.max_check_attempts) (nat_le c.max_check_attempts 255)
+    (allowed members.max_check_attempts c.max_check_attempts (rest_ok retry _ tt after)) in
+    rw (a.1, b.1, d.0, d.1) refl
 
 -- and so are the numbers of every object
-pub objects_in_range : (ds : Drafts) → is_faultless ds ≡ Ok tt → good_ranges ds.options ds.hosts ds.services ≡ Ok tt
-    → list_all (λ o. is_object_in_range o.object) (objects_of (configuration ds)) ≡ true
-objects_in_range ds faults e =
-    let after_options = rest_ok (good_options ds.options) (λ _. good_host_ranges ds.hosts >>= λ _. good_service_ranges ds.services) tt e in
-    let hosts : list_all (λ h. is_in_range h.check) ds.hosts ≡ true =
-    all_by_position (λ h. is_in_range h.check) ds.hosts (nowhere (λ i. errors.Range (host_at i)) _
-    (first_ok (good_host_ranges ds.hosts) (λ _. good_service_ranges ds.services) tt after_options)) in
-    let services : list_all (λ s. is_in_range s.check) ds.services ≡ true =
-    all_by_position (λ s. is_in_range s.check) ds.services (nowhere (λ i. errors.Range (service_at i)) _
-    (rest_ok (good_host_ranges ds.hosts) (λ _. good_service_ranges ds.services) tt after_options)) in
+pub objects_in_range : (ds : Drafts) → is_faultless ds ≡ Ok tt → list_all (λ o. is_object_in_range o.object) (objects_of (configuration ds)) ≡ true
+objects_in_range ds faults =
+    let f = faultless ds faults in
+    let hosts : list_all (λ h. is_object_in_range (object_of h.check)) ds.hosts ≡ true =
+    all_of_each verified.good_host_range (λ h. is_object_in_range (object_of h.check)) (λ i h passed.
+    check_in_range h.check (still_ok (range (host_at i)) (verified.check_within h.check) passed)) 0 ds.hosts f.host_numbers in
+    let services : list_all (λ s. is_object_in_range (object_of s.check)) ds.services ≡ true =
+    all_of_each verified.good_service_range (λ s. is_object_in_range (object_of s.check)) (λ i s passed.
+    check_in_range s.check (still_ok (range (service_at i)) (verified.check_within s.check) passed)) 0 ds.services f.service_numbers in
     let ns = names_in_order ds.hosts in
     let hosts_placed = all_moved (λ x. is_object_in_range x.1.0) (map (λ h. (h.name, body_of h)) ds.hosts) (hosts_in_order ds.hosts) (hosts_all ds faults)
     (list_all-map (λ x. is_object_in_range x.1.0) (λ (h : HostDraft). (h.name, body_of h)) ds.hosts
-    ∙ all_same (λ h. is_object_in_range (object_of h.check)) (λ h. is_in_range h.check) (λ h. same_limits h.check) ds.hosts ∙ hosts) in
+    ∙ hosts) in
     let services_placed = all_moved (λ x. is_object_in_range x.1) (map (λ s. (key_of s, object_of s.check)) ds.services) (services_in_order ds.services)
     (services_all ds faults)
     (list_all-map (λ x. is_object_in_range x.1) (λ (s : ServiceDraft). (key_of s, object_of s.check)) ds.services
-    ∙ all_same (λ s. is_object_in_range (object_of s.check)) (λ s. is_in_range s.check) (λ s. same_limits s.check) ds.services ∙ services) in
+    ∙ services) in
     let hosts_numbered : list_all (λ o. is_object_in_range o.object) (map named_host (map (numbered_host ns) (hosts_in_order ds.hosts))) ≡ true =
     list_all-map (λ o. is_object_in_range o.object) named_host (map (numbered_host ns) (hosts_in_order ds.hosts))
     ∙ list_all-map (λ h. is_object_in_range h.object) (numbered_host ns) (hosts_in_order ds.hosts) ∙ hosts_placed in
@@ -383,6 +402,15 @@ same_sorts_of ds e =
     subst (AllByRecursion (AreAlike n)) (sym (map-append (numbered_dependency objects) ds.service_dependencies ds.host_dependencies))
     (both_hold (AreAlike n) (map (numbered_dependency objects) ds.service_dependencies) (map (numbered_dependency objects) ds.host_dependencies) services hosts)
 
+-- the dependencies of an object are on objects of its sort
+pub sorts_alike : (ds : Drafts) → is_faultless ds ≡ Ok tt → (n : ℕ) → n < object_count (configuration ds)
+    → All (λ d. IsSameSort (configuration ds) d.master n) (dependencies_of (configuration ds) n)
+sorts_alike ds e n below =
+    let c = configuration ds in
+    let all = map (numbered_dependency (objects_of (numbered ds))) (all_dependencies ds) in
+    subst (All (λ d. IsSameSort c d.master n)) (sym (list_of_object (length (objects_of (numbered ds))) n all below))
+    (All-from_recursion (λ d. IsSameSort c d.master n) (dependencies_among all n) (alike_among (host_count c) n all (same_sorts_of ds e)))
+
 -- what tells the names of a document without a fault apart
 pub names_of_document : (ds : Drafts) → is_faultless ds ≡ Ok tt → HasNames (configuration ds)
 names_of_document ds e =
@@ -407,7 +435,7 @@ pub configuration_is_setup : (ds : Drafts) → is_faultless ds ≡ Ok tt → has
 configuration_is_setup ds e acyclic no_parent_cycle =
     let lists = has_lists ds e in
     let f = faultless ds e in
-    let o = good_options_in_range ds.options ds.hosts ds.services f.ranged in
+    let o = options_in_range ds.options f.options in
     let hs = hosts_in_order ds.hosts in
     let ns = names_in_order ds.hosts in
     let h = hosts_counted ds.hosts in
@@ -415,7 +443,7 @@ configuration_is_setup ds e acyclic no_parent_cycle =
     let names = names_of_document ds e in
     record {
       few = omega (arith, f.few, h, s, length-map hs (numbered_host ns), length-map (services_in_order ds.services) (numbered_service ns));
-      few_parents = subst (λ n. n ≤ 16384) (sym (parents_counted ds.hosts (λ h. object_of h.check) hs ns (hosts_all ds e))) (at_most _ 16384 f.few_parents);
+      few_parents = subst (λ n. n ≤ 16384) (sym (parents_counted ds.hosts (λ h. object_of h.check) hs ns (hosts_all ds e))) f.few_parents;
       few_dependencies =
           let all = map (numbered_dependency (objects_of (numbered ds))) (all_dependencies ds) in
           omega (
@@ -431,11 +459,7 @@ configuration_is_setup ds e acyclic no_parent_cycle =
       full_names = names.full_names;
       hosts_ascend = names.hosts_ascend;
       services_ascend = names.services_ascend;
-      same_sorts = λ n below.
-          let c = configuration ds in
-          let all = map (numbered_dependency (objects_of (numbered ds))) (all_dependencies ds) in
-          subst (All (λ d. IsSameSort c d.master n)) (sym (list_of_object (length (objects_of (numbered ds))) n all below))
-          (All-from_recursion (λ d. IsSameSort c d.master n) (dependencies_among all n) (alike_among (host_count c) n all (same_sorts_of ds e)));
+      same_sorts = sorts_alike ds e;
       no_parent_cycle = no_parent_cycle;
       linked = linked_by hs;
       hosted = names.hosted;
@@ -456,7 +480,7 @@ configuration_is_setup ds e acyclic no_parent_cycle =
       high_host_flap_threshold = o.host_flap.percent_high;
       service_flap_thresholds = o.service_flap.ordered;
       host_flap_thresholds = o.host_flap.ordered;
-      ranges = objects_in_range ds e f.ranged;
+      ranges = objects_in_range ds e;
     }
 
 -- the links that are kept of hosts are to hosts

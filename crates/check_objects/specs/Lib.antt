@@ -8,5 +8,7 @@ pub use Rattle.check_faults.specs.Verification
 pub use Rattle.check_numbers.specs.Configuration
 pub use Rattle.check_numbers.specs.Numbering
 pub mod Links
+pub mod Cycles
+pub mod Indices
 pub mod Setup
 pub mod Kept

@@ -1,28 +1,34 @@
 -- The setup that a document is, or its first refusal: the tree, its drafts, the tests, the numbers, and that no
--- object depends on itself and no host is its own parent.
-use Rattle.std.specs.Prelude.{ℕ, List, length, map, Result, Ok, Err, ok_or, nat_lt, if◌then◌else◌}
+-- object depends on itself and no host is its own parent. And the fault, which says besides what the test that failed has found.
+use Rattle.std.specs.Prelude.{◌≡◌, ℕ, true, List, length, Option, Some, None, Result, Ok, Err, ok_or, nat_lt, if◌then◌else◌}
 use Rattle.serde_json.specs.Data.{Data}
 use Rattle.check_drafts.specs.declared.error.LoadError.{LoadError}
 use Rattle.check_drafts.specs.declared.error.LoadError.TheVariants as errors
-use Rattle.check_numbers.specs.Configuration.{Configuration, Host, masters_of, parents_by_host}
+use Rattle.check_numbers.specs.Configuration.{Configuration, masters_of, parents_by_host}
 use Rattle.link_order.specs.Cycles.{has_cycle}
-use Rattle.check_drafts.specs.Agreement.{◌>>=◌}
+use Rattle.check_drafts.specs.Agreement.{◌>>=◌, refused_as}
 use Rattle.check_drafts.specs.Draft.{Drafts}
 use Rattle.check_drafts.specs.Fault as faults
 use Rattle.check_drafts.specs.Fault.{Fault, load_error}
-use Rattle.check_documents.specs.Faults.{fault_of}
 use Rattle.check_documents.specs.Tree.{tree_of}
 use Rattle.check_documents.specs.Reading.{drafts_of}
 use Rattle.check_faults.specs.Verification.{is_faultless}
 use Rattle.check_numbers.specs.Numbering.{configuration}
+use Rattle.check_objects.specs.Cycles.{IsCycleFault, IsParentCycle}
+
+-- the tree of a document's bytes
+abbrev pub document_of : List ℕ → Result Data Fault
+document_of bytes = if nat_lt 16777216 (length bytes) then Err faults.too_long else ok_or (tree_of bytes) faults.not_json
+
+-- the drafts of a tree, if they have no fault but cycles
+abbrev pub faultless_drafts : Data → Result Drafts Fault
+faultless_drafts d = drafts_of d >>= λ drafts. (is_faultless drafts >>= λ _. Ok drafts)
+
+-- ---- the setup, or the refusal
 
 -- the setup, unless some object depends on itself through one dependency or more
 abbrev pub without_dependency_cycle : Configuration → Result Configuration LoadError
 without_dependency_cycle c = if has_cycle (masters_of c) then Err errors.DependencyCycle else Ok c
-
--- no host is its own parent through one parent or more
-abbrev pub no_parent_cycle : List Host → Result (Unit {0}) LoadError
-no_parent_cycle hosts = if has_cycle (map (λ h. h.parents) hosts) then Err errors.ParentCycle else Ok tt
 
 -- the setup, unless some host is its own parent through one parent or more
 abbrev pub without_parent_cycle : Configuration → Result Configuration LoadError
@@ -32,32 +38,49 @@ without_parent_cycle c = if has_cycle (parents_by_host c) then Err errors.Parent
 abbrev pub without_cycles : Configuration → Result Configuration LoadError
 without_cycles c = without_dependency_cycle c >>= without_parent_cycle
 
--- the setup of drafts, or their first fault after the shape
-abbrev pub setup_of_drafts : Drafts → Result Configuration LoadError
-setup_of_drafts drafts = is_faultless drafts >>= λ _. without_cycles (configuration drafts)
-
 -- the setup of a tree
 unfoldable pub setup_of_tree : Data → Result Configuration LoadError
-setup_of_tree d = drafts_of d >>= setup_of_drafts
+setup_of_tree d = refused_as load_error (faultless_drafts d) >>= λ drafts. without_cycles (configuration drafts)
 
 -- the setup of a document's bytes
 unfoldable pub setup_of : List ℕ → Result Configuration LoadError
-setup_of bytes = if nat_lt 16777216 (length bytes) then Err errors.TooLong else (ok_or (tree_of bytes) errors.NotJson >>= setup_of_tree)
+setup_of bytes = refused_as load_error (document_of bytes) >>= setup_of_tree
 
--- ---- with what is said besides
+-- ---- the fault
 
--- a result with a fault in place of its refusal
-abbrev pub or_fault : {A : Type 0} → (LoadError → Fault) → Result A LoadError → Result A Fault
-or_fault fault (Ok x) = Ok x
-or_fault fault (Err e) = Err (fault e)
+-- the fault of a tree: the first one of its drafts, and if they have none but cycles, one of these
+abbrev pub IsFaultBy : Result Drafts Fault → Fault → Type 0
+IsFaultBy (Err e) f = f ≡ e
+IsFaultBy (Ok drafts) f = IsCycleFault drafts f
 
--- the setup of a document's bytes, or its fault: the refusal, and besides it the member or the count that is at fault
-unfoldable pub examined : List ℕ → Result Configuration Fault
-examined bytes =
-    if nat_lt 16777216 (length bytes) then Err faults.too_long
-    else (ok_or (tree_of bytes) faults.not_json >>= λ d. or_fault (fault_of d) (setup_of_tree d))
+abbrev pub IsFaultOfTree : Data → Fault → Type 0
+IsFaultOfTree d f = IsFaultBy (faultless_drafts d) f
 
--- a result with the refusal of its fault
-abbrev pub or_refusal : {A : Type 0} → Result A Fault → Result A LoadError
-or_refusal (Ok x) = Ok x
-or_refusal (Err f) = Err (load_error f)
+abbrev pub IsFaultIn : Result Data Fault → Fault → Type 0
+IsFaultIn (Err e) f = f ≡ e
+IsFaultIn (Ok d) f = IsFaultOfTree d f
+
+-- the fault of a document's bytes
+abbrev pub IsFaultOf : List ℕ → Fault → Type 0
+IsFaultOf bytes f = IsFaultIn (document_of bytes) f
+
+-- The drafts are refused for this fault. Where the code is out of memory, nothing is known.
+abbrev pub AreRefusedFor : Drafts → Option Fault → Type 0
+AreRefusedFor ds None = Unit {0}
+AreRefusedFor ds (Some f) = IsCycleFault ds f × (without_cycles (configuration ds) ≡ Err (load_error f))
+
+-- the fault is a cycle of parents
+abbrev pub IsParentFault : Drafts → Option Fault → Type 0
+IsParentFault ds None = Unit {0}
+IsParentFault ds (Some (faults.parent_cycle cycle)) = (has_cycle (parents_by_host (configuration ds)) ≡ true) × IsParentCycle ds cycle
+IsParentFault ds (Some other) = ⊥
+
+-- the tree is refused for this fault
+abbrev pub IsRefusedTree : Data → Option Fault → Type 0
+IsRefusedTree d None = Unit {0}
+IsRefusedTree d (Some f) = IsFaultOfTree d f × (setup_of_tree d ≡ Err (load_error f))
+
+-- the document is refused for this fault
+abbrev pub IsRefusedFor : List ℕ → Option Fault → Type 0
+IsRefusedFor bytes None = Unit {0}
+IsRefusedFor bytes (Some f) = IsFaultOf bytes f × (setup_of bytes ≡ Err (load_error f))

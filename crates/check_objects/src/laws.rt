@@ -1,22 +1,14 @@
 //! Laws of the definitions, each the contract of a function without parameters and code.
-ghost use Rattle.std.specs.Prelude.{◌≡◌, ◌<◌, ℕ, List, Err, Ok, Some, None, is_none, is_some, true, map, bytes_eq, slice_get};
+ghost use Rattle.std.specs.Prelude.{◌≡◌, ◌<◌, ℕ, List, Ok, Some, None, map, bytes_eq, slice_get};
 ghost use Rattle.std.specs.List.{filter};
 ghost use Rattle.std.specs.List.Sorted.{IsPermutation, IsStrictlySortedBy};
 ghost use Rattle.check_numbers.specs.Configuration.{Configuration, IsSetup, Service, number_of, name_of, pair_of, object_count, host_count};
-ghost use Rattle.serde_json.specs.Data.{Data};
-ghost use Rattle.check_drafts.specs.declared.place.Part.TheVariants as part;
-ghost use Rattle.check_drafts.specs.Draft.{Drafts, HostDraft, ServiceDraft};
-ghost use Rattle.check_drafts.specs.Members as members;
-ghost use Rattle.check_documents.specs.Faults.{wrong_number, wrong_number_at};
-ghost use Rattle.check_objects.specs.Setup.{examined, or_refusal, setup_of, setup_of_tree};
-ghost use Rattle.check_documents.specs.Reading.{host_draft, options_of, service_draft};
-ghost use Rattle.check_faults.specs.Verification.{are_options_in_range, is_faultless, is_in_range};
+ghost use Rattle.check_drafts.specs.Draft.{Drafts};
+ghost use Rattle.check_faults.specs.Verification.{is_faultless};
 ghost use Rattle.check_drafts.specs.Keys.{key_of, same_key, names_of, first_repeat};
 ghost use Rattle.check_objects.specs.Links.{named_parents, named_dependencies, all_named_dependencies};
 ghost use Rattle.check_numbers.specs.Numbering.{all_dependencies, configuration, body_of, object_of, hosts_in_order, services_in_order, smaller_among};
 ghost use Rattle.check_drafts.specs.Name.{text_order, pair_order};
-
-use check_drafts::{LoadError, Options, Place};
 
 /// What the order is worth. The hosts in order are all hosts of the document (`hosts`), and where no
 /// name comes twice their names ascend by their bytes (`names_ascend`); the services in order are all
@@ -71,32 +63,4 @@ pub fn links_are_kept()
     ensures parents { (d : Drafts) → is_faultless d ≡ Ok tt
         → IsPermutation (map (λ h. (h.name, h.parents)) d.hosts)
         (map (named_parents (configuration d)) (configuration d).hosts) }
-{}
-
-/// The limits of numbers go by the table of members: the numbers of a host, a service and the options
-/// that were read are within their limits exactly where no number is wrong by the table.
-#[tactic(auto, using(crate::proofs::StrayLemmas::host_in_range, crate::proofs::StrayLemmas::service_in_range, crate::proofs::StrayLemmas::options_in_range))]
-pub fn limits_go_by_the_table()
-    ensures host { (d : Data) → (h : HostDraft) → host_draft d ≡ Some h
-        → is_none (wrong_number part.Hosts members.host_members d) ≡ is_in_range h.check }
-    ensures service { (d : Data) → (s : ServiceDraft) → service_draft d ≡ Some s
-        → is_none (wrong_number part.Services members.service_members d) ≡ is_in_range s.check }
-    ensures options { (d : Data) → (o : Options) → options_of (Some d) ≡ Some o
-        → is_none (wrong_number part.Options members.option_members d) ≡ are_options_in_range o }
-{}
-
-/// A document that is refused for a number at a place has a number there that is out of its limits by
-/// the table of members, or thresholds of flapping that are crossed. So what a fault says of a number is
-/// never a filler.
-#[tactic(auto, using(crate::proofs::RangeLemmas::number_wrong))]
-pub fn a_refused_number_is_wrong()
-    ensures { (d : Data) → (place : Place) → setup_of_tree d ≡ Err (LoadError.Range place)
-        → is_some (wrong_number_at d place) ≡ true }
-{}
-
-/// What a fault says besides the refusal leaves the refusal as it is: examining a document refuses it
-/// exactly where reading it does, and for the same.
-#[tactic(auto, using(crate::proofs::ExaminedLemmas::refused_alike))]
-pub fn faults_are_refusals()
-    ensures { (bytes : List ℕ) → setup_of bytes ≡ or_refusal (examined bytes) }
 {}

@@ -5,17 +5,27 @@
 //! name of its own, and the first one, in the order of [`LoadError`], is reported with its place.
 //! Reading costs time linear in the document, except for the sort of the names; a name is looked up
 //! by its hash.
+//!
+//! The modules:
+//! - `document` reads the tree;
+//! - `setup` makes a setup of the tree;
+//! - `cycles` makes a fault of a cycle;
+//! - `laws` says what numbers and links are worth.
 #![tactic(auto)]
 
+mod cycles;
+mod document;
 pub mod laws;
 mod setup;
 
-pub use check_documents::{fault_of, items, value_at};
+pub use check_documents::{items, value_at};
 pub use check_drafts::{
-    Count, Criteria, DefaultValue, DelayMethod, Dependency, Fault, HOST_LETTERS, InterleaveFactor,
-    Kind, LoadError, MAX_ATTEMPTS, MAX_CONCURRENT_CHECKS, MAX_DELAY, MAX_DEPENDENCIES,
-    MAX_DOCUMENT_BYTES, MAX_FACTOR, MAX_FLAP_THRESHOLD, MAX_INTERVAL, MAX_INTERVAL_LENGTH,
-    MAX_NAME_BYTES, MAX_OBJECTS, MAX_PARENTS, MAX_SPREAD, Member, Object, Options, Part, Place,
-    RangeFault, SERVICE_LETTERS, ShapeFault, members, members_at,
+    Count, Criteria, DefaultValue, DelayMethod, Dependency, End, EndFault, Fault, HOST_LETTERS,
+    InterleaveFactor, Kind, LoadError, MAX_ATTEMPTS, MAX_CONCURRENT_CHECKS, MAX_DELAY,
+    MAX_DEPENDENCIES, MAX_DOCUMENT_BYTES, MAX_FACTOR, MAX_FLAP_THRESHOLD, MAX_INTERVAL,
+    MAX_INTERVAL_LENGTH, MAX_NAME_BYTES, MAX_OBJECTS, MAX_PARENTS, MAX_SPREAD, Member, NameFault,
+    Object, Options, Part, Place, RangeFault, SERVICE_LETTERS, ShapeFault, Unread, members,
+    members_at,
 };
+pub use document::read_document;
 pub use setup::Setup;

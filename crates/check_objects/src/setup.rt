@@ -1,22 +1,23 @@
 //! The setup: the objects that are checked, with their names and numbers, and their links.
-ghost use Rattle.std.specs.Prelude.{◌≡◌, ◌<◌, ◌≤◌, length, map, Ok, option_map, slice_get, Some, IfSome, IfOk, IsOkUnless, Err, ◌==◌, All, nat_lt, true};
-ghost use Rattle.std.specs.List.{list_all};
+ghost use Rattle.std.specs.Prelude.{◌≡◌, ◌<◌, ◌≤◌, length, map, Ok, option_map, slice_get, Some, IfSome, IfOk, IfErr, OnOk, Err, ◌==◌, All, false};
 ghost use Rattle.check_numbers.specs.Configuration.{Configuration, object_count, host_count, objects_of, number_of, name_of, host_of, parents_of, dependencies_of, masters_of, parents_by_host, IsSetup};
+ghost use Rattle.link_order.specs.Cycles.{has_cycle};
 ghost use Rattle.link_order.specs.Orders.{IsOrder};
 ghost use Rattle.check_numbers.specs.Numbering.{configuration};
 ghost use Rattle.check_objects.specs.Kept.{configuration_of, IsKept};
-ghost use Rattle.check_objects.specs.Setup.{examined, or_fault, setup_of, setup_of_drafts, setup_of_tree, without_cycles, no_parent_cycle};
-ghost use Rattle.check_faults.specs.Verification.{is_faultless, is_faultless_but_ends};
-ghost use Rattle.check_drafts.specs.Drafted.{HasFewAttempts};
+ghost use Rattle.check_objects.specs.Setup.{setup_of, setup_of_tree, without_cycles, AreRefusedFor, IsParentFault, IsRefusedFor, IsRefusedTree};
+ghost use Rattle.check_faults.specs.Verification.{is_faultless};
+ghost use Rattle.check_drafts.specs.Drafted.{drafts_view, HasFewAttempts};
 ghost use Rattle.check_numbers.specs.Entries.{host_entry, named, service_entry};
 ghost use Rattle.check_drafts.specs.LoadError.{Gives};
-ghost use Rattle.check_drafts.specs.Fault.{Tells};
-ghost use Rattle.check_documents.specs.Faults.{fault_of};
+ghost use Rattle.check_drafts.specs.Fault.{but_memory, seen};
 ghost use Rattle.serde_json.specs.View.{view};
 
-use check_documents::{fault_of, read_drafts, read_tree};
-use check_drafts::{Dependency, Drafts, Fault, LoadError, MAX_DOCUMENT_BYTES, Object, Options};
-use check_faults::verify_but_ends;
+use crate::cycles::{dependency_cycle, parent_cycle};
+use crate::document::read_document;
+use check_documents::read_drafts;
+use check_drafts::{Dependency, Drafts, Fault, LoadError, Object, Options};
+use check_faults::verify;
 use check_numbers::{
     Dependencies, Host, Parents, Service, list_dependencies, master_links, number_objects,
     object_number, order_by_masters,
@@ -53,13 +54,11 @@ impl Model for Setup {
 }
 
 impl Setup {
-    ghost use Rattle.check_drafts.specs.Drafted.{drafts_view};
-
     /// Reads one setup document, in JSON, of at most 16,777,216 bytes.
     ///
     /// The setup is the document's, or the error is the document's first fault in the order of
     /// [`LoadError`], but that `Memory` may come in place of either. Nothing is made then.
-    /// [`examine`](Setup::examine) says besides which member is at fault.
+    /// [`examine`](Setup::examine) returns what was found of the fault too.
     pub fn read(alloc: Global, bytes: &[u8]) -> Result<Setup, LoadError>
         ensures exact { Gives (λ s. s) result (setup_of bytes.now) }
         ensures too_long { 16777216 < length bytes.now → result ≡ Err LoadError.TooLong }
@@ -70,54 +69,45 @@ impl Setup {
         }
     }
 
-    /// Reads one setup document as [`read`](Setup::read) does, and says of a refused one besides the
-    /// refusal and its place which member or which count is at fault.
+    /// Reads one setup document as [`read`](Setup::read) does, and returns of a refused one the fault
+    /// with all that the test that failed has found.
     ///
     /// `Memory` may come in place of a setup and of a fault. Nothing is made then.
-    #[tactic(auto, unfolding(crate::specs::Setup::examined))]
+    #[tactic(auto, unfolding(crate::specs::Setup::setup_of))]
     pub fn examine(alloc: Global, bytes: &[u8]) -> Result<Setup, Fault>
-        ensures exact { Tells (λ s. s) result (examined bytes.now) }
+        ensures setup { IfOk result (λ setup. setup_of bytes.now ≡ Ok setup) }
+        ensures refused { IfErr result (λ fault. IsRefusedFor bytes.now (but_memory (seen fault))) }
         ensures too_long { 16777216 < length bytes.now → result ≡ Err Fault.TooLong }
     {
-        if bytes.len() > MAX_DOCUMENT_BYTES {
-            return Err(Fault::TooLong);
-        }
-        match read_tree(alloc, bytes) {
-            Ok(tree) => Setup::examine_tree(alloc, &tree),
-            Err(LoadError::Memory) => Err(Fault::Memory),
-            Err(_) => Err(Fault::NotJson),
-        }
+        let tree = read_document(alloc, bytes)?;
+        Setup::examine_tree(alloc, &tree)
     }
 
-    /// The setup of a tree, or its fault.
-    fn examine_tree(alloc: Global, tree: &Value) -> Result<Setup, Fault>
-        ensures { Tells (λ s. s) result
-            (or_fault (fault_of (view tree.now)) (setup_of_tree (view tree.now))) }
-    {
-        match Setup::of_tree(alloc, tree) {
-            Ok(setup) => Ok(setup),
-            Err(refusal) => Err(fault_of(tree, refusal)),
-        }
-    }
-
-    /// The setup of a tree, or its first fault.
+    /// The setup of a document's tree, as [`read_document`](crate::read_document) gives it, or its fault
+    /// with all that the test that failed has found.
+    ///
+    /// `Memory` may come in place of a setup and of a fault. Nothing is made then.
     #[tactic(auto, unfolding(crate::specs::Setup::setup_of_tree))]
-    fn of_tree(alloc: Global, tree: &Value) -> Result<Setup, LoadError>
-        ensures { Gives (λ s. s) result (setup_of_tree (view tree.now)) }
+    pub fn examine_tree(alloc: Global, tree: &Value) -> Result<Setup, Fault>
+        ensures setup { IfOk result (λ setup. setup_of_tree (view tree.now) ≡ Ok setup) }
+        ensures refused { IfErr result (λ fault.
+            IsRefusedTree (view tree.now) (but_memory (seen fault))) }
     {
         let drafts = read_drafts(alloc, tree)?;
-        verify_but_ends(alloc, &drafts)?;
+        verify(alloc, &drafts)?;
         Setup::of_drafts(alloc, &drafts)
     }
 
-    /// The setup of drafts without a fault except for the ends of dependencies, unless one of these isn't
-    /// there, some object depends on itself through one dependency or more, or some host is its own
-    /// parent through one parent or more.
-    fn of_drafts(alloc: Global, drafts: &Drafts<'_>) -> Result<Setup, LoadError>
-        requires but_ends { is_faultless_but_ends (drafts_view drafts.now) ≡ Ok tt }
+    /// The setup of drafts without a fault, unless some object depends on itself through one dependency or
+    /// more, or some host is its own parent through one parent or more.
+    fn of_drafts(alloc: Global, drafts: &Drafts<'_>) -> Result<Setup, Fault>
+        requires faultless { is_faultless (drafts_view drafts.now) ≡ Ok tt }
         requires hosts { All (λ h. HasFewAttempts h.check) drafts.now.hosts.items }
         requires services { All (λ s. HasFewAttempts s.check) drafts.now.services.items }
-        ensures { Gives (λ s. s) result (setup_of_drafts (drafts_view drafts.now)) }
+        ensures setup { IfOk result (λ setup.
+            without_cycles (configuration (drafts_view drafts.now)) ≡ Ok setup) }
+        ensures refused { IfErr result (λ fault.
+            AreRefusedFor (drafts_view drafts.now) (but_memory (seen fault))) }
     {
         let (hosts, services) = number_objects(alloc, drafts)?;
         let dependencies = list_dependencies(alloc, drafts, &hosts, &services)?;
@@ -132,7 +122,7 @@ impl Setup {
         hosts: IndexMap<String, Host>,
         services: IndexMap<String, Service>,
         dependencies: Vec<Dependencies>,
-    ) -> Result<Setup, LoadError>
+    ) -> Result<Setup, Fault>
         requires faultless { is_faultless (drafts_view drafts.now) ≡ Ok tt }
         requires hosts { map host_entry hosts.entries
             ≡ (configuration (drafts_view drafts.now)).hosts }
@@ -140,12 +130,14 @@ impl Setup {
             ≡ (configuration (drafts_view drafts.now)).services }
         requires dependencies { map (λ list. list.items) dependencies.items
             ≡ (configuration (drafts_view drafts.now)).dependencies }
-        ensures { Gives (λ s. s) result
-            (without_cycles (configuration (drafts_view drafts.now))) }
+        ensures setup { IfOk result (λ setup.
+            without_cycles (configuration (drafts_view drafts.now)) ≡ Ok setup) }
+        ensures refused { IfErr result (λ fault.
+            AreRefusedFor (drafts_view drafts.now) (but_memory (seen fault))) }
     {
         match order_by_masters(alloc, &dependencies)? {
             OrderOrCycle::Order(order) => {
-                verify_no_parent_cycle(alloc, &hosts)?;
+                verify_no_parent_cycle(alloc, drafts, &hosts)?;
                 Ok(Setup {
                     options: drafts.options,
                     hosts,
@@ -154,7 +146,9 @@ impl Setup {
                     order,
                 })
             }
-            OrderOrCycle::Cycle(_) => Err(LoadError::DependencyCycle),
+            OrderOrCycle::Cycle(cycle) => {
+                Err(dependency_cycle(alloc, drafts, &hosts, &services, &cycle)?)
+            }
         }
     }
 
@@ -301,16 +295,23 @@ impl Setup {
 }
 
 /// Verifies that no host is its own parent, through one parent or more.
-fn verify_no_parent_cycle(alloc: Global, hosts: &IndexMap<String, Host>) -> Result<(), LoadError>
-    requires few { length hosts.now.entries ≤ 4096 }
-    requires linked { list_all (λ h. list_all (λ p. nat_lt p (length hosts.now.entries)) h.parents)
-        (map host_entry hosts.now.entries) ≡ true }
-    ensures { Gives (λ u. u) result (no_parent_cycle (map host_entry hosts.now.entries)) }
+fn verify_no_parent_cycle(
+    alloc: Global,
+    drafts: &Drafts<'_>,
+    hosts: &IndexMap<String, Host>,
+) -> Result<(), Fault>
+    requires faultless { is_faultless (drafts_view drafts.now) ≡ Ok tt }
+    requires hosts { map host_entry hosts.now.entries
+        ≡ (configuration (drafts_view drafts.now)).hosts }
+    ensures none { OnOk result
+        (has_cycle (parents_by_host (configuration (drafts_view drafts.now))) ≡ false) }
+    ensures cycle { IfErr result (λ fault.
+        IsParentFault (drafts_view drafts.now) (but_memory (seen fault))) }
 {
     let links = parent_links(alloc, hosts)?;
     match order_by_links(alloc, &links)? {
         OrderOrCycle::Order(_) => Ok(()),
-        OrderOrCycle::Cycle(_) => Err(LoadError::ParentCycle),
+        OrderOrCycle::Cycle(cycle) => Err(parent_cycle(alloc, drafts, hosts, &cycle)?),
     }
 }
 

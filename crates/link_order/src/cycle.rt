@@ -8,7 +8,8 @@ ghost use Rattle.link_order.specs.Search.{step, steps, waits, GoesBack, IsNext, 
 use smallvec::SmallVec;
 use std::alloc::{AllocError, Global};
 
-/// Different objects, each linked to the next one, and the last to the first.
+/// Different objects, each linked to the next one, and the last to the first. The search begins at the
+/// last object that waits.
 ///
 /// `left` says of each object how many of its links lead to objects that wait, that is, that no
 /// order can place.
@@ -23,7 +24,7 @@ pub(crate) fn find_cycle(
     ensures { IfOk result (λ cycle. IsCycle (map (λ list. list.items) links.now) cycle.items) }
 {
     let next = next_objects(alloc, links, left)?;
-    let start = first_waiting(left);
+    let start = last_object(left);
     round(alloc, &next, walk(&next, start))
 }
 
@@ -67,18 +68,19 @@ fn is_waiting(left: &[usize], object: u32) -> bool
     }
 }
 
-/// The first object that waits.
-fn first_waiting(left: &[usize]) -> u32
+/// The last object that waits.
+fn last_object(left: &[usize]) -> u32
     requires few { length left.now ≤ 2 ^ 32 }
     requires some { list_all (λ count. count == 0) left.now ≡ false }
     ensures { waits left.now result ≡ true }
 {
+    let mut last = 0;
     for object in 0..left.len() {
         if left[object] != 0 {
-            return object as u32;
+            last = object as u32;
         }
     }
-    0
+    last
 }
 
 /// The object that comes next after this one.

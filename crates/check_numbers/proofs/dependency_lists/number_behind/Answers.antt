@@ -1,17 +1,16 @@
-use Rattle.std.proofs.Common.{◌+◌, ap, ◌∙◌, option_map}
+use Rattle.std.proofs.Common.{◌≡◌, ◌∙◌, ap, sym}
+use Rattle.std.specs.Prelude.{is_some}
 use Rattle.check_numbers.specs.Entries.{names_in}
-use Rattle.check_numbers.proofs.EndLemmas.{place_of_name, number_known}
+use Rattle.check_numbers.proofs.EndLemmas.{number_known, place_known, place_of_name}
 use Rattle.check_numbers.proofs.dependency_lists.number_behind.Goals as goal
 
-pub returns-in_err-index : goal.returns-in_err-index
-returns-in_err-index g c =
+pub unwrap-index-requires : goal.unwrap-index-requires
+unwrap-index-requires g c =
     let entries = c.args.objects.now.entries in
-    c.from_residual.ensures
-    ∙ ap (option_map (λ i. c.args.others + i)) (c.in_err-index.ensures.index ∙ place_of_name entries c.args.name.now)
-    ∙ number_known c.args.others (names_in entries) c.args.name.now
+    ap is_some (c.get_index_of.ensures.index ∙ place_of_name entries c.args.name.now) ∙ place_known (names_in entries) c.args.name.now c.requires.known
 
 pub returns : goal.returns
 returns g c =
     let entries = c.args.objects.now.entries in
-    ap (option_map (λ i. c.args.others + i)) (c.in_ok-index.ensures.index ∙ place_of_name entries c.args.name.now)
-    ∙ number_known c.args.others (names_in entries) c.args.name.now
+    number_known c.args.others (names_in entries) c.args.name.now c.unwrap-index.result
+    (sym c.unwrap-index.ensures ∙ c.get_index_of.ensures.index ∙ place_of_name entries c.args.name.now)

@@ -2,5 +2,5 @@ use Rattle.std.proofs.Common.{◌∙◌}
 use Rattle.check_numbers.proofs.NumberingLemmas.{insert_new}
 use Rattle.check_numbers.proofs.numbering.append.Goals as goal
 
-pub returns-clause-last : goal.returns-clause-last
-returns-clause-last g c = c.in_ok-insert.ensures.entries ∙ insert_new _ _ _ c.requires
+pub returns : goal.returns
+returns g c = c.in_ok-insert.ensures.entries ∙ insert_new _ _ _ c.requires

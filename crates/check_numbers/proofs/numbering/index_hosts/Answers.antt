@@ -22,10 +22,10 @@ loop-name-preserved c =
     built_seen (λ x. numbered_host (texts c.args.names.now.keys)
     (sorted_host x)) host_entry c.args.sorted.entries c.loop-name.name-iterator c.next.new.self c.loop-name.hosts.entries c.append.new.map.entries
     (c.in_ok-name.name, record { object = c.in-Some.object; parents = c.in_ok-parents.parents })
-    (c.in-Some.name, (c.in-Some.object, c.in-Some.parents)) c.loop-name.invariant c.in-Some.ensures.steps c.in_ok-append.ensures.last
-    (λ i. record { name = c.in_ok-name.ensures.ok i; object = c.in-Some.object; parents = c.in_ok-parents.ensures.numbers i })
+    (c.in-Some.name, (c.in-Some.object, c.in-Some.parents)) c.loop-name.invariant c.in-Some.ensures.steps c.in_ok-append.ensures
+    (λ i. record { name = c.in_ok-name.ensures.ok i; object = c.in-Some.object; parents = c.in_ok-parents.ensures i })
 
-pub returns-clause-hosts : goal.returns-clause-hosts
-returns-clause-hosts c =
+pub returns : goal.returns
+returns c =
     built_all (λ x. numbered_host (texts c.args.names.now.keys) (sorted_host x)) c.args.sorted.entries _ _ c.loop-name.invariant c.in-None.ensures.steps.0
     ∙ map_twice (numbered_host (texts c.args.names.now.keys)) sorted_host c.args.sorted.entries

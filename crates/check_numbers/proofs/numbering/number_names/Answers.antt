@@ -19,6 +19,6 @@ loop-name-preserved c =
     built_seen (λ k. k.now) (λ k. k.now) all c.loop-name.name-iterator c.next.new.self old c.insert.new.self.keys name name c.loop-name.invariant
     c.in-Some.ensures.steps (one_key_more (list_any (λ n. bytes_eq name.now n.now) old) old c.insert.new.self.keys name c.in_ok-insert.ensures.keys new) refl
 
-pub returns-clause-names : goal.returns-clause-names
-returns-clause-names c =
+pub returns : goal.returns
+returns c =
     built_all (λ k. k.now) (keys c.args.sorted.now) _ _ c.loop-name.invariant c.in-None.ensures.steps.0 ∙ names_of_entries c.args.sorted.now.entries

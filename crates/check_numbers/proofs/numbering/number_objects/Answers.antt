@@ -26,29 +26,29 @@ sort_services-requires-clause-distinct c =
 
 pub index_hosts-requires : goal.index_hosts-requires
 index_hosts-requires c =
-    let order = c.in_ok-hosts.ensures.order ∙ ap (λ l. hosts_in_order (map host l)) c.deref.ensures.value in
-    few_names c.in_ok-names.names.keys _ _ c.in_ok-names.ensures.names order (few_in_order c.args.drafts.now.hosts.items c.requires.few)
+    let order = c.in_ok-hosts.ensures ∙ ap (λ l. hosts_in_order (map host l)) c.deref.ensures.value in
+    few_names c.in_ok-names.names.keys _ _ c.in_ok-names.ensures order (few_in_order c.args.drafts.now.hosts.items c.requires.few)
 
 pub index_services-requires-clause-few : goal.index_services-requires-clause-few
 index_services-requires-clause-few c =
-    let order = c.in_ok-hosts.ensures.order ∙ ap (λ l. hosts_in_order (map host l)) c.deref.ensures.value in
-    few_names c.in_ok-names.names.keys _ _ c.in_ok-names.ensures.names order (few_in_order c.args.drafts.now.hosts.items c.requires.few)
+    let order = c.in_ok-hosts.ensures ∙ ap (λ l. hosts_in_order (map host l)) c.deref.ensures.value in
+    few_names c.in_ok-names.names.keys _ _ c.in_ok-names.ensures order (few_in_order c.args.drafts.now.hosts.items c.requires.few)
 
 pub index_services-requires-clause-parted : goal.index_services-requires-clause-parted
 index_services-requires-clause-parted c =
     sym (list_all-map (λ e. is_host_name e.0.0) sorted_service c.in_ok-services.services.entries)
-    ∙ ap (list_all (λ e. is_host_name e.0.0)) (c.in_ok-services.ensures.order ∙ ap (λ l. services_in_order (map service l)) c.deref-2.ensures.value)
+    ∙ ap (list_all (λ e. is_host_name e.0.0)) (c.in_ok-services.ensures ∙ ap (λ l. services_in_order (map service l)) c.deref-2.ensures.value)
     ∙ parted_in_order (map service c.args.drafts.now.services.items) c.requires.parted
 
 pub returns-clause-hosts : goal.returns-clause-hosts
 returns-clause-hosts c =
-    let order = c.in_ok-hosts.ensures.order ∙ ap (λ l. hosts_in_order (map host l)) c.deref.ensures.value in
-    let names = c.in_ok-names.ensures.names ∙ ap (map (λ e. e.0)) order in
-    c.in_ok-hosts-2.ensures.hosts ∙ (λ i. map (numbered_host (names i)) (order i))
+    let order = c.in_ok-hosts.ensures ∙ ap (λ l. hosts_in_order (map host l)) c.deref.ensures.value in
+    let names = c.in_ok-names.ensures ∙ ap (map (λ e. e.0)) order in
+    c.in_ok-hosts-2.ensures ∙ (λ i. map (numbered_host (names i)) (order i))
 
 pub returns-clause-services : goal.returns-clause-services
 returns-clause-services c =
-    let host_order = c.in_ok-hosts.ensures.order ∙ ap (λ l. hosts_in_order (map host l)) c.deref.ensures.value in
-    let names = c.in_ok-names.ensures.names ∙ ap (map (λ e. e.0)) host_order in
-    let order = c.in_ok-services.ensures.order ∙ ap (λ l. services_in_order (map service l)) c.deref-2.ensures.value in
-    c.in_ok-services-2.ensures.services ∙ (λ i. map (numbered_service (names i)) (order i))
+    let host_order = c.in_ok-hosts.ensures ∙ ap (λ l. hosts_in_order (map host l)) c.deref.ensures.value in
+    let names = c.in_ok-names.ensures ∙ ap (map (λ e. e.0)) host_order in
+    let order = c.in_ok-services.ensures ∙ ap (λ l. services_in_order (map service l)) c.deref-2.ensures.value in
+    c.in_ok-services-2.ensures ∙ (λ i. map (numbered_service (names i)) (order i))

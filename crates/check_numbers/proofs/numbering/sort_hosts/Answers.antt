@@ -22,8 +22,8 @@ loop-draft-preserved c =
     (dropped_as ds i draft c.loop-draft-test.true c.draft-item.is) c.in_ok-insert.ensures.entries refl
     (ap (λ o. (o, map text draft.parents.now)) c.object.ensures)
 
-pub returns-clause-order : goal.returns-clause-order
-returns-clause-order c =
+pub returns : goal.returns
+returns c =
     let ds = c.args.drafts.now in
     let i = c.loop-draft.draft-index in
     sym (c.loop-draft.invariant ∙ ap (λ l. placed text_order (λ h. h.name) body_of (map sorted_host c.loop-draft.sorted.entries) (map host l))

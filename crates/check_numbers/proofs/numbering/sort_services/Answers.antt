@@ -22,8 +22,8 @@ loop-draft-preserved c =
     (λ d more. refl) c.loop-draft.sorted.entries c.insert.new.self.entries (draft.host, draft.description) c.object.result ds i draft
     (dropped_at ds i no_service c.loop-draft-test.true) c.in_ok-insert.ensures.entries refl c.object.ensures
 
-pub returns-clause-order : goal.returns-clause-order
-returns-clause-order c =
+pub returns : goal.returns
+returns c =
     let ds = c.args.drafts.now in
     let i = c.loop-draft.draft-index in
     sym (c.loop-draft.invariant ∙ ap (λ l. placed pair_order key_of (λ s. object_of s.check) (map sorted_service c.loop-draft.sorted.entries)

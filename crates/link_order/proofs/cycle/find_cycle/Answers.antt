@@ -12,7 +12,7 @@ round-requires c =
     let links = map (λ list. list.items) c.args.links.now in
     let walked = rw c.deref-2.ensures.value at c.walk.ensures in
     rw (c.deref.ensures.value, walked)
-    (walk_returns links c.args.left.now c.in_ok-next.next.items c.first_waiting-start.result c.requires.stuck c.in_ok-next.ensures c.first_waiting-start.ensures)
+    (walk_returns links c.args.left.now c.in_ok-next.next.items c.last_object-start.result c.requires.stuck c.in_ok-next.ensures c.last_object-start.ensures)
 
 pub returns : goal.returns
 returns c =
@@ -21,5 +21,5 @@ returns c =
     let walked = rw c.deref-2.ensures.value at c.walk.ensures in
     let round = rw c.deref.ensures.value at c.round.ensures in
     let at : waits c.args.left.now c.walk.result ≡ true = subst (λ o. waits c.args.left.now o ≡ true) (sym walked)
-    (walked_waits links c.args.left.now next c.first_waiting-start.result (length next) c.requires.stuck c.in_ok-next.ensures c.first_waiting-start.ensures) in
+    (walked_waits links c.args.left.now next c.last_object-start.result (length next) c.requires.stuck c.in_ok-next.ensures c.last_object-start.ensures) in
     each_ok _ _ c.round.result (λ cycle is. round_is_cycle links c.args.left.now next c.walk.result cycle.items c.requires.stuck c.in_ok-next.ensures at is) round

@@ -1,18 +1,14 @@
-use Rattle.std.proofs.Common.{◌≡◌, ◌≤◌, ◌++◌, List, sym, ap, subst, ◌∙◌, length, map, refl, Ok, arith, rules}
+use Rattle.std.proofs.Common.{◌≡◌, ◌≤◌, ◌++◌, List, sym, ap, subst, ◌∙◌, length, map, refl, Ok, arith}
 use Rattle.std.proofs.lemmas.List.{length-map}
 use Rattle.check_drafts.specs.declared.dependency.Dependency.{Dependency}
 use Rattle.check_drafts.specs.declared.draft.HostDraft.{HostDraft}
-use Rattle.check_drafts.specs.Agreement.{◌>>=◌}
 use Rattle.check_drafts.specs.Draft.{Drafts}
 use Rattle.check_drafts.specs.Drafted.{drafts_view, host}
-use Rattle.check_drafts.specs.LoadError.{refusal, Gives}
 use Rattle.check_faults.specs.Verification.{is_faultless}
-use Rattle.check_faults.proofs.FaultlessLemmas.{faultless, faultless_alone, once, without_dependencies}
+use Rattle.check_faults.proofs.FaultlessLemmas.{faultless, once}
 use Rattle.check_numbers.specs.Configuration.{Host, Service, objects_of, named_host, named_service}
 use Rattle.check_numbers.specs.Numbering.{configuration, numbered, dependencies_by_number}
-use Rattle.check_objects.specs.Setup.{setup_of_drafts, without_cycles}
-use Rattle.check_objects.proofs.CycleLemmas.{fails_later}
-use Rattle.check_objects.proofs.EndLemmas.{names_apart, ends_are_asked, let_through, test_refused}
+use Rattle.check_objects.proofs.EndLemmas.{host_ends, names_apart, service_ends}
 use Rattle.check_objects.proofs.SetupLemmas.{few_numbered, parted_from}
 use Rattle.check_objects.proofs.setup.Setup.of_drafts.Goals as goal
 
@@ -33,57 +29,37 @@ few_drafts ds hosts same e = omega (arith, (faultless ds e).few, ap length same,
 -- ---- the answers
 
 pub number_objects-requires-clause-few : goal.number_objects-requires-clause-few
-number_objects-requires-clause-few c =
-    let ds = drafts_view c.args.drafts.now in
-    few_drafts (without_dependencies ds) c.args.drafts.now.hosts.items refl (faultless_alone ds c.requires.but_ends)
+number_objects-requires-clause-few c = few_drafts (drafts_view c.args.drafts.now) c.args.drafts.now.hosts.items refl c.requires.faultless
 
 pub number_objects-requires-clause-names : goal.number_objects-requires-clause-names
-number_objects-requires-clause-names c =
-    let ds = drafts_view c.args.drafts.now in
-    (once (without_dependencies ds) (faultless_alone ds c.requires.but_ends)).0
+number_objects-requires-clause-names c = (once (drafts_view c.args.drafts.now) c.requires.faultless).0
 
 pub number_objects-requires-clause-keys : goal.number_objects-requires-clause-keys
-number_objects-requires-clause-keys c =
-    let ds = drafts_view c.args.drafts.now in
-    (once (without_dependencies ds) (faultless_alone ds c.requires.but_ends)).1
+number_objects-requires-clause-keys c = (once (drafts_view c.args.drafts.now) c.requires.faultless).1
 
 pub number_objects-requires-clause-parted : goal.number_objects-requires-clause-parted
 number_objects-requires-clause-parted c =
     let ds = drafts_view c.args.drafts.now in
-    parted_from (without_dependencies ds) (faultless (without_dependencies ds) (faultless_alone ds c.requires.but_ends))
+    parted_from ds (faultless ds c.requires.faultless)
 
 pub list_dependencies-requires-clause-few : goal.list_dependencies-requires-clause-few
 list_dependencies-requires-clause-few c =
     let ds = drafts_view c.args.drafts.now in
     let objects = same_objects ds _ _ c.in_ok-hosts.ensures.hosts c.in_ok-hosts.ensures.services in
-    subst (λ o. length o ≤ 4096) (sym objects) (few_numbered (without_dependencies ds) (faultless_alone ds c.requires.but_ends))
+    subst (λ o. length o ≤ 4096) (sym objects) (few_numbered ds c.requires.faultless)
 
 pub list_dependencies-requires-clause-apart : goal.list_dependencies-requires-clause-apart
 list_dependencies-requires-clause-apart c =
-    let ds = drafts_view c.args.drafts.now in
-    names_apart (without_dependencies ds) (faultless_alone ds c.requires.but_ends) _ _ c.in_ok-hosts.ensures.hosts c.in_ok-hosts.ensures.services
+    names_apart (drafts_view c.args.drafts.now) c.requires.faultless _ _ c.in_ok-hosts.ensures.hosts c.in_ok-hosts.ensures.services
 
-pub returns-in_err-dependencies : goal.returns-in_err-dependencies
-returns-in_err-dependencies c =
-    let ds = drafts_view c.args.drafts.now in
-    let asked = ends_are_asked ds c.requires.but_ends _ _ c.in_ok-hosts.ensures.hosts c.in_ok-hosts.ensures.services in
-    let fails = fails_later (refusal c.in_err-dependencies.field-0.0) _ (setup_of_drafts ds) c.in_err-dependencies.ensures.exact
-    (λ x h. ap (λ r. r >>= λ _. without_cycles (configuration ds)) (asked ∙ test_refused _ _ x h)) in
-    search (rules, fails)
+pub list_dependencies-requires-clause-of_services : goal.list_dependencies-requires-clause-of_services
+list_dependencies-requires-clause-of_services c =
+    service_ends (drafts_view c.args.drafts.now) c.requires.faultless _ _ c.in_ok-hosts.ensures.hosts c.in_ok-hosts.ensures.services
 
-pub without_cycles-requires-clause-faultless : goal.without_cycles-requires-clause-faultless
-without_cycles-requires-clause-faultless c =
-    ends_are_asked (drafts_view c.args.drafts.now) c.requires.but_ends _ _ c.in_ok-hosts.ensures.hosts c.in_ok-hosts.ensures.services
-    ∙ (let_through _ _ _ c.in_ok-dependencies.ensures.exact).0
+pub list_dependencies-requires-clause-of_hosts : goal.list_dependencies-requires-clause-of_hosts
+list_dependencies-requires-clause-of_hosts c =
+    host_ends (drafts_view c.args.drafts.now) c.requires.faultless _ c.in_ok-hosts.ensures.hosts
 
 pub without_cycles-requires-clause-dependencies : goal.without_cycles-requires-clause-dependencies
 without_cycles-requires-clause-dependencies c =
-    same_lists (drafts_view c.args.drafts.now) _ _ _ c.in_ok-hosts.ensures.hosts c.in_ok-hosts.ensures.services
-    (let_through _ _ _ c.in_ok-dependencies.ensures.exact).1
-
-pub returns : goal.returns
-returns c =
-    let ds = drafts_view c.args.drafts.now in
-    let faultless_now = ends_are_asked ds c.requires.but_ends _ _ c.in_ok-hosts.ensures.hosts c.in_ok-hosts.ensures.services
-    ∙ (let_through _ _ _ c.in_ok-dependencies.ensures.exact).0 in
-    subst (Gives (λ s. s) c.without_cycles.result) (ap (λ r. r >>= λ _. without_cycles (configuration ds)) (sym faultless_now)) c.without_cycles.ensures
+    same_lists (drafts_view c.args.drafts.now) _ _ _ c.in_ok-hosts.ensures.hosts c.in_ok-hosts.ensures.services c.in_ok-dependencies.ensures

@@ -1,7 +1,5 @@
-use Rattle.std.proofs.Common.{◌≡◌, ◌≤◌, List, sym, ap, subst, ◌∙◌, length, map, true, false, Ok, arith, rules}
-use Rattle.std.proofs.lemmas.List.{length-map}
-use Rattle.std.specs.Prelude.{nat_lt, ℕ}
-use Rattle.std.specs.List.{list_all}
+use Rattle.std.proofs.Common.{◌≡◌, ◌≤◌, List, sym, ap, subst, ◌∙◌, length, map, true, false, Ok, rules}
+use Rattle.std.specs.Prelude.{ℕ}
 use Rattle.link_order.specs.Cycles.{are_within, has_cycle}
 use Rattle.link_order.specs.Orders.{IsOrder}
 use Rattle.link_order.proofs.ChainLemmas.{order_has_no_cycle}
@@ -9,13 +7,10 @@ use Rattle.check_drafts.specs.declared.dependency.Dependency.{Dependency}
 use Rattle.check_numbers.specs.Configuration.{Host, Service, IsSetup, masters_of, masters_in}
 use Rattle.check_drafts.specs.Draft.{Drafts}
 use Rattle.check_drafts.specs.Drafted.{drafts_view}
-use Rattle.check_drafts.specs.LoadError.{refusal}
-use Rattle.check_numbers.specs.Entries.{host_entry}
 use Rattle.check_numbers.specs.Numbering.{configuration}
-use Rattle.check_objects.specs.Setup.{without_cycles}
 use Rattle.check_faults.specs.Verification.{is_faultless}
-use Rattle.check_objects.proofs.CycleLemmas.{fails_later, cyclic_parents, no_cycle_of, acyclic_setup, cyclic_dependencies}
-use Rattle.check_objects.proofs.SetupLemmas.{configuration_is_setup, has_lists, few_lists, masters_within, few_host_entries, hosts_are_linked}
+use Rattle.check_objects.proofs.CycleLemmas.{acyclic_setup, parents_refuse}
+use Rattle.check_objects.proofs.SetupLemmas.{configuration_is_setup, has_lists, few_lists, masters_within}
 use Rattle.check_objects.proofs.setup.Setup.without_cycles.Goals as goal
 
 -- ---- what was numbered is what the definitions number
@@ -37,17 +32,6 @@ acyclic : (ds : Drafts) (lists : List (List Dependency)) (order : List ℕ) → 
     → has_cycle (masters_of (configuration ds)) ≡ false
 acyclic ds lists order same is = ap (λ l. has_cycle (map masters_in l)) (sym same) ∙ order_has_no_cycle _ _ is
 
-few_entries : {A : Type 0} (entry : A → Host) (entries : List A) (ds : Drafts) → map entry entries ≡ (configuration ds).hosts → is_faultless ds ≡ Ok tt
-    → length entries ≤ 4096
-few_entries entry entries ds hosts e = omega (arith, few_host_entries ds e, length-map entries entry, ap length hosts)
-
-linked_entries : {A : Type 0} (entry : A → Host) (entries : List A) (ds : Drafts) → map entry entries ≡ (configuration ds).hosts
-    → list_all (λ h. list_all (λ p. nat_lt p (length entries)) h.parents) (map entry entries) ≡ true
-linked_entries entry entries ds hosts =
-    ap (λ n. list_all (λ h. list_all (λ p. nat_lt p n) h.parents) (map entry entries)) (sym (length-map entries entry))
-    ∙ ap (λ l. list_all (λ h. list_all (λ p. nat_lt p (length l)) h.parents) l) hosts
-    ∙ hosts_are_linked ds
-
 -- ---- the answers
 
 pub order_by_masters-requires-clause-few : goal.order_by_masters-requires-clause-few
@@ -58,46 +42,32 @@ pub order_by_masters-requires-clause-within : goal.order_by_masters-requires-cla
 order_by_masters-requires-clause-within c =
     (seen_lists (λ list. list.items) (drafts_view c.args.drafts.now) _ _ c.requires.faultless c.deref.ensures.value c.requires.dependencies).1
 
-pub verify_no_parent_cycle-requires-clause-few : goal.verify_no_parent_cycle-requires-clause-few
-verify_no_parent_cycle-requires-clause-few c =
-    few_entries host_entry _ (drafts_view c.args.drafts.now) c.requires.hosts c.requires.faultless
-
-pub verify_no_parent_cycle-requires-clause-linked : goal.verify_no_parent_cycle-requires-clause-linked
-verify_no_parent_cycle-requires-clause-linked c = linked_entries host_entry _ (drafts_view c.args.drafts.now) c.requires.hosts
-
 pub returns-in_err-verify_no_parent_cycle-in-Order : goal.returns-in_err-verify_no_parent_cycle-in-Order
 returns-in_err-verify_no_parent_cycle-in-Order c =
     let ds = drafts_view c.args.drafts.now in
-    let free = acyclic ds _ _ (ap (map (λ list. list.items)) c.deref.ensures.value ∙ c.requires.dependencies) (rw c.in-Order.is at c.in_ok-order.ensures.order) in
-    let fails = fails_later (refusal c.in_err-verify_no_parent_cycle-in-Order.field-0.0) _ (without_cycles (configuration ds))
-    c.in_err-verify_no_parent_cycle-in-Order.ensures (λ x h. cyclic_parents (configuration ds) _ x c.requires.hosts free h) in
-    search (rules, fails)
+    let free = acyclic ds _ _ (ap (map (λ list. list.items)) c.deref.ensures.value ∙ c.requires.dependencies) (rw c.in-Order.is at c.in_ok-order.ensures) in
+    let refused = parents_refuse ds _ free c.in_err-verify_no_parent_cycle-in-Order.ensures.cycle in
+    search (rules, refused)
 
 pub invariant_of-result : goal.invariant_of-result
 invariant_of-result c =
     let ds = drafts_view c.args.drafts.now in
-    let order = rw c.in-Order.is at c.in_ok-order.ensures.order in
+    let order = rw c.in-Order.is at c.in_ok-order.ensures in
     let free = acyclic ds _ _ (ap (map (λ list. list.items)) c.deref.ensures.value ∙ c.requires.dependencies) order in
-    let no_parents = no_cycle_of (configuration ds) _ c.in_ok-verify_no_parent_cycle-in-Order.field-0 c.requires.hosts
-    c.in_ok-verify_no_parent_cycle-in-Order.ensures in
     record {
       setup =
           subst IsSetup (same_setup ds _ _ _ c.requires.hosts c.requires.services c.requires.dependencies)
-          (configuration_is_setup ds c.requires.faultless free no_parents);
+          (configuration_is_setup ds c.requires.faultless free c.in_ok-verify_no_parent_cycle-in-Order.ensures.none);
       order = rw (← c.deref.ensures.value) order;
     }
 
 pub returns-in_ok-verify_no_parent_cycle-in-Order : goal.returns-in_ok-verify_no_parent_cycle-in-Order
 returns-in_ok-verify_no_parent_cycle-in-Order c =
     let ds = drafts_view c.args.drafts.now in
-    let free = acyclic ds _ _ (ap (map (λ list. list.items)) c.deref.ensures.value ∙ c.requires.dependencies) (rw c.in-Order.is at c.in_ok-order.ensures.order) in
-    let no_parents = no_cycle_of (configuration ds) _ c.in_ok-verify_no_parent_cycle-in-Order.field-0 c.requires.hosts
-    c.in_ok-verify_no_parent_cycle-in-Order.ensures in
-    acyclic_setup (configuration ds) free no_parents ∙ ap Ok (same_setup ds _ _ _ c.requires.hosts c.requires.services c.requires.dependencies)
-
-pub returns-in-Cycle : goal.returns-in-Cycle
-returns-in-Cycle c =
-    let ds = drafts_view c.args.drafts.now in
-    let seen = ap (map (λ list. list.items)) c.deref.ensures.value ∙ c.requires.dependencies in
-    let cyclic = (rw c.in-Cycle.is at c.in_ok-order.ensures.order).0 in
-    cyclic_dependencies (configuration ds) (ap (λ l. has_cycle (map masters_in l)) (sym seen) ∙ cyclic)
+    let free = acyclic ds _ _ (ap (map (λ list. list.items)) c.deref.ensures.value ∙ c.requires.dependencies) (rw c.in-Order.is at c.in_ok-order.ensures) in
+    record {
+      setup =
+          acyclic_setup (configuration ds) free c.in_ok-verify_no_parent_cycle-in-Order.ensures.none
+          ∙ ap Ok (same_setup ds _ _ _ c.requires.hosts c.requires.services c.requires.dependencies);
+      refused = tt;
+    }

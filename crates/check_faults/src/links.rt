@@ -1,0 +1,177 @@
+//! Links: parents, the hosts of services, and the ends of dependencies.
+ghost use Rattle.std.specs.Prelude.{◌≡◌, ℕ, List, string_bytes, IfOk, map, position, not};
+ghost use Rattle.check_drafts.specs.Drafted.{dependency, drafts_view, host, service, texts};
+ghost use Rattle.check_drafts.specs.Ends.{full_names, is_known, known_both, known_dependencies, known_end, known_ends};
+ghost use Rattle.check_drafts.specs.Fault.{Tells};
+ghost use Rattle.check_drafts.specs.Text.{text};
+ghost use Rattle.check_faults.specs.Verification.{known_hosts, known_links, known_parents};
+
+use check_drafts::{
+    DependencyDraft, Drafts, End, EndFault, Fault, HostDraft, Part, Place, ServiceDraft, full_name,
+    text,
+};
+use indexmap::IndexSet;
+use serde_json::Value;
+use std::alloc::{AllocError, Global};
+
+pub(crate) fn verify_links(
+    alloc: Global,
+    drafts: &Drafts<'_>,
+    hosts: &IndexSet<&str>,
+) -> Result<(), Fault>
+    ensures { Tells (λ u. u) result (known_links (texts hosts.now.keys) (drafts_view drafts.now)) }
+{
+    verify_parents(&drafts.hosts, hosts)?;
+    verify_hosts(&drafts.services, hosts)?;
+    verify_ends(alloc, drafts, hosts)
+}
+
+fn verify_parents(hosts: &[HostDraft<'_>], names: &IndexSet<&str>) -> Result<(), Fault>
+    ensures { Tells (λ u. u) result (known_parents (texts names.now.keys) (map host hosts.now)) }
+{
+    for (index, host) in hosts.iter().enumerate() {
+        if let Some(parent) = unknown_parent(host.parents, names) {
+            return Err(Fault::UnknownParent(index, parent));
+        }
+    }
+    Ok(())
+}
+
+/// The index of the first of these parents that isn't among the names.
+fn unknown_parent(parents: &[Value], names: &IndexSet<&str>) -> Option<usize>
+    ensures { result ≡ position (λ p. not (is_known (texts names.now.keys) (text p))) parents.now }
+{
+    parents
+        .iter()
+        .position(|parent| !is_known(names, text(parent)))
+}
+
+fn is_known(names: &IndexSet<&str>, name: &str) -> bool
+    ensures { result ≡ is_known (texts names.now.keys) name.now }
+{
+    names.contains(name)
+}
+
+fn verify_hosts(services: &[ServiceDraft<'_>], names: &IndexSet<&str>) -> Result<(), Fault>
+    ensures { Tells (λ u. u) result
+        (known_hosts (texts names.now.keys) (map service services.now)) }
+{
+    for (index, service) in services.iter().enumerate() {
+        if !is_known(names, service.host) {
+            return Err(Fault::UnknownHost(index));
+        }
+    }
+    Ok(())
+}
+
+// ---- the ends of dependencies
+
+fn verify_ends(alloc: Global, drafts: &Drafts<'_>, hosts: &IndexSet<&str>) -> Result<(), Fault>
+    ensures { Tells (λ u. u) result
+        (known_dependencies (full_names (drafts_view drafts.now).services)
+        (texts hosts.now.keys) (drafts_view drafts.now)) }
+{
+    if drafts.service_dependencies.is_empty() && drafts.host_dependencies.is_empty() {
+        return Ok(());
+    }
+    let names = full_names(alloc, &drafts.services)?;
+    let services = distinct_texts(alloc, &names)?;
+    verify_both_sorts(drafts, &services, hosts)
+}
+
+/// Whether the ends of all dependencies are among these full names of services and these names of hosts.
+fn verify_both_sorts(
+    drafts: &Drafts<'_>,
+    services: &IndexSet<&str>,
+    hosts: &IndexSet<&str>,
+) -> Result<(), Fault>
+    ensures { Tells (λ u. u) result
+        (known_dependencies (texts services.now.keys) (texts hosts.now.keys)
+        (drafts_view drafts.now)) }
+{
+    verify_dependencies(
+        Part::ServiceDependencies,
+        &drafts.service_dependencies,
+        services,
+        hosts,
+    )?;
+    verify_dependencies(
+        Part::HostDependencies,
+        &drafts.host_dependencies,
+        hosts,
+        services,
+    )
+}
+
+/// The full names of services, in the document's order. An Err means out of memory.
+pub fn full_names(alloc: Global, services: &[ServiceDraft<'_>]) -> Result<Vec<String>, AllocError>
+    ensures { IfOk result (λ names.
+        map string_bytes names.items ≡ full_names (map service services.now)) }
+{
+    let mut names = Vec::with_capacity(alloc, services.len())?;
+    for service in services {
+        names.push(full_name(alloc, service.host, service.description)?)?;
+    }
+    Ok(names)
+}
+
+/// The set of these texts.
+fn distinct_texts<'t>(alloc: Global, all: &'t [String]) -> Result<IndexSet<&'t str>, AllocError>
+    ensures { IfOk result (λ set. (name : List ℕ)
+        → is_known (texts set.keys) name ≡ is_known (map string_bytes all.now) name) }
+{
+    let mut set = IndexSet::with_capacity(alloc, all.len())?;
+    for text in all {
+        set.insert(text.as_str())?;
+    }
+    Ok(set)
+}
+
+/// Whether both ends of each dependency of a part are among the names of their sort; `others` are the names
+/// of the other sort.
+fn verify_dependencies(
+    part: Part,
+    dependencies: &[DependencyDraft<'_>],
+    names: &IndexSet<&str>,
+    others: &IndexSet<&str>,
+) -> Result<(), Fault>
+    ensures { Tells (λ u. u) result
+        (known_ends part (texts names.now.keys) (texts others.now.keys)
+        (map dependency dependencies.now)) }
+{
+    for (index, draft) in dependencies.iter().enumerate() {
+        if let Err(fault) = verify_both(*draft, names, others) {
+            return Err(Fault::UnknownEnd(Place::item(part, index), fault));
+        }
+    }
+    Ok(())
+}
+
+fn verify_both(
+    draft: DependencyDraft<'_>,
+    names: &IndexSet<&str>,
+    others: &IndexSet<&str>,
+) -> Result<(), EndFault>
+    ensures { result ≡ known_both (texts names.now.keys) (texts others.now.keys)
+        (dependency draft.entry) }
+{
+    verify_end(End::Dependent, draft.dependent, names, others)?;
+    verify_end(End::Master, draft.master, names, others)
+}
+
+fn verify_end(
+    end: End,
+    name: &str,
+    names: &IndexSet<&str>,
+    others: &IndexSet<&str>,
+) -> Result<(), EndFault>
+    ensures { result ≡ known_end (texts names.now.keys) (texts others.now.keys) end name.now }
+{
+    if is_known(names, name) {
+        Ok(())
+    } else if is_known(others, name) {
+        Err(EndFault::OtherSort(end))
+    } else {
+        Err(EndFault::Unknown(end))
+    }
+}

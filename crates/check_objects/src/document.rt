@@ -1,0 +1,22 @@
+//! The tree of a setup document.
+ghost use Rattle.std.specs.Prelude.{◌≡◌, ◌<◌, Err, length};
+ghost use Rattle.serde_json.specs.View.{view};
+ghost use Rattle.check_drafts.specs.Fault.{Tells};
+ghost use Rattle.check_objects.specs.Setup.{document_of};
+
+use check_documents::read_tree;
+use check_drafts::{Fault, MAX_DOCUMENT_BYTES};
+use serde_json::Value;
+use std::alloc::Global;
+
+/// The tree of a setup document of at most 16,777,216 bytes in JSON. `Memory` may come in place of a tree
+/// and of `NotJson`.
+pub fn read_document(alloc: Global, bytes: &[u8]) -> Result<Value, Fault>
+    ensures exact { Tells view result (document_of bytes.now) }
+    ensures too_long { 16777216 < length bytes.now → result ≡ Err Fault.TooLong }
+{
+    if bytes.len() > MAX_DOCUMENT_BYTES {
+        return Err(Fault::TooLong);
+    }
+    read_tree(alloc, bytes)
+}

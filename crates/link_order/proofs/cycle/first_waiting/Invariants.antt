@@ -1,6 +1,0 @@
-use Rattle.std.proofs.Common.{◌≡◌, ◌==◌, take, true}
-use Rattle.std.specs.List.{list_all}
-use Rattle.link_order.proofs.cycle.first_waiting.Given as goal
-
-abbrev pub invariant-loop-object : goal.invariant-loop-object
-invariant-loop-object l = list_all (λ count. count == 0) (take l.object l.left) ≡ true
