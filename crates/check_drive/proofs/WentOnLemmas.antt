@@ -39,7 +39,7 @@ use Rattle.check_drive.specs.declared.drive.Outcome.{Outcome}
 use Rattle.check_drive.specs.declared.drive.Outcome.TheVariants as outcome
 use Rattle.check_drive.specs.Drive.{IsInput, outcome_by}
 use Rattle.check_drive.specs.Streams.{streams}
-use Rattle.check_drive.specs.Live.{AfterAll, AfterLater, AfterLines, Conversed, HadMany, HasReadLive, LeavesText, ReadBy, ReadOver, TalkEnded, WentOn, live_outcome, saved_in}
+use Rattle.check_drive.specs.Live.{AfterAll, AfterLater, AfterLines, Conversed, HadMany, HasReadLive, LeavesText, ReadBy, ReadOver, TalkEnded, TookDocument, WentOn, live_outcome, saved_in}
 use Rattle.check_drive.proofs.DriveLemmas.{front_tells}
 use Rattle.check_drive.proofs.LiveLemmas.{end_input, input_all, input_on, leaves_kept, live_failed}
 use Rattle.check_drive.proofs.LiveLemmas.{not_long, refused_stays, rest_input, rest_of, setup_is, setup_refused, written_errs, written_ifs, written_oks}
@@ -55,9 +55,8 @@ kept_saved line = front_tells saved_of_text 16777216 KEPT_SAVED_BYTES (Err fault
 -- nothing follows the setup: line 2 has no byte
 pub unfollowed : (hand : List ℕ) (r : Result Saved ScriptError) (left : Option (List ℕ)) → hand ≡ [] → IsAtEnd left
     → Gives (λ saved. saved) r (in_saved (saved_of_text []))
-    → Gives (λ saved. saved) r (saved_in (hand ++ [])) × (false ≡ has_feed (hand ++ [])) × (hand ≡ behind_line (hand ++ []))
-    × (false ≡ false → IsAtEnd left ⊎ (KEPT_SAVED_BYTES ≤ length (hand ++ [])))
-unfollowed hand r left e end g = rw e (g, refl, refl, λ f. inl end)
+    → Gives (λ saved. saved) r (saved_in (hand ++ [])) × TookDocument KEPT_SAVED_BYTES (hand ++ []) false hand left
+unfollowed hand r left e end g = rw e (g, record { follows = refl; hand_is = refl; ended = λ f. inl end })
 
 pub unread : (hand : List ℕ) → hand ≡ [] → StopsSoon KEPT_SAVED_BYTES (hand ++ [])
 unread hand e = rw e (record { at_the_bound = omega arith; at_the_feed = omega arith })

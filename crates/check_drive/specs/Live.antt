@@ -1,5 +1,5 @@
 -- What a conversation from a reader to a writer leaves, fault or none.
-use Rattle.std.specs.Prelude.{ℕ, Bool, false, ◌≡◌, ◌+◌, ◌-◌, ◌^◌, ◌≤◌, length, ⊤, List, [], ◌++◌, Option, Result, Ok, Err, IfOk, IfErr, OnOk}
+use Rattle.std.specs.Prelude.{ℕ, Bool, false, ◌≡◌, ◌⊎◌, ◌+◌, ◌-◌, ◌^◌, ◌≤◌, length, ⊤, List, [], ◌++◌, Option, Result, Ok, Err, IfOk, IfErr, OnOk}
 use Rattle.std.specs.Io.KnownBytes.{Appends, Consumes, IsAtEnd}
 use Rattle.check_objects.specs.Configuration.{Configuration}
 use Rattle.check_objects.specs.Setup.{setup_of}
@@ -70,6 +70,13 @@ pub record Conversed (how : Start) (ended : Result Outcome DriveError) (io : Str
   pub fault : IfErr ended (λ e. LeavesText e io.held io.holds (live_text how input))
 
 -- ---- the lines of a conversation
+
+-- A document was taken, which is the first line of these bytes, and of which so many are kept at most: whether lines may follow, the bytes at hand
+-- then, and why no more came.
+pub record TookDocument (most : ℕ) (bytes : List ℕ) (follow : Bool) (hand : List ℕ) (left : Option (List ℕ)) : Type 0 where
+  pub follows : follow ≡ has_feed bytes
+  pub hand_is : hand ≡ behind_line bytes
+  pub ended : follow ≡ false → IsAtEnd left ⊎ (most ≤ length bytes)
 
 -- The next line was answered, by the bytes that were at hand and were given: whether lines may follow, the scheduler's state and the bytes at
 -- hand then, and what was written.

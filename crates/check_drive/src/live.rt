@@ -10,7 +10,7 @@ ghost use Rattle.check_script.specs.Script.{in_setup};
 ghost use Rattle.check_script.specs.Start.{CanStart};
 ghost use Rattle.check_text.specs.LiveText.{answer_to, said, state_after};
 ghost use Rattle.check_text.specs.Text.{refusal_line};
-ghost use Rattle.check_drive.specs.Live.{AfterAll, AfterLater, AfterLines, AnsweredNext, Conversed, LeavesText, LineFailed, TalkEnded, WentOn, saved_in};
+ghost use Rattle.check_drive.specs.Live.{AfterAll, AfterLater, AfterLines, AnsweredNext, Conversed, LeavesText, LineFailed, TalkEnded, TookDocument, WentOn, saved_in};
 ghost use Rattle.check_drive.specs.Streams.{streams};
 
 use crate::drive::{Outcome, answer_command};
@@ -160,9 +160,7 @@ fn read_first<R: Read>(
         × StopsSoon KEPT_SETUP_BYTES given
         × IfOk result (λ first.
         Gives (λ setup. setup) first.0 (in_setup (setup_of (first_line_of given)))
-        × (first.1 ≡ has_feed given) × (at_hand.new ≡ behind_line given)
-        × (first.1 ≡ false
-        → IsAtEnd (R.remaining reader.new) ⊎ (KEPT_SETUP_BYTES ≤ length given)))
+        × TookDocument KEPT_SETUP_BYTES given first.1 at_hand.new (R.remaining reader.new))
         × IfErr result (AfterReads given) }
 {
     let mut document = KeptLine::new(alloc, KEPT_SETUP_BYTES);
@@ -187,10 +185,8 @@ fn take_saved<R: Read>(
         × StopsSoon KEPT_SAVED_BYTES (at_hand.old ++ given)
         × IfOk result (λ second.
         Gives (λ saved. saved) second.0 (saved_in (at_hand.old ++ given))
-        × (second.1 ≡ has_feed (at_hand.old ++ given))
-        × (at_hand.new ≡ behind_line (at_hand.old ++ given))
-        × (second.1 ≡ false → IsAtEnd (R.remaining reader.new)
-        ⊎ (KEPT_SAVED_BYTES ≤ length (at_hand.old ++ given))))
+        × TookDocument KEPT_SAVED_BYTES (at_hand.old ++ given) second.1 at_hand.new
+        (R.remaining reader.new))
         × IfErr result (AfterReads given) }
     ensures unasked { has_feed at_hand.old ≡ true → reader.new ≡ reader.old }
 {

@@ -13,12 +13,12 @@ pub go_on-requires-clause-end : goal.go_on-requires-clause-end
 go_on-requires-clause-end g c =
     let t = c.in_ok-setup.ensures in
     let s : in_setup (setup_of (first_line_of t.0)) ≡ Ok c.in-Ok.setup = rw (c.in-Ok.is) at t.3.0 in
-    ends_short c.in-Ok.setup t.0 _ _ _ s t.3.1 t.3.2 t.3.3
+    ends_short c.in-Ok.setup t.0 _ _ _ s t.3.1.follows t.3.1.hand_is t.3.1.ended
 
 pub go_on-requires-clause-few : goal.go_on-requires-clause-few
 go_on-requires-clause-few g c =
     let t = c.in_ok-setup.ensures in
-    rw (t.3.2) (behind_size KEPT_SETUP_BYTES t.0 t.2)
+    rw (t.3.1.hand_is) (behind_size KEPT_SETUP_BYTES t.0 t.2)
 
 pub returns-in_err-setup-clause-conversed : goal.returns-in_err-setup-clause-conversed
 returns-in_err-setup-clause-conversed g c =
@@ -29,7 +29,7 @@ pub returns-in-Ok-clause-conversed : goal.returns-in-Ok-clause-conversed
 returns-in-Ok-clause-conversed g c =
     let t = c.in_ok-setup.ensures in
     let s : in_setup (setup_of (first_line_of t.0)) ≡ Ok c.in-Ok.setup = rw (c.in-Ok.is) at t.3.0 in
-    whole_gone _ c.in-Ok.setup t.0 _ _ _ _ _ c.in_ok-setup.whole _ s t.3.1 t.1 (rw (t.3.2) at c.go_on.ensures.went_on)
+    whole_gone _ c.in-Ok.setup t.0 _ _ _ _ _ c.in_ok-setup.whole _ s t.3.1.follows t.1 (rw (t.3.1.hand_is) at c.go_on.ensures.went_on)
 
 pub returns-in-Err-Refused-clause-conversed : goal.returns-in-Err-Refused-clause-conversed
 returns-in-Err-Refused-clause-conversed g c =
@@ -39,7 +39,7 @@ returns-in-Err-Refused-clause-conversed g c =
     (rw (c.in-Err-Refused.is) at c.in-Err-Refused.field-0-is) in
     let r = c.refuse.ensures in
     rw (← written_told _ _ c.as_written.ensures)
-    (setup_refusal _ t.0 _ _ _ _ c.in-Err-Refused.refusal c.in_ok-setup.whole _ s t.1 t.2 t.3.1 t.3.3 r.outcome r.written r.fault)
+    (setup_refusal _ t.0 _ _ _ _ c.in-Err-Refused.refusal c.in_ok-setup.whole _ s t.1 t.2 t.3.1.follows t.3.1.ended r.outcome r.written r.fault)
 
 pub returns-clause-conversed : goal.returns-clause-conversed
 returns-clause-conversed g c =
@@ -53,7 +53,7 @@ returns-in_err-setup-clause-spent g c =
     rw (p.1, p.2) (reads_spend _ t.0 _ _ t.1 t.4)
 
 pub returns-in-Ok-clause-spent : goal.returns-in-Ok-clause-spent
-returns-in-Ok-clause-spent g c = let t = c.in_ok-setup.ensures in if_later _ t.0 _ _ _ t.1 (rw (t.3.2) at c.go_on.ensures.spent)
+returns-in-Ok-clause-spent g c = let t = c.in_ok-setup.ensures in if_later _ t.0 _ _ _ t.1 (rw (t.3.1.hand_is) at c.go_on.ensures.spent)
 
 pub returns-in-Err-Refused-clause-spent : goal.returns-in-Err-Refused-clause-spent
 returns-in-Err-Refused-clause-spent g c = written_spends _ _ _ _ c.as_written.ensures

@@ -68,8 +68,8 @@ returns-in-Ok-clause-went_on g c =
     let talk = c.in_ok-talk-in-Ok.ensures in
     let a = c.answer_all-in-Ok.ensures in
     rw (c.in-Resumed.is)
-    (gone_answered _ _ c.in-Ok.saved _ _ _ t.0 _ _ _ _ _ _ s t.1 t.2 c.requires.end t.4.1 (saved_ends _ c.in-Ok.saved _ _ s t.4.1 t.4.3) a.outcome a.none
-    (rw (talk.sched ∙ c.in_ok-sched-in-Ok.ensures, talk.at_hand ∙ t.4.2) at a.lines))
+    (gone_answered _ _ c.in-Ok.saved _ _ _ t.0 _ _ _ _ _ _ s t.1 t.2 c.requires.end t.4.1.follows (saved_ends _ c.in-Ok.saved _ _ s t.4.1.follows t.4.1.ended) a.outcome a.none
+    (rw (talk.sched ∙ c.in_ok-sched-in-Ok.ensures, talk.at_hand ∙ t.4.1.hand_is) at a.lines))
 
 pub returns-in-Err-Refused-clause-went_on : goal.returns-in-Err-Refused-clause-went_on
 returns-in-Err-Refused-clause-went_on g c =
@@ -79,7 +79,7 @@ returns-in-Err-Refused-clause-went_on g c =
     (rw (c.in-Err-Refused.is) at c.in-Err-Refused.field-0-is) in
     let r = c.refuse.ensures in
     rw (c.in-Resumed.is)
-    (gone_refused _ _ _ _ _ t.0 _ _ _ _ c.in-Err-Refused.why _ _ s t.1 t.2 t.3 c.requires.end t.4.1 t.4.3 r.outcome r.written r.fault c.as_written.ensures)
+    (gone_refused _ _ _ _ _ t.0 _ _ _ _ c.in-Err-Refused.why _ _ s t.1 t.2 t.3 c.requires.end t.4.1.follows t.4.1.ended r.outcome r.written r.fault c.as_written.ensures)
 
 pub returns-clause-went_on : goal.returns-clause-went_on
 returns-clause-went_on g c =
@@ -90,5 +90,5 @@ pub returns-in-Ok-clause-spent : goal.returns-in-Ok-clause-spent
 returns-in-Ok-clause-spent g c =
     let t = c.in_ok-saved-in-Resumed.ensures.took in
     let a = c.answer_all-in-Ok.ensures in
-    answered_later _ outcome.Ran _ _ t.0 _ _ _ _ _ c.in_ok-saved-in-Resumed.follow t.4.1 t.1 (λ f. (a.none f).0)
-    (rw (c.in_ok-talk-in-Ok.ensures.at_hand ∙ t.4.2) at a.spent)
+    answered_later _ outcome.Ran _ _ t.0 _ _ _ _ _ c.in_ok-saved-in-Resumed.follow t.4.1.follows t.1 (λ f. (a.none f).0)
+    (rw (c.in_ok-talk-in-Ok.ensures.at_hand ∙ t.4.1.hand_is) at a.spent)

@@ -32,6 +32,6 @@ returns-clause-took g c =
       t.1,
       λ f. (let k = c.if-not-may_follow.false in cc),
       rw most at t.3,
-      (rw same at c.read_saved-2.ensures, t.2.whole_is, t.2.rest_is, rw most at t.2.ended),
+      (rw same at c.read_saved-2.ensures, record { follows = t.2.whole_is; hand_is = t.2.rest_is; ended = rw most at t.2.ended }),
       tt,
     )
