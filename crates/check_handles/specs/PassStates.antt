@@ -1,19 +1,19 @@
--- That what stands for a pass is of its desk.
+-- A pass's state is of its desk.
 use Rattle.std.specs.Prelude.{⊤}
 use mathlib.Core.Path.{refl}
 use Rattle.core.specs.Mem.{manually_drop_value}
 use Rattle.check_desk.specs.declared.desk.Desk.{Desk}
 use Rattle.check_desk.specs.Belonging.{IsPassOf-prop, IsWaitingAt-prop}
 use Rattle.check_desk.specs.Desks.{IsPassOf, IsWaitingAt}
-use Rattle.check_handles.specs.declared.stage.Stage.{Stage}
-use Rattle.check_handles.specs.declared.stage.Stage.TheVariants as stage
+use Rattle.check_handles.specs.declared.pass_state.PassState.{PassState}
+use Rattle.check_handles.specs.declared.pass_state.PassState.TheVariants as state
 
-abbrev pub IsStageOf : Desk → Stage → Type 0
-IsStageOf desk stage.Gone = ⊤
-IsStageOf desk (stage.Resting pass) = IsPassOf desk pass
-IsStageOf desk (stage.Waiting turn asked) = IsWaitingAt desk (manually_drop_value turn)
+abbrev pub IsPassStateOf : Desk → PassState → Type 0
+IsPassStateOf desk state.Gone = ⊤
+IsPassStateOf desk (state.Resting pass) = IsPassOf desk pass
+IsPassStateOf desk (state.Waiting turn asked) = IsWaitingAt desk (manually_drop_value turn)
 
-pub IsStageOf-prop : (desk : Desk) (s : Stage) → IsProp (IsStageOf desk s)
-IsStageOf-prop desk stage.Gone = λ a b. refl
-IsStageOf-prop desk (stage.Resting pass) = IsPassOf-prop desk pass
-IsStageOf-prop desk (stage.Waiting turn asked) = IsWaitingAt-prop desk (manually_drop_value turn)
+pub IsPassStateOf-prop : (desk : Desk) (s : PassState) → IsProp (IsPassStateOf desk s)
+IsPassStateOf-prop desk state.Gone = λ a b. refl
+IsPassStateOf-prop desk (state.Resting pass) = IsPassOf-prop desk pass
+IsPassStateOf-prop desk (state.Waiting turn asked) = IsWaitingAt-prop desk (manually_drop_value turn)

@@ -1,72 +1,79 @@
-//! What a handle leads to: a setup, a pass of a desk, the book of a desk that was closed, or the
-//! history of a book that goes on without it.
+//! What a handle leads to: a setup, a pass of a desk, the book of a closed desk, or the entries of an
+//! earlier book.
 
 ghost use Rattle.std.specs.Prelude.{◌≡◌, option_map};
-ghost use Rattle.std_alloc.specs.Arc.{arc_value};
 ghost use Rattle.check_book.specs.Books.{sched_of};
 
 use crate::desk_pass::DeskPass;
 use check_book::Book;
 use check_objects::Setup;
 use check_sched::{Call, Reply};
-use std::alloc::Global;
-use std::sync::Arc;
 use ticket_steps::{Entry, Kept};
 
-/// A setup, ready for a desk: one for its book, and the same once more for the names, which passes
-/// ask for while the book is in use.
+/// A setup for the book of a desk, and a second copy of it for the names. Passes read names while the
+/// book, which owns the first copy, is in use.
 #[derive(Drop)]
-pub struct Prepared {
+pub struct NamedSetup {
     pub(crate) setup: Setup,
-    pub(crate) names: Arc<Setup, Global>,
-    ghost same: { arc_value names ≡ setup },
+    pub(crate) names: Setup,
+    ghost same: { names ≡ setup },
 }
 
-/// A book, and its setup once more for the names.
+/// A book, and a second copy of its setup for the names.
 #[derive(Drop)]
-pub struct Ledger {
+pub struct NamedBook {
     /// The book.
     pub book: Book,
     /// The setup of the book.
-    pub(crate) names: Arc<Setup, Global>,
-    ghost same: { arc_value names ≡ (sched_of book).setup },
+    pub(crate) names: Setup,
+    ghost same: { names ≡ (sched_of book).setup },
 }
 
 /// What a handle leads to.
 #[derive(Drop)]
-pub enum Lodged {
+pub enum HandleTarget {
     /// Nothing: only while a call is made.
     Nothing,
-    /// A setup, of which a desk can be opened.
-    Setup(Prepared),
+    /// A setup, on which a desk can be opened.
+    Setup(NamedSetup),
     /// A pass of a desk.
     Pass(DeskPass),
-    /// The book of a desk that was closed.
-    Book(Ledger),
+    /// The book of a closed desk, or a book that resumes a saved state.
+    Book(NamedBook),
     /// The entries that a book had when it was renewed.
     History(Vec<Entry<Call, Reply>>),
 }
 
-/// That threads may read it at the same time is proved where this is called.
+/// The value. Each call of this function proves that several threads may read the value at once.
 fn shared<T: Sync>(value: &T) -> &T
     ensures { result.now ≡ value.now }
 {
     value
 }
 
-impl Lodged {
-    ghost use Rattle.check_handles.specs.Handles.{named_by};
+impl HandleTarget {
+    ghost use Rattle.check_handles.specs.Handles.{book_by, named_by};
     ghost use Rattle.check_handles.specs.Histories.{entries_by};
 
-    /// The setup whose objects are meant, but of a history, which has none.
-    pub fn names(&self) -> Option<&Setup>
+    /// The setup that names the objects. A history has none.
+    pub fn setup(&self) -> Option<&Setup>
         ensures { option_map (λ setup. setup.now) result ≡ named_by self.now }
     {
         match self {
-            Lodged::Setup(prepared) => Some(shared(&prepared.setup)),
-            Lodged::Pass(pass) => Some(shared(&pass.names)),
-            Lodged::Book(ledger) => Some(shared(&ledger.names)),
-            Lodged::History(_) | Lodged::Nothing => None,
+            HandleTarget::Setup(named) => Some(shared(&named.setup)),
+            HandleTarget::Pass(pass) => Some(&shared(&pass.shared).names),
+            HandleTarget::Book(named) => Some(shared(&named.names)),
+            HandleTarget::History(_) | HandleTarget::Nothing => None,
+        }
+    }
+
+    /// The book, if the target is one.
+    pub fn book(&self) -> Option<&Book>
+        ensures { option_map (λ book. book.now) result ≡ book_by self.now }
+    {
+        match self {
+            HandleTarget::Book(named) => Some(shared(&named.book)),
+            _ => None,
         }
     }
 
@@ -75,8 +82,8 @@ impl Lodged {
         ensures { option_map (λ entries. entries.now) result ≡ entries_by self.now }
     {
         match self {
-            Lodged::Book(ledger) => Some(shared(&ledger.book).entries()),
-            Lodged::History(entries) => Some(shared(entries).as_slice()),
+            HandleTarget::Book(named) => Some(shared(&named.book).entries()),
+            HandleTarget::History(entries) => Some(shared(entries).as_slice()),
             _ => None,
         }
     }
