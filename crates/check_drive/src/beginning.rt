@@ -52,8 +52,6 @@ pub fn moment_of(start: Option<u64>, saved: &Saved) -> u64
     ensures value { result ≡ unwrap_or start saved.now.start }
     ensures moment { result ≤ LAST_MOMENT }
 {
-    // for the proof: the saved start is a moment
-    saved.is_saved();
     match start {
         Some(moment) => moment,
         None => saved.start(),
