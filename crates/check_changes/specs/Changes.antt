@@ -1,5 +1,6 @@
 -- The changes that a resume from a saved state over a setup makes.
-use Rattle.std.specs.Prelude.{ℕ, ◌==◌, ◌&&◌, Bool, false, not, nat_lt, List, [], count_by, drop, Option, Some, None, is_none, is_some, option_map, zip, if◌then◌else◌}
+use Rattle.std.specs.Prelude.{ℕ, ◌==◌, ◌&&◌, Bool, false, not, nat_lt, List, [], count_by, drop, Option, Some, None, is_none, is_some, option_map, zip}
+use Rattle.std.specs.Prelude.{if◌then◌else◌}
 use Rattle.check_drafts.specs.declared.object.Object.{Object}
 use Rattle.check_objects.specs.Configuration.{Configuration, host_count, number_of, objects_of}
 use Rattle.check_saved.specs.Saved.{Saved, SavedObject, saved_named}

@@ -30,6 +30,7 @@ use Rattle.check_rules.specs.Flapping.{AreResultsFor}
 use Rattle.check_sched.specs.State.{limit_of}
 use Rattle.check_sched.proofs.KeptLaws.{all_dropped}
 use Rattle.check_sched.proofs.LimitLaws.{busy_none}
+use Rattle.check_sched.proofs.OpeningLaws.{first_in_time}
 use Rattle.check_sched.proofs.OutLaws.{none_out, run_in, timed_unforced}
 use Rattle.check_sched.proofs.ReportLaws.{some_attempts}
 use Rattle.check_sched.proofs.SavedLaws.{alone, attempts_at, text_is}
@@ -364,13 +365,9 @@ first_by : (found : Option (Option ℕ)) → IfSome found (λ first. is_time fir
 first_by None h = refl
 first_by (Some first) h = h
 
-time_of : (first : Option ℕ) → IfSome first (λ time. time < 2 ^ 61) → is_time first ≡ true
-time_of None h = refl
-time_of (Some time) h = grind (arith, nat_tests, h)
-
 all_times : (times : List (Option ℕ)) (n : ℕ) → All (λ first. IfSome first (λ time. time < 2 ^ 61)) times → is_time (unwrap_or (slice_get times n) None) ≡ true
 all_times [] n h = refl
-all_times (first ∷ times) zero h = time_of first (h 0 None (omega arith))
+all_times (first ∷ times) zero h = first_in_time first (h 0 None (omega arith))
 all_times (first ∷ times) (suc n) h = all_times times n (λ k d l. h (suc k) d (omega arith))
 
 -- what is true of everything that was saved is true of what is found

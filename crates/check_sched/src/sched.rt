@@ -6,6 +6,7 @@ ghost use Rattle.check_objects.specs.Configuration.{IsSetup, object_count};
 ghost use Rattle.check_spread.specs.Spread.{initial_times};
 ghost use Rattle.check_sched.specs.State.{IsStandingOf, IsState, next_of, objects_at, opening_objects, opening, opening_standings, run_number_of, standing_at};
 ghost use Rattle.check_saved.specs.Scheduling.{is_moment, is_time};
+ghost use Rattle.check_sched.specs.Sched.{AreParts, state_with};
 ghost use Rattle.check_sched.specs.Step.{is_forced, known, step, with_object};
 ghost use Rattle.check_sched.specs.Change.{changed, is_quiet, keeps_timed};
 ghost use Rattle.check_sched.specs.Board.{board_of, place_of};
@@ -59,6 +60,17 @@ impl Model for Sched {
     ghost invariant = { IsKept };
 }
 
+/// The fields of a scheduler, without its setup, its start and its number of runs.
+#[derive(Drop)]
+struct Parts {
+    marks: Vec<bool>,
+    steady: Vec<bool>,
+    intervals: Vec<Intervals>,
+    results: Results,
+    standings: Vec<Standing>,
+    roster: Roster,
+}
+
 impl Sched {
     /// A scheduler for the objects of `setup`, with `start`, in milliseconds, as the moment at
     /// which scheduling starts. The first checks are spread over time from `start` on, as the
@@ -74,28 +86,27 @@ impl Sched {
         ensures valid_setup { OnOk result (IsSetup setup) }
         ensures err { IfErr result (λ handed_back. handed_back ≡ setup) }
     {
-        let Ok(objects) = opening_objects(alloc, &setup, start) else {
-            return Err(setup);
-        };
-        let Ok(roster) = Roster::new(alloc, setup.hosts(), objects) else {
-            return Err(setup);
-        };
-        let Ok(standings) = opening_standings(alloc, &setup) else {
-            return Err(setup);
-        };
-        let Ok(results) = Results::none(alloc, setup.len()) else {
-            return Err(setup);
-        };
-        let Ok(marks) = vec![in alloc; false; setup.len()] else {
-            return Err(setup);
-        };
-        let Ok(intervals) = intervals_by_number(alloc, &setup) else {
-            return Err(setup);
-        };
-        let Ok(steady) = vec![in alloc; false; setup.len()] else {
-            return Err(setup);
-        };
-        Ok(Sched {
+        match opening_parts(alloc, &setup, start) {
+            Ok(parts) => Ok(Sched::of(setup, start, 0, parts)),
+            Err(_refused) => Err(setup),
+        }
+    }
+
+    /// The scheduler with these parts, which were made for this setup.
+    fn of(setup: Setup, start: u64, runs: u64, parts: Parts) -> Sched
+        requires state { IsState (state_with setup start runs parts) }
+        requires parts { AreParts setup parts }
+        ensures { result ≡ state_with setup start runs parts }
+    {
+        let Parts {
+            marks,
+            steady,
+            intervals,
+            results,
+            standings,
+            roster,
+        } = parts;
+        Sched {
             setup,
             start,
             roster,
@@ -103,9 +114,9 @@ impl Sched {
             results,
             steady,
             intervals,
-            runs: 0,
+            runs,
             marks,
-        })
+        }
     }
 
     /// Answers one call and moves the scheduler on, as `step` says. It needs no memory.
@@ -267,6 +278,24 @@ fn reply_of(answer: Result<Reply, Refusal>) -> Reply
         Ok(reply) => reply,
         Err(why) => Reply::Refused(why),
     }
+}
+
+/// The parts of a scheduler that is opened. An Err means out of memory.
+fn opening_parts(alloc: Global, setup: &Setup, start: u64) -> Result<Parts, AllocError>
+    requires { start ≤ LAST_MOMENT }
+    ensures valid_setup { OnOk result (IsSetup setup.now) }
+    ensures parts { IfOk result (AreParts setup.now) }
+    ensures opening { IfOk result (λ parts. state_with setup.now start 0 parts ≡ opening setup.now start) }
+{
+    let objects = opening_objects(alloc, setup, start)?;
+    Ok(Parts {
+        marks: vec![in alloc; false; setup.len()]?,
+        steady: vec![in alloc; false; setup.len()]?,
+        intervals: intervals_by_number(alloc, setup)?,
+        results: Results::none(alloc, setup.len())?,
+        standings: opening_standings(alloc, setup)?,
+        roster: Roster::new(alloc, setup.hosts(), objects)?,
+    })
 }
 
 /// The scheduling of each object of the setup when scheduling starts, by number.

@@ -1,5 +1,6 @@
 -- The times of the first checks ("Service and Host Check Scheduling": inter-check delay, service interleaving).
-use Rattle.std.specs.Prelude.{ℕ, ◌+◌, ◌*◌, ◌/◌, ◌%◌, ◌==◌, ◌&&◌, ◌||◌, Bool, not, List, ◌++◌, length, map, min, filter, count_by, sum_by, nat_lt, nat_le, Option}
+use Rattle.std.specs.Prelude.{ℕ, ◌+◌, ◌*◌, ◌/◌, ◌%◌, ◌==◌, ◌&&◌, ◌||◌, Bool, not, List, ◌++◌, length, map, min, filter, count_by, sum_by, nat_lt, nat_le}
+use Rattle.std.specs.Prelude.{Option}
 use Rattle.std.specs.Prelude.{Some, None, if◌then◌else◌}
 use Rattle.std.specs.Int.{div_ceil}
 use Rattle.std.specs.List.{enumerate_from}

@@ -10,7 +10,8 @@ use Rattle.std.proofs.lemmas.List.Elements.{All-nil, All-cons, All-weaker}
 use Rattle.check_drafts.specs.declared.object.Object.{Object}
 use Rattle.check_drafts.specs.declared.options.DelayMethod.{DelayMethod}
 use Rattle.check_objects.specs.Configuration.{Configuration, host_count}
-use Rattle.check_spread.specs.Spread.{earlier, factor_by, first_time, first_times, host_objects, host_spread, initial_times, is_scheduled, rank, scheduled_among, picked}
+use Rattle.check_spread.specs.Spread.{earlier, factor_by, first_time, first_times, host_objects, host_spread, initial_times, is_scheduled, rank}
+use Rattle.check_spread.specs.Spread.{scheduled_among, picked}
 use Rattle.check_spread.specs.Spread.{service_objects, service_spread, spread_by, time_at}
 use Rattle.link_order.specs.Cycles.{deep, has_cycle}
 use Rattle.link_order.proofs.ChainLemmas.{some_below}

@@ -4,13 +4,13 @@ ghost use Rattle.std.specs.Prelude.{◌≡◌, ◌≤◌, ◌++◌, IfErr, IfOk,
 ghost use Rattle.check_objects.specs.Configuration.{IsSetup, host_count, object_count};
 ghost use Rattle.check_saved.specs.Saved.{IsSaved};
 ghost use Rattle.check_spread.specs.Spread.{initial_times};
-ghost use Rattle.check_sched.specs.Intervals.{intervals_of};
 ghost use Rattle.check_sched.specs.Places.{ArePlaces};
+ghost use Rattle.check_sched.specs.Sched.{AreParts, state_with};
 ghost use Rattle.check_sched.specs.State.{IsState};
 ghost use Rattle.check_sched.specs.Saved.{given_up, objects_kept, objects_resumed, results_of, results_resumed, resumed, standings_resumed, within_limit};
 
-use super::Sched;
-use crate::intervals::{Intervals, intervals_by_number};
+use super::{Parts, Sched};
+use crate::intervals::intervals_by_number;
 use crate::object_state::ObjectState;
 use crate::places::{kept, places};
 use crate::results::Results;
@@ -21,17 +21,6 @@ use check_rules::{KEPT_RESULTS, LastResults, Standing};
 use check_saved::{Saved, SavedObject};
 use check_spread::{LAST_MOMENT, initial_times};
 use std::alloc::{AllocError, Global};
-
-/// The fields of a scheduler, without its setup and its counts.
-#[derive(Drop)]
-struct Parts {
-    marks: Vec<bool>,
-    steady: Vec<bool>,
-    intervals: Vec<Intervals>,
-    results: Results,
-    standings: Vec<Standing>,
-    roster: Roster,
-}
 
 impl Sched {
     /// Makes a scheduler from a saved state, over this setup, which may be the one that it was saved with
@@ -66,28 +55,10 @@ impl Sched {
         ensures valid_setup { OnOk result (IsSetup setup) }
         ensures err { IfErr result (λ handed_back. handed_back ≡ setup) }
     {
-        let Ok(parts) = resumed_parts(alloc, &setup, saved, start) else {
-            return Err(setup);
-        };
-        let Parts {
-            marks,
-            steady,
-            intervals,
-            results,
-            standings,
-            roster,
-        } = parts;
-        Ok(Sched {
-            setup,
-            start,
-            roster,
-            standings,
-            results,
-            steady,
-            intervals,
-            runs: saved.runs(),
-            marks,
-        })
+        match resumed_parts(alloc, &setup, saved, start) {
+            Ok(parts) => Ok(Sched::of(setup, start, saved.runs(), parts)),
+            Err(_refused) => Err(setup),
+        }
     }
 }
 
@@ -101,15 +72,9 @@ fn resumed_parts(
     requires { start ≤ LAST_MOMENT }
     ensures valid_setup { OnOk result (IsSetup setup.now) }
     ensures saved { OnOk result (IsSaved saved.now) }
-    ensures roster { IfOk result (λ parts. parts.roster ≡ record {
-      hosts = host_count setup.now;
-      objects = objects_resumed setup.now saved.now start;
-    }) }
-    ensures standings { IfOk result (λ parts. parts.standings.items ≡ standings_resumed setup.now saved.now) }
-    ensures results { IfOk result (λ parts. parts.results ≡ results_resumed setup.now saved.now) }
-    ensures marks { IfOk result (λ parts. length parts.marks.items ≡ object_count setup.now) }
-    ensures intervals { IfOk result (λ parts. parts.intervals.items ≡ intervals_of setup.now) }
-    ensures steady { IfOk result (λ parts. parts.steady.items ≡ replicate (object_count setup.now) false) }
+    ensures parts { IfOk result (AreParts setup.now) }
+    ensures resumed { IfOk result (λ parts.
+        state_with setup.now start saved.now.runs parts ≡ resumed setup.now saved.now start) }
 {
     let places = places(alloc, setup, saved)?;
     let objects = resumed_objects(alloc, setup, saved, &places, start)?;
