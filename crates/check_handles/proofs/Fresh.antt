@@ -91,8 +91,8 @@ same_length desk (p ∷ ps) [] has = absurd has
 same_length desk (p ∷ ps) (h ∷ hs) has = ap suc (same_length desk ps hs has.1)
 
 -- they are the passes of a desk that opened with this state on these terms
-pub opened : (terms : Terms) (opening : BookState) (desk : Shared) (ps : List Pass) (hs : List Handle) → desk.mark ≡ terms.mark → opened_with desk.desk ≡ opening
-    → passes_of desk.desk ≡ length ps → AreNewPassesWith terms.calls desk.desk 0 ps → HavePasses desk ps hs → IsOpenedWith terms opening hs
+pub opened : (terms : Terms) (opening : BookState) (desk : Shared) (ps : List Pass) (hs : List Handle) → desk.mark ≡ terms.mark
+    → opened_with desk.desk ≡ opening → passes_of desk.desk ≡ length ps → AreNewPassesWith terms.calls desk.desk 0 ps → HavePasses desk ps hs → IsOpenedWith terms opening hs
 opened terms opening desk ps hs marked with all new has = record {
   shared = desk;
   marked = marked;

@@ -59,7 +59,8 @@ IsBookAfter desk other named = ⊥
 
 -- a pass, and the book of its desk, which was closed
 abbrev pub HasEnded : HandleTarget → HandleTarget → Type 0
-HasEnded before after = (pass : DeskPass) × (before ≡ target.Pass pass) × ((named : NamedBook) × (after ≡ target.Book named) × IsBookAfter (desk_of pass) (pass_state_of pass) named)
+HasEnded before after = (pass : DeskPass) × (before ≡ target.Pass pass)
+    × ((named : NamedBook) × (after ≡ target.Book named) × IsBookAfter (desk_of pass) (pass_state_of pass) named)
 
 -- a pass is unchanged
 abbrev pub HasStayed : HandleTarget → HandleTarget → Type 0
@@ -83,4 +84,5 @@ IsBook other = ⊥
 
 -- a book was renewed, or is unchanged
 abbrev pub HasGoneOn : ℕ → HandleTarget → HandleTarget → Option HandleTarget → Type 0
-HasGoneOn room before after past = (book : NamedBook) × (next : NamedBook) × (before ≡ target.Book book) × (after ≡ target.Book next) × IsRenewed room book next past
+HasGoneOn room before after past = (book : NamedBook) × (next : NamedBook) × (before ≡ target.Book book) × (after ≡ target.Book next)
+    × IsRenewed room book next past

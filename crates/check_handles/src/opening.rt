@@ -11,7 +11,8 @@ ghost use Rattle.check_desk.specs.Passes.{pass_of};
 ghost use Rattle.check_book.specs.BookState.{book_opening};
 ghost use Rattle.check_book.specs.Books.{entries_of, opening_of, refused_of};
 ghost use Rattle.check_handles.specs.Seats.{HavePasses, IsSeatFor, IsSeatOf, IsTaken};
-ghost use Rattle.check_handles.specs.Opening.{IsAsSetup, IsBack, IsBackOf, IsBookBack, IsEmptyBack, IsFreshPassOf, IsOpenedBy, IsOpenedWith, IsSetupBack, IsSource};
+ghost use Rattle.check_handles.specs.Opening.{IsAsSetup, IsBack, IsBackOf, IsBookBack, IsEmptyBack, IsSetupBack};
+ghost use Rattle.check_handles.specs.Opening.{IsFreshPassOf, IsOpenedBy, IsOpenedWith, IsSource};
 
 use crate::desk_pass::DeskPass;
 use crate::handle::Handle;

@@ -11,7 +11,8 @@ use Rattle.nagsched_c.specs.declared.status.TheConstants.{MISSING, NO_MEMORY, OK
 -- Two passes became one, and the second handle is empty; or nothing was done.
 abbrev pub HasGathered : Option HandleTarget → Option HandleTarget → ℕ → Option HandleTarget → Option HandleTarget → Type 0
 HasGathered a b status a' b' =
-    ((status ≡ OK) × (b' ≡ None) × ((first : HandleTarget) × (second : HandleTarget) × (both : HandleTarget) × (a ≡ Some first) × (b ≡ Some second) × (a' ≡ Some both) × IsGathered first second both))
+    ((status ≡ OK) × (b' ≡ None) × ((first : HandleTarget) × (second : HandleTarget) × (both : HandleTarget)
+    × (a ≡ Some first) × (b ≡ Some second) × (a' ≡ Some both) × IsGathered first second both))
     ⊎ ((status ≡ WRONG) × (a' ≡ a) × (b' ≡ b))
 
 -- a pass at rest, in a handle
@@ -23,8 +24,10 @@ IsRestingIn None = ⊥
 -- done.
 abbrev pub HasClosed : Option HandleTarget → ℕ → Option HandleTarget → Type 0
 HasClosed before status after =
-    ((pass : DeskPass) × (before ≡ Some (target.Pass pass)) × (status ≡ OK) × ((named : NamedBook) × (after ≡ Some (target.Book named)) × IsBookAfter (desk_of pass) (pass_state_of pass) named))
-    ⊎ (((pass : DeskPass) × (before ≡ Some (target.Pass pass)) × (status ≡ MISSING) × ((same : DeskPass) × (after ≡ Some (target.Pass same)) × IsSamePass pass same))
+    ((pass : DeskPass) × (before ≡ Some (target.Pass pass)) × (status ≡ OK)
+    × ((named : NamedBook) × (after ≡ Some (target.Book named)) × IsBookAfter (desk_of pass) (pass_state_of pass) named))
+    ⊎ (((pass : DeskPass) × (before ≡ Some (target.Pass pass)) × (status ≡ MISSING)
+    × ((same : DeskPass) × (after ≡ Some (target.Pass same)) × IsSamePass pass same))
     ⊎ ((status ≡ WRONG) × (after ≡ before) × (IsRestingIn before → ⊥)))
 
 -- a book, in a handle
@@ -36,6 +39,8 @@ IsBookIn None = ⊥
 -- isn't empty, and nothing was done.
 abbrev pub HasRenewed : ℕ → Option HandleTarget → Option HandleTarget → ℕ → Option HandleTarget → Option HandleTarget → Type 0
 HasRenewed room book history status book' history' =
-    ((history ≡ None) × (status ≡ OK) × ((before : NamedBook) × (after : NamedBook) × (book ≡ Some (target.Book before)) × (book' ≡ Some (target.Book after)) × IsRenewed room before after history'))
-    ⊎ (((history' ≡ history) × (status ≡ NO_MEMORY) × ((before : NamedBook) × (after : NamedBook) × (book ≡ Some (target.Book before)) × (book' ≡ Some (target.Book after)) × (after.book ≡ before.book)))
+    ((history ≡ None) × (status ≡ OK) × ((before : NamedBook) × (after : NamedBook)
+    × (book ≡ Some (target.Book before)) × (book' ≡ Some (target.Book after)) × IsRenewed room before after history'))
+    ⊎ (((history' ≡ history) × (status ≡ NO_MEMORY) × ((before : NamedBook) × (after : NamedBook)
+    × (book ≡ Some (target.Book before)) × (book' ≡ Some (target.Book after)) × (after.book ≡ before.book)))
     ⊎ ((status ≡ WRONG) × (book' ≡ book) × (history' ≡ history) × (IsBookIn book → is_some history ≡ true)))

@@ -17,6 +17,7 @@ IsTold None before status told = (status ≡ WRONG) × (told ≡ before)
 -- A glance by a handle: with a pass it shows a standing, or there is none; with anything else nothing is done.
 abbrev pub HasGlanced : ℕ → Option HandleTarget → PlainStanding → ℕ → Option HandleTarget → PlainStanding → Type 0
 HasGlanced object (Some (target.Pass before)) shown status (Some (target.Pass after)) told =
-    AreOneDesk before after × ((seen : Option Standing) × IsTold seen shown status told × HasLookedAt (desk_of before) object (pass_state_of before) seen (pass_state_of after))
+    AreOneDesk before after × ((seen : Option Standing) × IsTold seen shown status told
+    × HasLookedAt (desk_of before) object (pass_state_of before) seen (pass_state_of after))
 HasGlanced object (Some (target.Pass before)) shown status other told = ⊥
 HasGlanced object before shown status after told = (status ≡ WRONG) × (after ≡ before) × (told ≡ shown)

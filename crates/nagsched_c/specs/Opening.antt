@@ -35,5 +35,6 @@ abbrev pub HasOpened : Terms → Option HandleTarget → List Handle → ℕ →
 HasOpened terms before passes status after opened =
     ((status ≡ OK) × (after ≡ None)
     × ((source : HandleTarget) × (before ≡ Some source) × IsSource terms source × IsOpenedBy terms source opened))
-    ⊎ (((status ≡ NO_MEMORY) × (opened ≡ passes) × ((source : HandleTarget) × (back : HandleTarget) × (before ≡ Some source) × (after ≡ Some back) × IsBack terms source back))
+    ⊎ (((status ≡ NO_MEMORY) × (opened ≡ passes) × ((source : HandleTarget) × (back : HandleTarget)
+    × (before ≡ Some source) × (after ≡ Some back) × IsBack terms source back))
     ⊎ ((status ≡ WRONG) × (after ≡ before) × (opened ≡ passes) × (MayOpen terms before passes → ⊥)))

@@ -37,7 +37,8 @@ IsResumedFrom start room text before after = (saved : Saved) × (saved_of_text t
 -- the same for handles: the setup's is empty, and the book is in the other
 abbrev pub HasResumedFrom : ℕ → ℕ → List ℕ → Option HandleTarget → Option HandleTarget → Option HandleTarget → Type 0
 HasResumedFrom start room text setup setup' book' =
-    (setup' ≡ None) × ((before : HandleTarget) × (after : HandleTarget) × (setup ≡ Some before) × (book' ≡ Some after) × IsResumedFrom start room text before after)
+    (setup' ≡ None) × ((before : HandleTarget) × (after : HandleTarget) × (setup ≡ Some before) × (book' ≡ Some after)
+    × IsResumedFrom start room text before after)
 
 -- the struct of the text's first fault, which is never out of memory
 abbrev pub IsFaultOf : List ℕ → PlainRefusal → Type 0
@@ -48,7 +49,8 @@ abbrev pub IsLeft : HandleTarget → HandleTarget → Type 0
 IsLeft before after = (after ≡ before) ⊎ IsSameSetup before after
 
 abbrev pub IsLeftIn : Option HandleTarget → Option HandleTarget → Type 0
-IsLeftIn setup setup' = (setup' ≡ setup) ⊎ ((before : HandleTarget) × (after : HandleTarget) × (setup ≡ Some before) × (setup' ≡ Some after) × IsSameSetup before after)
+IsLeftIn setup setup' = (setup' ≡ setup)
+    ⊎ ((before : HandleTarget) × (after : HandleTarget) × (setup ≡ Some before) × (setup' ≡ Some after) × IsSameSetup before after)
 
 -- ---- running checks
 

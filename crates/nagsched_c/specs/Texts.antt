@@ -40,7 +40,8 @@ HasRefusalText told room before status after bytes =
 -- the line of the reply with this struct, to the call with this struct, was written; or no call or no reply has its struct
 abbrev pub HasReplyText : Configuration → PlainCall → PlainReply → List ℕ → ℕ → ℕ → List ℕ → ℕ → Type 0
 HasReplyText setup asked told room before status after bytes =
-    ((call : Call) × (reply : Reply) × (plain_call call ≡ asked) × (plain_reply reply ≡ told) × IsTold (reply_line setup call reply) room before status after bytes)
+    ((call : Call) × (reply : Reply) × (plain_call call ≡ asked) × (plain_reply reply ≡ told)
+    × IsTold (reply_line setup call reply) room before status after bytes)
     ⊎ (IsUntold WRONG room before status after bytes × (IsNoCall asked ⊎ IsNoReply told))
 
 -- the line of the entry with this struct was written; or no entry has it
