@@ -10,12 +10,12 @@ from nagsched_monitor.core.rhythm import TOLERANCE
 from nagsched_monitor.core.running import Owner
 from nagsched_monitor.faults import ConversationEnded, NotStored
 from nagsched_monitor.inputs.requests import Request
-from nagsched_monitor.run.runners import Job
+from nagsched_monitor.run.jobs import Job
 from nagsched_monitor.scheduler.live_process import Conversation
 from nagsched_monitor.scheduler.protocol import Standing
 from nagsched_monitor.site.site import read_site
 from nagsched_monitor.store.store import Store, Write
-from nagsched_monitor.store.writes import DropDocument, KeepCalls, KeepChange
+from nagsched_monitor.store.writes import DropDocuments, KeepCalls, KeepChange
 
 from .simulated import BEGIN, PROGRAM, SimulatedClock, SimulatedMonitor
 
@@ -146,7 +146,7 @@ class Faulty:
         with contextlib.suppress(NotStored):
             for number, document in self.monitor.store.outbox():
                 self.taken.add(document)
-                self.monitor.store.write(DropDocument(number))
+                self.monitor.store.write(DropDocuments(number))
         return None
 
     # ---- what happens

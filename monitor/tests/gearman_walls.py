@@ -14,7 +14,7 @@ import tempfile
 import time
 from typing import Any, Dict, List, Optional
 
-from .gearman_trial import GearmanTrial, is_open, search_path
+from .gearman_trial import GearmanTrial, is_open, runner_words, search_path
 from .ssh_server import SshServer, free_port
 from .waiting import comes
 
@@ -88,7 +88,7 @@ def behind_the_wall(program: str) -> List[str]:
             folder = pathlib.Path(holder)
             (folder / "ask.py").write_text(ASK.format(port=port))
             line = f"{sys.executable} {folder}/ask.py"
-            write_site(folder, {"behind": line, "before": line}, queues={"server": trial.place(), "key": str(trial.key), "queues": {"wall": ["far;behind"]}})
+            write_site(folder, {"behind": line, "before": line}, runners={"runners": {"wall": runner_words(trial, "wall")}, "objects": {"wall": ["far;behind"]}})
             found = states_of(folder, program, 2)
     finally:
         listening.kill()

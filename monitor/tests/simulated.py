@@ -12,7 +12,7 @@ from nagsched_monitor.core.engine import Engine
 from nagsched_monitor.inputs.requests import Request
 from nagsched_monitor.program.loop import Loop
 from nagsched_monitor.program.turn_timer import Pace
-from nagsched_monitor.run.runners import Event, Finished, Job, Lost
+from nagsched_monitor.run.jobs import Event, Finished, Job, Lost
 from nagsched_monitor.scheduler.live_process import Conversation
 from nagsched_monitor.scheduler.schedulers import Converse
 from nagsched_monitor.scheduler.scheduling import Scheduling
@@ -74,6 +74,9 @@ class SimulatedRunners:
     def running(self) -> List[str]:
         """The names of the objects whose plugins run now."""
         return [event.job.name for end, _, event in self._ends if end > self.clock.now]
+
+    def signs(self) -> Dict[str, Dict[str, int]]:
+        return {}
 
     def kill(self, job: Job) -> bool:
         """Its plugin is killed, and lost."""

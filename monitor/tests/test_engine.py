@@ -7,7 +7,7 @@ from unittest import mock
 
 from nagsched_monitor.faults import ConversationEnded, NotStored
 from nagsched_monitor.run import gearman
-from nagsched_monitor.run.runners import Finished, Gone, Job, Lost
+from nagsched_monitor.run.jobs import Finished, Gone, Job, Lost
 from nagsched_monitor.scheduler.live_process import Conversation
 from nagsched_monitor.scheduler.schedulers import Schedulers
 from nagsched_monitor.site.site import read_site
@@ -326,16 +326,15 @@ class Faults(SiteTest):
         self.assertEqual([line for line in monitor.lines if "otherwise" in line], [said])
         self.assertGreater(monitor.engine.objects["web"].next, BEGIN)
 
-    def test_a_queue_that_nobody_serves(self) -> None:
-        """What became of its jobs is said, and each has its queue."""
-        self.write_site([host("web")], [service("web", "http", max_check_attempts=1)],
-                        queues={"server": "10.0.0.1:4730", "unsigned": True, "queues": {"dmz": ["web"]}})
-        with mock.patch.object(gearman, "Library"):
-            monitor = self.monitor(fine)
+    def test_a_runner_that_nobody_reaches(self) -> None:
+        """What became of its jobs is said, and they take no slot of this machine."""
+        self.write_site([host("web")], [service("web", "http", max_check_attempts=1)], monitor={"slots": 1},
+                        runners={"runners": {"dmz": ["true"]}, "objects": {"dmz": ["web"]}})
+        monitor = self.monitor(fine)
         events = monitor.runners.events
-        setattr(monitor.runners, "events", lambda: [Lost(event.job, f"no worker took it from the queue {event.job.queue}") for event in events()])
+        setattr(monitor.runners, "events", lambda: [Lost(event.job, f"the runner {event.job.runner} didn't take it") for event in events()])
         monitor.run(5)
-        self.assertEqual([(change.name, change.words) for _, change in monitor.changes], [("web;http", "no worker took it from the queue dmz 3 times")])
+        self.assertEqual([(change.name, change.words) for _, change in monitor.changes], [("web;http", "the runner dmz didn't take it 3 times")])
 
     def test_a_restart_makes_the_calls_again(self) -> None:
         self.write_site([host("web", max_check_attempts=5)], [service("web", "http")])

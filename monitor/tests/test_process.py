@@ -12,7 +12,7 @@ import time
 from typing import List
 from unittest import mock
 
-from nagsched_monitor.program import main
+from nagsched_monitor.program import main, monitor
 
 from nagsched_monitor.faults import MonitorFault
 from nagsched_monitor.program import reading
@@ -244,5 +244,5 @@ class Reloading(SiteTest):
     def test_more_slots_than_files(self) -> None:
         self.write_site([{"name": "web", "max_check_attempts": 1}], [], monitor={"slots": 200})
         wanted = "slots: 200 plugins may take 900 open files"
-        with mock.patch.object(main, "raise_file_limit", return_value=500), self.assertRaisesRegex(MonitorFault, wanted):
-            main.Monitor(main.words_of(["--program", PROGRAM, str(self.folder)]))
+        with mock.patch.object(monitor, "raise_file_limit", return_value=500), self.assertRaisesRegex(MonitorFault, wanted):
+            monitor.Monitor(main.words_of(["--program", PROGRAM, str(self.folder)]))

@@ -3,7 +3,7 @@ import contextlib
 import json
 import socket
 import threading
-from typing import Any, Dict, List
+from typing import Any, Callable, Dict, List
 from unittest import mock
 
 from nagsched_monitor.inputs import control
@@ -32,12 +32,24 @@ class Words(SiteTest):
     def ask(self, **members: Any) -> Dict[str, Any]:
         return self.monitored.ask(**members)
 
-    def test_status(self) -> None:
-        answer = self.ask(do="status", pattern="web*trap")
-        self.assertEqual([(it["name"], it["state"], it["on"]) for it in answer["objects"]], [("web;trap", "PENDING", False)])
-        (web,) = self.ask(do="status", pattern="web")["objects"]
-        self.assertEqual((web["state"], web["kind"], web["attempt"], web["out"], web["output"]), ("UP", "HARD", 1, False, "fine"))
-        self.assertEqual(web["next"] - self.monitored.clock.wall(), 30)
+    def test_signs(self) -> None:
+        """How the monitor is; they are told although nothing can be stored."""
+        signs = self.ask(do="signs")
+        self.assertEqual({name: signs[name] for name in ("is_stuck", "passive_waiting", "changes_waiting", "oldest_change", "made", "out")}, {
+            "is_stuck": False, "passive_waiting": 0, "changes_waiting": 0, "oldest_change": 0.0, "made": 1, "out": 0})
+        self.assertLess(self.monitored.clock.wall() - signs["turn"], 2)
+        self.ask(do="result", name="web;trap", code=2, output="bad")
+        self.monitored.run(1)
+        began = self.monitored.clock.wall()
+        self.monitored.run(9)
+        with mock.patch.object(self.monitored.store, "write", side_effect=NotStored("the disk is full")):
+            self.ask(do="save")
+            self.monitored.run(60)
+            signs = self.ask(do="signs")
+        self.assertTrue(signs["is_stuck"])
+        self.assertEqual(signs["changes_waiting"], 1)
+        self.assertAlmostEqual(signs["oldest_change"], self.monitored.clock.wall() - began, delta=2)
+        self.assertGreater(self.monitored.clock.wall() - signs["turn"], 30)
 
     def test_reschedule(self) -> None:
         at = self.monitored.clock.wall() + 5
@@ -127,7 +139,7 @@ class Words(SiteTest):
         for word in ("disable", "enable", "reschedule"):
             self.ask(do=word, name="web")
         self.ask(do="result", name="web;trap", code=1)
-        self.ask(do="status")
+        self.ask(do="signs")
         self.ask(do="disable", name="nobody")
         told = [line for line in self.monitored.lines if line.startswith("asked: ")]
         self.assertEqual([line.split()[1:3] for line in told], [["disable", "web"], ["enable", "web"], ["reschedule", "web"], ["result", "web;trap"]])
@@ -159,7 +171,7 @@ class Words(SiteTest):
         for line, word in (
             (b"", "no JSON"), (b"\xff", "no JSON"), (b"[" * 100_000, "no JSON"), (b"[]", "object"), (b"{}", "None"), (b'{"do":7}', "7"),
             (b'{"do":"fly"}', "'fly'"),
-            (b'{"do":"status","pattern":1}', "pattern"), (b'{"do":"status","patern":"x"}', "'patern'"),
+            (b'{"do":"signs","pattern":1}', "'pattern'"), (b'{"do":"status"}', "'status'"),
             (b'{"do":"reschedule"}', "name"), (b'{"do":"reschedule","name":"x"}', "no object 'x'"),
             (b'{"do":"reschedule","name":"web","at":"now"}', "at is"), (b'{"do":"reschedule","name":"web","at":-1e30}', "no time"),
             (b'{"do":"reschedule","name":"web","at":1e400}', "no time"), (b'{"do":"reschedule","name":"web","force":1}', "force"),
@@ -179,14 +191,14 @@ class Socket(SiteTest):
     """The socket by itself: each request is answered by `answer` in the turn in which it came."""
 
     def serving(self, answer: bytes = b"") -> control.Control:
-        self.files: List[int] = []
+        self.files: Dict[int, Callable[[int], None]] = {}
         self.heard: List[bytes] = []
 
         def asked(request: Request) -> None:
             self.heard.append(request.line)
             request.reply(answer or b"heard " + request.line + b"\n")
 
-        made = control.Control(self.folder, asked, self.files.append, self.files.remove)
+        made = control.Control(self.folder, asked, self.files.__setitem__, self.files.__delitem__)
         self.addCleanup(made.close)
         return made
 
@@ -198,8 +210,8 @@ class Socket(SiteTest):
 
     def turn(self, made: control.Control) -> bool:
         """One turn of the loop around it: what can be read is read."""
-        for file in list(self.files):
-            made.read(file)
+        for file, read in list(self.files.items()):
+            read(file)
         return made.work()
 
     def test_lines_there_and_back(self) -> None:
@@ -223,17 +235,6 @@ class Socket(SiteTest):
         self.assertLess(self.heard.index(b"other"), 4 * control.LINES_IN_TURN)
         self.assertTrue(comes(lambda: not self.turn(made) and len(self.heard) == 1_001))
         self.assertEqual([line for line in self.heard if line != b"other"], [b"%d" % number for number in range(1_000)])
-
-    def test_long_requests_have_a_turn_each(self) -> None:
-        made = self.serving()
-        there = self.asking()
-        there.sendall(b'one\n{"do":"status"}\n{"do":"status"}\ntwo\n')
-        heard = []
-        for _ in range(6):
-            self.turn(made)
-            heard.append(len(self.heard))
-        self.assertEqual(sorted(set(heard) - {0}), [2, 3, 4])
-        self.assertEqual(self.heard, [b"one", b'{"do":"status"}', b'{"do":"status"}', b"two"])
 
     def test_one_that_reads_slowly_holds_up_nobody(self) -> None:
         made = self.serving(b"x" * 1_000_000 + b"\n")
@@ -289,7 +290,7 @@ class Socket(SiteTest):
         there = self.asking()
         there.sendall(b"one\n")
         with mock.patch.object(socket.socket, "accept", side_effect=OSError(24, "too many files")):
-            made.read(self.files[0])
+            made.read(next(iter(self.files)))
         self.assertEqual(len(self.files), 1)
         self.assertTrue(comes(lambda: self.turn(made) or self.heard == [b"one"]))
         self.assertEqual(there.recv(100), b"done\n")

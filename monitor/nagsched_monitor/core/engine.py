@@ -9,7 +9,7 @@ from typing import Callable, Deque, Dict, List, Mapping, Optional, Sequence, Set
 
 from ..faults import ConversationEnded, NotStored
 from ..inputs.requests import Request, Requests, Step
-from ..run.runners import Runners
+from ..run.jobs import Runners
 from ..scheduler.protocol import Abandon, Call, Enable, Freed, Refused, Report, Reschedule, Standing, Take, Taken
 from ..scheduler.scheduling import Heard, Scheduling
 from ..site.site import Site, Watched
@@ -47,7 +47,7 @@ class Engine:
 
     def __init__(self, site: Site, scheduling: Scheduling, runners: Runners, store: Store, clock: Clock, log: Callable[[str], None]) -> None:
         self.site, self.scheduling, self.store = site, scheduling, store
-        self._runners, self._clock, self._log = runners, clock, log
+        self.runners, self._clock, self._log = runners, clock, log
         self._now = clock.moment()
         figures = store.figures()
         self.counters = Counters(figures, clock)
@@ -102,7 +102,7 @@ class Engine:
             follow()
         self.requests.answer(self._asked)
         self._asked = []
-        self._runners.flush()
+        self.runners.flush()
         self._last_turn = now
         self._save_when_due()
         return self._next_turn(now)
@@ -114,7 +114,7 @@ class Engine:
         self.is_stuck = True
         self.requests.refuse(self._asked, str(error))
         self._asked = []
-        self._runners.flush()
+        self.runners.flush()
         return now + LONGEST_WAIT
 
     def _next_turn(self, now: int) -> int:
@@ -229,7 +229,7 @@ class Engine:
 
     def _plan_takes(self, plan: Plan, now: int) -> None:
         """A take for each check that is due and has a free slot."""
-        free = self.site.options.slots - self.scheduling.known.running.plugins() + plan.freed
+        free = self.site.options.slots - self.scheduling.known.running.here() + plan.freed
         due = {part: names - plan.later for part, names in self.scheduling.known.all_due(now).items()}
         for name in plan.at_once:
             due.setdefault(self.objects[name].watched.part, set()).add(name)
@@ -385,6 +385,10 @@ class Engine:
     def busy(self) -> Set[str]:
         """The objects whose plugins run."""
         return {run.place[1] for run in self.scheduling.known.running.of_owner(Owner.PLUGIN)}
+
+    def since_turn(self) -> int:
+        """How many milliseconds ago the last turn began that stored all that it wanted."""
+        return self._clock.moment() - (self._now if self._last_turn is None else self._last_turn)
 
     def _save_when_due(self) -> None:
         if self._can_save and (self._now >= self._save_at or self.store.last_call - self._saved_call >= SAVE_CALLS):

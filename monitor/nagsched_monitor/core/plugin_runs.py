@@ -3,7 +3,7 @@ import collections
 from functools import partial
 from typing import Callable, Counter, Deque, Dict, List, Optional
 
-from ..run.runners import Event, Finished, Gone, Job, Lost, Runners
+from ..run.jobs import Event, Finished, Gone, Job, Lost, Runners
 from ..scheduler.protocol import Abandon, Report, Reschedule
 from ..scheduler.scheduling import Scheduling
 from ..site.command_lines import Command
@@ -57,7 +57,7 @@ class PluginRuns:
             self.latest_start = max(self.latest_start, late)
             self._counters.started(late)
         known.past.late = max(0, late) / 1000
-        job = Job(known.name, run.number, command.words, command.limit, known.watched.queue)
+        job = Job(known.name, run.number, command.words, command.limit, known.watched.runner)
         self._own(run, job, site)
         if known.name in self._stuck:
             self._events.append(Finished(job, "limit", 0, "the plugin of an earlier check still runs and can't be killed"))
@@ -65,8 +65,9 @@ class PluginRuns:
             self._runners.start(job)
 
     def _own(self, run: Run, job: Job, site: Site) -> None:
-        wait = site.queues.wait if job.queue is not None and site.queues is not None else 0.0
-        run.owner, run.job, run.deadline = Owner.PLUGIN, job, self._clock.moment() + round((job.limit + wait) * 1000) + MARGIN * (2 if wait else 1)
+        remote = None if job.runner is None else site.runners.get(job.runner)
+        wait = 0 if remote is None else round(2 * remote.wait * 1000) + MARGIN  # for the runner, and for what is behind it
+        run.owner, run.job, run.deadline = Owner.PLUGIN, job, self._clock.moment() + round(job.limit * 1000) + wait + MARGIN
 
     # ---- the end
 
@@ -110,7 +111,7 @@ class PluginRuns:
                 plan.then.append(partial(self._forget, event))
             elif self._scheduling.is_reportable(run.place):
                 plan.calls += self._ended(run, event, site, now)
-                plan.freed += 1
+                plan.freed += event.job.runner is None
                 plan.then.append(partial(self._count, event))
             else:
                 left.append(event)

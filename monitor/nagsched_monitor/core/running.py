@@ -3,7 +3,7 @@ import enum
 from dataclasses import dataclass
 from typing import Dict, Iterator, List, Optional, Tuple
 
-from ..run.runners import Job
+from ..run.jobs import Job
 from ..store.rows import KeptResult
 
 # A part and the full name of an object in it.
@@ -65,6 +65,11 @@ class Running:
     def plugins(self) -> int:
         """How many plugins run."""
         return sum(run.owner is Owner.PLUGIN for run in self._runs.values()) + len(self.left)
+
+    def here(self) -> int:
+        """How many plugins run on this machine."""
+        jobs = [run.job for run in self._runs.values() if run.owner is Owner.PLUGIN] + list(self.left.values())
+        return sum(job is not None and job.runner is None for job in jobs)
 
     def of_owner(self, owner: Owner) -> List[Run]:
         return [run for run in self._runs.values() if run.owner is owner]

@@ -1,7 +1,7 @@
 """What the end of a plugin counts as, as in Nagios: its exit code, and CRITICAL (DOWN of a host) where it gave none that a plugin may give."""
 from typing import Tuple
 
-from ..run.runners import Finished
+from ..run.jobs import Finished
 from ..scheduler.protocol import GREATEST_CODE
 from .text import plain
 

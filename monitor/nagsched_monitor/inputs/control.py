@@ -6,23 +6,22 @@ import os
 import pathlib
 import socket
 import time
-from dataclasses import dataclass, field
+from dataclasses import dataclass
 from functools import partial
 from typing import Callable, Dict, List, Sequence
 
 from ..faults import MonitorFault
+from ..program.turn_timer import Watch
 from .requests import Request
 
 NAME = "monitor.socket"
 LONGEST_LINE = 262_144
 READ_BYTES = 65_536
-# Lines of one client in one turn, answers of one client that may wait to be read, clients at once, and for how many seconds one may say nothing.
+# Lines of one client in one turn, bytes of answers that it may leave unread, clients at once, and for how many seconds one may say nothing.
 LINES_IN_TURN = 64
-UNREAD_BYTES = 64 * 1024 * 1024
+UNREAD_BYTES = 1024 * 1024
 MOST_CLIENTS = 200
 IDLE = 300.0
-# A line with this may take long: it is the last one of its client in a turn.
-LONG_REQUEST = b'"status"'
 
 
 @dataclass
@@ -31,7 +30,7 @@ class Client:
 
     connection: socket.socket
     unread: bytes = b""
-    unsent: List[bytes] = field(default_factory=list)
+    unsent: bytes = b""
     # Requests that have no answer yet, when it was heard last, and whether it sends no more.
     asked: int = 0
     heard: float = 0.0
@@ -39,9 +38,9 @@ class Client:
 
 
 class Control:
-    """The socket of a monitor. The caller waits for its files to be readable, calls `read` then, and `work` in each turn."""
+    """The socket of a monitor. The caller watches its files, and calls `work` in each turn."""
 
-    def __init__(self, folder: pathlib.Path, ask: Callable[[Request], None], watch: Callable[[int], None], unwatch: Callable[[int], None]) -> None:
+    def __init__(self, folder: pathlib.Path, ask: Callable[[Request], None], watch: Watch, unwatch: Callable[[int], None]) -> None:
         self._ask, self._watch, self._unwatch = ask, watch, unwatch
         self._path = folder / NAME
         self._path.unlink(missing_ok=True)
@@ -56,10 +55,7 @@ class Control:
         self._socket.listen(16)
         self._socket.setblocking(False)
         self._clients: Dict[int, Client] = {}
-        watch(self._socket.fileno())
-
-    def owns(self, file: int) -> bool:
-        return file == self._socket.fileno() or file in self._clients
+        watch(self._socket.fileno(), self.read)
 
     def read(self, file: int) -> None:
         """Takes a new connection, or reads what a client sent."""
@@ -96,7 +92,7 @@ class Control:
             return
         connection.setblocking(False)
         self._clients[connection.fileno()] = Client(connection, heard=time.monotonic())
-        self._watch(connection.fileno())
+        self._watch(connection.fileno(), self.read)
 
     def work(self) -> bool:
         """Hands on the lines that have come, sends what can be sent, and forgets who is gone. Whether more lines wait."""
@@ -116,35 +112,30 @@ class Control:
 
     def _hand_on(self, file: int, client: Client) -> None:
         *lines, rest = client.unread.split(b"\n", LINES_IN_TURN)
-        long = next((place for place, line in enumerate(lines, 1) if LONG_REQUEST in line), len(lines))
-        client.unread = b"\n".join([*lines[long:], rest])
-        for line in lines[:long]:
+        client.unread = rest
+        for line in lines:
             client.asked += 1
             self._ask(Request(line, partial(self._reply, file, client)))
         if len(rest) > LONGEST_LINE and b"\n" not in rest:
-            client.unsent.append(b'{"error": "the line is too long"}\n')
+            client.unsent += b'{"error": "the line is too long"}\n'
             client.unread = b""
             self._hear_no_more(file, client)
 
     def _reply(self, file: int, client: Client, answer: bytes) -> None:
         client.asked -= 1
-        client.unsent.append(answer)
-        if sum(map(len, client.unsent)) > UNREAD_BYTES:
+        client.unsent += answer
+        if len(client.unsent) > UNREAD_BYTES:
             self._forget(file)
 
     def _send(self, file: int, client: Client) -> None:
         """Sends as much as its reader takes now."""
         try:
             while client.unsent:
-                sent = client.connection.send(client.unsent[0])
-                if sent < len(client.unsent[0]):
-                    client.unsent[0] = client.unsent[0][sent:]
-                else:
-                    client.unsent.pop(0)
+                client.unsent = client.unsent[client.connection.send(client.unsent) :]
         except BlockingIOError:
             pass
         except OSError:
-            client.unsent.clear()  # whoever asked reads no more
+            client.unsent = b""  # whoever asked reads no more
             self._hear_no_more(file, client)
 
     def _forget(self, file: int) -> None:

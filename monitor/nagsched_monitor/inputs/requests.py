@@ -1,6 +1,6 @@
 """What can be asked of a monitor that runs: one JSON object there, and one back.
 
-    {"do":"status","pattern":"web-*"}                     how objects stand
+    {"do":"signs"}                                        signs of life of the monitor
     {"do":"reschedule","name":N,"at":T,"force":true}      the next check of an object: now without `at`, which is in seconds since 1970
     {"do":"enable","name":N}    {"do":"disable","name":N} an operator's switch
     {"do":"result","name":N,"code":0,"output":"..."}      a passive result
@@ -9,7 +9,6 @@
 An answer with `error` is a refusal that changed nothing; with `"again":true` the same request may be obeyed later. A request may have a `number`, a text: the
 same number isn't obeyed twice, and gets the answer of the first time.
 """
-import fnmatch
 import json
 import traceback
 from dataclasses import dataclass
@@ -42,8 +41,9 @@ class Request:
 
     line: bytes
     reply: Reply
-    # Its answer, once it is known; None if it comes later.
+    # Its answer, once it is known; None if it comes later. One that only reads is answered although nothing could be stored.
     answer: Optional[Dict[str, Any]] = None
+    only_reads: bool = False
 
 
 @dataclass
@@ -68,7 +68,7 @@ class Requests:
         self._planned: Set[str] = set()
         self._results = 0
         self._words: Dict[str, Callable[[Members, Request], Step]] = {
-            "status": self._status,
+            "signs": self._signs,
             "reschedule": self._reschedule,
             "enable": partial(self._switch, on=True),
             "disable": partial(self._switch, on=False),
@@ -135,8 +135,8 @@ class Requests:
     def refuse(self, asked: Sequence[Request], why: str) -> None:
         """Nothing of a turn was stored."""
         for request in asked:
-            is_refused = request.answer is not None and "error" in request.answer
-            request.reply(encoded(request.answer if is_refused and request.answer is not None else {"error": why, "again": True}))
+            is_known = request.answer is not None and ("error" in request.answer or request.only_reads)
+            request.reply(encoded(request.answer if is_known and request.answer is not None else {"error": why, "again": True}))
 
     # ---- reading a request
 
@@ -157,37 +157,19 @@ class Requests:
 
     # ---- the words
 
-    def _status(self, members: Members, request: Request) -> Step:
-        only(members, "pattern")
-        pattern = members.get("pattern", "*")
-        if not isinstance(pattern, str):
-            raise RequestFault("pattern is a text")
-        known = self.engine.objects
-        names = [pattern] if pattern in known else sorted(name for name in known if fnmatch.fnmatchcase(name, pattern))
-        engine = self.engine
-        step = Step()
-
-        def told() -> None:
-            request.answer = {"objects": [self._told(known[name]) for name in names if name in known], "out": engine.out(), "made": engine.made,
-                              "latest_start": engine.plugins.latest_start}
-
-        step.last.append(told)
-        return step
-
-    def _told(self, known: Known) -> Dict[str, Any]:
-        standing = known.standing
-        late = self._clock.moment() - self._clock.wall() * 1000
-        return {
-            "name": known.name,
-            "state": None if standing is None else standing.state,
-            "kind": None if standing is None else standing.kind,
-            "attempt": None if standing is None else standing.attempt,
-            "flapping": standing is not None and standing.flapping,
-            "next": None if known.next is None else round((known.next - late) / 1000, 3),
-            "out": known.run is not None,
-            "on": known.on,
-            "output": known.words,
-        }
+    def _signs(self, members: Members, request: Request) -> Step:
+        only(members)
+        request.only_reads = True
+        engine, wall = self.engine, self._clock.wall()
+        try:
+            changes, first = engine.store.waiting_changes()
+        except NotStored:
+            changes, first = 0, None
+        return Step(answer={
+            "turn": wall - engine.since_turn() / 1000, "is_stuck": engine.is_stuck, "passive_waiting": engine.waiting.count, "changes_waiting": changes,
+            "oldest_change": 0.0 if first is None else max(0.0, wall - first), "runners": engine.runners.signs(), "out": engine.out(), "made": engine.made,
+            "latest_start": engine.plugins.latest_start,
+        })
 
     def _reschedule(self, members: Members, request: Request) -> Step:
         only(members, "name", "at", "force")

@@ -15,6 +15,7 @@ from ..faults import MonitorFault
 from ..inputs.requests import Request
 from ..run.runner_program import FOLDER
 from ..site.site import Site, read_site
+from .turn_timer import Watch
 
 READ_BYTES = 1 << 20
 # How long a site may take to be read, in seconds.
@@ -33,7 +34,7 @@ def process_words(module: str, words: List[str]) -> List[str]:
 class Reading:
     """The reading of a site, on account of those who asked for it."""
 
-    def __init__(self, folder: pathlib.Path, program: str, watch: Callable[[int], None], unwatch: Callable[[int], None],
+    def __init__(self, folder: pathlib.Path, program: str, watch: Watch, unwatch: Callable[[int], None],
                  clock: Callable[[], float] = time.monotonic) -> None:
         self._words = process_words("program.reading", [str(folder), program])
         self._watch, self._unwatch, self._clock = watch, unwatch, clock
@@ -49,9 +50,6 @@ class Reading:
         """Has the site read; who asks while it is read waits for the next time."""
         self._next.append(request)
 
-    def owns(self, file: int) -> bool:
-        return self._process is not None and self._process.stdout is not None and file == self._process.stdout.fileno()
-
     def work(self) -> Optional[Tuple[Read, List[Optional[Request]]]]:
         """Begins it where somebody asked. Returns what was read, once, and who asked for it."""
         if self._process is None:
@@ -64,7 +62,7 @@ class Reading:
                 return f"the site can't be read: {error}", self._asked
             assert self._process.stdout is not None
             os.set_blocking(self._process.stdout.fileno(), False)
-            self._watch(self._process.stdout.fileno())
+            self._watch(self._process.stdout.fileno(), self.read)
             self._data, self._is_over, self._deadline = b"", False, self._clock() + LIMIT
             return None
         if not self._is_over and self._clock() <= self._deadline:

@@ -1,7 +1,7 @@
 """When the next turn of a monitor begins. A turn costs far more than one more check in it, so that what comes soon one after another shares one."""
 import select
 import time
-from typing import Callable, Optional, Protocol
+from typing import Callable, Dict, Optional, Protocol
 
 from ..core.clock import Clock
 
@@ -11,6 +11,9 @@ BETWEEN_TURNS = 0.05
 MOST_SHARED = 0.08
 LONGEST_UNREPORTED = 2 * MOST_SHARED
 SECOND = 1_000
+
+# Has a file read when it can be.
+Watch = Callable[[int, Callable[[int], None]], None]
 
 
 class Poller(Protocol):
@@ -24,22 +27,25 @@ class Poller(Protocol):
 
 
 class FilePoller:
-    """The files of a process. Those that can be read are handed to `read`."""
+    """The files of a process, and what each is handed to when it can be read."""
 
-    def __init__(self, read: Callable[[int], None]) -> None:
-        self._read = read
+    def __init__(self) -> None:
         self._poll = select.epoll()
+        self._readers: Dict[int, Callable[[int], None]] = {}
 
-    def watch(self, file: int) -> None:
+    def watch(self, file: int, read: Callable[[int], None]) -> None:
         self._poll.register(file, select.EPOLLIN)
+        self._readers[file] = read
 
     def unwatch(self, file: int) -> None:
         self._poll.unregister(file)
+        del self._readers[file]
 
     def wait(self, milliseconds: float) -> bool:
         ready = self._poll.poll(max(0.0, milliseconds) / SECOND)
         for file, _ in ready:
-            self._read(file)
+            if file in self._readers:  # the one before may have ended it
+                self._readers[file](file)
         return bool(ready)
 
     def sleep(self, milliseconds: float) -> None:

@@ -1,4 +1,4 @@
-"""The command lines of a site: each can be split, and has a program that is there, unless a worker elsewhere runs it."""
+"""The command lines of a site: each can be split, and has a program that is there, unless a runner elsewhere runs it."""
 import functools
 import pathlib
 import re
@@ -28,8 +28,8 @@ class Command:
     limit: float
 
 
-def read_commands(folder: pathlib.Path, objects: Container[str], queue_of: Container[str]) -> Dict[str, Command]:
-    """The command of each object. Each line can be split, and has a program that is there, unless a worker elsewhere runs it."""
+def read_commands(folder: pathlib.Path, objects: Container[str], runner_of: Container[str]) -> Dict[str, Command]:
+    """The command of each object. Each line can be split, and has a program that is there, unless a runner elsewhere runs it."""
     commands = {}
     is_program.cache_clear()
     for name, members in read_object(folder, "commands.json", required=True).items():
@@ -45,7 +45,7 @@ def read_commands(folder: pathlib.Path, objects: Container[str], queue_of: Conta
         if not is_whole(line):
             raise SiteFault(f"{place}: its line has half a character")
         limit = seconds(members.get("limit", 60), f"{place}: limit")
-        commands[name] = Command(shell_words(line, place) if shell else plain_words(line, place, name not in queue_of), limit)
+        commands[name] = Command(shell_words(line, place) if shell else plain_words(line, place, name not in runner_of), limit)
     return commands
 
 

@@ -96,14 +96,34 @@ class KeptStanding(NamedTuple):
     last_check: Optional[float]
     next_check: Optional[float]
     is_on: bool
-    # When the run was taken that is out.
+    # Since when a check of it runs.
     out_since: Optional[float]
-    # How long the last check took, and how long behind its time the last one began, in seconds.
+    # How long the last check took, and how late the last one began, in seconds.
     took: Optional[float]
     late: Optional[float]
     words: str
     # A moment at which it is checked by itself.
     phase: Optional[int] = None
+
+    def is_host(self) -> bool:
+        return ";" not in self.name
+
+    def host(self) -> str:
+        return self.name.partition(";")[0]
+
+    def is_problem(self) -> bool:
+        return self.state not in (None, "PENDING", "OK", "UP")
+
+    def is_hard_problem(self) -> bool:
+        return self.is_problem() and self.kind == "HARD"
+
+    def wrong_since(self) -> Optional[float]:
+        """Since when a problem is as hard as it is."""
+        return self.hard_since if self.is_hard_problem() and self.hard_since is not None else self.since
+
+    def is_due(self, now: float) -> bool:
+        """Whether its time has come and it isn't checked yet."""
+        return bool(self.is_on) and self.out_since is None and self.next_check is not None and self.next_check <= now
 
 
 @dataclass

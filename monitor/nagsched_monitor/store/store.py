@@ -17,6 +17,7 @@ Each row has a checksum over its table and its members, so that a row that was c
 """
 import contextlib
 import fcntl
+import json
 import os
 import pathlib
 import sqlite3
@@ -162,10 +163,16 @@ class Store:
         """The answers to requests that had numbers."""
         return dict(self._database.execute("SELECT number, answer FROM requests ORDER BY id"))
 
-    def outbox(self, count: int = -1) -> List[Tuple[int, str]]:
-        """The documents that the command for changes hasn't taken, the oldest first; so many of them at most."""
+    def outbox(self) -> List[Tuple[int, str]]:
+        """The documents that the command for changes hasn't taken, the oldest first."""
         with self._reading():
-            return list(self._database.execute("SELECT id, document FROM outbox ORDER BY id LIMIT ?", (count,)))
+            return list(self._database.execute("SELECT id, document FROM outbox ORDER BY id"))
+
+    def waiting_changes(self) -> Tuple[int, Optional[float]]:
+        """How many documents the command for changes hasn't taken, and the time of the first."""
+        with self._reading():
+            count, first = self._database.execute("SELECT count(*), (SELECT document FROM outbox ORDER BY id LIMIT 1) FROM outbox").fetchone()
+        return count, None if first is None else float(json.loads(first)["time"])
 
     def changes_after(self, number: int) -> Set[int]:
         """The numbers of the stored changes after the call with this number."""

@@ -132,13 +132,13 @@ class DropStandings(Write):
 
 
 @dataclass(frozen=True)
-class DropDocument(Write):
-    """A document that was taken, or is given up."""
+class DropDocuments(Write):
+    """The documents up to this one were taken, or are given up."""
 
-    id: int
+    last: int
 
     def carry_out(self, store: Store) -> None:
-        store.delete("outbox", "id = ?", self.id)
+        store.delete("outbox", "id <= ?", self.last)
 
 
 @dataclass(frozen=True)
