@@ -19,7 +19,7 @@ from nagsched_monitor.scheduler.scheduling import Scheduling
 from nagsched_monitor.site.site import Site, read_site
 from nagsched_monitor.store.rows import KeptChange, KeptResult
 from nagsched_monitor.store.store import Store
-from nagsched_monitor.store.writes import KeepResult
+from nagsched_monitor.store.writes import keep_result
 
 PROGRAM = os.environ.get("NAGSCHED", "nagsched")
 # 2026-11-27 08:00:00, in UTC.
@@ -178,7 +178,7 @@ class SimulatedMonitor:
     def give(self, name: str, code: int, words: str) -> None:
         """A passive result, which is stored."""
         self.store.last_result += 1
-        self.store.write(KeepResult(name, code, words, self.store.last_result))
+        self.store.write(keep_result(name, code, words, self.store.last_result))
         self.engine.expect(KeptResult(self.store.last_result, name, code, words))
 
     def starts(self) -> Dict[str, List[int]]:

@@ -14,7 +14,7 @@ from nagsched_monitor.outputs.changes import MOST_AGE, PAUSE, Notifier, document
 from nagsched_monitor.scheduler.protocol import Standing
 from nagsched_monitor.store.rows import KeptChange
 from nagsched_monitor.store.store import Store
-from nagsched_monitor.store.writes import KeepChange
+from nagsched_monitor.store.writes import keep_change
 
 from .simulated import SiteTest
 from .waiting import LONG, comes
@@ -58,7 +58,7 @@ class Command(SiteTest):
     def keep(self, count: int) -> None:
         for number in range(1, count + 1):
             change = KeptChange(number, 1000.0 * number, f"h{number}", "DOWN", "HARD", 3, False, 'a "word"')
-            self.store.write(KeepChange(change, document_of(change, None)))
+            self.store.write(keep_change(change, document_of(change, None)))
 
     def notifier(self, command: Optional[str]) -> Notifier:
         return Notifier(command, self.store, self.lines.append, lambda: time.monotonic() + self.passed, lambda: self.began + self.passed)

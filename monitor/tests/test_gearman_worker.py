@@ -33,12 +33,16 @@ class StandInConnection:
         self.fault: Optional[Exception] = None
         self.is_echoing = True
         self.grabs = 0
-        self._file = os.eventfd(0)
+        self.is_sleeping = False
+        self._file, self._other = os.pipe()
 
     def send(self, code: Code, *parts: bytes) -> None:
         self.sent.append((code, parts))
         if code is Code.GRAB_JOB:
             self.grabs += 1
+            self.is_sleeping = False
+        elif code is Code.PRE_SLEEP:
+            self.is_sleeping = True
         elif code is Code.WORK_COMPLETE:
             self.answers.append(parts[1])
         elif code is Code.ECHO_REQ and self.is_echoing:
@@ -56,7 +60,7 @@ class StandInConnection:
     def read(self) -> List[Packet]:
         if self.fault is not None:
             raise self.fault
-        if self._jobs and self.codes()[-1:] == [Code.PRE_SLEEP]:
+        if self._jobs and self.is_sleeping:
             self.come.append(Packet(Code.NOOP, [b""]))
         came, self.come = self.come, []
         while self.grabs:
@@ -69,6 +73,7 @@ class StandInConnection:
 
     def close(self) -> None:
         os.close(self._file)
+        os.close(self._other)
 
 
 class WorkerTest(unittest.TestCase):
@@ -114,9 +119,12 @@ class WorkerTest(unittest.TestCase):
 
     def turns_until(self, what: Callable[[], bool]) -> bool:
         def turned() -> bool:
-            self.worker.turn()
-            self.poller.wait(5)
-            return what()
+            for _ in range(100):
+                self.worker.turn()
+                self.poller.wait(0)
+                if what():
+                    return True
+            return False
 
         return comes(turned)
 

@@ -129,19 +129,20 @@ class Outage(SiteTest):
         states, compared = set(), 0
         for _ in range(80):
             monitor.run(3)
-            objects = monitor.ask(do="status")["objects"]
             # Nothing is taken for more than a second, so that the table is as the monitor is.
             if monitor.engine.out() or monitor.scheduling._standings._marked:
                 continue
             files.write()
             blocks = objects_of((self.folder / "nagios/status.dat").read_bytes())
-            self.assertEqual(list(sorted(blocks)), [it["name"] for it in objects])
-            for it in objects:
-                block = blocks[it["name"]]
-                marks = f"{' FLAPPING' if it['flapping'] else ''}{'' if it['on'] else ' off'}"
-                self.assertEqual(line_of(it["name"], block), f"{it['state']} {it['kind']} {it['attempt']}{marks} {it['name']}: {it['output']}")
-                self.assertEqual(int(block["next_check"]), int(it["next"] or 0))
-                states.add((it["state"], it["kind"]))
+            objects = monitor.engine.objects
+            self.assertEqual(sorted(blocks), sorted(objects))
+            for name, known in objects.items():
+                block, it = blocks[name], known.standing
+                assert it is not None
+                marks = f"{' FLAPPING' if it.flapping else ''}{'' if known.on else ' off'}"
+                self.assertEqual(line_of(name, block), f"{it.state} {it.kind} {it.attempt}{marks} {name}: {known.words}")
+                self.assertEqual(int(block["next_check"]), (known.next or 0) // 1000)
+                states.add((it.state, it.kind))
                 compared += 1
         self.assertGreater(compared, 100)
         wanted = {("DOWN", "HARD"), ("DOWN", "SOFT"), ("UNREACHABLE", "HARD"), ("CRITICAL", "HARD"), ("OK", "HARD"), ("UP", "HARD"), ("PENDING", "HARD"),

@@ -10,13 +10,13 @@ from typing import Callable, Deque, Dict, List, Mapping, Optional, Sequence, Set
 from ..faults import ConversationEnded, NotStored
 from ..inputs.requests import Request, Requests, Step
 from ..run.jobs import Runners
-from ..scheduler.protocol import Abandon, Call, Enable, Freed, Refused, Report, Reschedule, Standing, Take, Taken
+from ..scheduler.protocol import Abandon, Call, Enable, Freed, Refused, Report, Reschedule, Standing, Take, Taken, line_of
 from ..scheduler.scheduling import Heard, Scheduling
 from ..site.site import Site, Watched
 from ..store.counters import Counters
 from ..store.rows import KeptResult
 from ..store.store import Store
-from ..store.writes import DropResult
+from ..store.writes import drop_result, keep_figures
 from . import rhythm
 from .clock import Clock
 from .hosts import hosts_of
@@ -146,8 +146,8 @@ class Engine:
         self._plan_passive_takes(plan)
         self._plan_takes(plan, now)
         if self.counters.are_due(now):
-            figures = self.counters.write(self.store.last_call)
-            plan.writes.append(figures)
+            figures = self.counters.changed(self.store.last_call)
+            plan.writes.append(keep_figures(figures))
             plan.then.append(partial(self.counters.written, figures))
         return plan
 
@@ -268,7 +268,7 @@ class Engine:
                 continue
             result = run.result
             plan.calls += self.scheduling.reports(run.place[0], Report(known.name, run.number, result.code), result.words, self._now)
-            plan.writes.append(DropResult(result.id))
+            plan.writes.append(drop_result(result.id))
             plan.then.append(partial(self.waiting.reported, result))
             if self.waiting.has_more(known.name):
                 plan.calls += self._taken_for_result(known)
@@ -317,7 +317,7 @@ class Engine:
         call, answer, known = heard.call, heard.answer, heard.known
         if known is None:
             if isinstance(answer, Refused):
-                self._log(f"{call.line()} was refused: {answer.why}")
+                self._log(f"{line_of(call)} was refused: {answer.why}")
             return
         if isinstance(answer, Taken):
             self._taken(known)
@@ -331,7 +331,7 @@ class Engine:
     def _refused(self, heard: Heard, known: Known, answer: Refused) -> None:
         call = heard.call
         if not isinstance(call, (Report, Abandon)):
-            self._log(f"{known.name}: {call.line()} was refused: {answer.why}")
+            self._log(f"{known.name}: {line_of(call)} was refused: {answer.why}")
             return
         self._log(f"{known.name}: the result of run {call.run} came too late ({answer.why})")
         self.counters.result("refused")
@@ -409,7 +409,7 @@ class Engine:
     def close(self) -> None:
         """Saves the state and the figures."""
         self.save()
-        self.store.write(self.counters.write(self.store.last_call))
+        self.store.write(keep_figures(self.counters.changed(self.store.last_call)))
 
     def reload(self, site: Site) -> List[str]:
         """Goes on with another site; what runs goes on. If it can't be taken over, nothing has changed. Returns what changes of objects that stay."""
@@ -423,6 +423,6 @@ class Engine:
 
     def _plan_dropped(self, gone: Sequence[KeptResult]) -> None:
         try:
-            self.store.write(*(DropResult(result.id) for result in gone))
+            self.store.write(*(drop_result(result.id) for result in gone))
         except NotStored as fault:
             self._log(f"results of objects that are gone stay stored: {fault}")

@@ -24,7 +24,7 @@ from ..core.text import KEPT_BYTES, plain
 from ..faults import AskAgain, ConversationEnded, MonitorFault, NotStored, RequestFault
 from ..scheduler.protocol import Reschedule
 from ..store.rows import KeptResult
-from ..store.writes import MOST_REQUESTS, KeepRequest, KeepResult, SetSwitch
+from ..store.writes import MOST_REQUESTS, keep_request, keep_result, set_switch
 
 if TYPE_CHECKING:
     from ..core.engine import Engine
@@ -106,7 +106,7 @@ class Requests:
             step.then.append(partial(self.log, f"asked: {step.said}"))
         if number is not None and step.answer is not None and (step.calls or step.writes):
             answer = json.dumps(step.answer, ensure_ascii=False)
-            step.writes.append(KeepRequest(number, answer))
+            step.writes.append(keep_request(number, answer))
             step.then.append(partial(self._remember, number, answer))
             self._planned.add(number)
         return step
@@ -201,7 +201,7 @@ class Requests:
         word = "enable" if on else "disable"
         calls = self.engine.switch(known, on)
         answer = {"done": word, "name": known.name, "on": self.engine.is_wanted_on(known.watched, on)}
-        step = Step([(known.watched.part, call, None) for call in calls], [SetSwitch(known.name, on)], answer=answer, said=f"{word} {known.name}")
+        step = Step([(known.watched.part, call, None) for call in calls], [set_switch(known.name, on)], answer=answer, said=f"{word} {known.name}")
         step.then.append(partial(self.engine.switched, known, on))
         return step
 
@@ -219,7 +219,7 @@ class Requests:
         words = plain(output, KEPT_BYTES)
         number = self.engine.store.last_result + self._results
         result = KeptResult(number, known.name, code, words)
-        step = Step(writes=[KeepResult(known.name, code, words, number)], answer={"done": "result", "name": known.name}, said=f"result {known.name} {code}")
+        step = Step(writes=[keep_result(known.name, code, words, number)], answer={"done": "result", "name": known.name}, said=f"result {known.name} {code}")
         step.then.append(partial(self._accepted, result))
         return step
 

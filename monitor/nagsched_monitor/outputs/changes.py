@@ -13,7 +13,7 @@ from ..faults import NotStored
 from ..scheduler.protocol import Standing
 from ..store.rows import KeptChange
 from ..store.store import Store
-from ..store.writes import DropDocuments
+from ..store.writes import drop_documents
 
 # How long the command may take, the pause between two tries, twice as long each time up to the longest, and after which time a change is given up; in seconds.
 LIMIT = 30.0
@@ -138,7 +138,7 @@ class Notifier:
     def _drop(self, number: int) -> None:
         """Lets go of the changes up to this one, which were taken or are too old."""
         self._ended = number
-        self._store.write(DropDocuments(number))
+        self._store.write(drop_documents(number))
         self._ended = None
 
     def close(self) -> None:

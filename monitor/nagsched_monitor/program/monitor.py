@@ -18,7 +18,7 @@ from ..run.runners import RunnerProcesses, raise_file_limit
 from ..scheduler.scheduling import Scheduling
 from ..site.site import Site, read_site
 from ..store.store import Store
-from ..store.writes import DropChangesBefore
+from ..store.writes import drop_changes_before
 from . import places
 from .helper_process import Beside
 from .log import Log
@@ -158,7 +158,7 @@ class Monitor:
         self._dropped_at = now
         if 0 <= since < DAY:
             try:
-                self.store.write(DropChangesBefore(now - self.site.options.keep_days * DAY))
+                self.store.write(drop_changes_before(now - self.site.options.keep_days * DAY))
             except NotStored as fault:
                 self.log(str(fault))
 

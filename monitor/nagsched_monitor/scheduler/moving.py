@@ -1,12 +1,10 @@
 """The states of all schedulers of a site put together, and what each part of another site goes on from."""
 import json
 import subprocess
-from dataclasses import dataclass
 from typing import AbstractSet, Any, Dict, List, Mapping, Tuple
 
 from ..faults import MonitorFault
 from ..site.site import Site
-from ..store.store import Store, Write
 
 Member = Dict[str, Any]
 # The states of schedulers by their parts.
@@ -72,14 +70,3 @@ def is_change(line: str, mirrors: AbstractSet[str]) -> bool:
     """Whether a line of a check is a change of an object that is no mirror, or has runs that are given up."""
     word, _, rest = line.partition(" ")
     return word == "changed" and rest.partition(" ")[2] not in mirrors or word == "given_up" and rest != "0"
-
-
-@dataclass(frozen=True)
-class EndGeneration(Write):
-    """A part that the site has no more."""
-
-    part: int
-
-    def carry_out(self, store: Store) -> None:
-        for table in ("generations", "mirrors", "calls"):
-            store.delete(table, "part = ?", self.part)

@@ -15,10 +15,10 @@ from ..site.site import Site, objects_of
 from ..store.rows import Generation, KeptChange
 from ..store.status_table import Standings
 from ..store.store import Store, Write
-from ..store.writes import BeginGeneration, KeepCalls, KeepChange
+from ..store.writes import begin_generation, end_generation, keep_calls, keep_change
 from . import moving
 from .live_process import Conversation
-from .protocol import Answer, Call, Report, Standing, Status, is_sound
+from .protocol import Answer, Call, Report, Standing, Status, is_sound, line_of
 from .schedulers import Converse, Kept, Made, Schedulers
 
 
@@ -145,7 +145,7 @@ class Scheduling:
             for part, setup in enumerate(site.setups)
         }
         gone = [part for part in self.schedulers.parts if part not in generations]
-        self._store.write(*self._later, *map(moving.EndGeneration, gone), *map(BeginGeneration, generations.values()))
+        self._store.write(*self._later, *map(end_generation, gone), *map(begin_generation, generations.values()))
         self._later = []
         self.mirrors = self.mirrors.become(site.mirrors, others)
         self.schedulers.open(generations)
@@ -185,8 +185,8 @@ class Scheduling:
             raise ValueError(f"no scheduler reads these calls: {bad}")
         if asked or writes or self.has_more():
             standings, number = self._standings.writes(), self._store.last_call
-            calls = [(part, call.line(), words) for part, call, words in asked]
-            self._store.write(*self._later, *writes, *standings, *([KeepCalls(calls)] if calls else []))
+            calls = [(part, line_of(call), words) for part, call, words in asked]
+            self._store.write(*self._later, *writes, *standings, *([keep_calls(calls)] if calls else []))
             self._later = []
             if standings:
                 self._standings.written()
@@ -194,7 +194,7 @@ class Scheduling:
 
     def make(self) -> List[Heard]:
         """Makes the calls that were stored, and returns what is heard. Those of a scheduler that can't be had now are made when it is there again."""
-        if self._has_unknown and not self.schedulers.down():
+        if self._has_unknown and self.schedulers.are_all_up():
             self._ask_new()
         return self._hear(self.schedulers.exchange())
 
@@ -226,7 +226,7 @@ class Scheduling:
             return
         change = KeptChange(number, self._clock.wall(), known.name, answer.state, answer.kind, answer.attempt, answer.flapping, known.words)
         document = changes.document_of(change, before) if self._notified and changes.is_important(before, answer) else None
-        self._later.append(KeepChange(change, document))
+        self._later.append(keep_change(change, document))
         self._printed.append(change)
 
     def changed(self) -> List[KeptChange]:
@@ -249,7 +249,7 @@ class Scheduling:
         self._standings.hurry()
         standings, last_call = self._standings.writes(), self._store.last_call
         opened = {part: replace(self.schedulers.parts[part].generation, saved=state, last_call=last_call) for part, state in states.items()}
-        self._store.write(*self._later, *standings, *map(BeginGeneration, opened.values()))
+        self._store.write(*self._later, *standings, *map(begin_generation, opened.values()))
         self._later = []
         self._standings.written()
         self.schedulers.open(opened)

@@ -140,6 +140,11 @@ def checksum_of(table: str, number: int, cells: Sequence[Cell]) -> str:
     return hashlib.blake2b(ascii((table, number, *cells)).encode(), digest_size=8).hexdigest()
 
 
+def number_of(name: str) -> int:
+    """The number of the row of an object: one made of its name, so that it is the same one each time."""
+    return int.from_bytes(hashlib.blake2b(name.encode(errors="replace"), digest_size=7).digest(), "big")
+
+
 def text_of(names: AbstractSet[str]) -> str:
     """Names as one cell."""
     return json.dumps(sorted(names), ensure_ascii=False)

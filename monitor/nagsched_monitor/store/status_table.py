@@ -3,7 +3,7 @@
 An object that an answer spoke of is marked. Marked objects are written with the next calls, those of half a second together; one that has waited for more than
 a second is written by itself. Times in the table are seconds since 1970 of the wall clock.
 """
-from typing import Dict, Iterable, List, Mapping, Optional, Sequence, Tuple
+from typing import Dict, List, Mapping, Optional, Sequence
 
 from ..core.clock import Clock
 from ..core.object_state import Known, Past
@@ -12,7 +12,7 @@ from ..core.running import Run
 from ..scheduler.protocol import Answer, Call, Report, Standing, Taken
 from .rows import KeptStanding
 from .store import Store, Write
-from .writes import DropStandings, KeepStandings
+from .writes import drop_standings, keep_standings
 
 # How long a marked object waits for others, and behind what it is written by itself, in milliseconds.
 TOGETHER = 500
@@ -24,28 +24,23 @@ class Standings:
 
     def __init__(self, store: Store, clock: Clock) -> None:
         self._store, self._clock = store, clock
-        # The row of each object, and the greatest number of one.
-        self._numbers: Dict[str, int] = {}
-        self._greatest = 0
         self._marked: Dict[str, Known] = {}
         self._marked_at: Optional[int] = None
         self._dropped: List[str] = []
         self._is_settled = False
 
-    # ---- at a start and behind a reload
+    # ---- at a start and after a reload
 
     def read(self, objects: Mapping[str, Known]) -> None:
         """Takes in what was kept of these objects; what was kept of others is let go. Nothing is written before `settle`."""
         self._is_settled = False
         self._marked.clear()
-        self._numbers = {}
-        for number, kept in self._store.standings():
-            self._numbers[kept.name] = number
+        kept_of_all = self._store.standings()
+        for kept in kept_of_all:
             if kept.name in objects:
                 known = objects[kept.name]
                 known.words, known.phase, known.past = kept.words, kept.phase, past_of(kept)
-        self._greatest = max(self._numbers.values(), default=0)
-        self._dropped = [name for name in self._numbers if name not in objects]
+        self._dropped = [kept.name for kept in kept_of_all if kept.name not in objects]
 
     def settle(self, objects: Mapping[str, Known]) -> None:
         """The objects stand as they are known now. Where the table had another state, the kept changes say since when it is."""
@@ -64,7 +59,7 @@ class Standings:
     def become(self, objects: Mapping[str, Known]) -> None:
         """Another site is monitored: the rows of objects that are gone go."""
         self._marked.clear()
-        self._dropped += [name for name in self._numbers if name not in objects]
+        self._dropped += [kept.name for kept in self._store.standings() if kept.name not in objects]
         self.settle(objects)
 
     # ---- while it runs
@@ -100,27 +95,16 @@ class Standings:
         """What is to be written with the next calls."""
         if self._marked_at is None or not self._is_settled or self._clock.moment() - self._marked_at < TOGETHER:
             return ()
-        for name in self._dropped:
-            self._numbers.pop(name, None)
-        dropped = [DropStandings(self._dropped)] if self._dropped else []
-        return [*dropped, KeepStandings(self._rows(self._marked.values()))]
+        wall = self._clock.wall()
+        ahead = self._clock.moment() / 1000 - wall
+        dropped = [drop_standings(self._dropped)] if self._dropped else []
+        return [*dropped, keep_standings([kept_of(known, wall, ahead) for known in self._marked.values()])]
 
     def written(self) -> None:
         """What was to be written was."""
         self._marked.clear()
         self._dropped = []
         self._marked_at = None
-
-    def _rows(self, marked: Iterable[Known]) -> List[Tuple[int, KeptStanding]]:
-        wall = self._clock.wall()
-        ahead = self._clock.moment() / 1000 - wall
-        return [(self._number(known.name), kept_of(known, wall, ahead)) for known in marked]
-
-    def _number(self, name: str) -> int:
-        number = self._numbers.get(name)
-        if number is None:
-            number = self._numbers[name] = self._greatest = self._greatest + 1
-        return number
 
 
 def is_settled(known: Known) -> bool:

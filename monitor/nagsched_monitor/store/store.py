@@ -29,6 +29,9 @@ from .rows import (
     FOR_PEOPLE, GENERATIONS, INDEXES, INSERTS, TABLES, VERSION, Cell, Generation, KeptCall, KeptResult, KeptStanding, LastChanges, checksum_of, names_of,
 )
 
+# Something that is written together with others, or not at all.
+Write = Callable[["Store"], object]
+
 
 class Store:
     """The database of one monitor. A second one of the same site is refused."""
@@ -181,10 +184,10 @@ class Store:
     def figures(self) -> Dict[str, float]:
         return {name: float(value) for name, value in self._database.execute("SELECT name, value FROM figures")}
 
-    def standings(self) -> List[Tuple[int, KeptStanding]]:
-        """The standings that were kept, each with the number of its row."""
-        rows = self._database.execute(f"SELECT id, {', '.join(KeptStanding._fields)} FROM standings")
-        return [(number, KeptStanding(*cells)) for number, *cells in rows]
+    def standings(self) -> List[KeptStanding]:
+        """The standings that were kept."""
+        with self._reading():
+            return [KeptStanding(*cells) for cells in self._database.execute(f"SELECT {', '.join(KeptStanding._fields)} FROM standings")]
 
     def last_changes(self, name: str) -> Optional[LastChanges]:
         """Since when an object is in its last state, and in its last hard one, by the stored changes; None if it has none."""
@@ -200,13 +203,13 @@ class Store:
 
     # ---- writing
 
-    def write(self, *writes: "Write") -> None:
+    def write(self, *writes: Write) -> None:
         """Writes all of these or nothing, and syncs it. `NotStored` where the disk is full or the file can't be written."""
         last_call = self.last_call
         try:
             self._database.execute("BEGIN IMMEDIATE")
             for write in writes:
-                write.carry_out(self)
+                write(self)
             self._database.execute("COMMIT")
         except sqlite3.Error as error:
             self.last_call = last_call
@@ -219,6 +222,11 @@ class Store:
         """Writes a row; without a number it has the next one."""
         number = self._greatest(table) + 1 if number is None else number
         self.insert_all(table, [(number, cells)])
+
+    def insert_calls(self, calls: Sequence[Tuple[int, str, Optional[str]]]) -> None:
+        """Writes calls, with the next numbers."""
+        self.insert_all("calls", list(enumerate(calls, self.last_call + 1)))
+        self.last_call += len(calls)
 
     def insert_all(self, table: str, rows: Sequence[Tuple[int, Sequence[Cell]]]) -> None:
         """Writes rows, each with its number."""
@@ -238,10 +246,3 @@ def locked(folder: pathlib.Path) -> int:
         os.close(lock)
         raise MonitorFault(f"another monitor runs on {folder}") from None
     return lock
-
-
-class Write:
-    """Something that is written together with others, or not at all."""
-
-    def carry_out(self, store: Store) -> None:
-        raise NotImplementedError
