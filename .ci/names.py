@@ -21,7 +21,7 @@ FILE = re.compile(r"[\w./-]*\w\.\w+")
 OF_OTHERS = {"Backoff::snooze", "Shared::exchange", "std::sync::atomic::raw", "test_checks.c", "retain_state_information",
              "use_retained_scheduling_info", "retention.dat"}
 # The files of a site, which stand in its folder.
-OF_A_SITE = {"/status.json", "setup.json", "commands.json", "periods.json", "passive.json", "monitor.json", "queues.json", "mirrors.json", "groups.json", "part-1.json", "part-2.json"}
+OF_A_SITE = {"/status.json", "setup.json", "commands.json", "periods.json", "passive.json", "monitor.json", "runners.json", "mirrors.json", "groups.json", "part-1.json", "part-2.json"}
 
 
 def files():

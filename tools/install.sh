@@ -37,7 +37,7 @@ done
 place 755 "$top/monitor/nagsched-gearman-runner" lib/nagsched/nagsched-gearman-runner
 place 755 "$runner" lib/nagsched/nagsched-runner
 ln -sf ../lib/nagsched/nagsched-runner "$root/bin/nagsched-runner"
-for script in from_nagios nagios_commands nagios_groups nagios_parts nagios_periods nagios_site; do
+for script in from_nagios nagios_commands nagios_groups nagios_objects nagios_parts nagios_periods nagios_site nagios_values; do
     place 644 "$top/tools/$script.py" "lib/nagsched/$script.py"
 done
 chmod 755 "$root/lib/nagsched/from_nagios.py"
@@ -60,10 +60,10 @@ python3 "$top/tools/pages.py" "$pages"
 for page in "$pages"/*; do
     place 644 "$page" "share/doc/nagsched/$(basename "$page")"
 done
-for example in office.txt office.out sequence.txt sequence.out drill.txt drill.out embed.c loop.c; do
+for example in office.txt office.out sequence.txt sequence.out drill.txt drill.out embed.c loop.c alertmanager.yml alert_rules.yml prometheus.yml; do
     place 644 "$top/examples/$example" "share/doc/nagsched/examples/$example"
 done
-for example in embed.py loop.py monitor.py mail_change.py alert_change.py; do
+for example in embed.py loop.py monitor.py mail_change.py; do
     place 755 "$top/examples/$example" "share/doc/nagsched/examples/$example"
 done
 # The loop in Rattle is a part of machine_room: its file and, in a folder, the modules that it names.
