@@ -46,7 +46,7 @@ def sections_of(page):
     """The title of each section of the second level, and its lines."""
     sections, lines = [], []
     in_code = False
-    for line in page.read_text(encoding="utf-8").splitlines():
+    for line in re.sub(r"^<!--.*?-->\n+|<!--.*?-->", "", page.read_text(encoding="utf-8"), flags=re.DOTALL | re.MULTILINE).splitlines():
         in_code ^= line.startswith("```")
         if line.startswith("## ") and not in_code:
             lines = []

@@ -22,21 +22,24 @@ NOTE = """> These pages are installed with the programs `nagsched`, `nagsched-mo
 > `crates/`, `tools/`, `monitor/`, `bench/` and `.ci/`, and pages without a link, are in the repository.
 
 """
-# The trial where the program is built from its sources, and where it is installed.
-TRIAL = re.compile(r"(## See it in two minutes\n\n).*?(?=Line 1 of `examples/office\.txt`)", re.DOTALL)
-TRIAL_INSTALLED = r"""\1This answers the calls of an example that is beside this page:
+# What the pages say of the repository, between these comments, and what an installation has in its place.
+OF_THE_REPOSITORY = re.compile(r"<!-- repository: (\w+) -->\n(.*?)<!-- end -->\n*", re.DOTALL)
+INSTEAD = {
+    "build": """This answers the calls of an example that is installed beside this page:
 
 ```
 nagsched < examples/office.txt
 ```
 
-"""
+""",
+}
+COMMENT = re.compile(r"^<!--.*?-->\n+|<!--.*?-->", re.DOTALL | re.MULTILINE)
 LINK = re.compile(r"\[([^\]\[]*)\]\(([\w./-]+)(#[\w-]*)?\)")
 
 
 def installed(text: str) -> str:
-    """A page under the names of an installation, with the trial that works there."""
-    text = TRIAL.sub(TRIAL_INSTALLED, text)
+    """A page under the names of an installation, with what works there."""
+    text = COMMENT.sub("", OF_THE_REPOSITORY.sub(lambda part: INSTEAD.get(part.group(1), ""), text))
     for old, new in NAMES:
         text = re.sub(old, new, text)
     there = {pathlib.PurePath(file).name for file in (*FILES, *PICTURES)}
