@@ -53,6 +53,7 @@ def installed(program, prefix, work):
     yield "the manual pages", sorted(manual), ["nagsched-from-nagios.1", "nagsched-monitor.1", "nagsched.1", "nagsched.5"]
     for name, page in sorted(manual.items()):
         yield f"warnings of {name}", warnings_of(page), ""
+        yield f"lines of {name}, at most 400", len(page.read_text().splitlines()) <= 400, True
     page = manual["nagsched.1"].read_text().replace("\\-", "-")
     yield "words of the help that nagsched.1 lacks", [word for word in words_of_help(program) if not re.search(rf"{word}\b", page)], []
     first_page = (prefix / "share/doc/nagsched/README.md").read_text()

@@ -63,18 +63,10 @@ def conversation(examples):
     return [line for line in lines if line not in typed], output(typed, "live").splitlines()
 
 
-def from_nagios(examples):
-    """A setup that was made of a Nagios configuration: what is due first, what is disabled, and what waits."""
-    pending = "standing PENDING HARD 1 no STEADY"
-    wanted = f"taken 1 router\n{pending} none web;disk\n{pending} 90000 web;http\n"
-    return wanted, output([on_one_line(examples["nagios-setup"]), '["take",0]', '["status","web;disk"]', '["status","web;http"]'])
-
-
 # What is compared for an example: the names that it uses, and the function that gives what is wanted and what is written.
 EXAMPLES = {
     ("whole-setup", "answers"): answers,
     ("conversation",): conversation,
-    ("nagios-setup",): from_nagios,
     ("figures",): lambda ex: (ex["figures"], output([on_one_line(ex["whole-setup"])], "check", "--start", "1000")),
     ("drill-input", "drill-output"): lambda ex: (ex["drill-output"], output(ex["drill-input"].splitlines(), "drill", "--workers", "1")),
     ("live-input", "live-output"): lambda ex: (ex["live-output"], output(ex["live-input"].splitlines(), "live")),
@@ -112,6 +104,13 @@ def helped(text):
         compare(f"the commands in the help of {subcommand}", wanted, re.findall(r"^  (\[\S+\])", output([], subcommand, "--help"), re.M))
 
 
+def explained(text):
+    """The refusals and explanations of a table after the anchor `explained` are the two lines that cases expect."""
+    expected = {tuple(file.read_text(encoding="utf-8").splitlines()) for folder in ("explained", "checks") for file in (TOP / "conformance" / folder).glob("*.stdout")}
+    for refusal, explanation in re.findall(r"^\| `(refused [^`]*)` \|[^|]*\| `([^`]*)` \|$", text.partition("<!-- explained -->")[2].split("\n\n")[0], re.M):
+        compare(f"an explanation that a case expects: {explanation}", True, (refusal, explanation) in expected)
+
+
 def code():
     """Code that a page shows stands in its file as it is, apart from the indentation."""
     for page, name, block in anchors.anchored("from"):
@@ -130,6 +129,7 @@ def main():
         text = anchors.text_of(page)
         told(text)
         helped(text)
+        explained(text)
         compare(f"{anchors.name_of(page)}: generated text (run .ci/generated.py)", generated.generated(text), text)
     compare("the pages list the commands", 1, sum("<!-- commands -->" in anchors.text_of(page) for page in anchors.PAGES))
     code()
