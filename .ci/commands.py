@@ -35,7 +35,6 @@ RUN = {
     "nagsched help run": ("", "Makes the calls"),
     "nagsched --version": ("", f"nagsched {VERSION}\n"),
     "tools/timeline.py INPUT OUTPUT > picture.svg": ("picture.svg", PICTURE[: PICTURE.index("office.txt")]),
-    "nagsched check --line": ("", "refused L1 NotJson"),
     "tools/timeline.py examples/office.txt examples/office.out > docs/office.svg": ("docs/office.svg", PICTURE),
     "tools/timeline.py examples/sequence.txt examples/sequence.out --objects 'web;http' > docs/sequence.svg": ("docs/sequence.svg", SEQUENCE),
 }
@@ -47,6 +46,7 @@ IN_THE_GATE = {
     "nagsched live --resume --start NOW": ".ci/resume.py",
     "nagsched live --start NOW": ".ci/live.py",
     "nagsched check --resume": ".ci/resume.py",
+    "nagsched check --line": ".ci/session.py",
     "conformance/check": ".ci/run",
     "conformance/check PROGRAM": ".ci/run",
     "cc -IPREFIX/include program.c PREFIX/lib/libnagsched.a -lpthread": ".ci/c_library.py",
@@ -137,6 +137,6 @@ def check(program, pages, compare):
         folder = pathlib.Path(name)
         prepare(folder, pathlib.Path(program).resolve())
         for command, (file, begins) in RUN.items():
-            ran = subprocess.run(["bash", "-c", f"PATH=.:$PATH; {command}"], cwd=folder, stdout=subprocess.PIPE)
+            ran = subprocess.run(["bash", "-c", f"PATH=.:$PATH; {command}"], cwd=folder, stdin=subprocess.DEVNULL, stdout=subprocess.PIPE)
             written = (folder / file).read_text(encoding="utf-8") if file else ran.stdout.decode()
             compare(command, begins, written[: len(begins)])
