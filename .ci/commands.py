@@ -54,6 +54,7 @@ IN_THE_GATE = {
     "tools/build_c.sh": ".ci/c_library.py",
     "tools/install.sh": ".ci/install.py",
     ".ci/map.py CRATE": ".ci/pages.py",
+    ".ci/map.py --crates": ".ci/pages.py",
     ".ci/generated.py": ".ci/pages.py",
 }
 # Scripts that a part of the gate runs with many arguments. The options that a page names have to be in their help.
