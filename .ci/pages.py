@@ -7,6 +7,7 @@ A part of the gate. It names each difference, and ends with status 1 then. Examp
 that of .ci/generated.py, and .ci/style.py has the rules of form. A command of a page that isn't run here has to be listed in .ci/commands.py, with the
 part of the gate that runs it, or why none does.
 """
+import ast
 import pathlib
 import re
 import shutil
@@ -123,8 +124,28 @@ def code():
             compare(f"{page}: code of {name}: {part[:60]!r}", True, bool(lines) and lines in flat)
 
 
+def signatures():
+    """The methods of the Python package: the parameters of each, by its name."""
+    found = {}
+    for node in ast.walk(ast.parse((TOP / "bindings/python/nagsched/desks.py").read_text(encoding="utf-8"))):
+        if isinstance(node, ast.FunctionDef) and not node.name.startswith("_"):
+            for argument in (*node.args.args, *node.args.kwonlyargs):
+                argument.annotation = None
+            found.setdefault(node.name, set()).add(re.sub(r"^self(, )?", "", ast.unparse(node.args)))
+    return found
+
+
+def methods(page):
+    """The methods that the page on Python names with parameters have these parameters."""
+    known = signatures()
+    for name, parameters in re.findall(r"`(\w+)\(([^`]*)\)`", anchors.text_of(page)):
+        if name in known:
+            compare(f"{page.name}: parameters of {name}", True, parameters in known[name])
+
+
 def main():
     run_examples()
+    methods(TOP / "docs/embedding-python.md")
     for page in anchors.PAGES:
         text = anchors.text_of(page)
         told(text)
