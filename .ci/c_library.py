@@ -303,9 +303,18 @@ def as_the_page_says(held, library, page):
         held.compare(command, (0, b'{"'), (made.returncode, made.stdout[:2]))
 
 
+def first_programs(held, library, pages):
+    """The first programs print what the pages show after them."""
+    made = {"first.c": ran(library.compiled(EXAMPLES / "first.c")), "first.py": library.in_python(EXAMPLES / "first.py")}
+    for name, ran_once in made.items():
+        held.compare(f"{name}: its output is on a page", (0, True), (ran_once.returncode, f"```\n{ran_once.stdout.decode()}```" in pages))
+
+
 def page(held, library):
-    """The commands of the pages build and run the two examples."""
-    as_the_page_says(held, library, "".join(anchors.text_of(page) for page in anchors.PAGES))
+    """The commands of the pages build and run the two examples, and the first programs print what the pages show."""
+    pages = "".join(anchors.text_of(page) for page in anchors.PAGES)
+    as_the_page_says(held, library, pages)
+    first_programs(held, library, pages)
 
 
 def loops(held, library):

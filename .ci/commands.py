@@ -53,8 +53,9 @@ IN_THE_GATE = {
     "cc program.c $(pkg-config --cflags --libs PREFIX/lib/pkgconfig/nagsched.pc) -lpthread": ".ci/c_library.py",
     "tools/build_c.sh": ".ci/c_library.py",
     "tools/install.sh": ".ci/install.py",
-    ".ci/map.py": ".ci/pages.py",
-    ".ci/commands.py": ".ci/pages.py",
+    ".ci/map.py CRATE": ".ci/pages.py",
+    ".ci/map.py --crates": ".ci/pages.py",
+    ".ci/generated.py": ".ci/pages.py",
 }
 # Scripts that a part of the gate runs with many arguments. The options that a page names have to be in their help.
 SCRIPTS = {
@@ -66,6 +67,7 @@ SCRIPTS = {
     "examples/monitor.py": ".ci/monitor.py",
     "examples/mail_change.py": ".ci/monitor.py",
     "examples/embed.py": ".ci/c_library.py",
+    "examples/first.py": ".ci/c_library.py",
     "examples/loop.py": ".ci/c_library.py",
 }
 WITH_HELP = {"monitor/nagsched-monitor", "monitor/nagsched-gearman-worker", "tools/from_nagios.py", "tools/timeline.py"}

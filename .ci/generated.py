@@ -3,8 +3,8 @@
 
     .ci/generated.py
 
-Tables of members come from docs/setup.schema.json, which is what `nagsched schema` writes. The table of crates comes from crates.txt and the first
-sentence of each crate's root file, counts of cases from conformance/STATUS.tsv. The gate compares the pages with what this script would write.
+Tables of members come from docs/setup.schema.json, which is what `nagsched schema` writes. Counts of cases come from conformance/STATUS.tsv. The gate
+compares the pages with what this script would write.
 """
 import collections
 import json
@@ -12,7 +12,6 @@ import re
 import sys
 
 from anchors import GENERATED, PAGES, TOP, text_of
-from map import first_sentence
 
 sys.path.append(str(TOP / "conformance"))
 from cases import FOLDER, cases
@@ -80,17 +79,6 @@ def members(what: str) -> str:
     return "\n" + "\n".join(rows) + "\n"
 
 
-def crates() -> str:
-    """The table of all crates, highest layer first."""
-    rows = []
-    for name in re.findall(r"^\w+", (TOP / "crates.txt").read_text(encoding="utf-8"), re.M):
-        source = TOP / "crates" / name / "src"
-        file = source / "lib.rt" if (source / "lib.rt").exists() else source / "main.rt"
-        what = re.sub(r"\[(`[^`]+`)\]", r"\1", first_sentence(file))
-        rows.append(f"| {name} | {what} |")
-    return "\n| Crate | What it is |\n|---|---|\n" + "\n".join(reversed(rows)) + "\n"
-
-
 def counts() -> collections.Counter[str]:
     """How many cases each folder has."""
     found = collections.Counter(str(case.file.parent.relative_to(FOLDER)) for case in cases())
@@ -103,8 +91,6 @@ def text(name: str) -> str:
     kind, _, of = name.partition(" of ")
     if kind == "members":
         return members(of)
-    if kind == "crates":
-        return crates()
     if kind == "cases":
         return f"{counts()[of] if of else sum(counts().values()):,}"
     raise KeyError(name)

@@ -138,8 +138,9 @@ def main():
         compare("the kit's version on README", True, f"`{kit}`" in anchors.text_of(TOP / "README.md"))
     compare("the form of the pages", [], list(style.all_faults()))
     commands.check(PROGRAM, anchors.PAGES, compare)
-    of_a_crate = subprocess.run([sys.executable, TOP / ".ci/map.py", "check_queue"], stdout=subprocess.DEVNULL)
-    compare("the files of a crate, by .ci/map.py", 0, of_a_crate.returncode)
+    for argument in ("--crates", "check_queue"):
+        listed = subprocess.run([sys.executable, TOP / ".ci/map.py", argument], stdout=subprocess.PIPE, text=True)
+        compare(f".ci/map.py {argument}", (0, True), (listed.returncode, "check_queue" in listed.stdout))
     for difference in wrong:
         print(difference)
     print(f"pages: {checked - len(wrong)} passed, {len(wrong)} failed")

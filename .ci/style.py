@@ -26,35 +26,6 @@ WORDS = {
 # Words that are right now and then: over all pages they count as habits.
 NOW_AND_THEN = r"\b(?:where|behind|tells?|told|by itself|by themselves|what (?:is|was|has|had|were|are)|of which|front)\b"
 OPENINGS = r"^(?:That|What|Of|Where) \w"
-# Pages that have their old form.
-NOT_YET = {
-    "conformance/README.md",
-    "docs/DECISIONS.md",
-    "docs/EMBEDDING.md",
-    "docs/EMBEDDING_C.md",
-    "docs/EMBEDDING_PYTHON.md",
-    "docs/EMBEDDING_RATTLE.md",
-    "docs/GLOSSARY.md",
-    "docs/LOCK.md",
-    "docs/MAP.md",
-    "docs/MEASURED.md",
-    "docs/PROOFS.md",
-    "docs/TRAPS.md",
-    "docs/WORKING.md",
-    "docs/decisions/c-library.md",
-    "docs/decisions/desk.md",
-    "docs/decisions/program.md",
-    "docs/decisions/scheduler.md",
-    "docs/decisions/setup.md",
-    "docs/proofs/c-library.md",
-    "docs/proofs/crates.md",
-    "docs/proofs/lock.md",
-    "docs/proofs/memory.md",
-    "docs/proofs/program.md",
-    "docs/proofs/scheduler.md",
-    "docs/proofs/setup.md",
-    "docs/proofs/tested.md",
-}
 
 
 def prose_of(page: str) -> str:
@@ -157,7 +128,7 @@ def sums(pages: dict[str, str]) -> tuple[int, float, int]:
 
 def all_faults() -> Iterator[str]:
     """What is wrong with any page that has its new form, or with all of these together."""
-    pages = {anchors.name_of(page): anchors.text_of(page) for page in anchors.PAGES if anchors.name_of(page) not in NOT_YET}
+    pages = {anchors.name_of(page): anchors.text_of(page) for page in anchors.PAGES}
     for name, page in pages.items():
         yield from (f"{name}: {fault}" for fault in faults(page))
     yield from dead_links()

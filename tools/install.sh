@@ -60,10 +60,10 @@ python3 "$top/tools/pages.py" "$pages"
 for page in "$pages"/*; do
     place 644 "$page" "share/doc/nagsched/$(basename "$page")"
 done
-for example in office.txt office.out sequence.txt sequence.out drill.txt drill.out embed.c loop.c; do
+for example in office.txt office.out sequence.txt sequence.out drill.txt drill.out first.c embed.c loop.c; do
     place 644 "$top/examples/$example" "share/doc/nagsched/examples/$example"
 done
-for example in embed.py loop.py monitor.py mail_change.py alert_change.py; do
+for example in first.py embed.py loop.py monitor.py mail_change.py alert_change.py; do
     place 755 "$top/examples/$example" "share/doc/nagsched/examples/$example"
 done
 # The loop in Rattle is a part of machine_room: its file and, in a folder, the modules that it names.
