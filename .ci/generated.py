@@ -71,9 +71,12 @@ def value_of(part: dict[str, object]) -> str:
 
 
 def members(what: str) -> str:
-    """The table of the members of an object of the setup."""
+    """The table of the members of an object of the setup. Members of a service that are those of a host are left out."""
     rows = ["| Member | Value | Default | Meaning |", "|---|---|---|---|"]
+    of_hosts = OBJECTS["hosts"]["properties"] if what == "services" else {}
     for name, part in OBJECTS[what]["properties"].items():
+        if of_hosts.get(name) == part:
+            continue
         default = "required" if name in OBJECTS[what].get("required", ()) else f"`{json.dumps(part['default'])}`"
         rows.append(f"| `{name}` | {value_of(part)} | {default} | {MEANINGS.get(name, part['description'])} |")
     return "\n" + "\n".join(rows) + "\n"

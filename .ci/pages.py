@@ -72,7 +72,6 @@ EXAMPLES = {
     ("drill-input", "drill-output"): lambda ex: (ex["drill-output"], output(ex["drill-input"].splitlines(), "drill", "--workers", "1")),
     ("live-input", "live-output"): lambda ex: (ex["live-output"], output(ex["live-input"].splitlines(), "live")),
     ("save-input", "save-output"): lambda ex: (ex["save-output"], output(ex["save-input"].splitlines())),
-    ("resume-input", "resume-output"): lambda ex: (ex["resume-output"], output(ex["resume-input"].splitlines(), "run", "--resume")),
 }
 
 
