@@ -3,8 +3,8 @@
 
     .ci/generated.py
 
-Tables of members come from docs/setup.schema.json, which is what `nagsched schema` writes. Counts of cases come from conformance/STATUS.tsv, and
-counts of lines, in thousands, from the files of crates/. The gate compares the pages with what this script would write.
+Tables of members come from docs/setup.schema.json, which is what `nagsched schema` writes. Counts of cases come from conformance/STATUS.tsv. The gate
+compares the pages with what this script would write.
 """
 import collections
 import json
@@ -89,13 +89,6 @@ def counts() -> collections.Counter[str]:
     return found
 
 
-def lines(what: str) -> str:
-    """How many lines of code, definitions or proofs the crates have, to the nearest thousand."""
-    pattern = {"code": "*/src/**/*.rt", "definitions": "*/specs/**/*.antt", "proofs": "*/proofs/**/*.antt"}[what]
-    count = sum(file.read_text(encoding="utf-8").count("\n") for file in (TOP / "crates").glob(pattern))
-    return f"{round(count, -3):,}"
-
-
 def text(name: str) -> str:
     """The generated text of a name."""
     kind, _, of = name.partition(" of ")
@@ -103,8 +96,6 @@ def text(name: str) -> str:
         return members(of)
     if kind == "cases":
         return f"{counts()[of] if of else sum(counts().values()):,}"
-    if kind == "lines":
-        return lines(of)
     raise KeyError(name)
 
 
