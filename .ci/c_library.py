@@ -20,6 +20,7 @@ import sys
 import tempfile
 from concurrent.futures import ThreadPoolExecutor
 
+import anchors
 from program import EXAMPLES, SECONDS, TOP, Held
 from cases import runs
 
@@ -31,7 +32,6 @@ MINUTE, MINUTES = 60_000, (3, 2_000)
 WORKERS = {"embed.c": 4, "embed.py": 2}
 PROVED = sys.argv[2:]
 COUNTED = ["-Wl,--wrap=malloc,--wrap=realloc"]
-EMBEDDING = {"embed.c": TOP / "docs" / "EMBEDDING_C.md", "embed.py": TOP / "docs" / "EMBEDDING_PYTHON.md"}
 DEFINITIONS = [
     TOP / "crates" / "check_drafts" / "specs" / "Place.antt",
     TOP / "crates" / "check_rules" / "specs" / "Numbers.antt",
@@ -302,22 +302,28 @@ def as_the_page_says(held, library, page):
         (library.folder / name).symlink_to(TOP / name)
     (library.folder / "out").mkdir()
     (library.folder / "out" / "c").symlink_to(library.prefix)
-    links = [f"{command} -o embed && ./embed" for command in re.findall(r"`(cc [^`]*program\.c[^`]*)`", page)]
-    builds = re.findall(r"tools/build_c\.sh && (.*examples/embed.*)", page)
-    held.compare("the pages on embedding: commands", (2, 2), (len(links), len(builds)))
+    links = [f"{command} -o embed && ./embed" for command in dict.fromkeys(re.findall(r"\bcc [^`\n]*program\.c[^`\n]*", page))]
+    heads = "".join((EXAMPLES / name).read_text(encoding="utf-8") for name in ("embed.c", "embed.py"))
+    builds = re.findall(r"tools/build_c\.sh && (.*examples/embed.*)", heads)
+    held.compare("the pages and examples: commands", (2, 2), (len(links), len(builds)))
     for command in [*links, *(build.replace("[MINUTES]", "1") for build in builds)]:
         said = command.replace("PREFIX", "out/c").replace("program.c", "examples/embed.c")
         made = ran("sh", "-c", said, cwd=library.folder, env=os.environ | {"LD_LIBRARY_PATH": str(library.prefix / "lib")})
         held.compare(command, (0, b'{"'), (made.returncode, made.stdout[:2]))
 
 
+def first_programs(held, library, pages):
+    """The first programs print what the pages show after them."""
+    made = {"first.c": ran(library.compiled(EXAMPLES / "first.c")), "first.py": library.in_python(EXAMPLES / "first.py")}
+    for name, ran_once in made.items():
+        held.compare(f"{name}: its output is on a page", (0, True), (ran_once.returncode, f"```\n{ran_once.stdout.decode()}```" in pages))
+
+
 def page(held, library):
-    """The pages on embedding show the two examples as they are, and their commands make them."""
-    texts = {name: file.read_text(encoding="utf-8") for name, file in EMBEDDING.items()}
-    for name, language in {"embed.c": "c", "embed.py": "python"}.items():
-        shown = f"```{language}\n{(EXAMPLES / name).read_text(encoding='utf-8')}```\n"
-        held.compare(f"{EMBEDDING[name].name} shows {name}", True, shown in texts[name])
-    as_the_page_says(held, library, "".join(texts.values()))
+    """The commands of the pages build and run the two examples, and the first programs print what the pages show."""
+    pages = "".join(anchors.text_of(page) for page in anchors.PAGES)
+    as_the_page_says(held, library, pages)
+    first_programs(held, library, pages)
 
 
 def loops(held, library):

@@ -71,6 +71,9 @@ place 644 "$top/crates/machine_room/src/months.rt" share/doc/nagsched/examples/l
 for module in fault outside restart round runs; do
     place 644 "$top/crates/machine_room/src/$module.rt" "share/doc/nagsched/examples/loop/$module.rt"
 done
+# The first programs of the pages on C and Python.
+place 644 "$top/examples/first.c" share/doc/nagsched/examples/first.c
+place 755 "$top/examples/first.py" share/doc/nagsched/examples/first.py
 [ -n "$library" ] || exit 0
 place 644 "$built/include/nagsched.h" include/nagsched.h
 place 644 "$built/lib/libnagsched.a" lib/libnagsched.a
