@@ -56,11 +56,7 @@
 extern "C" {
 #endif
 
-/* The number of this interface. Compare it once with nagsched_version(): if they differ, the header and the library don't belong together.
- *
- * Version 2 has all of version 1. It adds nagsched_save, nagsched_resume, nagsched_running, and the refusals 11 to 19, which only
- * nagsched_resume returns. A program linked with libnagsched.so.1 still uses that library, and doesn't load libnagsched.so.2. Compiled again
- * with this header it runs as before, if it says pass where version 1 had the field caller of an entry. */
+/* The number of this interface. Compare it once with nagsched_version(): if they differ, the header and the library don't belong together. */
 #define NAGSCHED_VERSION 2u
 
 /* Refers to a setup, a pass, a book or a history. All zeros means empty. */
@@ -206,10 +202,10 @@ struct nagsched_refusal {
 /* Returns the version of the library's interface: NAGSCHED_VERSION of its own header. This is not a status. Any thread, at any time. */
 uint32_t nagsched_version(void);
 
-/* Reads a JSON document (docs/FORMATS.md, "The setup document") of the given number of bytes, and makes a setup of it in an empty handle. The
+/* Reads a JSON document (docs/setup.md) of the given number of bytes, and makes a setup of it in an empty handle. The
  * document isn't used after the call.
  *
- * OK. REFUSED: the document breaks a rule. refusal has the first fault, in the order of docs/FORMATS.md, and nagsched_refusal_text its
+ * OK. REFUSED: the document breaks a rule. refusal has the first fault, in the order of docs/errors.md, and nagsched_refusal_text its
  * line. The program's `nagsched check` explains it in words. NO_MEMORY. WRONG: the handle isn't empty. Only REFUSED writes refusal.
  * Allocates; takes longer with more bytes. */
 uint32_t nagsched_read(const uint8_t *document, size_t bytes, struct nagsched_handle *setup, struct nagsched_refusal *refusal);
@@ -331,8 +327,8 @@ uint32_t nagsched_renew(struct nagsched_handle *book, size_t room, struct nagsch
  * the book by functions that take it as const. */
 uint32_t nagsched_save(const struct nagsched_handle *book, uint8_t *text, size_t room, size_t *length);
 
-/* Makes a book that resumes a saved state, in an empty handle, over a setup of the same document or of another one (docs/FORMATS.md, "What is
- * kept", says what each object keeps). The setup's handle is empty afterwards. The text isn't used after the call.
+/* Makes a book that resumes a saved state, in an empty handle, over a setup of the same document or of another one (docs/saved-states.md
+ * says what each object keeps). The setup's handle is empty afterwards. The text isn't used after the call.
  *
  * start, 0 to 2^60 milliseconds, is the present moment: an object that the saved state doesn't have is first checked from then on. room
  * is the number of entries for which the book has memory at once. It has no entries yet, and nagsched_open opens a desk on it, with 0 for

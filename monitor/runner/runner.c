@@ -1,5 +1,5 @@
 /* nagsched-runner [--only FILE]: runs plugins. It reads jobs from its standard input and writes results to its standard output, one JSON object a line;
- * docs/MONITOR.md describes them. Each line that is read has one answer.
+ * docs/scaling.md describes them. Each line that is read has one answer.
  *
  * The runner ends with its standard input, or when nobody reads its results. Its plugins are killed then, with their process groups, even if the runner was
  * killed itself. A plugin is over when its process ends, whatever children it leaves. Nothing is waited for without a limit.

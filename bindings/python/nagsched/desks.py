@@ -117,7 +117,7 @@ class _Named(_Owner):
 
 
 class Setup(_Named):
-    """A setup, read from a JSON document (docs/FORMATS.md). Raises Refused, with the refusal, if the document breaks a rule."""
+    """A setup, read from a JSON document (docs/setup.md). Raises Refused, with the refusal, if the document breaks a rule."""
 
     def __init__(self, document: str | bytes):
         written = document.encode() if isinstance(document, str) else bytes(memoryview(document))

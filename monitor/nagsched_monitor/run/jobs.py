@@ -1,4 +1,4 @@
-"""Jobs for runners, and their answers. The lines between the two are described in `docs/MONITOR.md`."""
+"""Jobs for runners, and their answers. The lines between the two are described in `docs/scaling.md`."""
 import functools
 import json
 from typing import Any, Dict, List, NamedTuple, Optional, Protocol, Sequence, Set, Tuple, Union
