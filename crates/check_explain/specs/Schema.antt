@@ -1,5 +1,5 @@
 -- What the schema of a setup names.
-use Rattle.std.specs.Prelude.{◌≡◌, ℕ, List, [], ◌∷◌, ◌++◌, Option, Some, None}
+use Rattle.std.specs.Prelude.{◌≡◌, ℕ, List, [], ◌∷◌, ◌++◌}
 use Rattle.json.specs.Print.{quoted}
 use Rattle.check_drafts.specs.declared.member.Kind.{Kind}
 use Rattle.check_drafts.specs.declared.member.Kind.TheVariants as kind
