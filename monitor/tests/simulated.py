@@ -126,7 +126,7 @@ class SimulatedMonitor:
             self.close()
             raise
         self.runners = SimulatedRunners(self.clock, plugin)
-        self.engine = Engine(site, self.scheduling, self.runners, self.store, self.clock, self.log)
+        self.engine = Engine(self.scheduling, self.runners, self.store, self.clock, self.log)
         self.engine.requests.log = self.log
         self.loop = Loop(self.engine, Pace(self.clock, SimulatedPoller(self.clock, self.runners)), self.clock, self.log)
         self.loop.after = [self.take_changes]
@@ -179,7 +179,7 @@ class SimulatedMonitor:
         """A passive result, which is stored."""
         self.store.last_result += 1
         self.store.write(keep_result(name, code, words, self.store.last_result))
-        self.engine.expect(KeptResult(self.store.last_result, name, code, words))
+        self.engine.passive.expect(KeptResult(self.store.last_result, name, code, words))
 
     def starts(self) -> Dict[str, List[int]]:
         """When each object's plugin was started, in milliseconds from the beginning."""

@@ -7,7 +7,7 @@ from unittest import mock
 
 from nagsched_monitor.run.gearman_door import SKEW, Door, Refusal
 from nagsched_monitor.run.gearman_seal import JOB, RESULT, Seal
-from nagsched_monitor.run.gearman_worker import NOT_SIGNED, Worker
+from nagsched_monitor.run.gearman_worker import NOT_SIGNED, SAYING, Worker
 from nagsched_monitor.run.jobs import Event, Finished, Job
 
 from .test_gearman_worker import WorkerTest
@@ -142,6 +142,7 @@ class Signed(WorkerTest):
                 return self.seal.sign(JOB, self.document(["forged"], time=time.time() - 9_000, until=time.time() - 8_000))
             return bytes(whole)
 
+        begun = time.monotonic()
         self.begin(8, runner=Ran(run))
         good += [self.seal.sign(JOB, self.document(["run", str(number)])) for number in range(20)]
         self.jobs += good
@@ -152,4 +153,6 @@ class Signed(WorkerTest):
         self.job(["run", "last"])
         self.assertTrue(self.turns_until(lambda: ["run", "last"] in ran and len(self.answers) == len(good) + FORGED + 1))
         self.assertEqual(sorted(ran), sorted([["run", str(number)] for number in range(20)] + [["run", "last"]]))
-        self.assertEqual(len([line for line in self.lines if "jobs were refused" in line]), 1)
+        said = [line for line in self.lines if "jobs were refused" in line]
+        self.assertLessEqual(1, len(said))
+        self.assertLessEqual(len(said), 1 + (time.monotonic() - begun) / SAYING)

@@ -1,5 +1,4 @@
 """Nagios's own files: what `status.dat` says is what the monitor says, and the pipe's lines are obeyed."""
-import json
 import os
 import pathlib
 import signal

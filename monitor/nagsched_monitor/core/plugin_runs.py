@@ -7,7 +7,6 @@ from ..run.jobs import Event, Finished, Gone, Job, Lost, Runners
 from ..scheduler.protocol import Abandon, Report, Reschedule
 from ..scheduler.scheduling import Scheduling
 from ..site.command_lines import Command
-from ..site.site import Site
 from ..store.counters import Counters
 from .clock import Clock
 from .mirroring import AskedOf
@@ -44,11 +43,11 @@ class PluginRuns:
 
     # ---- the beginning
 
-    def start(self, known: Known, run: Run, command: Command, site: Site) -> None:
+    def start(self, known: Known, run: Run, command: Command) -> None:
         """Runs the plugin of a check that was taken; one that still runs for a run before ends this one."""
         left = self._scheduling.known.running.left.pop(known.name, None)
         if left is not None:
-            self._own(run, left, site)
+            self._own(run, left)
             return
         time = on_time(known.due)
         late = 0
@@ -58,14 +57,14 @@ class PluginRuns:
             self._counters.started(late)
         known.past.late = max(0, late) / 1000
         job = Job(known.name, run.number, command.words, command.limit, known.watched.runner)
-        self._own(run, job, site)
+        self._own(run, job)
         if known.name in self._stuck:
             self._events.append(Finished(job, "limit", 0, "the plugin of an earlier check still runs and can't be killed"))
         else:
             self._runners.start(job)
 
-    def _own(self, run: Run, job: Job, site: Site) -> None:
-        remote = None if job.runner is None else site.runners.get(job.runner)
+    def _own(self, run: Run, job: Job) -> None:
+        remote = None if job.runner is None else self._scheduling.site.runners.get(job.runner)
         wait = 0 if remote is None else round(2 * remote.wait * 1000) + MARGIN  # for the runner, and for what is behind it
         run.owner, run.job, run.deadline = Owner.PLUGIN, job, self._clock.moment() + round(job.limit * 1000) + wait + MARGIN
 
@@ -102,7 +101,7 @@ class PluginRuns:
         run = None if known is None else known.run
         return run if run is not None and run.job is event.job else None
 
-    def plan(self, plan: Plan, site: Site, now: int) -> None:
+    def plan(self, plan: Plan, now: int) -> None:
         """Reports what plugins gave. What can't be reported now stays."""
         left: Deque[Event] = collections.deque()
         for event in self._events:
@@ -110,7 +109,7 @@ class PluginRuns:
             if isinstance(event, Gone) or run is None:
                 plan.then.append(partial(self._forget, event))
             elif self._scheduling.is_reportable(run.place):
-                plan.calls += self._ended(run, event, site, now)
+                plan.calls += self._ended(run, event, now)
                 plan.freed += event.job.runner is None
                 plan.then.append(partial(self._count, event))
             else:
@@ -137,12 +136,12 @@ class PluginRuns:
                 del left[name]
             self._log(f"{name}: the result of run {event.job.run} is dropped: it was given up, or the object isn't part of the site any more")
 
-    def _ended(self, run: Run, event: Event, site: Site, now: int) -> List[AskedOf]:
+    def _ended(self, run: Run, event: Event, now: int) -> List[AskedOf]:
         """The calls by which a run ends. What was lost is made again; a service's check whose runner ended is UNKNOWN the third time."""
         part, name = run.place
         known = self._scheduling.known.objects[name]
         if isinstance(event, Finished):
-            code, words = verdict(event, known.watched.is_host(), site.options.timeout_code)
+            code, words = verdict(event, known.watched.is_host(), self._scheduling.site.options.timeout_code)
             return self._scheduling.reports(part, Report(name, run.number, code), words, now)
         if self._is_put_off(event):
             again = min(LONGEST_RETRY, RETRY << min(self._put_off[name], 16))

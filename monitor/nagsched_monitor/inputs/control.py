@@ -160,37 +160,23 @@ def short_path(path: pathlib.Path) -> str:
 
 
 def ask(folder: pathlib.Path, request: bytes, seconds: float = 30) -> bytes:
-    """The answer of the monitor of a folder; nothing where it ended meanwhile."""
-    return b"".join(answer + b"\n" for answer in ask_all(folder, [request], seconds))
+    """The answer of the monitor of a folder; nothing if it ended meanwhile."""
+    return b"".join(ask_all(folder, [request], seconds))
 
 
 def ask_all(folder: pathlib.Path, requests: Sequence[bytes], seconds: float = 30) -> List[bytes]:
-    """The answers to requests that are made together. Where the monitor ends meanwhile they are those that came before."""
-    with socket.socket(socket.AF_UNIX, socket.SOCK_STREAM) as connection:
-        connection.settimeout(seconds)
-        try:
+    """The answers to requests that are made together. If the monitor ends meanwhile, they are those that came before: these requests were obeyed."""
+    answers: List[bytes] = []
+    try:
+        with socket.socket(socket.AF_UNIX, socket.SOCK_STREAM) as connection, connection.makefile("rb") as lines:
+            connection.settimeout(seconds)
             connection.connect(short_path(folder / NAME))
             connection.sendall(b"".join(request + b"\n" for request in requests))
-            return answers_from(connection, len(requests))
-        except (FileNotFoundError, ConnectionRefusedError):
-            raise MonitorFault(f"no monitor runs on {folder}") from None
-        except OSError as error:
+            while len(answers) < len(requests) and (line := lines.readline()).endswith(b"\n"):
+                answers.append(line)
+    except (FileNotFoundError, ConnectionRefusedError):
+        raise MonitorFault(f"no monitor runs on {folder}") from None
+    except OSError as error:
+        if not answers:
             raise MonitorFault(f"the monitor of {folder} doesn't answer: {error.strerror or error}") from None
-
-
-def answers_from(connection: socket.socket, count: int) -> List[bytes]:
-    """So many answers, or fewer where the connection ends before."""
-    parts: List[bytes] = []
-    missing = count
-    while missing > 0:
-        try:
-            data = connection.recv(READ_BYTES)
-        except OSError:
-            if missing == count:
-                raise
-            data = b""  # what came before was obeyed
-        if not data:
-            break
-        parts.append(data)
-        missing -= data.count(b"\n")
-    return b"".join(parts).split(b"\n")[:-1]
+    return answers

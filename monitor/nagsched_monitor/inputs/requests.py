@@ -151,7 +151,7 @@ class Requests:
 
     def _callable(self, members: Members) -> Known:
         known = self._named(members)
-        if not self.engine.is_open(known):
+        if not self.engine.scheduling.is_known_open(known):
             raise AskAgain("the scheduler of this object is being started again")
         return known
 
@@ -166,7 +166,7 @@ class Requests:
         except NotStored:
             changes, first = 0, None
         return Step(answer={
-            "turn": wall - engine.since_turn() / 1000, "is_stuck": engine.is_stuck, "passive_waiting": engine.waiting.count, "changes_waiting": changes,
+            "turn": wall - engine.since_turn() / 1000, "is_stuck": engine.is_stuck, "passive_waiting": engine.passive.count, "changes_waiting": changes,
             "oldest_change": 0.0 if first is None else max(0.0, wall - first), "runners": engine.runners.signs(), "out": engine.out(), "made": engine.made,
             "latest_start": engine.plugins.latest_start,
         })
@@ -199,10 +199,10 @@ class Requests:
         if on and known.watched.command is None:
             raise RequestFault(f"{known.name} has no command")
         word = "enable" if on else "disable"
-        calls = self.engine.switch(known, on)
-        answer = {"done": word, "name": known.name, "on": self.engine.is_wanted_on(known.watched, on)}
+        calls = self.engine.checks.switch(known, on)
+        answer = {"done": word, "name": known.name, "on": self.engine.checks.is_wanted_on(known.watched, on)}
         step = Step([(known.watched.part, call, None) for call in calls], [set_switch(known.name, on)], answer=answer, said=f"{word} {known.name}")
-        step.then.append(partial(self.engine.switched, known, on))
+        step.then.append(partial(self.engine.checks.switched, known, on))
         return step
 
     def _result(self, members: Members, request: Request) -> Step:
@@ -213,7 +213,7 @@ class Requests:
             raise RequestFault(f"no code from 0 to 3: {code!r}")
         if not isinstance(output, str):
             raise RequestFault("output is a text")
-        if self.engine.waiting.count + self._results >= MOST_WAITING:
+        if self.engine.passive.count + self._results >= MOST_WAITING:
             raise AskAgain(f"{MOST_WAITING} results wait to be reported")
         self._results += 1
         words = plain(output, KEPT_BYTES)
@@ -225,7 +225,7 @@ class Requests:
 
     def _accepted(self, result: KeptResult) -> None:
         self.engine.store.last_result = max(self.engine.store.last_result, result.id)
-        self.engine.expect(result)
+        self.engine.passive.expect(result)
 
     def _reload(self, members: Members, request: Request) -> Step:
         only(members)

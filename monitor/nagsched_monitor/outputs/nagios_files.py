@@ -20,6 +20,7 @@ from ..faults import MonitorFault, RequestFault
 from ..inputs import control
 from ..inputs.nagios_pipe import Pipe, Request, requests_of
 from ..store.rows import KeptStanding
+from .status_query import MEMBERS, NotShown, opened, standings_of
 from .nagios_blocks import Program, Settings, settings_of, status_file, with_files
 
 # How often the status file is written, and how long it is waited for a monitor that doesn't answer, in seconds.
@@ -48,15 +49,10 @@ class Reader:
 
     def read(self) -> List[KeptStanding]:
         """The standings by name; the settings and what was before are brought up to date."""
-        database = sqlite3.connect(f"{(self._site / 'monitor.db').resolve().as_uri()}?mode=ro", uri=True, timeout=5)
-        try:
-            database.execute("BEGIN")
+        with opened(self._site) as database:
             self._read_settings(database)
             self._read_changes(database)
-            rows = database.execute(f"SELECT {', '.join(KeptStanding._fields)} FROM standings ORDER BY name").fetchall()
-        finally:
-            database.close()
-        return [KeptStanding(*row) for row in rows]
+            return sorted(standings_of(database, MEMBERS))
 
     def _read_settings(self, database: sqlite3.Connection) -> None:
         """Reads the setups over which the monitor goes, and the other files of the site; made anew only where they are others."""
@@ -126,7 +122,7 @@ class NagiosFiles:
             self._services = services_of(standings)
             replaced(self._folder / "status.dat", status_file(self._program, self._reader.settings, standings, time.time()).encode(errors="replace"))
             fault = None
-        except (OSError, sqlite3.Error, ValueError) as error:
+        except (OSError, NotShown, ValueError) as error:
             fault = f"status.dat isn't written: {error}"
         if fault is not None and fault != self._fault:
             log(fault)

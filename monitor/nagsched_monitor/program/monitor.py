@@ -53,9 +53,9 @@ class Monitor:
         self.scheduling = self._opened(site)
         self.runners = RunnerProcesses(processors(), self.log, watch, unwatch)
         self.runners.serve(site.runners)
-        self.engine = Engine(site, self.scheduling, self.runners, self.store, self.clock, self.log)
+        self.engine = Engine(self.scheduling, self.runners, self.store, self.clock, self.log)
         self.control = control.Control(self._folder, self.engine.ask, watch, unwatch)
-        self._reading = Reading(self._folder, self._program, watch, unwatch)
+        self._reading = Reading(self._folder, self._program)
         self.loop = Loop(self.engine, Pace(self.clock, self._poller), self.clock, self.log)
         self._beside = self._besides(words)
         self._dropped_at = self.clock.wall()
@@ -168,7 +168,7 @@ class Monitor:
         """Goes on with the site that was read; if it is bad the old one goes on."""
         read = self._reading.work()
         if read is None:
-            return None
+            return self.clock.moment() + BUSY_WAIT if self._reading.is_busy() else None
         site, asked = read
         try:
             if isinstance(site, str):

@@ -169,7 +169,8 @@ class Schedulers:
     """One scheduler for each part of a site."""
 
     def __init__(self, program: str, store: Store, clock: Clock, log: Callable[[str], None], converse: Converse = Conversation) -> None:
-        self._part: Callable[[Generation], Part] = lambda generation: Part(generation, program, store, clock, log, converse)
+        self._converse = converse
+        self._part: Callable[[Generation], Part] = lambda generation: Part(generation, program, store, clock, log, lambda *words: self._converse(*words))
         self._store = store
         self.parts: Dict[int, Part] = {}
 

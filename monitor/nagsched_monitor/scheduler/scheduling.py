@@ -165,6 +165,9 @@ class Scheduling:
         """Whether calls of a part can be made now: its scheduler has answered all before."""
         return not self.schedulers.is_down(part)
 
+    def is_known_open(self, known: Known) -> bool:
+        return not self.schedulers.is_down(known.watched.part)
+
     def is_reportable(self, place: Place) -> bool:
         """Whether a result of an object can be reported now, to it and to its mirrors."""
         part, name = place
