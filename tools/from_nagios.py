@@ -75,7 +75,8 @@ class LeftOut:
 
     # The kinds by harm: what changes which checks are made and what counts as a problem, then who hears of it, then the rest by name.
     WORST = (
-        "quotes around values", "parents of services", "passive_checks_enabled 0", "is_volatile", "passive results of hosts", "dependency_period", "flap thresholds of an object", "flap_detection_enabled 0",
+        "quotes around values", "parents of services", "passive_checks_enabled 0", "is_volatile", "passive results of hosts", "dependency_period",
+        "flap thresholds of an object", "flap_detection_enabled 0",
         "flap_detection_options", "initial_state", "event_handler", "dependencies of notifications", "hostescalation definitions",
         "serviceescalation definitions", "contact definitions", "contactgroup definitions",
     )

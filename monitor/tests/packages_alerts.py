@@ -23,8 +23,8 @@ from tests.ssh_server import free_port  # noqa: E402
 from tests.waiting import comes  # noqa: E402
 
 MONITOR = HERE / "nagsched-monitor"
-# From one post of all alerts to the next, and some time for a notification; in seconds.
-ROUND, QUIET = 30, 12
+# How long something may take to be told, how long nothing else may come then, and a time in which an alert would end that isn't posted again; in seconds.
+TOLD, QUIET, KEPT = 60, 15, 330
 CONFIG = """
 route: {{receiver: all, group_by: [host, service], group_wait: 1s, group_interval: 2s, repeat_interval: 4h}}
 receivers: [{{name: all, webhook_configs: [{{url: 'http://127.0.0.1:{port}/', send_resolved: true}}]}}]
@@ -101,14 +101,15 @@ class Trial:
             subprocess.run([sys.executable, str(MONITOR), str(self.site), "result", name, str(code), f"code {code}"], stdout=subprocess.DEVNULL, check=True)
 
     def amtool(self, *words: str) -> str:
-        return subprocess.run(["amtool", f"--alertmanager.url=http://127.0.0.1:{self.port}", *words], stdout=subprocess.PIPE, text=True, check=True).stdout.strip()
+        return subprocess.run(["amtool", f"--alertmanager.url=http://127.0.0.1:{self.port}", *words], stdout=subprocess.PIPE, text=True,
+                              check=True).stdout.strip()
 
-    def hears(self, what: str, seconds: float, **wanted: Dict[str, int]) -> None:
-        """Whether the receiver has heard just this by then."""
+    def hears(self, what: str, quiet: float, **wanted: Dict[str, int]) -> None:
+        """Whether the receiver comes to have heard just this, and hears nothing else for so long."""
         expected = collections.Counter({(name.replace("_", ";"), status): count for name, counts in wanted.items() for status, count in counts.items()})
         begun = time.monotonic()
-        comes(lambda: self.receiver.heard == expected, seconds)
-        time.sleep(QUIET)
+        comes(lambda: self.receiver.heard == expected, TOLD)
+        time.sleep(quiet)
         is_right = self.receiver.heard == expected
         print(f"alerts: {what}: {'as wanted' if is_right else f'wanted {dict(expected)}, came {dict(self.receiver.heard)}'}, {time.monotonic() - begun:.0f} s")
         self.wrong += [] if is_right else [what]
@@ -122,27 +123,26 @@ class Trial:
 def tried(trial: Trial, away: float) -> List[str]:
     once, over = {"firing": 1}, {"firing": 1, "resolved": 1}
     trial.give(("db;disk", 2), ("db;old", 1))
-    trial.hears("a problem is told once", 20, db_disk=once, db_old=once)
-    trial.hears("it is kept while it stands", 2 * ROUND, db_disk=once, db_old=once)
+    trial.hears("a problem is told once, and kept while it stands", KEPT, db_disk=once, db_old=once)
     trial.end(trial.monitor)
     trial.begin_monitor()
-    trial.hears("the monitor is restarted", ROUND, db_disk=once, db_old=once)
+    trial.hears("the monitor is restarted", 2 * QUIET, db_disk=once, db_old=once)
     trial.end(trial.alertmanager)
     trial.give(("db;load", 2), ("db;old", 0))
     time.sleep(away)
     trial.begin_alertmanager()
-    trial.hears(f"Alertmanager was away for {away:g} seconds, in which a problem began and one ended", 20, db_disk=once, db_old=over, db_load=once)
+    trial.hears(f"Alertmanager was away for {away:g} seconds, in which a problem began and one ended", 2 * QUIET, db_disk=once, db_old=over, db_load=once)
     trial.give(("web", 2))
-    trial.hears("a host is down", 20, db_disk=once, db_old=over, db_load=once, web=once)
+    trial.hears("a host is down", QUIET, db_disk=once, db_old=over, db_load=once, web=once)
     trial.give(("web;http", 2))
-    trial.hears("a service of it is held back", ROUND, db_disk=once, db_old=over, db_load=once, web=once)
+    trial.hears("a service of it is held back", 2 * QUIET, db_disk=once, db_old=over, db_load=once, web=once)
     silence = trial.amtool("silence", "add", "--duration=1h", "--author=test", "--comment=ordered", "host=quiet")
     trial.give(("quiet;disk", 2))
-    trial.hears("a silence holds", ROUND, db_disk=once, db_old=over, db_load=once, web=once)
+    trial.hears("a silence holds", 2 * QUIET, db_disk=once, db_old=over, db_load=once, web=once)
     trial.amtool("silence", "expire", silence)
-    trial.hears("it is ended", 20, db_disk=once, db_old=over, db_load=once, web=once, quiet_disk=once)
+    trial.hears("it is ended", QUIET, db_disk=once, db_old=over, db_load=once, web=once, quiet_disk=once)
     trial.give(("db;disk", 0), ("db;load", 0), ("quiet;disk", 0), ("web;http", 0), ("web", 0))
-    trial.hears("all is well, told once each", 20, db_disk=over, db_old=over, db_load=over, web=over, quiet_disk=over)
+    trial.hears("all is well, told once each", QUIET, db_disk=over, db_old=over, db_load=over, web=over, quiet_disk=over)
     return trial.wrong
 
 

@@ -61,11 +61,13 @@ class Posting(SiteTest):
         self.write("groups.json", {"web;http": {"host_groups": ["linux", "dmz"], "contact_groups": ["ops"]}})
         now = time.time()
         fill(self.folder, [
-            standing("db", "DOWN", words="no answer\nat all", hard_since=now - 60), standing("db;disk", "CRITICAL", words="full"), standing("far", "UNREACHABLE"),
+            standing("db", "DOWN", words="no answer\nat all", hard_since=now - 60), standing("db;disk", "CRITICAL", words="full"),
+            standing("far", "UNREACHABLE"),
             standing("soft", "DOWN", "SOFT"), standing("soft;http", "UNKNOWN"), standing("web"), standing("web;http", "WARNING", words="slow"),
             standing("web;load", "OK", flapping=True), standing("web;ok", "OK"), standing("web;new", "PENDING", None)])
         self.assertEqual(self.look(), [
-            (FLAPPING, "web", "load", True), (PROBLEM, "db", "", True), (PROBLEM, "db", "disk", True), (PROBLEM, "far", "", True), (PROBLEM, "soft", "http", True),
+            (FLAPPING, "web", "load", True), (PROBLEM, "db", "", True), (PROBLEM, "db", "disk", True), (PROBLEM, "far", "", True),
+            (PROBLEM, "soft", "http", True),
             (PROBLEM, "web", "http", True)])
         found = {(it["labels"]["alertname"], it["labels"].get("host"), it["labels"].get("service")): it for it in self.posted[0]}
         site = self.folder.name
@@ -73,7 +75,8 @@ class Posting(SiteTest):
             "alertname": PROBLEM, "site": site, "host": "web", "service": "http", "severity": "warning", "host_state": "UP", "host_groups": ",linux,dmz,",
             "contact_groups": ",ops,"})
         self.assertEqual(found[PROBLEM, "db", None]["labels"], {"alertname": PROBLEM, "site": site, "host": "db", "severity": "critical", "host_state": "DOWN"})
-        self.assertEqual([found[PROBLEM, *name]["labels"]["host_state"] for name in (("db", "disk"), ("soft", "http"), ("far", None))], ["DOWN", "UP", "UNREACHABLE"])
+        self.assertEqual([found[PROBLEM, *name]["labels"]["host_state"] for name in (("db", "disk"), ("soft", "http"), ("far", None))],
+                         ["DOWN", "UP", "UNREACHABLE"])
         self.assertEqual([found[PROBLEM, *name]["labels"]["severity"] for name in (("far", None), ("soft", "http"))], ["unreachable", "unknown"])
         self.assertEqual(found[PROBLEM, "db", None]["annotations"], {"state": "DOWN", "summary": "db is DOWN: no answer", "output": "no answer\nat all"})
         self.assertEqual(found[FLAPPING, "web", "load"]["annotations"]["summary"], "web load is flapping: fine")

@@ -10,7 +10,7 @@ from nagsched_monitor.run.gearman_seal import JOB, RESULT, Seal
 from nagsched_monitor.run.gearman_worker import NOT_SIGNED, SAYING, Worker
 from nagsched_monitor.run.jobs import Event, Finished, Job
 
-from .test_gearman_worker import WorkerTest
+from .one_worker import WorkerTest
 
 KEY = b"a key of a test: 16 bytes or more"
 # How many damaged, forged and replayed jobs the worker is handed. By hand: FORGED=100000 python3 -m unittest tests.test_gearman_door
@@ -61,7 +61,8 @@ class Signed(WorkerTest):
         document, bare = self.document(["true"], time=self.now, until=self.now + 30), NOT_SIGNED.decode()
         whole = self.seal.sign(JOB, document)
         body = whole.partition(b" ")[2]
-        several = [body, Seal(b"another key of 16 bytes").sign(JOB, document), self.seal.sign(RESULT, document), whole[:-1], whole + b" ", b"0" * 64 + b" " + body, whole[1:],
+        several = [body, Seal(b"another key of 16 bytes").sign(JOB, document), self.seal.sign(RESULT, document), whole[:-1], whole + b" ",
+                   b"0" * 64 + b" " + body, whole[1:],
                    whole[:64], whole.replace(b"true", b"fals"), whole.upper(), b"", b" ", whole[:64] + b"\t" + body[:-1]]
         self.assertEqual(self.refused(*several), [bare] * len(several))
         self.assertEqual(self.refused(whole), [None])

@@ -166,7 +166,8 @@ class OneQueue(unittest.TestCase):
         self.assertEqual([job.workload["words"][1] for job in self.server.waiting], ["2", "3"])
 
     def test_an_answer_that_is_no_result(self) -> None:
-        several: List[Dict[str, Any]] = [{"job": "another"}, {"code": "0"}, {"code": True}, {"code": 256}, {"end": "fine"}, {"output": None}, {"stderr": 1}, {"lost": 1, "end": 1}]
+        several: List[Dict[str, Any]] = [{"job": "another"}, {"code": "0"}, {"code": True}, {"code": 256}, {"end": "fine"}, {"output": None}, {"stderr": 1},
+                                         {"lost": 1, "end": 1}]
         for wrong in several:
             self.add()
             self.pass_by()
@@ -184,7 +185,8 @@ class OneQueue(unittest.TestCase):
         """Neither are damaged ones, those of another key, and those of jobs before taken."""
         result = {"job": "mark-1", "code": 0, "end": "exited", "output": "forged"}
         good = self.server.seal.sign(RESULT, result)
-        bad = [b"", b"[]", b"\xff", b"[" * 100_000, json.dumps(result).encode(), Seal(b"another key of the network").sign(RESULT, result), self.server.seal.sign(JOB, result),
+        bad = [b"", b"[]", b"\xff", b"[" * 100_000, json.dumps(result).encode(), Seal(b"another key of the network").sign(RESULT, result),
+               self.server.seal.sign(JOB, result),
                good[:-1], good.replace(b"forged", b"folded")]
         for data in bad:
             self.add()
@@ -203,7 +205,8 @@ class OneQueue(unittest.TestCase):
         self.pass_by()
         self.answer_with(b'{"job":"mark-1","code":1,"end":"exited","output":"fine","stderr":"words"}')
         self.answer_with(b"[" * 100_000)
-        self.assertEqual(self.answers, [{"job": 1, "code": 1, "end": "exited", "output": "fine", "stderr": "words"}, {"job": 2, "lost": "its worker's answer was no result"}])
+        self.assertEqual(self.answers, [{"job": 1, "code": 1, "end": "exited", "output": "fine", "stderr": "words"},
+                                        {"job": 2, "lost": "its worker's answer was no result"}])
 
     def test_a_result_that_a_worker_lost(self) -> None:
         self.add()

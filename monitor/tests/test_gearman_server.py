@@ -45,7 +45,8 @@ class OverAServer(unittest.TestCase):
         jobs.hand(20, "nobody", ["true"])
         jobs.hand(20, "checks", ["true"])
         self.assertTrue(jobs.wait(LONG), jobs.ends())
-        self.assertEqual([answers[0].get("end", "lost") for number, answers in sorted(jobs.answers.items()) if number > before], ["lost"] * 20 + ["exited"] * 20)
+        self.assertEqual([answers[0].get("end", "lost") for number, answers in sorted(jobs.answers.items()) if number > before],
+                         ["lost"] * 20 + ["exited"] * 20)
         self.trial.begin_worker("nobody")
         self.assertTrue(jobs.wait_until_one_is_made("nobody", LONG))
         before = jobs.sent

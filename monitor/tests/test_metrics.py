@@ -136,9 +136,11 @@ class Metrics(ShownSite):
         signs = {"turn": now - 7, "is_stuck": True, "passive_waiting": 5, "changes_waiting": 6, "oldest_change": 7.5, "runners": runners}
         with mock.patch.object(control, "ask", return_value=json.dumps(signs).encode()):
             families = self.families()
-        self.assertEqual([families.of(f"nagsched_{name}") for name in ("up", "stuck", "passive_waiting", "changes_waiting", "oldest_change_seconds")], [1, 1, 5, 6, 7.5])
+        self.assertEqual([families.of(f"nagsched_{name}") for name in ("up", "stuck", "passive_waiting", "changes_waiting", "oldest_change_seconds")],
+                         [1, 1, 5, 6, 7.5])
         self.assertEqual(families.of("nagsched_last_turn_timestamp_seconds"), now - 7)
-        self.assertEqual([families.of(f"nagsched_{name}", runner="local") for name in ("runners", "runners_wanted", "runners_stuck", "runner_waiting")], [3, 4, 1, 0])
+        self.assertEqual([families.of(f"nagsched_{name}", runner="local") for name in ("runners", "runners_wanted", "runners_stuck", "runner_waiting")],
+                         [3, 4, 1, 0])
 
     def test_nothing_yet(self) -> None:
         """A site whose monitor has counted nothing has all families; where no state was saved there are no seconds since."""

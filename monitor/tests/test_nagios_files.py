@@ -99,7 +99,8 @@ class Blocks(SiteTest):
                    "check_latency": "0.250", "check_period": "always", "check_command": "check_ping", "check_interval": "5.000000", "last_time_up": "2000",
                    "last_time_down": "0", "check_type": "0", "should_be_scheduled": "1", "last_update": "2050"}),
             (http, {"current_state": "2", "last_hard_state": "0", "state_type": "0", "current_attempt": "2", "plugin_output": "no answer",
-                    "long_plugin_output": "of\\it", "is_flapping": "1", "active_checks_enabled": "0", "should_be_scheduled": "0", "next_check": "0", "last_time_critical": "2001",
+                    "long_plugin_output": "of\\it", "is_flapping": "1", "active_checks_enabled": "0", "should_be_scheduled": "0", "next_check": "0",
+                    "last_time_critical": "2001",
                     "last_time_ok": "1500", "last_hard_state_change": "900", "check_type": "1", "check_execution_time": "0.000"}),
             (new, {"has_been_checked": "0", "current_state": "0", "last_check": "0", "next_check": "3000", "last_state_change": "0", "current_attempt": "1"}),
         ]

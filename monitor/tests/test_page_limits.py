@@ -42,7 +42,8 @@ class Refused(ShownSite):
         fill(self.folder, [standing("h")])
         self.serve()
         self.assertIn(b" 404 ", self.raw(b"GET /" + b"a" * 60_000 + b" HTTP/1.1\r\n\r\n"))
-        for long, code in ((b"GET /" + b"a" * 70_000, b"414"), (b"GET / HTTP/1.1\r\nx: " + b"a" * 70_000, b"431"), (b"GET / HTTP/1.1\r\n" + b"x: y\r\n" * 101, b"431")):
+        for long, code in ((b"GET /" + b"a" * 70_000, b"414"), (b"GET / HTTP/1.1\r\nx: " + b"a" * 70_000, b"431"),
+                           (b"GET / HTTP/1.1\r\n" + b"x: y\r\n" * 101, b"431")):
             with contextlib.suppress(ConnectionError):  # what isn't read of it may cost the answer
                 self.assertIn(b" " + code + b" ", self.raw(long + b"\r\n\r\n"))
         for wrong in (b"\r\n\r\n", b"GET\r\n\r\n", b"GET / HTTP/9\r\n\r\n", b"\x16\x03\x01\x02\x00\r\n\r\n", b"GET / HTTP/1.1 more\r\n\r\n"):
@@ -54,9 +55,11 @@ class Refused(ShownSite):
         fill(self.folder, [standing("h")])
         self.serve()
         self.server.names = ["monitor.example.org"]
-        for name in ("127.0.0.1", "127.0.0.1:8080", "10.0.0.7", "[::1]:80", "[::1]", "localhost", "LOCALHOST:99", "monitor.example.org", "Monitor.Example.org.:8080"):
+        for name in ("127.0.0.1", "127.0.0.1:8080", "10.0.0.7", "[::1]:80", "[::1]", "localhost", "LOCALHOST:99", "monitor.example.org",
+                     "Monitor.Example.org.:8080"):
             self.assertEqual(self.ask("/", Host=name)[0], 200, name)
-        for name in ("evil.example.org", "127.0.0.1.evil.example.org", "localhost.evil", "", "[::1", "example.org", "monitor.example.org.evil:80", "127.0.0.1@evil"):
+        for name in ("evil.example.org", "127.0.0.1.evil.example.org", "localhost.evil", "", "[::1", "example.org", "monitor.example.org.evil:80",
+                     "127.0.0.1@evil"):
             for path in ("/", "/status.json", "/metrics", "/object?name=h"):
                 self.assertEqual(self.ask(path, Host=name)[0::2], (421, "421 Misdirected Request\n"), name)
         self.assertTrue(self.raw(b"GET / HTTP/1.0\r\n\r\n").startswith(b"HTTP/1.0 200 "))

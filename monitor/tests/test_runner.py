@@ -126,7 +126,8 @@ class Plugins(unittest.TestCase):
     def test_many_at_once(self) -> None:
         with OneRunner() as runner:
             runner.give(*(shell(number, f"sleep 0.2; echo {number}; exit {number % 4}") for number in range(300)))
-            self.assertEqual([(it["job"], it["code"], it["output"]) for it in runner.results(300)], [(number, number % 4, f"{number}\n") for number in range(300)])
+            self.assertEqual([(it["job"], it["code"], it["output"]) for it in runner.results(300)],
+                             [(number, number % 4, f"{number}\n") for number in range(300)])
 
 
 class Ends(unittest.TestCase):

@@ -45,9 +45,12 @@ class Reading(SiteTest):
 
     def test_faults(self) -> None:
         several: List[Tuple[Dict[str, Any], str]] = [
-            ({"runners": []}, "object"), ({"runners": {"d m z": ["true"]}}, "d m z"), ({"runners": {"": ["true"]}}, "name"), ({"runners": {"local": ["true"]}}, "local"),
-            ({"runners": {"dmz": "true"}}, "list"), ({"runners": {"dmz": []}}, "list"), ({"runners": {"dmz": [""]}}, "list"), ({"runners": {"dmz": ["a\0"]}}, "list"),
-            ({"runners": {"dmz": ["/no/such/program"]}}, "/no/such/program"), ({"wait": 0}, "wait"), ({"slots": {"dmz": 0}}, "slots"), ({"slots": {"dmz": True}}, "slots"),
+            ({"runners": []}, "object"), ({"runners": {"d m z": ["true"]}}, "d m z"), ({"runners": {"": ["true"]}}, "name"),
+            ({"runners": {"local": ["true"]}}, "local"),
+            ({"runners": {"dmz": "true"}}, "list"), ({"runners": {"dmz": []}}, "list"), ({"runners": {"dmz": [""]}}, "list"),
+            ({"runners": {"dmz": ["a\0"]}}, "list"),
+            ({"runners": {"dmz": ["/no/such/program"]}}, "/no/such/program"), ({"wait": 0}, "wait"), ({"slots": {"dmz": 0}}, "slots"),
+            ({"slots": {"dmz": True}}, "slots"),
             ({"slots": {"lyon": 1}}, "lyon"), ({"objects": {"lyon": ["*"]}}, "lyon"), ({"objects": {"dmz": "*"}}, "list"), ({"objects": {"dmz": []}}, "list"),
             ({"objects": {"dmz": [""]}}, "list"), ({"objects": {"dmz": ["lyon*"]}}, "lyon*"), ({"objects": {"dmz": ["lyon"]}}, "lyon"),
             ({"objects": {"dmz": ["paris;no*"]}}, "no*"), ({"objects": {"dmz": ["hostgroup:no"]}}, "hostgroup:no"), ({"runers": {}}, "runers"),

@@ -33,16 +33,19 @@ class Lines(unittest.TestCase):
     program: str
 
     def test_lines_that_are_no_jobs(self) -> None:
-        for line in ("", "[]", "{}", '{"job":-1,"words":["true"],"limit":1}', '{"words":["true"],"limit":1}', '{"job":"1","words":["true"],"limit":1}', "[" * 9000,
+        for line in ("", "[]", "{}", '{"job":-1,"words":["true"],"limit":1}', '{"words":["true"],"limit":1}', '{"job":"1","words":["true"],"limit":1}',
+                     "[" * 9000,
                      '{"job":1,"words":["true"],"limit":1}\0', '{"job":1e400'):
             with self.subTest(line[:40]), OneRunner() as runner:
-                self.assertEqual(runner.ran(line.encode() + b"\n"), [{"error": "the line is no job"}] if "1e4" not in line else [{"job": 1, "lost": "the line is no job"}])
+                wanted = {"job": 1, "lost": "the line is no job"} if "1e4" in line else {"error": "the line is no job"}
+                self.assertEqual(runner.ran(line.encode() + b"\n"), [wanted])
                 self.assertEqual(runner.ran(shell(2, "true"))[0]["end"], "exited")
 
     def test_lines_that_have_a_number(self) -> None:
         lines = ['"words":[],"limit":1', '"words":["true"],"limit":', '"words":["a', '"words":["\\u0000"],"limit":1', '"words":["\\ud800"],"limit":1',
                  '"words":["\\udc00"],"limit":1', '"words":["true"]', '"words":["true"],"limit":1,"more":2', '"words":["true"],"words":["true"],"limit":1',
-                 '"words":"true","limit":1', '"words":[1],"limit":1', '"words":[["true"]],"limit":1', '"words":["true"],"limit":0', '"words":["true"],"limit":-1',
+                 '"words":"true","limit":1', '"words":[1],"limit":1', '"words":[["true"]],"limit":1', '"words":["true"],"limit":0',
+                 '"words":["true"],"limit":-1',
                  '"words":["true"],"limit":nan', '"words":["true"],"limit":inf', '"words":["true"],"limit":1' + 400 * "0", '"words":["true"],"limit":86401',
                  '"words":["true"],"limit":1} {"job":8']
         with OneRunner() as runner:
@@ -52,7 +55,8 @@ class Lines(unittest.TestCase):
     def test_members_in_another_order(self) -> None:
         words = b'"words":["printf","%s","fine"]'
         with OneRunner() as runner:
-            results = runner.ran(b'{"job":1,"limit":9,' + words + b"}\n", b"{" + words + b',"limit":9,"job":2}\n', b' { "limit" : 9.0e0 , ' + words + b' ,\t"job" : 3 } \r\n')
+            results = runner.ran(b'{"job":1,"limit":9,' + words + b"}\n", b"{" + words + b',"limit":9,"job":2}\n',
+                                 b' { "limit" : 9.0e0 , ' + words + b' ,\t"job" : 3 } \r\n')
         self.assertEqual([(it["job"], it["output"]) for it in results], [(1, "fine"), (2, "fine"), (3, "fine")])
 
     def test_a_line_that_is_too_long(self) -> None:
@@ -136,14 +140,18 @@ class Only(unittest.TestCase):
 
     def test_words(self) -> None:
         patterns = "# of this machine\n\n  echo fine  \necho -w *% 'a  b' a\\*b\n/bin/true \"?\" ?\techo\n"
-        self.assertEqual(self.ends(patterns, ["echo", "fine"], ["echo"], ["echo", "fine", "more"], ["echo fine"], ["Echo", "fine"], ["echo", "-w", "10%", "a  b", "a*b"],
+        self.assertEqual(self.ends(patterns, ["echo", "fine"], ["echo"], ["echo", "fine", "more"], ["echo fine"], ["Echo", "fine"],
+                                   ["echo", "-w", "10%", "a  b", "a*b"],
                                    ["echo", "-w", "10", "a  b", "a*b"], ["echo", "-w", "%", "a  b", "a*b"], ["echo", "-w", "10%", "a b", "a*b"],
-                                   ["echo", "-w", "10%", "a  b", "axb"], ["/bin/true", "?", "\u20ac", "echo"], ["/bin/true", "x", "y", "echo"], ["/bin/true", "?", "yy", "echo"]),
+                                   ["echo", "-w", "10%", "a  b", "axb"], ["/bin/true", "?", "\u20ac", "echo"], ["/bin/true", "x", "y", "echo"],
+                                   ["/bin/true", "?", "yy", "echo"]),
                          [True, False, False, False, False, True, False, True, False, False, True, False, False])
 
     def test_wildcards(self) -> None:
-        for pattern, word, fits in (("*", "", True), ("*", "a b", True), ("a*b*c", "aXbXbc", True), ("*ab", "aab", True), ("a*b*c", "aXbXb", False), ("*.example", "web.example", True),
-                                    ("*.example", "-oProxyCommand=x.example", False), ("?*", "-x", False), ("-*", "-x", True), ("a*", "a-x", True), ("*a" * 12 + "b", "a" * 200, False),
+        for pattern, word, fits in (("*", "", True), ("*", "a b", True), ("a*b*c", "aXbXbc", True), ("*ab", "aab", True), ("a*b*c", "aXbXb", False),
+                                    ("*.example", "web.example", True),
+                                    ("*.example", "-oProxyCommand=x.example", False), ("?*", "-x", False), ("-*", "-x", True), ("a*", "a-x", True),
+                                    ("*a" * 12 + "b", "a" * 200, False),
                                     ("[ab]", "a", False), ("[ab]", "[ab]", True), ("*", "a\1b", False), ("''", "", True)):
             with self.subTest(pattern=pattern, word=word):
                 self.assertEqual(self.ends(f"echo {pattern}\n", ["echo", word]), [fits])
@@ -152,15 +160,18 @@ class Only(unittest.TestCase):
         """A program that is allowed with some words isn't with others."""
         patterns = "/usr/lib/nagios/plugins/check_ping -H * -w * -c *\n/usr/lib/nagios/plugins/check_by_ssh -H * -C *\n"
         plugins = "/usr/lib/nagios/plugins"
-        self.assertEqual(self.ends(patterns, [f"{plugins}/negate", "/bin/sh", "-c", "id"], [f"{plugins}/check_by_ssh", "-H", "a", "-o", "ProxyCommand=id", "-C", "true"],
-                                   [f"{plugins}/check_by_ssh", "-H", "-oProxyCommand=id", "-C", "true"], ["/bin/sh", "-c", f"{plugins}/check_ping -H a -w 1 -c 2"],
+        self.assertEqual(self.ends(patterns, [f"{plugins}/negate", "/bin/sh", "-c", "id"],
+                                   [f"{plugins}/check_by_ssh", "-H", "a", "-o", "ProxyCommand=id", "-C", "true"],
+                                   [f"{plugins}/check_by_ssh", "-H", "-oProxyCommand=id", "-C", "true"],
+                                   ["/bin/sh", "-c", f"{plugins}/check_ping -H a -w 1 -c 2"],
                                    [f"{plugins}/../plugins/check_ping", "-H", "a", "-w", "1", "-c", "2"]), [False] * 5)
 
     def test_no_pattern_allows_nothing(self) -> None:
         self.assertEqual(self.ends("# none\n", ["true"], [""]), [False, False])
 
     def test_files_that_cannot_be_used(self) -> None:
-        for text, why in ((None, "No such file or directory"), (b"true\n'a b\n", "line 2 is no pattern"), (b"true \\", "line 1 is no pattern"), (b"true \1", "line 1 is no pattern"),
+        for text, why in ((None, "No such file or directory"), (b"true\n'a b\n", "line 2 is no pattern"), (b"true \\", "line 1 is no pattern"),
+                          (b"true \1", "line 1 is no pattern"),
                           (b"a\0b", "Invalid argument"), (b"#" * 1_100_000, "Invalid argument")):
             with self.subTest(text=text and text[:20]):
                 self.file.unlink(missing_ok=True)

@@ -173,7 +173,8 @@ class StandIn(unittest.TestCase):
 
     def test_bad_lines(self) -> None:
         """None ends the monitor: each is logged, and the check that it speaks of is made again."""
-        for line, is_read in (("hello", False), ("[1]", False), ("[" * 100_000, False), ("{}", False), ('{"job":"1","end":"exited","code":0,"output":""}', False),
+        for line, is_read in (("hello", False), ("[1]", False), ("[" * 100_000, False), ("{}", False),
+                              ('{"job":"1","end":"exited","code":0,"output":""}', False),
                               ("\xff", False), ('{"job":true,"end":"exited","code":0,"output":""}', False), ('{"error":"no \\u001b number"}', False),
                               ('{"job":1,"end":"exited","output":""}', True), ('{"job":1,"end":"exited","code":"0","output":""}', True),
                               ('{"job":1,"end":"exited","code":-1,"output":""}', True), ('{"job":1,"end":"exited","code":true,"output":""}', True),

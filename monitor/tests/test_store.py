@@ -6,7 +6,8 @@ from nagsched_monitor.faults import DamagedRow, MonitorFault, NotStored
 from nagsched_monitor.store.rows import FOR_PEOPLE, TABLES, VERSION, Generation, KeptChange, KeptStanding, checksum_of
 from nagsched_monitor.store.store import Store
 from nagsched_monitor.store.writes import (
-    begin_generation, drop_changes_before, drop_standings, keep_calls, keep_change, keep_figures, keep_request, keep_result, keep_standings, set_aside, set_switch,
+    begin_generation, drop_changes_before, drop_standings, keep_calls, keep_change, keep_figures, keep_request, keep_result, keep_standings, set_aside,
+    set_switch,
 )
 
 from .simulated import SiteTest

@@ -78,10 +78,13 @@ class Checks:
         wanted = self.is_wanted_on(known.watched, on)
         return [Enable(known.name, wanted)] if known.on != wanted else []
 
-    def switched(self, known: Known, on: bool) -> None:
-        """An operator's switch was stored."""
-        self._operator[known.name] = on
-        if on:
+    def switched(self, known: Known, on: Optional[bool]) -> None:
+        """An operator's switch was stored; None if it was taken away."""
+        if on is None:
+            self._operator.pop(known.name, None)
+        else:
+            self._operator[known.name] = on
+        if on is not False:
             self._to_spread.append(known.name)
 
     # ---- next checks that are to be set

@@ -8,11 +8,8 @@ MILLISECOND = 1_000_000
 class Clock(Protocol):
     """What the monitor asks of a clock."""
 
-    def moment(self) -> int:
-        """Milliseconds, which never go back."""
-
-    def wall(self) -> float:
-        """Seconds since 1970 by the wall clock."""
+    def moment(self) -> int: ...  # in milliseconds, which never go back
+    def wall(self) -> float: ...  # in seconds since 1970
 
 
 class SystemClock:

@@ -3,6 +3,7 @@
     {"do":"signs"}                                        signs of life of the monitor
     {"do":"reschedule","name":N,"at":T,"force":true}      the next check of an object: now without `at`, which is in seconds since 1970
     {"do":"enable","name":N}    {"do":"disable","name":N} an operator's switch
+    {"do":"default","name":N}                             the setup's switch counts again
     {"do":"result","name":N,"code":0,"output":"..."}      a passive result
     {"do":"reload"}   {"do":"save"}   {"do":"stop"}
 
@@ -72,6 +73,7 @@ class Requests:
             "reschedule": self._reschedule,
             "enable": partial(self._switch, on=True),
             "disable": partial(self._switch, on=False),
+            "default": partial(self._switch, on=None),
             "result": self._result,
             "reload": self._reload,
             "save": self._save,
@@ -193,14 +195,14 @@ class Requests:
         step.then.append(partial(setattr, known, "asked", (time, forced)))
         return step
 
-    def _switch(self, members: Members, request: Request, on: bool) -> Step:
+    def _switch(self, members: Members, request: Request, on: Optional[bool]) -> Step:
         only(members, "name")
         known = self._callable(members)
         if on and known.watched.command is None:
             raise RequestFault(f"{known.name} has no command")
-        word = "enable" if on else "disable"
-        calls = self.engine.checks.switch(known, on)
-        answer = {"done": word, "name": known.name, "on": self.engine.checks.is_wanted_on(known.watched, on)}
+        word, will_be = members["do"], known.watched.enabled if on is None else on
+        calls = self.engine.checks.switch(known, will_be)
+        answer = {"done": word, "name": known.name, "on": self.engine.checks.is_wanted_on(known.watched, will_be)}
         step = Step([(known.watched.part, call, None) for call in calls], [set_switch(known.name, on)], answer=answer, said=f"{word} {known.name}")
         step.then.append(partial(self.engine.checks.switched, known, on))
         return step

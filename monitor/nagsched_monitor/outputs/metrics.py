@@ -63,12 +63,14 @@ def one(value: float) -> List[Sample]:
 def signs_families(picture: Picture, signs: Signs, site: str) -> List[List[str]]:
     """The signs of life of the monitor. Those that only it can tell are missing while it gives no answer."""
     runners: Mapping[str, Mapping[str, int]] = signs.get("runners", {})
-    of_runners: Dict[str, List[Sample]] = {what: [("", {"runner": name}, float(signs[what])) for name, signs in runners.items()] for what in ("running", "wanted", "stuck", "waiting")}
+    of_runners: Dict[str, List[Sample]] = {
+        what: [("", {"runner": name}, float(its[what])) for name, its in runners.items()] for what in ("running", "wanted", "stuck", "waiting")}
     told = {name: one(float(signs[name])) if name in signs else [] for name in ("is_stuck", "passive_waiting", "changes_waiting", "oldest_change")}
     last_turn = signs.get("turn", picture.figures.get("written_at"))
     families: Sequence[Tuple[str, str, List[Sample]]] = (
         ("nagsched_up", "1 if the monitor answers, 0 if it doesn't.", one(bool(signs))),
-        ("nagsched_last_turn_timestamp_seconds", "When the last turn of the monitor's loop began that could be stored.", [] if last_turn is None else one(last_turn)),
+        ("nagsched_last_turn_timestamp_seconds", "When the last turn of the monitor's loop began that could be stored.",
+         [] if last_turn is None else one(last_turn)),
         ("nagsched_stuck", "1 while nothing can be stored, so that no check is made.", told["is_stuck"]),
         ("nagsched_passive_waiting", "Passive results that wait to be reported.", told["passive_waiting"]),
         ("nagsched_changes_waiting", "Changes that the command for changes hasn't taken.", told["changes_waiting"]),

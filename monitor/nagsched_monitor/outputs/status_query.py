@@ -106,7 +106,8 @@ def read_object(folder: pathlib.Path, name: str) -> Optional[OneObject]:
     with opened(folder) as database:
         found = standings_of(database, MEMBERS, "WHERE name = ?", name)
         rows = [
-            [KeptChange(*row) for row in database.execute(f"SELECT {CHANGE} FROM changes WHERE name = ? AND time {side} ? ORDER BY id DESC LIMIT {most}", (name, now - DAY))]
+            [KeptChange(*row) for row in database.execute(f"SELECT {CHANGE} FROM changes WHERE name = ? AND time {side} ? ORDER BY id DESC LIMIT {most}",
+                                                          (name, now - DAY))]
             for side, most in ((">=", MOST_CHANGES + 1), ("<", 1))
         ]
     lately, before = rows

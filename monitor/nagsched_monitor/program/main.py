@@ -55,7 +55,8 @@ def words_of(given: Optional[List[str]]) -> argparse.Namespace:
     parser.add_argument("--alertmanager", action="append", default=[], metavar="URL", help="post standing problems to this Alertmanager; several may be named")
     parser.add_argument("--on-change", metavar="COMMAND", help="run this for hard changes, with a line of JSON for each on its standard input")
     parser.add_argument("--page", metavar="ADDRESS:PORT", help="show a page for browsers there, and figures for Prometheus")
-    parser.add_argument("--page-name", action="append", default=[], metavar="NAME", help="a name by which browsers reach the page, besides addresses and localhost")
+    parser.add_argument("--page-name", action="append", default=[], metavar="NAME",
+                        help="a name by which browsers reach the page, besides addresses and localhost")
     parser.add_argument("--textfile", metavar="FILE", type=pathlib.Path, help="keep the figures in this file, for node_exporter's textfile collector")
     parser.add_argument("--nagios-files", metavar="DIRECTORY", type=pathlib.Path, help="keep Nagios's status.dat and its pipe nagios.cmd there")
     words = parser.add_subparsers(dest="word", metavar="WORD", help="without a word it runs the monitor; else it asks the one that runs")
@@ -66,7 +67,7 @@ def words_of(given: Optional[List[str]]) -> argparse.Namespace:
     reschedule.add_argument("name")
     reschedule.add_argument("--at", type=time_of, metavar="T", help="a date and time such as 2026-11-27T18:00, or seconds since 1970; now without it")
     reschedule.add_argument("--force", action="store_true", help="also if it is switched off or held back")
-    for word, what in (("enable", "on"), ("disable", "off")):
+    for word, what in (("enable", "on"), ("disable", "off"), ("default", "as the setup has them")):
         words.add_parser(word, help=f"switches an object's checks {what}").add_argument("name")
     result = words.add_parser("result", help="gives a passive result")
     result.add_argument("name")
@@ -79,7 +80,7 @@ def words_of(given: Optional[List[str]]) -> argparse.Namespace:
 
 def request_of(words: argparse.Namespace) -> Dict[str, Any]:
     """The request that the words ask for."""
-    members = {"name": ("reschedule", "enable", "disable", "result"), "at": ("reschedule",), "force": ("reschedule",)}
+    members = {"name": ("reschedule", "enable", "disable", "default", "result"), "at": ("reschedule",), "force": ("reschedule",)}
     members |= {"code": ("result",), "output": ("result",)}
     asked = {member: getattr(words, member) for member, of in members.items() if words.word in of}
     return {"do": words.word, **{member: value for member, value in asked.items() if value is not None}}
@@ -105,14 +106,14 @@ def standing_line(it: KeptStanding, is_long: bool) -> str:
 
 
 def status(words: argparse.Namespace) -> int:
-    """Prints how objects stand, by the database of a site."""
+    """Prints how objects stand, by the database of a site. The exit status is 1 if no monitor is at work."""
     exact = read_picture(words.folder, "WHERE name = ?", words.pattern)
     picture = exact if exact.objects else read_picture(words.folder, "WHERE name GLOB ?", words.pattern)
     print("\n".join(standing_line(it, words.long) for it in picture.objects) or "no object has such a name")
     silent = picture.silence()
     if silent is not None:
         print(f"nagsched-monitor: the monitor has written nothing for {silent:.0f} seconds: this is how objects were then", file=sys.stderr)
-    return 0
+    return int(silent is not None)
 
 
 def asked(words: argparse.Namespace) -> int:

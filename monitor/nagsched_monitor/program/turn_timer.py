@@ -19,11 +19,8 @@ Watch = Callable[[int, Callable[[int], None]], None]
 class Poller(Protocol):
     """What waits for files, and for time to pass."""
 
-    def wait(self, milliseconds: float) -> bool:
-        """Waits so long for something to come, and reads what came; False if nothing did."""
-
-    def sleep(self, milliseconds: float) -> None:
-        """Waits so long, whatever comes."""
+    def wait(self, milliseconds: float) -> bool: ...  # until something comes, which is read; False if nothing did
+    def sleep(self, milliseconds: float) -> None: ...  # whatever comes
 
 
 class FilePoller:

@@ -121,16 +121,11 @@ class Happening:
 
 
 class Client(Protocol):
-    """One connection over which jobs are handed to a server. Jobs that no worker has taken end with it."""
+    """One connection over which jobs are handed to a server. Jobs that no worker has taken end with it. It never waits."""
 
-    def submit(self, number: int, queue: str, workload: bytes) -> None:
-        """Hands in a job."""
-
-    def work(self) -> List[Happening]:
-        """What has come; it never waits."""
-
-    def close(self) -> None:
-        """Ends the connection."""
+    def submit(self, number: int, queue: str, workload: bytes) -> None: ...
+    def work(self) -> List[Happening]: ...
+    def close(self) -> None: ...
 
 
 class ServerClient:

@@ -53,23 +53,12 @@ Event = Union[Finished, Lost, Gone]
 class Runners(Protocol):
     """What the engine asks of those who run plugins."""
 
-    def start(self, job: Job) -> None:
-        """Has a plugin run, from the next `flush` on."""
-
-    def flush(self) -> None:
-        """Hands on the jobs that were started."""
-
-    def events(self) -> List[Event]:
-        """What has come since it was asked last."""
-
-    def jobs(self) -> Set[int]:
-        """The identities of the jobs that runners have, or will be handed."""
-
-    def kill(self, job: Job) -> bool:
-        """Kills the runner that has this job; what it runs is lost. False if none has it."""
-
-    def signs(self) -> Dict[str, Dict[str, int]]:
-        """Of the runners of each name: how many run, how many there should be, and how many stand still."""
+    def start(self, job: Job) -> None: ...  # from the next `flush` on
+    def flush(self) -> None: ...
+    def events(self) -> List[Event]: ...  # what has come since it was asked last
+    def jobs(self) -> Set[int]: ...  # the identities of the jobs that runners have, or will be handed
+    def kill(self, job: Job) -> bool: ...  # the runner that has this job; what it runs is lost
+    def signs(self) -> Dict[str, Dict[str, int]]: ...  # of the runners of each name, how many run, are wanted, stand still, and how many checks wait
 
 
 @functools.lru_cache(maxsize=50_000)

@@ -59,8 +59,9 @@ def end_generation(part: int) -> Write:
     return all_of(delete(table, "part = ?", part) for table in ("generations", "mirrors", "calls"))
 
 
-def set_switch(name: str, on: bool) -> Write:
-    return replace("switches", name, int(on))
+def set_switch(name: str, on: Optional[bool]) -> Write:
+    """An operator's switch; None takes it away."""
+    return delete("switches", "name = ?", name) if on is None else replace("switches", name, int(on))
 
 
 def keep_result(name: str, code: int, words: str, number: Optional[int] = None) -> Write:
