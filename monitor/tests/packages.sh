@@ -1,13 +1,13 @@
 #!/bin/bash
 # The monitor with what Debian has for it: Nagios's pages (nagios4-cgi) and NSCA over its files (tests/packages.py), a browser and promtool
-# (tests/page_pictures.py), gearmand with workers, NRPE and SSH (tests/packages_gearman.py), and Alertmanager (tests/packages_alerts.py). What isn't installed is
-# fetched and unpacked into a temporary folder; chromium-headless-shell and prometheus are installed if PICTURES is named, they aren't there and root runs this.
-# What can't be had is passed over, and named.
+# (tests/page_pictures.py), gearmand with workers, NRPE and SSH (tests/packages_gearman.py), a runner over SSH (tests/packages_ssh.py), and Alertmanager
+# (tests/packages_alerts.py). What isn't installed is fetched and unpacked into a temporary folder; chromium-headless-shell and prometheus are installed if
+# PICTURES is named, they aren't there and root runs this. What can't be had is passed over, and named.
 #
-#     monitor/tests/packages.sh PROGRAM [pages [PICTURES] | gearman [WHAT..] | alerts [SECONDS]]
+#     monitor/tests/packages.sh PROGRAM [pages [PICTURES] | gearman [WHAT..] | ssh [CUTS] | alerts [SECONDS]]
 #
-# PROGRAM is nagsched, PICTURES a folder for pictures of the pages, WHAT as packages_gearman.py has it, SECONDS how long Alertmanager is away. All three parts
-# are tried without a second word.
+# PROGRAM is nagsched, PICTURES a folder for pictures of the pages, WHAT as packages_gearman.py has it, CUTS how often the connection is cut, SECONDS how long
+# Alertmanager is away. All parts are tried without a second word.
 set -eu
 program=$(realpath "$1")
 part=${2:-all}
@@ -15,7 +15,7 @@ pictures=
 what=()
 case $part in
     pages) pictures=${3:+$(realpath -m "$3")} ;;
-    gearman | alerts) what=("${@:3}") ;;
+    gearman | ssh | alerts) what=("${@:3}") ;;
 esac
 here=$(cd "$(dirname "$0")" && pwd)
 work=$(mktemp -d)
@@ -82,8 +82,12 @@ alerts() {
     python3 "$here/packages_alerts.py" "$program" ${what[@]+"${what[@]}"}
 }
 
+ssh() {
+    python3 "$here/packages_ssh.py" "$program" ${what[@]+"${what[@]}"}
+}
+
 status=0
-for each in pages gearman alerts; do
+for each in pages gearman ssh alerts; do
     [ "$part" != all ] && [ "$part" != "$each" ] || ($each) || status=1
 done
 exit $status
