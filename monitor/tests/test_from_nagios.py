@@ -192,12 +192,12 @@ class TakingOver(unittest.TestCase):
 
     def test_files_that_it_does_not_know_stay(self) -> None:
         self.take(self.small())
-        (self.site / "queues.json").write_text("{}")
+        (self.site / "runners.json").write_text("{}")
         (self.site / "mirrors.json").write_text("{}")
         (self.site / "part-1.json").write_text("{}")
         self.take(self.small(2))
         self.assertEqual(sorted(path.name for path in self.site.iterdir()),
-                         ["commands.json", "groups.json", "monitor.json", "passive.json", "periods.json", "queues.json", "setup.json"])
+                         ["commands.json", "groups.json", "monitor.json", "passive.json", "periods.json", "runners.json", "setup.json"])
         self.assertEqual((self.site / "commands.json").stat().st_mode & 0o777, 0o600)
 
     def test_a_reader_sees_all_files_of_one_time(self) -> None:

@@ -1,6 +1,7 @@
 """The figures for Prometheus: each line by the rules of the text format, the sums of the histogram, and the file for node_exporter."""
 import json
 import re
+import sys
 import time
 from typing import Dict, List, Tuple
 from unittest import mock
@@ -172,5 +173,6 @@ class Textfile(SiteTest):
             return len(seen) == 3
 
         with mock.patch.object(textfile, "is_ended", is_ended), mock.patch.object(textfile, "ignore_signals"), mock.patch("builtins.print") as said:
-            self.assertEqual(textfile.main([str(self.folder), str(file)]), 0)
+            with mock.patch.object(sys, "argv", ["textfile", str(self.folder), str(file)]):
+                self.assertEqual(textfile.main(), 0)
         self.assertEqual((seen, file.exists(), said.call_count), ([[]] * 3, False, 1))

@@ -3,7 +3,6 @@ import os
 import pathlib
 import signal
 import subprocess
-import sys
 import time
 from typing import Callable, Dict, List, Mapping, Tuple
 
@@ -17,7 +16,6 @@ from .simulated import BEGIN, SiteTest
 from .waiting import comes
 
 Block = Dict[str, str]
-TOP = pathlib.Path(__file__).resolve().parent.parent
 WELL = KeptStanding("web", "UP", "HARD", 1, False, 1000.5, 1000.5, 2000.25, 2060.9, True, None, 0.5, 0.25, "fine|rta=0.8ms;1;2")
 BAD = KeptStanding("web;http", "CRITICAL", "SOFT", 2, True, 1500.0, 900.0, 2001.0, None, False, 2002.0, None, None, "no\x07answer\nof\\it")
 NEW = KeptStanding("web;new", "PENDING", "HARD", 1, False, None, None, None, 3000.0, True, None, None, None, "")
@@ -225,17 +223,11 @@ class Process(ProcessTest):
         self.write("commands.json", {name: {"line": f"echo 'of {name}|a=1'; exit {code}", "shell": True}
                                      for name, code in (("h00", 0), ("h01", 2), ("h00;http", 1), ("h00;ssh", 2))})
         self.begin()
-        words = [sys.executable, "-m", "nagsched_monitor.outputs.nagios_files", "--every", "0.2", str(self.folder), str(self.nagios)]
-        helper = subprocess.Popen(words, stdin=subprocess.PIPE, cwd=TOP)
-        self.addCleanup(helper.wait, 10)
-        assert helper.stdin is not None
-        self.addCleanup(helper.stdin.close)
+        files = NagiosFiles(self.folder, self.nagios, False)
 
         def same() -> bool:
-            try:
-                blocks = objects_of((self.nagios / "status.dat").read_bytes())
-            except FileNotFoundError:
-                return False
+            files.write()
+            blocks = objects_of((self.nagios / "status.dat").read_bytes())
             lines = self.ask("status").stdout.splitlines()
             return len(lines) == 4 and "PENDING" not in "".join(lines) and [line_of(name, blocks[name]) for name in sorted(blocks)] == lines
 

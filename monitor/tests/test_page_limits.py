@@ -58,7 +58,7 @@ class Refused(ShownSite):
         for name in ("127.0.0.1", "127.0.0.1:8080", "10.0.0.7", "[::1]:80", "[::1]", "localhost", "LOCALHOST:99", "monitor.example.org",
                      "Monitor.Example.org.:8080"):
             self.assertEqual(self.ask("/", Host=name)[0], 200, name)
-        for name in ("evil.example.org", "127.0.0.1.evil.example.org", "localhost.evil", "", "[::1", "example.org", "monitor.example.org.evil:80",
+        for name in ("evil.example.org", "127.0.0.1.evil.example.org", "localhost.evil", "", "example.org", "monitor.example.org.evil:80",
                      "127.0.0.1@evil"):
             for path in ("/", "/status.json", "/metrics", "/object?name=h"):
                 self.assertEqual(self.ask(path, Host=name)[0::2], (421, "421 Misdirected Request\n"), name)

@@ -1,11 +1,8 @@
 """The standing hard problems of a site, and what flaps, as alerts of Prometheus's Alertmanager: a process beside the monitor.
 
-    python3 -m nagsched_monitor.outputs.alertmanager URL DIR [--every SECONDS] [--ends SECONDS]
-
-All alerts are posted every 30 seconds, and at once when one begins, changes or ends. An alert ends by itself a few minutes after it was posted last. So this
-process keeps nothing, and nothing is lost if it, the monitor or Alertmanager is away for a while. It ends with its standard input.
+It is handed the address of Alertmanager and the site's folder. All alerts are posted every 30 seconds, and at once when one begins, changes or ends. An alert
+ends by itself a few minutes after it was posted last. So this process keeps nothing, and nothing is lost if it, the monitor or Alertmanager is away for a while.
 """
-import argparse
 import datetime
 import http.client
 import json
@@ -13,7 +10,7 @@ import pathlib
 import sys
 import time
 import urllib.request
-from typing import Any, Dict, FrozenSet, List, Mapping, Optional, Sequence, Tuple
+from typing import Any, Dict, FrozenSet, Mapping, Optional, Sequence, Tuple
 
 from ..core.text import first_line
 from ..program.helper_process import ignore_signals, is_ended
@@ -116,17 +113,8 @@ def log(line: str) -> None:
     print(f"alertmanager: {line}", flush=True)
 
 
-def main(given: Optional[List[str]] = None) -> int:
-    parser = argparse.ArgumentParser(prog="alertmanager", description="Posts the standing problems of a site to Alertmanager. It ends with its standard input.")
-    parser.add_argument("url", metavar="URL", help="such as http://localhost:9093")
-    parser.add_argument("folder", metavar="DIR", type=pathlib.Path)
-    parser.add_argument("--every", type=float, default=EVERY, metavar="SECONDS", help="how often all alerts are posted")
-    parser.add_argument("--ends", type=float, default=ENDS, metavar="SECONDS", help="after which time an alert ends that isn't posted again")
-    words = parser.parse_args(given)
+def main() -> int:
+    url, folder = sys.argv[1:]
     ignore_signals()
-    Alerts(words.url, words.folder, words.every, words.ends).work()
+    Alerts(url, pathlib.Path(folder)).work()
     return 0
-
-
-if __name__ == "__main__":
-    sys.exit(main())

@@ -1,16 +1,13 @@
 """Nagios's own files of a site: `status.dat`, by which Nagios's pages show it, and the pipe `nagios.cmd`, which commands it.
 
-    python3 -m nagsched_monitor.outputs.nagios_files SITE FOLDER [--notifies] [--every SECONDS]
-
-It is a process of its own, which the monitor begins and ends. It reads the database, and asks the monitor through its socket. It ends with its standard input.
+It is a process beside the monitor, which is handed the site's folder, the folder of the files, and `notifies` if a command is run for changes. It reads the
+database, and asks the monitor through its socket.
 """
-import argparse
 import collections
 import json
 import os
 import pathlib
 import select
-import signal
 import sqlite3
 import sys
 import time
@@ -19,9 +16,10 @@ from typing import Deque, Dict, List, Optional, Sequence, Tuple
 from ..faults import MonitorFault, RequestFault
 from ..inputs import control
 from ..inputs.nagios_pipe import Pipe, Request, requests_of
+from ..program.helper_process import ignore_signals
 from ..store.rows import KeptStanding
-from .status_query import MEMBERS, NotShown, opened, standings_of
 from .nagios_blocks import Program, Settings, settings_of, status_file, with_files
+from .status_query import MEMBERS, NotShown, opened, standings_of
 
 # How often the status file is written, and how long it is waited for a monitor that doesn't answer, in seconds.
 EVERY = 10.0
@@ -184,21 +182,12 @@ def replaced(path: pathlib.Path, data: bytes) -> None:
     new.replace(path)
 
 
-def main(given: Optional[List[str]] = None) -> int:
-    parser = argparse.ArgumentParser(prog="nagios_files", description="Keeps Nagios's own files of a site that is monitored.")
-    parser.add_argument("site", type=pathlib.Path, help="the folder of the site")
-    parser.add_argument("folder", type=pathlib.Path, help="where the files are kept")
-    parser.add_argument("--notifies", action="store_true", help="a command is run for changes")
-    parser.add_argument("--every", type=float, default=EVERY, metavar="SECONDS", help="how often status.dat is written")
-    words = parser.parse_args(given)
-    signal.signal(signal.SIGINT, signal.SIG_IGN)  # it ends with the monitor
+def main() -> int:
+    site, folder, *others = sys.argv[1:]
+    ignore_signals()
     try:
-        NagiosFiles(words.site, words.folder, words.notifies, words.every).work()
+        NagiosFiles(pathlib.Path(site), pathlib.Path(folder), "notifies" in others).work()
     except (MonitorFault, OSError) as fault:
         log(str(fault))
         return 1
     return 0
-
-
-if __name__ == "__main__":
-    sys.exit(main())

@@ -1,15 +1,12 @@
 """A page of a site for a browser, its status as data, and its figures for Prometheus: a process of its own, which reads the database and writes nothing.
 
-    python3 -m nagsched_monitor.outputs.page ADDRESS:PORT DIR [--name NAME ..]
-
     /                the page; /?group=NAME a group of it; /object?name=NAME an object with its last day
     /status.json     the same as data
     /metrics         figures in Prometheus's text format
 
-It ends with its standard input. It asks nobody for a password, so an address that others reach is for a network that is trusted. A request whose `Host` is
-neither an address nor a name of the page is refused: a page of elsewhere can have a browser ask for this one by such a name.
+It is handed its address, the site's folder, and the names by which it is reached. It asks nobody for a password, so an address that others reach is for a
+network that is trusted. A request whose `Host` is neither an address nor one of the names is refused: a page of elsewhere can have a browser ask for this one.
 """
-import argparse
 import datetime
 import http
 import http.server
@@ -22,7 +19,7 @@ import sys
 import threading
 import time
 import urllib.parse
-from typing import Any, Dict, List, Optional, Sequence, Tuple
+from typing import Any, Dict, Optional, Sequence, Tuple
 
 from . import drawing
 
@@ -198,24 +195,16 @@ def end_with_monitor(server: Server) -> None:
     server.shutdown()
 
 
-def main(given: Optional[List[str]] = None) -> int:
-    parser = argparse.ArgumentParser(prog="page", description="Serves the page of a site. It ends with its standard input.")
-    parser.add_argument("place", metavar="ADDRESS:PORT")
-    parser.add_argument("folder", metavar="DIR", type=pathlib.Path)
-    parser.add_argument("--name", action="append", default=[], metavar="NAME", help="a name by which browsers reach it, besides addresses and localhost")
-    words = parser.parse_args(given)
+def main() -> int:
+    place, folder, *names = sys.argv[1:]
     ignore_signals()
     try:
-        server = Server(place_of(words.place), Site(words.folder), words.name)
+        server = Server(place_of(place), Site(pathlib.Path(folder)), names)
     except (MonitorFault, OSError) as fault:
-        print(f"the page on {words.place}: {fault}", file=sys.stderr)
+        print(f"the page on {place}: {fault}", file=sys.stderr)
         return 1
     print(f"the page is at {server.url()}", flush=True)
     threading.Thread(target=end_with_monitor, args=(server,), daemon=True).start()
     server.serve_forever()
     server.server_close()
     return 0
-
-
-if __name__ == "__main__":
-    sys.exit(main())

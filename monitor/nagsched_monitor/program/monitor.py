@@ -76,11 +76,11 @@ class Monitor:
         """The processes that are asked for beside the monitor."""
         folder, asked = str(words.folder), []
         if words.nagios_files is not None:
-            asked.append(["outputs.nagios_files", folder, str(words.nagios_files), *(["--notifies"] if words.on_change is not None else [])])
+            asked.append(["outputs.nagios_files", folder, str(words.nagios_files), *(["notifies"] if words.on_change is not None else [])])
         if words.page is not None:
             if not places.is_own(words.page):
                 self.log(f"the page on {words.page} is shown to everybody who reaches this address")
-            asked.append(["outputs.page", words.page, folder, *(f"--name={name}" for name in words.page_name)])
+            asked.append(["outputs.page", words.page, folder, *words.page_name])
         if words.textfile is not None:
             asked.append(["outputs.textfile", folder, str(words.textfile)])
         asked += [["outputs.alertmanager", url, folder] for url in words.alertmanager]

@@ -96,7 +96,3 @@ def main() -> int:
     except BrokenPipeError:
         pass  # the monitor has ended
     return 0
-
-
-if __name__ == "__main__":
-    sys.exit(main())
