@@ -11,7 +11,7 @@ from unittest import mock
 
 from nagsched_monitor.faults import MonitorFault
 from nagsched_monitor.program.helper_process import LONGEST_PAUSE, Beside
-from nagsched_monitor.program.places import is_own, place_of
+from nagsched_monitor.program.places import is_own, place_of, test_url
 
 from .simulated import PROGRAM, SiteTest
 from .waiting import comes
@@ -189,6 +189,13 @@ class Pauses(SiteTest):
 
 
 class Places(SiteTest):
+    def test_addresses_of_web_servers(self) -> None:
+        for given in ("http://localhost:9093", "https://alerts.example.org/alertmanager/", "http://[::1]:9093"):
+            test_url(given, "--alertmanager")
+        for given in ("localhost:9093", "file:///etc/passwd", "http://", "", "//here", "ftp://here"):
+            with self.assertRaisesRegex(MonitorFault, "--alertmanager: it has to be an address", msg=given):
+                test_url(given, "--alertmanager")
+
     def test_places(self) -> None:
         for given, place, own in (
             ("127.0.0.1:80", ("127.0.0.1", 80), True), ("localhost:0", ("127.0.0.1", 0), True), ("[::1]:8080", ("::1", 8080), True),

@@ -139,6 +139,8 @@ def main(given: Optional[List[str]] = None) -> int:
             return {"test": tested, "status": status}.get(words.word, asked)(words)
         if words.page is not None:
             places.place_of(words.page)
+        for url in words.alertmanager:
+            places.test_url(url, "--alertmanager")
         log = Log()
         monitor = Monitor(words, log)
     except (MonitorFault, NotShown, NotStored, OSError, sqlite3.Error) as fault:

@@ -1,5 +1,6 @@
 """Addresses at which something is served."""
 import ipaddress
+import urllib.parse
 from typing import Tuple
 
 from ..faults import MonitorFault
@@ -23,3 +24,10 @@ def place_of(given: str, of: str = "--page") -> Tuple[str, int]:
 def is_own(given: str) -> bool:
     """Whether a place is reached by the machine itself alone."""
     return ipaddress.ip_address(place_of(given)[0]).is_loopback
+
+
+def test_url(given: str, of: str) -> None:
+    """A `MonitorFault` if an address is none of a web server."""
+    url = urllib.parse.urlsplit(given)
+    if url.scheme not in ("http", "https") or not url.hostname:
+        raise MonitorFault(f"{of}: it has to be an address such as http://localhost:9093, not {given!r}")
