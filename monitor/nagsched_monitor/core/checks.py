@@ -1,4 +1,4 @@
-"""When checks are made: what switches, periods, freshness, phases and operators want, and what is due."""
+"""The times of checks: switches, periods, freshness, phases and operators set them."""
 from functools import partial
 from typing import Callable, Dict, List, Mapping, Optional, Tuple
 
@@ -37,7 +37,7 @@ class Checks:
         return bool(self._to_spread) or any(self._scheduling.is_known_open(self._objects[name]) for name in self._wanted if name in self._objects)
 
     def plan(self, plan: Plan, now: int, is_after_pause: bool) -> None:
-        """What is wanted by itself, after what requests want."""
+        """Plans next checks, after requests have set theirs."""
         self._plan_freshness(now)
         self._plan_spread(is_after_pause, now)
         self._plan_wanted(plan, now)
@@ -56,7 +56,7 @@ class Checks:
         self._minute = None
 
     def plan_periods(self, plan: Plan) -> None:
-        """Switches objects by their periods, once a minute. What is on from now on is spread."""
+        """Switches objects by their periods, once a minute. Objects that are switched on are spread."""
         wall = self._clock.wall()
         minute = int(wall // 60)
         if minute == self._minute:
@@ -115,7 +115,7 @@ class Checks:
                 del self._wanted[call.name]
 
     def _plan_freshness(self, now: int) -> None:
-        """Has the command run of each object of which no result came within its freshness."""
+        """Has the command of each object run that had no result within its freshness."""
         for name in self._scheduling.site.with_freshness:
             known = self._objects[name]
             if known.is_stale(now) and name not in self._passive and self._scheduling.is_known_open(known) and self._is_in_period(known.watched):
@@ -123,7 +123,7 @@ class Checks:
                 self.want(known, now, True)
 
     def _plan_spread(self, is_after_pause: bool, now: int) -> None:
-        """Spreads what is overdue after a pause, and what was switched on."""
+        """Spreads the overdue checks after a pause, and the checks of objects that were switched on."""
         names = self._objects if is_after_pause else [name for name in self._to_spread if name in self._objects]
         overdue: List[Tuple[int, str, Known]] = []
         for known in (self._objects[name] for name in names if name not in self._passive):
@@ -138,7 +138,7 @@ class Checks:
             known.phase = time if known.phase is None else known.phase
         self._to_spread = []
 
-    # ---- what is due
+    # ---- due checks
 
     def plan_takes(self, plan: Plan, now: int) -> None:
         """A take for each check that is due and has a free slot."""
@@ -153,7 +153,7 @@ class Checks:
                 plan.calls += [(part, Take(now), None)] * count
                 free -= count
 
-    # ---- what follows from a result
+    # ---- consequences of a result
 
     def reported(self, known: Known, before: Optional[Standing], standing: Standing, now: int) -> None:
         """The object returns to its phase, and hosts may matter."""

@@ -1,6 +1,6 @@
-"""The monitor's core. A turn reads what has happened, plans one list of calls, stores it, makes it, and acts on the answers.
+"""The monitor's core. A turn reads events, plans one list of calls, stores it, makes it, and acts on the answers.
 
-Storing is the only place where a turn can be refused, and nothing has changed then. Clock, runners, schedulers and database are handed in, so that a day can be
+A turn can be refused only while it is stored, and then nothing has changed. Clock, runners, schedulers and database are handed in, so that a day can be
 simulated in seconds.
 """
 import collections
@@ -24,7 +24,7 @@ from .plan import Plan
 from .plugin_runs import MARGIN, PluginRuns
 from .running import Owner
 
-# A pause is more than so many milliseconds between two turns.
+# The longest time between two turns that isn't a pause, in milliseconds.
 PAUSE = 10_000
 # The longest wait for the next turn, and how soon a change is stored, in milliseconds. A turn that is wanted at 0 is wanted without any rest.
 LONGEST_WAIT = 1_000
@@ -32,7 +32,7 @@ CHANGES_WAIT = 100
 NO_REST = 0
 # How long a check whose result was refused waits for the next one, in milliseconds.
 AFTER_REFUSAL = 60_000
-# The state is saved after so many calls, or so many milliseconds; if it can't be, it is tried again.
+# The number of calls, and of milliseconds, after which the state is saved; and the pause before another try, in milliseconds.
 SAVE_CALLS = 50_000
 SAVE_AFTER = 300_000
 SAVE_AGAIN = 10_000
@@ -51,7 +51,7 @@ class Engine:
         self.plugins = PluginRuns(scheduling, runners, clock, log, self.counters)
         self.requests = Requests(self, clock)
         self._asked: List[Request] = []
-        # What was heard and isn't applied: a fault in the middle leaves the rest to the next turn.
+        # Answers that aren't applied yet: a fault in the middle leaves the rest to the next turn.
         self._heard: Deque[Heard] = collections.deque()
         self._last_turn: Optional[int] = None
         self._save_at, self._saved_call = self._now + SAVE_AFTER, store.last_call
@@ -158,7 +158,7 @@ class Engine:
     # ---- answers
 
     def _apply(self, heard: Heard) -> None:
-        """What follows from an answer."""
+        """Acts on an answer."""
         call, answer, known = heard.call, heard.answer, heard.known
         if known is None:
             if isinstance(answer, Refused):
@@ -199,7 +199,7 @@ class Engine:
         else:
             self._log(f"{known.name} has no command: no check of it is made")
 
-    # ---- what can be asked for
+    # ---- for requests and tests
 
     def out(self) -> int:
         """How many plugins run."""
@@ -235,7 +235,7 @@ class Engine:
         self.store.write(keep_figures(self.counters.changed(self.store.last_call)))
 
     def reload(self, site: Site) -> List[str]:
-        """Goes on with another site; what runs goes on. If it can't be taken over, nothing has changed. Returns what changes of objects that stay."""
+        """Takes over another site; running checks continue. If it is refused, nothing has changed. Returns the changes of objects that stay."""
         changed = self.scheduling.reload(site)
         self.checks.look_at_periods_again()
         gone = self.passive.drop_others(site.objects)

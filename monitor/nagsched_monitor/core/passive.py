@@ -13,7 +13,7 @@ from .plan import Plan
 from .rhythm import RESULT_FIRST
 from .running import Owner
 
-# So many may wait.
+# The greatest number of results that may wait.
 MOST_WAITING = 10_000
 
 

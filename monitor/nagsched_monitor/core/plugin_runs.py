@@ -21,9 +21,9 @@ MOST_LOST = 2
 UNKNOWN = 3
 # How long after its limit a result may come, in milliseconds.
 MARGIN = 15_000
-# A check that this machine couldn't start is tried again after so many milliseconds, twice as many each time, up to the longest.
+# The pause before a check that this machine couldn't start is tried again, in milliseconds: twice as long each time, up to the longest.
 RETRY, LONGEST_RETRY = 1_000, 60_000
-# Runs are looked over every so many milliseconds.
+# The time between two sweeps of all runs, in milliseconds.
 SWEEP = 1_000
 
 
@@ -102,7 +102,7 @@ class PluginRuns:
         return run if run is not None and run.job is event.job else None
 
     def plan(self, plan: Plan, now: int) -> None:
-        """Reports what plugins gave. What can't be reported now stays."""
+        """Reports what plugins gave. Events that can't be reported now stay."""
         left: Deque[Event] = collections.deque()
         for event in self._events:
             run = self._run_of(event)
@@ -137,7 +137,7 @@ class PluginRuns:
             self._log(f"{name}: the result of run {event.job.run} is dropped: it was given up, or the object isn't part of the site any more")
 
     def _ended(self, run: Run, event: Event, now: int) -> List[AskedOf]:
-        """The calls by which a run ends. What was lost is made again; a service's check whose runner ended is UNKNOWN the third time."""
+        """The calls by which a run ends. A lost check is made again; a service's check whose runner ended is UNKNOWN the third time."""
         part, name = run.place
         known = self._scheduling.known.objects[name]
         if isinstance(event, Finished):

@@ -1,4 +1,4 @@
-"""The one table of what is running: each run with its owner and its deadline. Whatever isn't in it doesn't run."""
+"""The one table of running checks: each run with its owner and its deadline. A check that isn't in it doesn't run."""
 import enum
 from dataclasses import dataclass
 from typing import Dict, Iterator, List, Optional, Tuple
@@ -36,7 +36,7 @@ class Run:
     result: Optional[KeptResult] = None
     # Whether the check was forced: so is the next try.
     forced: bool = False
-    # Where it is abandoned, the moment at which its check is made again; None for at once.
+    # The moment at which its check is made again if it is abandoned; None for at once.
     again: Optional[int] = None
     # When it was taken, in seconds since 1970 of the wall clock.
     began: Optional[float] = None
@@ -47,7 +47,7 @@ class Running:
 
     def __init__(self) -> None:
         self._runs: Dict[Place, Run] = {}
-        # Plugins that run for no run any more, by the names of their objects: no second one is started beside them.
+        # Plugins whose runs are over, by the names of their objects: no second one is started while they run.
         self.left: Dict[str, Job] = {}
 
     def begin(self, run: Run) -> None:

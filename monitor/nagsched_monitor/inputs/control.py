@@ -1,6 +1,7 @@
 """The socket in the folder of a site, through which its monitor is asked: lines of JSON there, and as many back.
 
-No client holds up the monitor or another client: of each so many lines are handed on in one turn, and what it doesn't read waits, up to a limit.
+No client holds up the monitor or another client: a limited number of its lines is handed on in one turn, and answers that it doesn't read wait, up to a
+limit.
 """
 import os
 import pathlib
@@ -145,7 +146,7 @@ class Control:
             client.connection.close()
 
     def close(self) -> None:
-        """Sends what is left, and closes all connections."""
+        """Sends the remaining answers, and closes all connections."""
         for file, client in list(self._clients.items()):
             self._send(file, client)
             self._forget(file)
@@ -155,7 +156,7 @@ class Control:
 
 
 def short_path(path: pathlib.Path) -> str:
-    """The path of a socket, whose length is limited: below the current folder where it lies there."""
+    """The path of a socket, whose length is limited: relative to the current folder if that is shorter."""
     return os.path.relpath(path) if len(os.path.relpath(path)) < len(str(path)) else str(path)
 
 

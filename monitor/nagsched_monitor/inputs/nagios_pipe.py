@@ -15,7 +15,7 @@ NAME = "nagios.cmd"
 MODE = 0o660
 LONGEST_LINE = 65_536
 READ_BYTES = 65_536
-# So many letters are shown of a line that is no command.
+# The number of characters that are shown of a line that isn't a command.
 SHOWN = 80
 
 LINE = re.compile(r"\[\d{1,20}\] ([A-Z][A-Z0-9_]*)(?:;(.*))?")
@@ -43,7 +43,7 @@ class Pipe:
         self._is_skipping = False
 
     def read(self) -> List[bytes]:
-        """The lines that are whole by now. Of one that is too long there is a byte more than a line may have."""
+        """The lines that are whole by now. A line that is too long is cut one byte after the longest length."""
         try:
             data = os.read(self.file, READ_BYTES)
         except BlockingIOError:
@@ -65,7 +65,7 @@ class Pipe:
         self._path.unlink(missing_ok=True)
 
 
-# What each command does: the request's word, the members of the line, and whether it is forced. A service is a host and its description.
+# Each command: the request's word, the object that it names, the other members of the line, and whether it is forced. A service is a host and its description.
 AT, RESULT = ("at",), ("code", "output")
 HOST, SERVICE, SERVICES = 1, 2, 0
 COMMANDS: Mapping[str, Tuple[str, int, Tuple[str, ...], bool]] = {

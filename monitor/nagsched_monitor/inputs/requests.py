@@ -1,4 +1,4 @@
-"""What can be asked of a monitor that runs: one JSON object there, and one back.
+"""Requests to a monitor that runs: one JSON object there, and one back.
 
     {"do":"signs"}                                        signs of life of the monitor
     {"do":"reschedule","name":N,"at":T,"force":true}      the next check of an object: now without `at`, which is in seconds since 1970
@@ -38,7 +38,7 @@ Reply = Callable[[bytes], None]
 
 @dataclass
 class Request:
-    """A line of a client, and where its answer goes."""
+    """A line of a client, with the receiver of its answer."""
 
     line: bytes
     reply: Reply
@@ -49,7 +49,7 @@ class Request:
 
 @dataclass
 class Step(Plan):
-    """What a request adds to the plan of a turn."""
+    """The part of a turn's plan that a request adds."""
 
     answer: Optional[Dict[str, Any]] = None
     # The line of the log, if something changes.
@@ -61,7 +61,7 @@ class Requests:
 
     def __init__(self, engine: "Engine", clock: Clock) -> None:
         self.engine, self._clock = engine, clock
-        # What the loop does in its own time; each is handed the request, which it answers.
+        # Actions of the loop; the one for a reload is handed the request, and answers it later.
         self.reload: Callable[[Request], None] = lambda request: None
         self.stop: Callable[[], None] = lambda: None
         self.log: Callable[[str], None] = lambda line: None
@@ -85,7 +85,7 @@ class Requests:
         self._results = 0
 
     def plan(self, request: Request) -> Step:
-        """What a request adds to the plan. One that is refused adds nothing, and has its answer."""
+        """The step of a request. A refused request has an empty step and its answer."""
         try:
             members = read_request(request.line, self._words)
             number = members.pop("number", None)

@@ -1,7 +1,7 @@
-"""The standing hard problems of a site, and what flaps, as alerts of Prometheus's Alertmanager: a process beside the monitor.
+"""Hard problems and flapping objects of a site as alerts of Prometheus's Alertmanager: a process next to the monitor.
 
-It is handed the address of Alertmanager and the site's folder. All alerts are posted every 30 seconds, and at once when one begins, changes or ends. An alert
-ends by itself a few minutes after it was posted last. So this process keeps nothing, and nothing is lost if it, the monitor or Alertmanager is away for a while.
+It is handed the address of Alertmanager and the site's folder. All alerts are posted every 30 seconds, and at once when one begins, changes or ends. Each post
+sets the alert's end a few minutes ahead. So this process stores nothing, and nothing is lost if it, the monitor or Alertmanager is away for a while.
 """
 import datetime
 import http.client
@@ -18,10 +18,10 @@ from ..store.rows import KeptStanding
 from ..site.groups_file import Groups, GroupsFile, labels_of
 from .status_query import PROBLEMS, NotShown, Picture, read_picture
 
-# From one post of all alerts to the next, after which time an alert ends that isn't posted again, how often the database is looked at, and how long
+# From one post of all alerts to the next, the end of an alert after its post, the time between two looks at the database, and how long
 # Alertmanager may take; in seconds.
 EVERY, ENDS, LOOK, PATIENCE = 30.0, 300.0, 1.0, 10.0
-# So many alerts are posted in one request.
+# The greatest number of alerts in one request.
 AT_ONCE = 1_000
 PROBLEM, FLAPPING, HEARTBEAT = "NagschedProblem", "NagschedFlapping", "NagschedHeartbeat"
 SEVERITIES = {"WARNING": "warning", "CRITICAL": "critical", "DOWN": "critical", "UNREACHABLE": "unreachable", "UNKNOWN": "unknown"}
@@ -32,7 +32,7 @@ Alert = Dict[str, Any]
 
 
 def alerts_of(picture: Picture, site: str, groups: Mapping[str, Groups]) -> Dict[Labels, Alert]:
-    """All alerts that stand: one for each hard problem, one for each object that flaps, and one that says that the monitor is at work."""
+    """All current alerts: one for each hard problem, one for each flapping object, and a heartbeat while the monitor works."""
     hosts = {it.name: str(it.state) for it in picture.objects if it.is_host() and it.is_hard_problem()}
     alerts: Dict[Labels, Alert] = {}
     for it in picture.objects:
@@ -68,7 +68,7 @@ class Alerts:
         self._url, self._folder, self._every, self._ends = f"{url.rstrip('/')}/api/v2/alerts", folder, every, ends
         self._site = folder.resolve().name
         self._groups = GroupsFile(folder)
-        # What Alertmanager was told to stand, and when.
+        # The alerts that Alertmanager has taken as firing, and when.
         self._told: Dict[Labels, Alert] = {}
         self._told_at: Optional[float] = None
         self._trouble: Optional[str] = None
@@ -94,7 +94,7 @@ class Alerts:
         self._trouble = trouble
 
     def _post(self, alerts: Mapping[Labels, Alert], now: float) -> None:
-        """Posts what stands, and ends what stood. What can't be posted stays told as before."""
+        """Posts the current alerts, and ends the others. If Alertmanager doesn't take them, all are posted again."""
         standing = [{**alert, "endsAt": stamp(now + self._ends)} for alert in alerts.values()]
         ended = [{**alert, "endsAt": stamp(now)} for labels, alert in self._told.items() if labels not in alerts]
         all_of = ended + standing

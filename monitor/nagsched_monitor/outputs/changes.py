@@ -15,7 +15,7 @@ from ..store.rows import KeptChange
 from ..store.store import Store
 from ..store.writes import drop_documents
 
-# How long the command may take, the pause between two tries, twice as long each time up to the longest, and after which time a change is given up; in seconds.
+# How long the command may take, the pause between two tries, twice as long each time up to the longest, and the age at which a change is dropped; in seconds.
 LIMIT = 30.0
 PAUSE, LONGEST_PAUSE = 5.0, 60.0
 MOST_AGE = 86_400.0
@@ -31,7 +31,7 @@ def is_change(before: Optional[Standing], now: Standing) -> bool:
 
 
 def is_important(before: Optional[Standing], now: Standing) -> bool:
-    """Whether the command is run for a change: hard ones and flapping. A recovery counts where the problem was hard."""
+    """Whether the command is run for a change: hard ones and flapping. A recovery counts if the problem was hard."""
     was_hard = before is None or before.kind == "HARD"
     flapping_changed = (before is not None and before.flapping) != now.flapping
     return now.kind == "HARD" and (now.is_problem() or was_hard) or flapping_changed
@@ -62,7 +62,7 @@ def document_of(change: KeptChange, before: Optional[Standing]) -> str:
 
 
 class Notifier:
-    """Runs the command for changes, and hands it all that wait, in their order. What it doesn't take is tried again, until it is too old."""
+    """Runs the command for changes, and hands it all waiting changes, in their order. If it fails they are handed over again, until they are too old."""
 
     def __init__(self, command: Optional[str], store: Store, log: Callable[[str], None], clock: Callable[[], float] = time.monotonic,
                  wall: Callable[[], float] = time.time) -> None:
@@ -102,7 +102,7 @@ class Notifier:
         waiting = self._store.outbox()
         old = [each for each in waiting if self._wall() - float(json.loads(each[1]).get("time", 0.0)) > MOST_AGE]
         for _, document in old:
-            self._log(f"a change is given up, since the command didn't take it within {MOST_AGE / 3600:g} hours: {document}")
+            self._log(f"a change is dropped, since the command didn't take it within {MOST_AGE / 3600:g} hours: {document}")
         if old:
             self._drop(old[-1][0])
             waiting = [each for each in waiting if each[0] > old[-1][0]]
@@ -169,5 +169,5 @@ def file_with(data: bytes) -> IO[bytes]:
 
 
 def standing_problems(standings: Sequence[Tuple[str, Standing]]) -> List[str]:
-    """A line for each problem that stands when the monitor starts."""
+    """A line for each problem at the monitor's start."""
     return [f"{name} is {standing.state} {standing.kind} {standing.attempt}" for name, standing in standings if standing.is_problem()]

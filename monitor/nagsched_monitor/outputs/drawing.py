@@ -1,4 +1,4 @@
-"""The pages of a site, as HTML. What comes from a site, names and words, is escaped, and each character that is none of a text is replaced."""
+"""The pages of a site, as HTML. Names and texts of a site are escaped, and control characters are replaced."""
 import datetime
 import html
 import urllib.parse
@@ -47,7 +47,7 @@ class Times:
         self._texts: Dict[int, str] = {}
 
     def of(self, time: float) -> str:
-        """The time of day, with the date where it isn't today."""
+        """The time of day, with the date if it isn't today."""
         if not 0 <= time <= LAST_TIME:
             return "never" if time > 0 else "long ago"
         second = int(time)
@@ -147,7 +147,7 @@ def figures_of(picture: Picture) -> str:
 
 
 def silence_of(picture: Picture) -> List[str]:
-    """A line where the monitor isn't at work, so that what follows is old."""
+    """A line if the monitor isn't working, since the rest is old then."""
     silent = picture.silence()
     if silent is None:
         return []
@@ -174,7 +174,7 @@ def names_of(groups: Groups) -> Set[str]:
 
 
 def page(picture: Picture, groups: Mapping[str, Groups], group: str, site: str, zone: Optional[datetime.tzinfo]) -> str:
-    """What is wrong, what runs, and all hosts and services; of a group, if one is named."""
+    """Problems, running checks, and all hosts and services; those of a group, if one is named."""
     times = Times(picture.now, zone)
     if group:
         picture = Picture(picture.now, [it for it in picture.objects if group in names_of(groups.get(it.name, {}))], picture.figures)
@@ -207,7 +207,7 @@ def legend_of(one: OneObject) -> str:
 
 
 def object_page(one: OneObject, groups: Groups, site: str, zone: Optional[datetime.tzinfo]) -> str:
-    """How one object stands, and its last day."""
+    """One object, and its last day."""
     times, it = Times(one.now, zone), one.it
     pairs = [
         ("attempt", "none" if it.attempt is None else str(it.attempt)),

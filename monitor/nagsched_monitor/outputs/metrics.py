@@ -14,7 +14,7 @@ from .status_query import Picture
 PATIENCE = 3.0
 STATES = {**HOST_STATES, **SERVICE_STATES}
 
-# A sample: what is added to the name of its family, its labels, and its value.
+# A sample: the suffix of its name, its labels, and its value.
 Sample = Tuple[str, Mapping[str, str], float]
 Signs = Mapping[str, Any]
 
@@ -48,7 +48,7 @@ def latency(figures: Mapping[str, float]) -> List[Sample]:
 
 
 def signs_of(folder: pathlib.Path) -> Signs:
-    """What the monitor says of itself; nothing if it gives no answer."""
+    """The monitor's own signs of life; nothing if it gives no answer."""
     try:
         signs: Signs = json.loads(control.ask(folder, b'{"do":"signs"}', PATIENCE) or b"{}")
     except (MonitorFault, ValueError):
@@ -61,7 +61,7 @@ def one(value: float) -> List[Sample]:
 
 
 def signs_families(picture: Picture, signs: Signs, site: str) -> List[List[str]]:
-    """The signs of life of the monitor. Those that only it can tell are missing while it gives no answer."""
+    """The signs of life of the monitor. Most of them are missing while it gives no answer."""
     runners: Mapping[str, Mapping[str, int]] = signs.get("runners", {})
     of_runners: Dict[str, List[Sample]] = {
         what: [("", {"runner": name}, float(its[what])) for name, its in runners.items()] for what in ("running", "wanted", "stuck", "waiting")}
@@ -84,7 +84,7 @@ def signs_families(picture: Picture, signs: Signs, site: str) -> List[List[str]]
 
 
 def object_families(picture: Picture, groups: Mapping[str, Groups], site: str) -> List[List[str]]:
-    """The state of each object that was checked. Of those that are soft or flap there is a series more."""
+    """The state of each object that was checked. Soft problems and flapping objects have one more series."""
     states: List[Sample] = []
     soft: List[Sample] = []
     flapping: List[Sample] = []
@@ -125,7 +125,7 @@ def metrics(picture: Picture, groups: Mapping[str, Groups], signs: Signs, site: 
 
 
 def status(picture: Picture, groups: Mapping[str, Groups], site: str) -> Dict[str, Any]:
-    """What the page shows, as data."""
+    """The content of the page, as data."""
     figures = picture.figures
     lately = ("checks_a_second", "latest_start", "latest_start_lately", "begun_at", "written_at", "calls", "saves", "saved_at")
     return {

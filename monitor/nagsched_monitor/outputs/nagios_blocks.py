@@ -13,7 +13,7 @@ PLAIN = {**{code: " " for code in (*range(32), 127)}, 10: "\\n"}
 # The checks of the last minute, of five and of fifteen, in seconds.
 SPANS = (60, 300, 900)
 
-# What every object has alike, and the program: the monitor has no event handlers, downtime, acknowledgements or notifications of its own.
+# Members that are the same for every object, and for the program: the monitor has no event handlers, downtime, acknowledgements or notifications of its own.
 ZEROS = (
     "last_event_id", "current_event_id", "current_problem_id", "last_problem_id", "last_notification", "next_notification", "no_more_notifications",
     "current_notification_number", "current_notification_id", "problem_has_been_acknowledged", "acknowledgement_type", "event_handler_enabled",
@@ -32,7 +32,7 @@ NO_STATS = ("active_ondemand_host_check", "active_ondemand_service_check", "cach
 
 @dataclass
 class Settings:
-    """What a site's files say of an object."""
+    """The settings of an object, by the site's files."""
 
     check_interval: float = 0.0
     retry_interval: float = 0.0
@@ -44,7 +44,7 @@ class Settings:
 
 @dataclass
 class Program:
-    """What is said of the monitor itself."""
+    """The monitor itself."""
 
     process: int
     started: int
@@ -55,7 +55,7 @@ class Program:
 
 
 def settings_of(setup: Mapping[str, Any]) -> Dict[str, Settings]:
-    """What a setup says of its objects, by their full names."""
+    """The settings of a setup's objects, by their full names."""
     settings = {host["name"]: settings_from(host) for host in setup.get("hosts", ())}
     settings.update((f"{it['host']};{it['description']}", settings_from(it)) for it in setup.get("services", ()))
     return settings
@@ -72,7 +72,7 @@ def plain(text: str) -> str:
 
 
 def seconds(time: Optional[float]) -> int:
-    """A time in whole seconds, as Nagios has it: 0 where there is none."""
+    """A time in whole seconds, as Nagios has it: 0 if there is none."""
     return 0 if time is None else int(time)
 
 
@@ -156,7 +156,7 @@ def names_of_commands(document: Mapping[str, Any]) -> Dict[str, str]:
 
 
 def with_files(settings: Dict[str, Settings], commands: bytes, periods: bytes, passive: bytes) -> None:
-    """Adds what the other files of a site say, each of which may be empty."""
+    """Adds the settings of the other files of a site. Each file may be empty."""
     for name, command in names_of_commands(json.loads(commands or b"{}")).items():
         if name in settings:
             settings[name].command = command

@@ -1,6 +1,6 @@
 """Nagios's own files of a site: `status.dat`, by which Nagios's pages show it, and the pipe `nagios.cmd`, which commands it.
 
-It is a process beside the monitor, which is handed the site's folder, the folder of the files, and `notifies` if a command is run for changes. It reads the
+It is a process next to the monitor, which is handed the site's folder, the folder of the files, and `notifies` if a command is run for changes. It reads the
 database, and asks the monitor through its socket.
 """
 import collections
@@ -35,7 +35,7 @@ def log(line: str) -> None:
 
 
 class Reader:
-    """What the database and the files of a site say."""
+    """The database and the files of a site, as the status file needs them."""
 
     def __init__(self, site: pathlib.Path, program: Program) -> None:
         self._site, self._program = site, program
@@ -46,14 +46,14 @@ class Reader:
         self.settings: Dict[str, Settings] = {}
 
     def read(self) -> List[KeptStanding]:
-        """The standings by name; the settings and what was before are brought up to date."""
+        """The standings by name; the settings and the earlier states are brought up to date."""
         with opened(self._site) as database:
             self._read_settings(database)
             self._read_changes(database)
             return sorted(standings_of(database, MEMBERS))
 
     def _read_settings(self, database: sqlite3.Connection) -> None:
-        """Reads the setups over which the monitor goes, and the other files of the site; made anew only where they are others."""
+        """Reads the setups and the other files of the site, if they have changed."""
         setups = dict(database.execute("SELECT part, setup FROM generations ORDER BY id"))
         files = tuple(path.read_bytes() if path.exists() else b"" for path in (self._site / name for name in FILES))
         if setups == self._setups and files == self._files:
@@ -114,7 +114,7 @@ class NagiosFiles:
     # ---- the status file
 
     def write(self) -> None:
-        """Writes the status file anew; where that can't be, the old one stays."""
+        """Writes the status file again; if that fails, the old one stays."""
         try:
             standings = self._reader.read()
             self._services = services_of(standings)
@@ -141,7 +141,7 @@ class NagiosFiles:
                 self._waiting.append((name, {**request, "number": f"{self._mark}-{self._count}"}))
 
     def ask(self) -> None:
-        """Has the monitor obey what waits. What it didn't answer, or can't obey now, is asked again."""
+        """Has the monitor obey what waits. Requests that it doesn't answer, or can't obey now, are sent again."""
         while self._waiting:
             some = [self._waiting[place] for place in range(min(AT_ONCE, len(self._waiting)))]
             try:

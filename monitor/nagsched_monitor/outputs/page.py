@@ -32,7 +32,7 @@ from . import metrics
 from .status_query import NotShown, read_object, read_picture
 from .style import HEADERS
 
-# A client that sends nothing for so many seconds is let go, and each after so many in all.
+# How long a client may send nothing, and how long a request may take in all, in seconds.
 PATIENCE = 5
 LONGEST_REQUEST = 60
 MOST_CLIENTS = 64
@@ -110,7 +110,7 @@ class Site:
         self._zone: Optional[datetime.tzinfo] = None
 
     def zone(self) -> Optional[datetime.tzinfo]:
-        """The zone of the site; where its file is bad just now, as it was before."""
+        """The zone of the site; if its file is bad just now, the zone before."""
         try:
             _, self._zone = read_options(self._folder)
         except SiteFault:
@@ -118,7 +118,7 @@ class Site:
         return self._zone
 
     def document(self, path: str, query: str) -> Tuple[str, str]:
-        """The kind and the text of what lies at a path. `KeyError` where nothing does, `NotShown` where the database can't be read."""
+        """The kind and the text of what lies at a path. `KeyError` if there is nothing, `NotShown` if the database can't be read."""
         groups = self._groups.read()
         if path == "/":
             group = urllib.parse.parse_qs(query).get("group", [""])[0]
@@ -136,7 +136,7 @@ class Site:
 
 
 class Server(http.server.ThreadingHTTPServer):
-    """The server of a page: a thread for each client, of which there are so many at most."""
+    """The server of a page: a thread for each client, up to a limit."""
 
     daemon_threads = True
     request_queue_size = MOST_CLIENTS

@@ -37,7 +37,7 @@ def stretches(one: OneObject) -> List[Stretch]:
 
 
 def day_of(one: OneObject, time_text: Callable[[float], str]) -> str:
-    """The picture. Places across are parts of its width, so that its words keep their size where it is narrow."""
+    """The picture. Places across are parts of its width, so that its texts keep their size on a narrow page."""
     begin = one.now - DAY
 
     def across(time: float) -> float:
@@ -61,7 +61,7 @@ def day_of(one: OneObject, time_text: Callable[[float], str]) -> str:
 
 
 def named(it: Stretch) -> str:
-    """What a stretch is, in words."""
+    """A stretch as a text."""
     if it.state is None:
         return "no change is known"
     return f"{it.state} {it.kind.lower()}" if it.kind is not None and it.state not in ("OK", "UP", "PENDING") else it.state

@@ -1,4 +1,4 @@
-"""What other processes show of a site: read from its database, which is opened for reading only."""
+"""A site as other processes show it: read from its database, which is opened for reading only."""
 import pathlib
 import sqlite3
 import time
@@ -11,10 +11,10 @@ from ..store.rows import KeptChange, KeptStanding
 DAY = 86_400
 # How long a database that is locked is waited for, in seconds.
 PATIENCE = 2.0
-# Words in lists are cut after so many characters; so many changes of an object are drawn at most.
+# The length at which texts in lists are cut, and the greatest number of changes of an object that are drawn.
 LONGEST_WORDS = 500
 MOST_CHANGES = 2_000
-# A monitor that wrote nothing for so many seconds isn't at work.
+# The time after which a monitor that wrote nothing counts as silent, in seconds.
 SILENCE = 20
 
 MEMBERS = ", ".join(KeptStanding._fields).replace("state,", "coalesce(state, 'PENDING'),", 1)
@@ -36,7 +36,7 @@ class Picture:
     figures: Mapping[str, float]
 
     def wrong(self) -> List[KeptStanding]:
-        """What is wrong: hard problems before soft ones, each by how long it is, the longest first."""
+        """The problems: hard ones before soft ones, each by its age, the oldest first."""
         wrong = [it for it in self.objects if it.is_problem()]
         return sorted(wrong, key=lambda it: (not it.is_hard_problem(), it.wrong_since() or self.now, it.name))
 
@@ -88,7 +88,7 @@ def opened(folder: pathlib.Path) -> Iterator[sqlite3.Connection]:
 
 
 def standings_of(database: sqlite3.Connection, members: str, condition: str = "", *cells: str) -> List[KeptStanding]:
-    """Objects as they stand, in the order of hosts and of services on them."""
+    """Objects with their states, in the order of hosts and of services on them."""
     found = [KeptStanding(*row) for row in database.execute(f"SELECT {members} FROM standings {condition}", cells)]
     return sorted(found, key=lambda it: it.name.partition(";"))
 
@@ -101,7 +101,7 @@ def read_picture(folder: pathlib.Path, condition: str = "", *cells: str) -> Pict
 
 
 def read_object(folder: pathlib.Path, name: str) -> Optional[OneObject]:
-    """An object of a site; None if there is none of this name."""
+    """An object of a site; None if no object has this name."""
     now = time.time()
     with opened(folder) as database:
         found = standings_of(database, MEMBERS, "WHERE name = ?", name)

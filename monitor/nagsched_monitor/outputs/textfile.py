@@ -1,4 +1,4 @@
-"""The figures of a site as a file for node_exporter's textfile collector: a process beside the monitor, which takes the file away when it ends.
+"""The figures of a site as a file for node_exporter's textfile collector: a process next to the monitor, which removes the file when it ends.
 
 It is handed the site's folder and the file.
 """

@@ -1,4 +1,4 @@
-"""A process of its own beside the monitor: it is begun with it, begun again if it ends, and ended with it. It ends when its standard input does."""
+"""A process next to the monitor: it is started with it, started again if it ends, and ended with it. It ends when its standard input does."""
 import contextlib
 import os
 import select
@@ -28,7 +28,7 @@ def is_ended(seconds: Optional[float]) -> bool:
 
 
 class Beside:
-    """One process beside the monitor."""
+    """One process next to the monitor."""
 
     def __init__(self, module: str, words: Sequence[str], log: Callable[[str], None], clock: Callable[[], float] = time.monotonic) -> None:
         self._module, self._words, self._log, self._clock = module, words, log, clock
@@ -38,7 +38,7 @@ class Beside:
         self._pause = PAUSE
 
     def work(self) -> None:
-        """Begins the process, where it doesn't run."""
+        """Starts the process if it doesn't run."""
         if self._process is not None:
             status = self._process.poll()
             if status is None:

@@ -6,7 +6,7 @@ from typing import Optional
 
 from ..core.text import plain
 
-# So many lines wait at most; what comes then is dropped, and counted. The longest line, in bytes.
+# The greatest number of lines that wait; further lines are dropped, and counted. The longest line, in bytes.
 MOST_LINES = 10_000
 LONGEST = 16_384
 
@@ -42,7 +42,7 @@ class Log:
             pass  # the disk is full, or nobody reads any more
 
     def close(self, seconds: float = 2.0) -> None:
-        """Writes what is left, if that takes no longer than so many seconds."""
+        """Writes the remaining lines, within a number of seconds."""
         try:
             self._lines.put(None, timeout=seconds)
         except queue.Full:

@@ -60,7 +60,7 @@ def words_of(given: Optional[List[str]]) -> argparse.Namespace:
     parser.add_argument("--textfile", metavar="FILE", type=pathlib.Path, help="keep the figures in this file, for node_exporter's textfile collector")
     parser.add_argument("--nagios-files", metavar="DIRECTORY", type=pathlib.Path, help="keep Nagios's status.dat and its pipe nagios.cmd there")
     words = parser.add_subparsers(dest="word", metavar="WORD", help="without a word it runs the monitor; else it asks the one that runs")
-    status = words.add_parser("status", help="prints how objects stand")
+    status = words.add_parser("status", help="prints the states of objects")
     status.add_argument("pattern", nargs="?", default="*")
     status.add_argument("--long", action="store_true", help="with the time of each next check")
     reschedule = words.add_parser("reschedule", help="sets the next check of an object")
@@ -106,7 +106,7 @@ def standing_line(it: KeptStanding, is_long: bool) -> str:
 
 
 def status(words: argparse.Namespace) -> int:
-    """Prints how objects stand, by the database of a site. The exit status is 1 if no monitor is at work."""
+    """Prints the states of objects, by the database of a site. The exit status is 1 if no monitor is at work."""
     exact = read_picture(words.folder, "WHERE name = ?", words.pattern)
     picture = exact if exact.objects else read_picture(words.folder, "WHERE name GLOB ?", words.pattern)
     print("\n".join(standing_line(it, words.long) for it in picture.objects) or "no object has such a name")

@@ -1,4 +1,4 @@
-"""What a monitor is made of, and its own loop's work: it reads files, tells changes, takes over another site, and ends."""
+"""The parts of a monitor and its actions around a turn: it logs changes, takes over another site, and ends."""
 import argparse
 import os
 import signal
@@ -31,7 +31,7 @@ DAY = 86_400
 BUSY_WAIT = 100
 # How often it is tried to open the schedulers, and the pause between two tries, in seconds.
 START_TRIES, START_PAUSE = 10, 1.0
-# Files that a plugin takes of its runner, and that a process has besides.
+# The files that a plugin takes from its runner, and the other files of a process.
 FILES_OF_PLUGIN, OTHER_FILES = 4, 100
 
 
@@ -73,7 +73,7 @@ class Monitor:
         self.loop.chores = [self._drop_old_changes, self._service.alive, *(process.work for process in self._beside)]
 
     def _besides(self, words: argparse.Namespace) -> List[Beside]:
-        """The processes that are asked for beside the monitor."""
+        """The processes next to the monitor that its options ask for."""
         folder, asked = str(words.folder), []
         if words.nagios_files is not None:
             asked.append(["outputs.nagios_files", folder, str(words.nagios_files), *(["notifies"] if words.on_change is not None else [])])
@@ -165,7 +165,7 @@ class Monitor:
     # ---- another site
 
     def _take_over(self) -> Optional[int]:
-        """Goes on with the site that was read; if it is bad the old one goes on."""
+        """Takes over the site that was read; if it is bad, the old one stays."""
         read = self._reading.work()
         if read is None:
             return self.clock.moment() + BUSY_WAIT if self._reading.is_busy() else None
@@ -196,7 +196,7 @@ class Monitor:
         return {"done": "reload", "new": new, "dropped": dropped, "changed": changed}
 
     def close(self) -> None:
-        """Ends: plugins that run are killed, and their checks given up at the next start."""
+        """Ends: plugins that run are killed, and their checks are abandoned at the next start."""
         self._service.stopping()
         self.control.close()
         self._reading.close()

@@ -9,7 +9,7 @@ LAST_PORT = 65_535
 
 
 def place_of(given: str, of: str = "--page") -> Tuple[str, int]:
-    """Address and port of `ADDRESS:PORT`; an IPv6 address stands in brackets. A `MonitorFault` where `of` names no such place."""
+    """Address and port of `ADDRESS:PORT`; an IPv6 address is in brackets. A `MonitorFault` if `given` isn't such a place."""
     address, colon, port = given.rpartition(":")
     is_bracketed = address.startswith("[") and address.endswith("]")
     if not colon or not port.isascii() or not port.isdigit() or len(port) > 5 or int(port) > LAST_PORT or ":" in address and not is_bracketed:
@@ -27,7 +27,7 @@ def is_own(given: str) -> bool:
 
 
 def test_url(given: str, of: str) -> None:
-    """A `MonitorFault` if an address is none of a web server."""
+    """A `MonitorFault` if an address isn't one of a web server."""
     url = urllib.parse.urlsplit(given)
     if url.scheme not in ("http", "https") or not url.hostname:
         raise MonitorFault(f"{of}: it has to be an address such as http://localhost:9093, not {given!r}")

@@ -1,4 +1,4 @@
-"""A site that is read and tested in a process of its own, while the monitor goes on.
+"""A site that is read and tested in a process of its own, while the monitor works.
 
 The process writes the site to its standard output, as Python's `pickle` has it, or why it is refused.
 """
@@ -47,7 +47,7 @@ class Reading:
         return self._thread is not None
 
     def work(self) -> Optional[Tuple[Read, List[Optional[Request]]]]:
-        """Begins it if somebody asked. Returns what was read, once, and who asked for it."""
+        """Begins it if somebody asked. Returns the result, once, and the requests for it."""
         if self._thread is None and self._next:
             self._asked, self._next = self._next, []
             self._thread = threading.Thread(target=self._run, daemon=True)
@@ -77,7 +77,7 @@ class Reading:
 
 
 def read_now(folder: pathlib.Path, program: str) -> Read:
-    """The site of a folder, or why it is refused: whatever is wrong with it doesn't end a monitor that runs."""
+    """The site of a folder, or why it is refused: no fault of it ends a running monitor."""
     try:
         return read_site(folder, program)
     except MonitorFault as fault:

@@ -17,7 +17,7 @@ Watch = Callable[[int, Callable[[int], None]], None]
 
 
 class Poller(Protocol):
-    """What waits for files, and for time to pass."""
+    """Waits for files, and for time to pass."""
 
     def wait(self, milliseconds: float) -> bool: ...  # until something comes, which is read; False if nothing did
     def sleep(self, milliseconds: float) -> None: ...  # whatever comes
@@ -57,7 +57,7 @@ class Pace:
         self._clock, self._poller = clock, poller
 
     def rest(self, begun: int, wanted: int, second: Optional[int]) -> None:
-        """Waits for the next turn, and reads what has come until then.
+        """Waits for the next turn, and has files read until then.
 
         `begun` is when the last turn began, `wanted` when the next one is to begin at the latest, 0 for at once, and `second` when the check after that one is
         due; all are moments."""
@@ -77,7 +77,7 @@ class Pace:
 
 
 def turn_at(begun: float, wanted: float, second: Optional[float]) -> Optional[float]:
-    """The time of the next turn, whatever comes before it; None if `wanted` is so far off that a result has a turn of its own.
+    """The time of the next turn, even if something comes before it; None if `wanted` is so far off that a result has a turn of its own.
 
     A check that is due waits for the next one if that is due soon. The two are due together from then on, as far as their phases allow it."""
     rested = begun + BETWEEN_TURNS

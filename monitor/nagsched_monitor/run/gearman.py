@@ -7,18 +7,18 @@ from dataclasses import dataclass
 from typing import Deque, Dict, List, NamedTuple, Protocol, Tuple
 
 READ_BYTES = 262_144
-# A packet that says it is longer than so many bytes ends the connection.
+# The longest packet, in bytes; a longer one ends the connection.
 LONGEST_PACKET = 4 * 1024 * 1024
 HEADER = struct.Struct(">4sII")
 REQUEST, RESPONSE = b"\0REQ", b"\0RES"
 
 
 class ServerFault(Exception):
-    """The server isn't reached, or was lost: why. What was asked of it has to be asked again."""
+    """The server isn't reached, or was lost: why. Requests to it have to be sent again."""
 
 
 class Code(enum.IntEnum):
-    """What a packet is for."""
+    """The purpose of a packet."""
 
     CAN_DO, PRE_SLEEP, NOOP, SUBMIT_JOB, JOB_CREATED, GRAB_JOB, NO_JOB, JOB_ASSIGN = 1, 4, 6, 7, 8, 9, 10, 11
     WORK_STATUS, WORK_COMPLETE, WORK_FAIL, ECHO_REQ, ECHO_RES, ERROR = 12, 13, 14, 16, 17, 19
@@ -71,7 +71,7 @@ class Connection:
             raise ServerFault(error.strerror or str(error)) from None
 
     def read(self) -> List[Packet]:
-        """What has come."""
+        """The packets that have come."""
         try:
             data = self._socket.recv(READ_BYTES)
         except BlockingIOError:
@@ -105,7 +105,7 @@ class Connection:
 
 
 class Kind(enum.Enum):
-    """What happened to a job."""
+    """An event of a job."""
 
     KNOWN = "the server has it"
     TAKEN = "a worker has it"

@@ -50,7 +50,7 @@ class Door:
 
 
 def number_in(document: Dict[str, Any], member: str) -> float:
-    """A number of a document. A `Refusal` if it is none that can be reckoned with."""
+    """A number of a document. A `Refusal` if it isn't a number of reasonable size."""
     value = document.get(member)
     if isinstance(value, bool) or not isinstance(value, (int, float)) or not abs(value) < 1e12:
         raise Refusal(f"its {member} is no number")

@@ -1,6 +1,6 @@
-"""A queue of a Gearman server, as the runner has it: each job that comes is answered once, or given up within a limit.
+"""A queue of a Gearman server, as the runner has it: each job is answered once, or abandoned within a limit.
 
-A job is at the server or with a worker. If the connection is lost, all jobs are handed in again: an answer to what was handed in before can't come any more.
+A job is at the server or with a worker. If the connection is lost, all jobs are handed in again: answers over the old connection can't come any more.
 """
 import time
 from dataclasses import dataclass
@@ -57,11 +57,11 @@ class Queue:
         self._out[self._last] = out
 
     def work(self, now: float) -> None:
-        """Answers what has come, gives up what is late, and hands in what is new."""
+        """Handles answers, abandons late jobs, and hands in new ones."""
         for step in (self._read, self._give_up, self._hand_in):
             try:
                 step(now)
-            except ServerFault as fault:
+            except (ServerFault, OSError) as fault:  # there may be no room for a socket
                 self._lose(str(fault), now)
 
     def _read(self, now: float) -> None:
@@ -81,7 +81,7 @@ class Queue:
             self._client.submit(number, self.name, self._seal.sign(JOB, self._workload(number, self._out[number])))
 
     def _workload(self, number: int, out: Out) -> Dict[str, Any]:
-        """What a worker is told: the job, and for which queue and how long it holds, by the wall clock."""
+        """The message to a worker: the job, its queue, and the time for which it is valid, by the wall clock."""
         begin = time.time()
         return {"job": f"{self._mark}-{number}", "words": out.words, "limit": out.limit, "queue": self.name, "time": begin, "until": begin + self._wait}
 
@@ -127,7 +127,7 @@ class Queue:
             self._lost(out, "its worker's answer isn't signed with this site's key" if is_unsigned else "its worker's answer was no result")
 
     def _give_up(self, now: float) -> None:
-        """Gives up the jobs whose results are late, and those that nobody took in time."""
+        """Abandons the jobs whose results are late, and those that no worker took in time."""
         late = [number for number, out in self._out.items() if (
             now - out.came >= self._wait if out.taken is None else now - out.taken >= out.limit + GRACE)]
         for number in late:

@@ -19,8 +19,8 @@ from .pool import Pool
 from .runner_program import runner_words
 from .runners import raise_file_limit
 
-# When a lost server is tried again, from one sign of life of it to the next, how much later than its limit a result may come, and how long plugins that run
-# may take to end when the worker is to stop; in seconds.
+# The pause before a lost server is tried again, the time between two signs of life of it, the delay after its limit at which a result is late, and the time
+# that running plugins have to end when the worker stops; in seconds.
 RETRY, SIGN, GRACE, STOPPING = 1.0, 10.0, 10.0, 10.0
 # How often the log says that jobs are refused, in seconds, and the longest time from one turn to the next, in milliseconds.
 SAYING, TURN = 60.0, 500
@@ -29,7 +29,7 @@ NOT_SIGNED = b"it isn't signed with this worker's key, or is no job"
 
 
 class Running(NamedTuple):
-    """A job whose plugin runs: where its answer goes, and when it is late."""
+    """A job whose plugin runs, with the receiver of its answer and the time at which it is late."""
 
     job: Job
     number: Any
@@ -39,7 +39,7 @@ class Running(NamedTuple):
 
 
 class Worker:
-    """One connection, which has as many jobs at once as there are slots. The runner behind it is handed in, and works in each turn."""
+    """One connection, which has as many jobs at once as there are slots. Its runner is handed in."""
 
     def __init__(self, connect: Callable[[], Connection], queues: Sequence[str], slots: int, seal: Seal, door: Door, runner: Pool, log: Callable[[str], None],
                  clock: Callable[[], float] = time.monotonic) -> None:
@@ -65,7 +65,7 @@ class Worker:
         for step in (self._listen, self._end_jobs, self._ask_for_jobs):
             try:
                 step(now)
-            except ServerFault as fault:
+            except (ServerFault, OSError) as fault:  # there may be no room for a socket
                 self._lose(str(fault), now)
         self._runner.flush()
 
@@ -130,7 +130,7 @@ class Worker:
     # ---- jobs
 
     def begin(self, connection: Connection, handle: bytes, workload: bytes) -> Optional[bytes]:
-        """Has a job run; the answer if it isn't run, whatever it is."""
+        """Has a job run. Returns the answer to a job that isn't run."""
         try:
             document = self._seal.open(JOB, workload)
             if document is None:

@@ -1,4 +1,4 @@
-"""What the monitor hands to runners, and what they answer. The lines between the two are described in `docs/MONITOR.md`."""
+"""Jobs for runners, and their answers. The lines between the two are described in `docs/MONITOR.md`."""
 import functools
 import json
 from typing import Any, Dict, List, NamedTuple, Optional, Protocol, Sequence, Set, Tuple, Union
@@ -51,7 +51,7 @@ Event = Union[Finished, Lost, Gone]
 
 
 class Runners(Protocol):
-    """What the engine asks of those who run plugins."""
+    """Runners, as the engine uses them."""
 
     def start(self, job: Job) -> None: ...  # from the next `flush` on
     def flush(self) -> None: ...
@@ -68,7 +68,7 @@ def command_line(words: Tuple[str, ...], limit: float) -> bytes:
 
 
 def result_of(job: Job, members: Dict[str, Any]) -> Event:
-    """The event that a runner's line is; `ValueError` says what is wrong with it."""
+    """The event that a runner's line is; `ValueError` says why it isn't one."""
     if "lost" in members:
         return Lost(job, plain(text_of(members, "lost")), job.runner is None)
     end, code, is_stuck = members.get("end"), members.get("code"), members.get("stuck", False)
@@ -94,7 +94,7 @@ def number_of(members: Dict[str, Any]) -> int:
 
 
 def read_line(line: bytes) -> Dict[str, Any]:
-    """The members of a runner's line; `ValueError` or `RecursionError` if it is none."""
+    """The members of a runner's line; `ValueError` or `RecursionError` if it can't be read."""
     members = READER.decode(line.decode())
     if not isinstance(members, dict):
         raise ValueError("it is no object")

@@ -50,7 +50,7 @@ class Process:
 
 
 class Pool:
-    """So many processes of one command. Without `slots` they have any number of jobs at once, and a job waits for them as long as it takes."""
+    """Processes of one command. Without `slots` they have any number of jobs at once, and a job waits for them as long as it takes."""
 
     def __init__(self, name: str, words: Sequence[str], count: int, slots: Optional[int], wait: float, log: Callable[[str], None],
                  watch: Watch, unwatch: Callable[[int], None], clock: Callable[[], float]) -> None:
@@ -201,7 +201,7 @@ class Pool:
         return process.end()
 
     def kill(self, job: Job) -> bool:
-        """Kills the process that has this job, since it stands still. A job that no process has yet is lost. False if it isn't here."""
+        """Kills the process that has this job, since it gives no answer. A job that no process has yet is lost. False if it isn't here."""
         for process in list(self.processes.values()):
             if any(job is each for each, _ in process.jobs.values()):
                 self._log(f"{self._called} gave no result in time: it is killed, and {len(process.jobs)} checks with it")
@@ -221,7 +221,7 @@ class Pool:
         while self._waiting:
             self._events.append(Lost(self._waiting.popleft()[0]))
 
-    # ---- what is asked
+    # ---- questions
 
     def events(self) -> List[Event]:
         events, self._events = self._events, []

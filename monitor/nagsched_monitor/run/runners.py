@@ -25,7 +25,7 @@ class RunnerProcesses:
                  clock: Callable[[], float] = time.monotonic) -> None:
         self._pool = partial(Pool, log=log, watch=watch, unwatch=unwatch, clock=clock)
         self._pools: Dict[str, Pool] = {LOCAL: self._pool(LOCAL, runner_words(), count, None, 0.0)}
-        # What pools left that are no longer there.
+        # The last events of pools that are gone.
         self._events: List[Event] = []
 
     def serve(self, remotes: Mapping[str, Remote]) -> None:

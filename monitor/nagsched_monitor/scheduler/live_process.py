@@ -77,7 +77,7 @@ class Conversation:
         return self._process.pid
 
     def close(self, grace: float = GRACE) -> None:
-        """Ends the scheduler's process; it is killed if it doesn't end by itself within so many seconds."""
+        """Ends the scheduler's process; it is killed if it hasn't ended after a number of seconds."""
         for pipe in (self._process.stdin, self._process.stdout):
             if pipe is not None:
                 pipe.close()

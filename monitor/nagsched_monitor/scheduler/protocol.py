@@ -122,7 +122,7 @@ def time_of(word: str) -> Optional[int]:
 
 
 def read_answer(line: str) -> Optional[Answer]:
-    """What an answer says; None where it is none of the answers to a call."""
+    """An answer; None if it isn't an answer to a call."""
     word, _, rest = line.partition(" ")
     if word == "standing":
         state, kind, attempt, changed, flapping, time, name = rest.split(" ", 6)

@@ -1,4 +1,4 @@
-"""The processes of all schedulers. One that ends is started again from what is stored, so that whoever makes calls doesn't notice.
+"""The processes of all schedulers. A scheduler that ends is started again from the stored calls, so that its callers don't notice.
 
 A call is made once: it waits until its scheduler has answered it. The stored calls before it are made again by a scheduler that is started again, and give the
 same runs. A call after which a scheduler ends twice, if it is the only one that was sent, is set aside.
@@ -41,7 +41,7 @@ Made = Tuple[Kept, Answer]
 
 
 def read_answers(said: Sequence[str], lines: Sequence[str]) -> List[Answer]:
-    """What a scheduler said to these lines."""
+    """The answers of a scheduler to these lines."""
     answers: List[Answer] = []
     for each, line in zip(said, lines):
         answer = read_answer(each)
@@ -60,7 +60,7 @@ class Part:
         self.answered = generation.last_call
         self.pending: Deque[Kept] = collections.deque()
         self.conversation: Optional[Conversation] = None
-        # What is wrong with it, when that was said last, and the moment before which it isn't started again.
+        # Its trouble, when that was logged last, and the moment before which it isn't started again.
         self.trouble: Optional[str] = None
         self._said_at = self._not_before = 0
         # The lines of the pending calls that were sent.
@@ -148,7 +148,7 @@ class Part:
         return [(kept, Refused("it was set aside"))]
 
     def tried(self, what: Callable[[Conversation], Got]) -> Got:
-        """What changes nothing and isn't stored. `ConversationEnded` if no scheduler can be had for it."""
+        """Does something that changes nothing and isn't stored. `ConversationEnded` if no scheduler can be started for it."""
         for left in reversed(range(TRIES)):
             try:
                 return what(self._revived())
@@ -175,7 +175,7 @@ class Schedulers:
         self.parts: Dict[int, Part] = {}
 
     def open(self, generations: Mapping[int, Generation]) -> None:
-        """Goes on with these. A part whose generation stays, stays open."""
+        """Continues with these generations. A part with the same setup stays open."""
         before, self.parts = self.parts, {}
         for number, generation in generations.items():
             part = before.get(number)
@@ -205,7 +205,7 @@ class Schedulers:
             self.parts[kept.part].pending.append(kept)
 
     def exchange(self) -> List[Made]:
-        """Makes the calls that wait, and returns their answers. Those of a scheduler that can't be had now go on waiting."""
+        """Makes the calls that wait, and returns their answers. Calls of a scheduler that can't be started now continue to wait."""
         waiting = [part for part in self.parts.values() if part.pending]
         for part in waiting:
             part.begin()

@@ -21,7 +21,7 @@ LIMIT = 30.0
 
 @dataclass(frozen=True)
 class Command:
-    """A command line, split where no shell runs it."""
+    """A command line, split unless a shell runs it."""
 
     words: Sequence[str]
     # How long the plugin may take, in seconds.
@@ -59,7 +59,7 @@ def is_whole(line: str) -> bool:
 
 
 def plain_words(line: str, place: str, is_here: bool) -> List[str]:
-    """The words of a line that no shell runs; the first is a program that is there, where it is run here."""
+    """The words of a line that no shell runs; the first is a program that exists, if it is run here."""
     words, signs = (line.split(), []) if PLAIN.fullmatch(line) else split_words(line, place)
     if not words:
         raise SiteFault(f"{place}: its line is empty")
@@ -72,7 +72,7 @@ def plain_words(line: str, place: str, is_here: bool) -> List[str]:
 
 @functools.lru_cache(maxsize=None)
 def is_program(name: str) -> bool:
-    """Whether a program is there; what was found is forgotten when a site is read anew."""
+    """Whether a program exists; the answers are forgotten when a site is read again."""
     return shutil.which(name) is not None
 
 
@@ -85,7 +85,7 @@ def split_words(line: str, place: str) -> Tuple[List[str], List[str]]:
 
 
 def shell_signs(line: str) -> List[str]:
-    """What stands in a line outside of quotes that only a shell takes for more than letters."""
+    """The signs in a line, outside of quotes, that only a shell gives a meaning."""
     signs = ";|&<>()"
     lexer = shlex.shlex(line, posix=True, punctuation_chars=signs)
     lexer.whitespace_split, lexer.commenters = True, ""

@@ -15,7 +15,7 @@ from .json_files import only_known, only_object, read_object, seconds
 
 FILE = "runners.json"
 NAME = re.compile(r"[A-Za-z0-9_.-]{1,64}")
-# The name of the runners of this machine, in what is shown.
+# The name of the runners of this machine, in figures.
 LOCAL = "local"
 # How many checks a runner has at once, and for how many seconds one waits for it, if the file doesn't say.
 SLOTS, WAIT, MOST_SLOTS = 32, 30.0, 10_000

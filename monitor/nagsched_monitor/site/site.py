@@ -1,4 +1,4 @@
-"""A site: the folder that says what is monitored and how. It is read and tested whole before anything runs.
+"""A site: the folder that says which objects are monitored, and how. It is read and tested as a whole before anything runs.
 
     setup.json        the setup of the scheduler, or several: part-1.json, part-2.json and on
     mirrors.json      which objects of a part are mirrors of those of another (may be left out)
@@ -46,7 +46,7 @@ class Watched:
     command: Optional[Command] = None
     period: Optional[str] = None
     passive_only: bool = False
-    # Milliseconds within which a result has to come; None where it may take its time.
+    # Milliseconds within which a result has to come; None without a limit.
     freshness: Optional[int] = None
     # The runner elsewhere that makes its checks; None if they are made here.
     runner: Optional[str] = None
@@ -86,7 +86,7 @@ class Site:
 
 
 def read_site(folder: pathlib.Path, program: str) -> Site:
-    """The site of a folder, or a `SiteFault` that names the file and what is wrong there."""
+    """The site of a folder, or a `SiteFault` that names the file and the error."""
     with reading(folder):
         return read_files(folder, program)
 
@@ -206,7 +206,7 @@ def read_period_file(folder: pathlib.Path, objects: Mapping[str, Watched], zone:
 
 
 def read_passive(folder: pathlib.Path, objects: Mapping[str, Watched]) -> Dict[str, Tuple[bool, Optional[int]]]:
-    """Of each object that is named: whether it is passive only, and its freshness in milliseconds."""
+    """For each object in the file, whether it is passive only, and its freshness in milliseconds."""
     passive = {}
     for name, members in read_object(folder, "passive.json", required=False).items():
         place = f"passive.json: {name}"
@@ -221,7 +221,7 @@ def read_passive(folder: pathlib.Path, objects: Mapping[str, Watched]) -> Dict[s
 
 
 def read_options(folder: pathlib.Path) -> Tuple[Options, Optional[zoneinfo.ZoneInfo]]:
-    """The options, and the zone of the site: the machine's where none is named."""
+    """The options, and the zone of the site: the machine's if none is named."""
     members = only_known(
         read_object(folder, "monitor.json", required=False),
         ("slots", "cached_host_check_horizon", "service_check_timeout_state", "keep_days", "zone"),

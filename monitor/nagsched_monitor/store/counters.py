@@ -1,4 +1,4 @@
-"""What the monitor counts of itself: results, how far checks start behind their times, saves. What is counted goes on over a restart.
+"""The figures of the monitor itself: results, delays of checks, saves. They continue after a restart.
 
 The names of the figures that are kept, and what each is:
 
@@ -59,7 +59,7 @@ class Counters:
         self._values["faults"] += 1
 
     def started(self, late: int) -> None:
-        """A check began so many milliseconds behind its time."""
+        """A check began late, by a number of milliseconds."""
         seconds = max(0, late) / 1000
         self._values[BUCKETS[bisect.bisect_left(BOUNDS, seconds)]] += 1
         self._values["late.sum"] += seconds
@@ -70,7 +70,7 @@ class Counters:
         self._values["saves"] += 1
         self._values["saved_at"] = self._clock.wall()
 
-    # ---- what is written
+    # ---- writing
 
     def are_due(self, now: int) -> bool:
         """Whether it is time to write them: every five seconds."""

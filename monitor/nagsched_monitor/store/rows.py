@@ -22,7 +22,7 @@ TABLES: Dict[str, str] = {
     "damaged": "source TEXT, was TEXT",
 }
 INDEXES = ("changes_by_name ON changes (name, id)", "changes_by_time ON changes (time)")
-# What is told to people alone: a row of these that is damaged is set aside, and the monitor goes on.
+# Tables that only people read: a damaged row of them is set aside, and the monitor continues.
 FOR_PEOPLE = ("changes", "figures", "standings")
 # The version of these tables; the first one had no phases.
 VERSION = 2
@@ -82,7 +82,7 @@ class KeptChange:
 
 
 class KeptStanding(NamedTuple):
-    """How an object stands. Times are seconds since 1970 of the wall clock, None where there is none."""
+    """The state of an object. Times are seconds since 1970 of the wall clock, None if there is none."""
 
     name: str
     state: Optional[str]
@@ -102,7 +102,7 @@ class KeptStanding(NamedTuple):
     took: Optional[float]
     late: Optional[float]
     words: str
-    # A moment at which it is checked by itself.
+    # A moment of its own rhythm.
     phase: Optional[int] = None
 
     def is_host(self) -> bool:
@@ -128,7 +128,7 @@ class KeptStanding(NamedTuple):
 
 @dataclass
 class LastChanges:
-    """What the kept changes of an object say: its last state and its last hard one, each with the time at which it began."""
+    """The stored changes of an object: its last state and its last hard one, each with the time at which it began."""
 
     state: str
     since: float
@@ -151,5 +151,5 @@ def text_of(names: AbstractSet[str]) -> str:
 
 
 def names_of(text: Optional[str]) -> AbstractSet[str]:
-    """The names of a cell; none where there is none."""
+    """The names of a cell; none if it is empty."""
     return frozenset() if text is None else frozenset(json.loads(text))

@@ -96,7 +96,7 @@ class Store:
     # ---- reading
 
     def _verify(self) -> None:
-        """Tests each row's checksum but for those of the history, and that no call is missing between two."""
+        """Tests each row's checksum, except those of the history, and that no call is missing between two."""
         for table in TABLES:
             if table not in ("changes", "damaged"):
                 self._sound(table, self._database.execute(f"SELECT * FROM {table} ORDER BY id").fetchall())
@@ -122,7 +122,7 @@ class Store:
 
     @contextlib.contextmanager
     def _reading(self) -> Iterator[None]:
-        """What can't be read now is told as what can't be stored."""
+        """A failed read raises `NotStored`, as a failed write does."""
         try:
             yield
         except sqlite3.Error as error:
@@ -137,7 +137,7 @@ class Store:
         return {row[0]: Generation(*(*row[:-1], names_of(row[-1]))) for row in self._database.execute(GENERATIONS)}
 
     def calls_since(self, part: int, number: int) -> List[KeptCall]:
-        """The calls of a part after the call with this number, but for those that were set aside."""
+        """The calls of a part after the call with this number, except those that were set aside."""
         return self.calls_between(part, number, self.last_call)
 
     def calls_between(self, part: int, number: int, last: int) -> List[KeptCall]:
@@ -147,7 +147,7 @@ class Store:
             return [KeptCall(*row) for row in self._database.execute(rows, (part, number, last))]
 
     def last_moment(self) -> int:
-        """The greatest moment that was kept. Behind a save no call may have one, so that the figures have one as well."""
+        """The greatest moment that was kept. After a save there may be no calls, so the figures have a moment too."""
         moments = [0, int(self.figures().get("moment", 0)), *(generation.start for generation in self.generations().values())]
         for (line,) in self._database.execute("SELECT line FROM calls ORDER BY id DESC"):
             call = read_call(line)
@@ -204,7 +204,7 @@ class Store:
     # ---- writing
 
     def write(self, *writes: Write) -> None:
-        """Writes all of these or nothing, and syncs it. `NotStored` where the disk is full or the file can't be written."""
+        """Writes all of these or nothing, and syncs it. `NotStored` if the disk is full or the file can't be written."""
         last_call = self.last_call
         try:
             self._database.execute("BEGIN IMMEDIATE")

@@ -1,4 +1,4 @@
-"""What is written to the database of a site. Each function returns one thing to be written together with others, or not at all."""
+"""Writes to the database of a site. Each function returns a write that is carried out together with others, or not at all."""
 from typing import Iterable, Mapping, Optional, Sequence, Tuple
 
 from .rows import Cell, Generation, KeptChange, KeptStanding, number_of, text_of
@@ -81,7 +81,7 @@ def keep_change(made: KeptChange, document: Optional[str]) -> Write:
 
 
 def drop_documents(last: int) -> Write:
-    """The documents up to this one were taken, or are given up."""
+    """The documents up to this one were taken, or are dropped."""
     return delete("outbox", "id <= ?", last)
 
 
@@ -91,7 +91,7 @@ def drop_changes_before(time: float) -> Write:
 
 
 def keep_standings(standings: Sequence[KeptStanding]) -> Write:
-    """How objects stand."""
+    """The states of objects."""
     rows = [(number_of(kept.name), (*kept[:4], int(kept.flapping), *kept[5:9], int(kept.is_on), *kept[10:])) for kept in standings]
     return lambda store: store.insert_all("standings", rows)
 
@@ -102,5 +102,5 @@ def drop_standings(names: Sequence[str]) -> Write:
 
 
 def keep_figures(values: Mapping[str, float]) -> Write:
-    """What the monitor counts of itself."""
+    """The figures of the monitor itself."""
     return all_of(replace("figures", name, float(value)) for name, value in values.items())
