@@ -40,7 +40,7 @@ class Connection:
         self._socket = socket.socket(socket.AF_INET6 if ":" in place[0] else socket.AF_INET)
         self._socket.setblocking(False)
         self._unread = b""
-        self._unsent = b""
+        self._unsent = bytearray()
         try:
             self._socket.setsockopt(socket.IPPROTO_TCP, socket.TCP_NODELAY, 1)
             self._socket.connect(place)
@@ -64,7 +64,7 @@ class Connection:
         """Sends what there is room for."""
         try:
             while self._unsent:
-                self._unsent = self._unsent[self._socket.send(self._unsent) :]
+                del self._unsent[: self._socket.send(self._unsent)]
         except BlockingIOError:
             pass
         except OSError as error:
@@ -85,19 +85,21 @@ class Connection:
 
     def _packets(self) -> List[Packet]:
         packets: List[Packet] = []
-        while len(self._unread) >= HEADER.size:
-            magic, code, size = HEADER.unpack_from(self._unread)
+        at = 0
+        while len(self._unread) - at >= HEADER.size:
+            magic, code, size = HEADER.unpack_from(self._unread, at)
             if magic != RESPONSE or size > LONGEST_PACKET:
                 raise ServerFault("it isn't a Gearman server")
-            if len(self._unread) < HEADER.size + size:
+            end = at + HEADER.size + size
+            if len(self._unread) < end:
                 break
-            body = self._unread[HEADER.size : HEADER.size + size]
-            self._unread = self._unread[HEADER.size + size :]
+            body, at = self._unread[at + HEADER.size : end], end
             count = PARTS.get(code, 1)
             parts = body.split(b"\0", count - 1)
             if code == Code.ERROR or len(parts) != count:
                 raise ServerFault(body.replace(b"\0", b" ").decode(errors="replace"))
             packets.append(Packet(code, parts))
+        self._unread = self._unread[at:]
         return packets
 
     def close(self) -> None:

@@ -34,7 +34,7 @@ class GearmanRunner:
         self._jobs, self._results = jobs, results
         self._queue = Queue(words.queue, secrets.token_hex(16), words.wait, lambda: ServerClient(place), self._answer, log, seal)
         self._unread = b""
-        self._unsent = b""
+        self._unsent = bytearray()
         self._is_ended = False
 
     def work(self) -> None:
@@ -69,7 +69,7 @@ class GearmanRunner:
         """Writes results, as far as the monitor reads them; the rest waits."""
         try:
             while self._unsent:
-                self._unsent = self._unsent[os.write(self._results, self._unsent) :]
+                del self._unsent[: os.write(self._results, self._unsent)]
         except BlockingIOError:
             pass
 

@@ -27,7 +27,7 @@ class Process:
     jobs: Dict[int, Tuple[Job, float]] = field(default_factory=dict)
     stuck: Dict[int, Job] = field(default_factory=dict)
     unread: bytes = b""
-    unsent: bytes = b""
+    unsent: bytearray = field(default_factory=bytearray)
     # The files by which it reads jobs, and writes results.
     reads_from: int = field(init=False)
     writes_to: int = field(init=False)
@@ -106,7 +106,7 @@ class Pool:
         for process in list(self.processes.values()):
             try:
                 while process.unsent:
-                    process.unsent = process.unsent[os.write(process.reads_from, process.unsent) :]
+                    del process.unsent[: os.write(process.reads_from, process.unsent)]
             except BlockingIOError:
                 pass  # the rest goes at the next time
             except OSError:
