@@ -5,6 +5,7 @@ import json
 import pathlib
 import shutil
 import subprocess
+import tempfile
 import threading
 import time
 import unittest
@@ -148,6 +149,30 @@ class Examples(unittest.TestCase):
 
     def test_the_configuration_of_prometheus(self) -> None:
         self.check("promtool", "check", "config", "prometheus.yml")
+
+    def test_what_the_rules_tell(self) -> None:
+        """By promtool: each rule's alert after some minutes of these figures, and none of it while all is well."""
+        if shutil.which("promtool") is None:
+            self.skipTest("promtool isn't here")
+        well = {"up": "1+0x60", "last_turn_timestamp_seconds": "0+60x60", "stuck": "0+0x60", "passive_waiting": "0+0x60", "oldest_change_seconds": "0+0x60",
+                "runners_stuck": "0+0x60", "runners": "4+0x60", "runners_wanted": "4+0x60", "faults_total": "0+0x60", "state": "0+0x60"}
+        for figure, values, alert in (
+            ("up", "0+0x60", "NagschedNoAnswer"), ("last_turn_timestamp_seconds", "0+0x60", "NagschedStandsStill"), ("stuck", "1+0x60", "NagschedStuck"),
+            ("passive_waiting", "2000+0x60", "NagschedPassiveResultsWait"), ("oldest_change_seconds", "700+0x60", "NagschedChangesWait"),
+            ("runners_stuck", "1+0x60", "NagschedRunnersStuck"), ("runners", "3+0x60", "NagschedRunnersMissing"), ("faults_total", "0+1x60", "NagschedFaults"),
+            ("state", "2+0x60", "NagschedProblem"),
+        ):
+            for is_wrong in (True, False):
+                series = [{"series": f'nagsched_{name}{{site="a",host="h"}}', "values": values if name == figure and is_wrong else usual}
+                          for name, usual in well.items()]
+                expected = [{"eval_time": "30m", "alertname": alert, "exp_alerts": []}]
+                test = {"rule_files": [str(EXAMPLES / "alert_rules.yml")], "evaluation_interval": "1m",
+                        "tests": [{"interval": "1m", "input_series": series, "alert_rule_test": expected}]}
+                with tempfile.NamedTemporaryFile("w", suffix=".yml") as file:
+                    json.dump(test, file)  # which YAML reads too
+                    file.flush()
+                    ran = subprocess.run(["promtool", "test", "rules", file.name], stdout=subprocess.PIPE, stderr=subprocess.STDOUT, text=True, check=False)
+                self.assertEqual((ran.returncode == 0, "got:[" in ran.stdout.replace(" ", "").replace("\n", "")), (not is_wrong, is_wrong), (alert, ran.stdout))
 
     def test_each_figure_of_a_rule_is_there(self) -> None:
         told = (EXAMPLES.parent / "monitor/nagsched_monitor/outputs/metrics.py").read_text()
