@@ -11,7 +11,8 @@ use Rattle.std.proofs.lemmas.Str.{IsUtf8-append, IsUtf8-nil, IsUtf8-from_is_utf8
 use Rattle.serde_json.specs.Data.{Data, Items, no_items, item}
 use Rattle.serde_json.specs.Find.{as_array, as_str, get}
 use Rattle.link_order.specs.Cycles.{has_cycle}
-use Rattle.check_drafts.specs.Agreement.{◌>>=◌}
+use Rattle.check_drafts.specs.Agreement.{◌>>=◌, refused_as}
+use Rattle.check_drafts.specs.Fault.{Fault, load_error, not_json, too_long}
 use Rattle.check_drafts.specs.declared.error.LoadError.{LoadError}
 use Rattle.check_drafts.specs.declared.error.LoadError.TheVariants as errors
 use Rattle.check_drafts.specs.declared.place.Part.TheVariants as part
@@ -22,13 +23,15 @@ use Rattle.check_drafts.specs.Members as members
 use Rattle.check_drafts.specs.Name.{full_name}
 use Rattle.check_drafts.specs.Place.{host_at, service_at, the_document, the_hosts, the_options, the_services}
 use Rattle.check_documents.specs.Tree.{◌>=>◌, has_only, texts_in, tree_of}
-use Rattle.check_documents.specs.Reading.{check_draft, dependencies_in, document_members, drafts_of, host_draft, host_letters, host_members, items_from}
-use Rattle.check_documents.specs.Reading.{list_of, options_of, service_draft, service_letters, service_members}
+use Rattle.check_documents.specs.Shapes.{wrong_at}
+use Rattle.check_documents.specs.Reading.{check_draft, dependencies_in, document_members, drafts_of, host_draft, host_members, items_from}
+use Rattle.check_documents.specs.Reading.{list_of, options_of, service_draft, service_members, wrong_options}
+use Rattle.check_documents.specs.Criteria.{service_letters, host_letters}
 use Rattle.check_faults.specs.Verification.{is_faultless}
 use Rattle.check_numbers.specs.Configuration.{Configuration, IsSetup, Named, masters_of, named_host, named_service, objects_of, parents_by_host}
 use Rattle.check_numbers.specs.Numbering.{body_of, configuration, hosts_in_order, names_in_order, numbered_host, numbered_service, object_of, services_in_order}
 use Rattle.check_numbers.proofs.NameLemmas.{all_moved}
-use Rattle.check_objects.specs.Setup.{setup_of, setup_of_drafts, setup_of_tree, without_cycles, without_parent_cycle}
+use Rattle.check_objects.specs.Setup.{setup_of, setup_of_tree, without_cycles, without_parent_cycle}
 use Rattle.check_objects.proofs.OrderLemmas.{hosts_all, services_all}
 use Rattle.check_objects.proofs.SetupLemmas.{configuration_is_setup}
 use Rattle.check_saved.proofs.Utf8Lemmas.{GoodIf, GoodItems, GoodTree, array_good, get_good, good_then, on_test, one_ascii, read_good, str_good}
@@ -96,21 +99,21 @@ items_from_good : {A : Type 0} (P : A → Type 0) (shape : Data → Option A) (p
     → (i : ℕ) (ds : Items) → GoodItems ds → GoodOk (AllGood P) (items_from shape place i ds)
 items_from_good P shape place h i no_items g = tt
 items_from_good P shape place h i (item d ds) g =
-    bind_good P (AllGood P) (ok_or (shape d) (errors.Shape (place i))) _ (ok_good P (shape d) (errors.Shape (place i)) (h d g.0))
+    bind_good P (AllGood P) (ok_or (shape d) (wrong_at (place i) d)) _ (ok_good P (shape d) (wrong_at (place i) d) (h d g.0))
     (λ first f. bind_good (AllGood P) (AllGood P) (items_from shape place (i + 1) ds) _ (items_from_good P shape place h (i + 1) ds g.1) (λ more m. (f, m)))
 
 list_of_good : {A : Type 0} (P : A → Type 0) (shape : Data → Option A) (whole : Place) (place : ℕ → Place)
     → ((d : Data) → GoodTree d → GoodIf P (shape d)) → (value : Option Data) → GoodIf GoodTree value → GoodOk (AllGood P) (list_of shape whole place value)
 list_of_good P shape whole place h None g = tt
 list_of_good P shape whole place h (Some d) g =
-    bind_good GoodItems (AllGood P) (ok_or (as_array d) (errors.Shape whole)) _ (ok_good GoodItems (as_array d) (errors.Shape whole) (array_good d g))
+    bind_good GoodItems (AllGood P) (ok_or (as_array d) (wrong_at whole d)) _ (ok_good GoodItems (as_array d) (wrong_at whole d) (array_good d g))
     (λ items k. items_from_good P shape place h 0 items k)
 
 drafts_good : (d : Data) → GoodTree d → GoodOk GoodDrafts (drafts_of d)
 unfolding drafts_of
 drafts_good d g =
-    on_test (GoodOk GoodDrafts) (has_only document_members d) _ (Err (errors.Shape the_document))
-    (λ e. bind_any GoodDrafts (ok_or (options_of (get members.options.name d)) (errors.Shape the_options)) _
+    on_test (GoodOk GoodDrafts) (has_only document_members d) _ (Err (wrong_at the_document d))
+    (λ e. bind_any GoodDrafts (ok_or (options_of (get members.options.name d)) (wrong_options (get members.options.name d))) _
     (λ options. bind_good (AllGood GoodHost) GoodDrafts (list_of host_draft the_hosts host_at (get members.hosts.name d)) _
     (list_of_good GoodHost host_draft the_hosts host_at host_good (get members.hosts.name d) (get_good members.hosts.name d g))
     (λ hosts h. bind_good (AllGood GoodService) GoodDrafts (list_of service_draft the_services service_at (get members.services.name d)) _
@@ -183,8 +186,8 @@ masters_free : (c d : Configuration) (cycle : Bool) → (cond cycle (Err errors.
 masters_free c d true e = cc
 masters_free c d false e = (refl, e)
 
-setup_by_drafts : (ds : Drafts) (c : Configuration) (r : Result (Unit {0}) LoadError) → GoodDrafts ds → is_faultless ds ≡ r
-    → (r >>= λ _. without_cycles (configuration ds)) ≡ Ok c → IsRead c
+setup_by_drafts : (ds : Drafts) (c : Configuration) (r : Result (Unit {0}) Fault) → GoodDrafts ds → is_faultless ds ≡ r
+    → (refused_as load_error (r >>= λ _. Ok ds) >>= λ drafts. without_cycles (configuration drafts)) ≡ Ok c → IsRead c
 setup_by_drafts ds c (Ok _) g faultless e =
     let d = configuration ds in
     let masters = masters_free d c (has_cycle (masters_of d)) e in
@@ -192,17 +195,18 @@ setup_by_drafts ds c (Ok _) g faultless e =
     subst IsRead parents.1 (record { setup = configuration_is_setup ds faultless masters.0 parents.0; texts = names_are_texts ds faultless g })
 setup_by_drafts ds c (Err why) g faultless e = cc
 
-setup_by_shape : (r : Result Drafts LoadError) (c : Configuration) → GoodOk GoodDrafts r → (r >>= setup_of_drafts) ≡ Ok c → IsRead c
+setup_by_shape : (r : Result Drafts Fault) (c : Configuration) → GoodOk GoodDrafts r
+    → (refused_as load_error (r >>= λ ds. (is_faultless ds >>= λ _. Ok ds)) >>= λ ds. without_cycles (configuration ds)) ≡ Ok c → IsRead c
 setup_by_shape (Ok ds) c g e = setup_by_drafts ds c (is_faultless ds) g refl e
 setup_by_shape (Err why) c g e = cc
 
-setup_by_tree : (r : Result Data LoadError) (c : Configuration) → GoodOk GoodTree r → (r >>= setup_of_tree) ≡ Ok c → IsRead c
+setup_by_tree : (r : Result Data Fault) (c : Configuration) → GoodOk GoodTree r → (refused_as load_error r >>= setup_of_tree) ≡ Ok c → IsRead c
 unfolding setup_of_tree
 setup_by_tree (Ok d) c g e = setup_by_shape (drafts_of d) c (drafts_good d g) e
 setup_by_tree (Err why) c g e = cc
 
-setup_by_length : (long : Bool) (r : Result Data LoadError) (c : Configuration) → GoodOk GoodTree r
-    → cond long (Err errors.TooLong) (r >>= setup_of_tree) ≡ Ok c → IsRead c
+setup_by_length : (long : Bool) (r : Result Data Fault) (c : Configuration) → GoodOk GoodTree r
+    → (refused_as load_error (cond long (Err too_long) r) >>= setup_of_tree) ≡ Ok c → IsRead c
 setup_by_length true r c g e = cc
 setup_by_length false r c g e = setup_by_tree r c g e
 
@@ -213,5 +217,5 @@ tree_texts document = on_test (GoodIf GoodTree) (is_utf8 document) _ None (λ e.
 pub setup_by : (document : List ℕ) (c : Configuration) → setup_of document ≡ Ok c → IsRead c
 unfolding setup_of
 setup_by document c e =
-    setup_by_length (nat_lt 16777216 (length document)) (ok_or (tree_of document) errors.NotJson) c
-    (ok_good GoodTree (tree_of document) errors.NotJson (tree_texts document)) e
+    setup_by_length (nat_lt 16777216 (length document)) (ok_or (tree_of document) not_json) c
+    (ok_good GoodTree (tree_of document) not_json (tree_texts document)) e

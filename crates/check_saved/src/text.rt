@@ -8,7 +8,7 @@ use crate::saved::{Saved, SavedObject};
 use crate::tree::saved_value;
 use crate::verification::verify_draft;
 use check_documents::read_tree;
-use check_drafts::LoadError;
+use check_drafts::Fault;
 use serde_json::Value;
 use std::alloc::{AllocError, Global};
 
@@ -63,7 +63,7 @@ fn tree_of(alloc: Global, text: &[u8]) -> Result<Value, SavedFault>
 {
     match read_tree(alloc, text) {
         Ok(tree) => Ok(tree),
-        Err(LoadError::Memory) => Err(SavedFault::Memory),
+        Err(Fault::Memory) => Err(SavedFault::Memory),
         Err(_) => Err(SavedFault::NotJson),
     }
 }

@@ -4,3 +4,4 @@ pub mod Drill
 pub mod Reading
 pub mod Session
 pub mod ScriptedCodes
+pub mod Examined

@@ -7,11 +7,11 @@ ghost use Rattle.check_session.specs.CheckResumed.{AreBothTold, CanStart, IsLeng
 ghost use Rattle.check_drive.specs.Drive.{HasRead};
 ghost use Rattle.check_script.specs.Input.{HasBegun};
 
-use crate::check::{Told, examine, tell_refusal};
+use crate::check::{Examined, Told, examine};
 use check_changes::{push_changes, push_explanation};
 use check_drive::beginning::moment_of;
 use check_drive::drive::Outcome;
-use check_objects::{Fault, Setup};
+use check_objects::Setup;
 use check_saved::{Saved, SavedFault};
 use check_script::{DriveError, InputRefusal, LineFault, Lines, MAX_INPUT_BYTES, read_input};
 use check_summary::{Summary, push_summary};
@@ -100,10 +100,9 @@ fn tell_both(
         AreBothTold start document.now text.now told.text.items told.outcome) }
     ensures kind { IfErr result (λ e. e ≡ DriveError.Memory) }
 {
-    match examine(alloc, document) {
-        Ok(setup) => tell_saved(alloc, start, &setup, text),
-        Err(Fault::Memory) => Err(DriveError::Memory),
-        Err(fault) => Ok(tell_refusal(alloc, document, fault)?),
+    match examine(alloc, document)? {
+        Examined::Good { setup, .. } => tell_saved(alloc, start, &setup, text),
+        Examined::Refused(told) => Ok(told),
     }
 }
 
