@@ -20,6 +20,7 @@ import sys
 import tempfile
 from concurrent.futures import ThreadPoolExecutor
 
+import anchors
 from program import EXAMPLES, SECONDS, TOP, Held
 from cases import runs
 
@@ -31,7 +32,6 @@ MINUTE, MINUTES = 60_000, (3, 2_000)
 WORKERS = {"embed.c": 4, "embed.py": 2}
 PROVED = sys.argv[2:]
 COUNTED = ["-Wl,--wrap=malloc,--wrap=realloc"]
-EMBEDDING = {"embed.c": TOP / "docs" / "EMBEDDING_C.md", "embed.py": TOP / "docs" / "EMBEDDING_PYTHON.md"}
 DEFINITIONS = [
     TOP / "crates" / "check_drafts" / "specs" / "Place.antt",
     TOP / "crates" / "check_rules" / "specs" / "Numbers.antt",
@@ -39,6 +39,7 @@ DEFINITIONS = [
     TOP / "crates" / "check_records" / "specs" / "SavedFaults.antt",
 ]
 STATUSES = TOP / "crates" / "nagsched_c" / "src" / "status.rt"
+KINDS = TOP / "crates" / "check_records" / "src" / "kinds.rt"
 # Each enumeration of the header: its name in Python, what its names begin with in C, and which functions of the definition number it.
 ENUMERATIONS = {
     "nagsched_result": ("Result", "NAGSCHED_"),
@@ -92,12 +93,20 @@ def numbers_of(text, pattern):
             for name, body in re.findall(pattern, text, re.M | re.S)}
 
 
+def constants(source):
+    """The numbers of the constants in a source file, by their names."""
+    return {name: int(number) for name, number in re.findall(r"const (\w+): u32 = (\d+);", source.read_text(encoding="utf-8"))}
+
+
 def defined_numbers():
-    """The numbers that the definition gives, by the function that gives them, with the names of C."""
+    """The numbers that the definition gives, by the function that gives them, with the names of C. A number is a constant or a literal."""
     text = "\n".join(definition.read_text(encoding="utf-8") for definition in DEFINITIONS)
+    kinds = constants(KINDS)
     found = collections.defaultdict(dict)
-    for function, name, number in re.findall(r"^(\w+) \(?(?:reply\.Refused )?\w+\.(\w+)\b[^=\n]*\)? = (?:\w*(?:_struct|_nowhere|_at) |record \{ kind = )?(\d+)", text, re.M):
-        found[function][re.sub(r"(?<!^)(?=[A-Z])", "_", name).upper()] = int(number)
+    value = r"(?:\w*(?:_struct|_nowhere|_at) |record \{\s+kind = )?(\d+|[A-Z]\w+)"
+    for function, name, number in re.findall(rf"^(\w+) \(?(?:reply\.Refused )?\w+\.(\w+)\b[^=\n]*\)? = {value}", text, re.M):
+        if number.isdigit() or number in kinds:
+            found[function][re.sub(r"(?<!^)(?=[A-Z])", "_", name).upper()] = int(kinds.get(number, number))
     return found
 
 
@@ -108,8 +117,8 @@ def same_numbers(held):
     defined = defined_numbers()
     held.compare("enumerations in Python", sorted(python), sorted(name for name, *_ in ENUMERATIONS.values()))
     held.compare("enumerations of the header", sorted(ENUMERATIONS), sorted(header))
-    statuses = {name: int(number) for name, number in re.findall(r"const (\w+): u32 = (\d+);", STATUSES.read_text(encoding="utf-8"))}
-    held.compare("the numbers of nagsched_result in the library", {f"NAGSCHED_{name}": number for name, number in statuses.items()}, header["nagsched_result"])
+    statuses = {f"NAGSCHED_{name}": number for name, number in constants(STATUSES).items()}
+    held.compare("the numbers of nagsched_result in the library", statuses, header["nagsched_result"])
     for name, (in_python, prefix, *functions) in ENUMERATIONS.items():
         in_header = {member.removeprefix(prefix): number for member, number in header[name].items()}
         held.compare(f"the numbers of {name} in Python", in_header, python[in_python])
@@ -293,22 +302,28 @@ def as_the_page_says(held, library, page):
         (library.folder / name).symlink_to(TOP / name)
     (library.folder / "out").mkdir()
     (library.folder / "out" / "c").symlink_to(library.prefix)
-    links = [f"{command} -o embed && ./embed" for command in re.findall(r"`(cc [^`]*program\.c[^`]*)`", page)]
-    builds = re.findall(r"tools/build_c\.sh && (.*examples/embed.*)", page)
-    held.compare("the pages on embedding: commands", (2, 2), (len(links), len(builds)))
+    links = [f"{command} -o embed && ./embed" for command in dict.fromkeys(re.findall(r"\bcc [^`\n]*program\.c[^`\n]*", page))]
+    heads = "".join((EXAMPLES / name).read_text(encoding="utf-8") for name in ("embed.c", "embed.py"))
+    builds = re.findall(r"tools/build_c\.sh && (.*examples/embed.*)", heads)
+    held.compare("the pages and examples: commands", (2, 2), (len(links), len(builds)))
     for command in [*links, *(build.replace("[MINUTES]", "1") for build in builds)]:
         said = command.replace("PREFIX", "out/c").replace("program.c", "examples/embed.c")
         made = ran("sh", "-c", said, cwd=library.folder, env=os.environ | {"LD_LIBRARY_PATH": str(library.prefix / "lib")})
         held.compare(command, (0, b'{"'), (made.returncode, made.stdout[:2]))
 
 
+def first_programs(held, library, pages):
+    """The first programs print what the pages show after them."""
+    made = {"first.c": ran(library.compiled(EXAMPLES / "first.c")), "first.py": library.in_python(EXAMPLES / "first.py")}
+    for name, ran_once in made.items():
+        held.compare(f"{name}: its output is on a page", (0, True), (ran_once.returncode, f"```\n{ran_once.stdout.decode()}```" in pages))
+
+
 def page(held, library):
-    """The pages on embedding show the two examples as they are, and their commands make them."""
-    texts = {name: file.read_text(encoding="utf-8") for name, file in EMBEDDING.items()}
-    for name, language in {"embed.c": "c", "embed.py": "python"}.items():
-        shown = f"```{language}\n{(EXAMPLES / name).read_text(encoding='utf-8')}```\n"
-        held.compare(f"{EMBEDDING[name].name} shows {name}", True, shown in texts[name])
-    as_the_page_says(held, library, "".join(texts.values()))
+    """The commands of the pages build and run the two examples, and the first programs print what the pages show."""
+    pages = "".join(anchors.text_of(page) for page in anchors.PAGES)
+    as_the_page_says(held, library, pages)
+    first_programs(held, library, pages)
 
 
 def loops(held, library):

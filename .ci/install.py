@@ -53,10 +53,11 @@ def installed(program, prefix, work):
     yield "the manual pages", sorted(manual), ["nagsched-from-nagios.1", "nagsched-monitor.1", "nagsched.1", "nagsched.5"]
     for name, page in sorted(manual.items()):
         yield f"warnings of {name}", warnings_of(page), ""
+        yield f"lines of {name}, at most 400", len(page.read_text().splitlines()) <= 400, True
     page = manual["nagsched.1"].read_text().replace("\\-", "-")
     yield "words of the help that nagsched.1 lacks", [word for word in words_of_help(program) if not re.search(rf"{word}\b", page)], []
-    first_page = (prefix / "share/doc/nagsched/README.md").read_text().split("## Ask it")[0]
-    yield "the trial of the installed page", ("nagsched < examples/office.txt" in first_page, bool(re.search(r"\brt\b", first_page))), (True, False)
+    first_page = (prefix / "share/doc/nagsched/README.md").read_text()
+    yield "the installed first page", ("nagsched < examples/office.txt" in first_page, bool(re.search(r"\brt\b|<!--", first_page))), (True, False)
     yield "the completion for bash", output("bash", "-n", prefix / "share/bash-completion/completions/nagsched"), ("", 0)
     unit = prefix / "lib/systemd/system/nagsched-monitor@.service"
     yield "the unit", f"ExecStart={prefix}/bin/nagsched-monitor" in unit.read_text(), True

@@ -3,7 +3,7 @@
 
     .ci/limits.py [PROGRAM]     crates/nagsched/out/nagsched where no program is named
 
-What is wanted follows from docs/FORMATS.md and docs/SCHEDULING.md and is written down here; nothing is taken from the program.
+What is wanted follows from docs/program.md and docs/rules.md and is written down here; nothing is taken from the program.
 """
 import json
 import os

@@ -2,6 +2,7 @@
 """Prints the files of crates, each with the first sentence of its comment and the definitions that its contracts use.
 
     .ci/map.py [CRATE ..]     all crates if none is named, lowest layer first
+    .ci/map.py --crates       each crate with its first sentence only
 """
 import pathlib
 import re
@@ -41,8 +42,17 @@ def rows(crate):
             yield f"  {file.relative_to(folder)}: {said}"
 
 
+def root(crate):
+    """The root file of a crate."""
+    source = TOP / "crates" / crate / "src"
+    return next(file for file in (source / "lib.rt", source / "main.rt") if file.exists())
+
+
 def main():
     crates = re.findall(r"^\w+", (TOP / "crates.txt").read_text(encoding="utf-8"), re.MULTILINE)
+    if sys.argv[1:] == ["--crates"]:
+        print("\n".join(f"{crate}: {first_sentence(root(crate))}" for crate in crates))
+        return 0
     unknown = [name for name in sys.argv[1:] if name not in crates]
     if unknown:
         print(f"map: crates.txt has no crate {unknown[0]}")

@@ -1,27 +1,29 @@
 #!/usr/bin/env python3
-"""Looks up each name that the pages put between backticks, so that none is named that isn't there.
+"""Looks up the names that the pages put between backticks, so that no page names something that doesn't exist.
 
     .ci/names.py
 
-A name is what looks like a function, a clause, a definition, a test, a must-fail edit, an option or a file. A file has to be there,
-at the top or below a crate's folders; of any other name each word has to stand in some source, script, case or file name.
+A name is what looks like a function, a clause, a definition, a test, a must-fail edit, an option or a file. A file has to exist, at the top or in a folder
+of a crate. For any other name, each word has to be in some source, script, case or file name.
 """
 import pathlib
 import re
 import subprocess
 import sys
 
+from anchors import PAGES
+
 TOP = pathlib.Path(__file__).resolve().parent.parent
-PAGES = [TOP / "README.md", TOP / "conformance/README.md", *sorted((TOP / "docs").rglob("*.md"))]
 ENDINGS = (".rt", ".antt", ".md", ".py", ".sh", ".json", ".txt", ".out", ".edit", ".tsv", ".svg", ".c")
 WORD = re.compile(r"[A-Za-z_][A-Za-z0-9_]*")
 NAME = re.compile(r"[A-Za-z_][A-Za-z0-9_]*(::[A-Za-z_][A-Za-z0-9_]*)*(<[A-Z]>)?(\(\))?")
 FILE = re.compile(r"[\w./-]*\w\.\w+")
 # Names of the kit's and of Nagios's, which stand in no file of ours.
 OF_OTHERS = {"Backoff::snooze", "Shared::exchange", "std::sync::atomic::raw", "test_checks.c", "retain_state_information",
-             "use_retained_scheduling_info", "retention.dat"}
+             "use_retained_scheduling_info", "retention.dat", "group_wait", "group_interval", "repeat_interval", "mute_time_intervals", "send_resolved",
+             "notification_interval", "notification_period", "first_notification_delay", "contact_groups"}
 # The files of a site, which stand in its folder.
-OF_A_SITE = {"/status.json", "setup.json", "commands.json", "periods.json", "passive.json", "monitor.json", "queues.json", "mirrors.json", "groups.json", "part-1.json", "part-2.json"}
+OF_A_SITE = {"/status.json", "setup.json", "commands.json", "periods.json", "passive.json", "monitor.json", "mirrors.json", "groups.json", "runners.json", "my.setup.json", "part-1.json", "part-2.json"}
 
 
 def files():

@@ -1,18 +1,24 @@
 #!/usr/bin/env python3
-"""Runs the examples and the commands of the pages on the built program, and compares what it writes.
+"""Tests the pages: examples and commands on the built program, code and generated text against the files they come from, and the form of all.
 
-    .ci/pages.py [PROGRAM]     crates/nagsched/out/nagsched where no program is named
+    .ci/pages.py [PROGRAM]     crates/nagsched/out/nagsched if no program is named
 
-A part of the gate. It names each that comes out otherwise, and ends in status 1 then. A command of a page that isn't run here has
-to be listed in .ci/commands.py, with the part of the gate that makes it, or why none does.
+A part of the gate. It names each difference, and ends with status 1 then. Examples and code are found by anchors (.ci/anchors.py), generated text is
+that of .ci/generated.py, and .ci/style.py has the rules of form. A command of a page that isn't run here has to be listed in .ci/commands.py, with the
+part of the gate that runs it, or why none does.
 """
+import ast
 import pathlib
 import re
 import shutil
 import subprocess
 import sys
+import textwrap
 
+import anchors
 import commands
+import generated
+import style
 
 TOP = pathlib.Path(__file__).resolve().parent.parent
 PROGRAM = sys.argv[1] if len(sys.argv) > 1 else str(TOP / "crates/nagsched/out/nagsched")
@@ -22,103 +28,144 @@ wrong = []
 
 
 def output(lines, *words):
-    """What the program writes on these lines."""
+    """What the program writes for these lines."""
     text = "".join(line + "\n" for line in lines)
     return subprocess.run([PROGRAM, *words], input=text.encode(), stdout=subprocess.PIPE).stdout.decode()
 
 
 def compare(what, wanted, written):
-    """Counts an example, and keeps it where it came out otherwise."""
+    """Counts a comparison, and keeps the difference if there is one."""
     global checked
     checked += 1
     if wanted != written:
         wrong.append(f"{what}:\n  wanted  {wanted!r}\n  written {written!r}")
 
 
-def block_after(page, sentence):
-    """The code block that follows a sentence."""
-    return re.search(r"```\w*\n(.*?)```", page[page.index(sentence):], re.S).group(1)
+def on_one_line(block):
+    return " ".join(line.strip() for line in block.splitlines()).strip()
 
 
 def answered(block):
-    """The lines of a block that has each command with its answer: commands and answers."""
+    """The commands of a block that has each with its answer, and the answers."""
     pairs = [re.split(r"\s{2,}", line.strip(), maxsplit=1) for line in block.splitlines()]
     return [pair[0] for pair in pairs], [pair[1] for pair in pairs]
 
 
-def formats(page):
-    """The examples of the formats: a whole script, a drill, and each refusal that has its line."""
-    setup = " ".join(block_after(page, "### A whole setup").split("\n")).strip()
-    commands, answers = answered(block_after(page, "these commands of a run are answered so"))
-    compare("a whole script", "".join(a + "\n" for a in answers), output([setup, *commands]))
-    drill = block_after(page, "A whole input, over a host").splitlines()
-    compare("a drill", block_after(page, "With the drill's input above"), output(drill, "drill", "--workers", "1"))
-    conversation = block_after(page, "So with this input").splitlines()
-    compare("a conversation", block_after(page, "the answers are these"), output(conversation, "live"))
-    for example, told in re.findall(r"`([\[{][^`]*)`: `(refused [^`]*)`", page):
-        lines = [example] if example.startswith("{") else [HOST, example]
-        compare(example, told + "\n", output(lines))
-    whole = block_after(page, "### A whole setup")
-    compare("the figures of the whole setup", block_after(page, "has these figures with"), output([whole.rstrip()], "check", "--start", "1000"))
-    saved = page[page.index("## Saved states"):page.index("### Members")]
-    given, answers, resumed, later = re.findall(r"```\n(.*?)```", saved, re.S)
-    compare("a state that is saved", answers, output(given.splitlines()))
-    compare("a state that is gone on from", later, output(resumed.splitlines(), "run", "--resume"))
-    explained = (TOP / "docs/EXPLANATIONS.md").read_text()
-    for example, told in re.findall(r"`({[^`]*)`: `([^`]*)`", explained):
-        refused, _, explanation = output([example], "check").partition("\n")
-        compare(f"an explanation: {example}", told + "\n", explanation)
-    for words in re.findall(r"^nagsched (--help)$", page, re.M):
-        compare("help", True, "Usage" in output([], words))
+def answers(examples):
+    """A whole setup, and calls over it with their answers."""
+    calls, told = answered(examples["answers"])
+    return "".join(line + "\n" for line in told), output([on_one_line(examples["whole-setup"]), *calls])
 
 
-def helped(page):
-    """The commands that the page lists are those of the help, as they stand."""
-    listed = re.findall(r'^\| `(\["\w+"[^`]*\])` \|', page, re.M)
+def conversation(examples):
+    """What is typed at `nagsched live` and what it answers, in one block."""
+    lines = examples["conversation"].splitlines()[1:]
+    typed = [line for line in lines if line.startswith(("{", "["))]
+    return [line for line in lines if line not in typed], output(typed, "live").splitlines()
+
+
+# What is compared for an example: the names that it uses, and the function that gives what is wanted and what is written.
+EXAMPLES = {
+    ("whole-setup", "answers"): answers,
+    ("conversation",): conversation,
+    ("figures",): lambda ex: (ex["figures"], output([on_one_line(ex["whole-setup"])], "check", "--start", "1000")),
+    ("drill-input", "drill-output"): lambda ex: (ex["drill-output"], output(ex["drill-input"].splitlines(), "drill", "--workers", "1")),
+    ("live-input", "live-output"): lambda ex: (ex["live-output"], output(ex["live-input"].splitlines(), "live")),
+    ("save-input", "save-output"): lambda ex: (ex["save-output"], output(ex["save-input"].splitlines())),
+}
+
+
+def run_examples():
+    """Each example by its name; none may be missing or unknown."""
+    examples = anchors.examples()
+    compare("examples by name", sorted(name for names in EXAMPLES for name in names), sorted(examples))
+    for names, pair in EXAMPLES.items():
+        if all(name in examples for name in names):
+            compare(f"example {' '.join(names)}", *pair(examples))
+
+
+def told(text):
+    """Each refusal and each explanation that a page prints after its input: `INPUT`: `LINE`."""
+    for given, line in re.findall(r"`([\[{][^`]*)`: `([^`]*)`", text):
+        if line.startswith("refused "):
+            compare(f"a refusal: {given}", line + "\n", output([given] if given.startswith("{") else [HOST, given]))
+        else:
+            compare(f"an explanation: {given}", line + "\n", output([given], "check").partition("\n")[2])
+
+
+def helped(text):
+    """The commands that a page lists in a table after the anchor `commands` are those of the help."""
+    table = text.partition("<!-- commands -->")[2]
+    if not table:
+        return
+    listed = re.findall(r'^\| `(\["\w+"[^`]*\])` \|', table, re.M)
     of_drill = [command for command in listed if command.startswith(('["plugin"', '["moment"'))]
-    of_run = [command for command in listed if command not in of_drill]
-    for subcommand, commands in (("run", of_run), ("drill", of_drill)):
-        told = re.findall(r"^  (\[\S+\])", output([], subcommand, "--help"), re.M)
-        compare(f"the commands in the help of {subcommand}", commands, told)
+    for subcommand, wanted in (("run", [command for command in listed if command not in of_drill]), ("drill", of_drill)):
+        compare(f"the commands in the help of {subcommand}", wanted, re.findall(r"^  (\[\S+\])", output([], subcommand, "--help"), re.M))
 
 
-def readme(page):
-    """The examples of README: the first lines of the office, a conversation, lines of the drill; and the kit's line."""
+def explained(text):
+    """The refusals and explanations of a table after the anchor `explained` are the two lines that cases expect."""
+    expected = {tuple(file.read_text(encoding="utf-8").splitlines()) for folder in ("explained", "checks") for file in (TOP / "conformance" / folder).glob("*.stdout")}
+    for refusal, explanation in re.findall(r"^\| `(refused [^`]*)` \|[^|]*\| `([^`]*)` \|$", text.partition("<!-- explained -->")[2].split("\n\n")[0], re.M):
+        compare(f"an explanation that a case expects: {explanation}", True, (refusal, explanation) in expected)
+
+
+def code():
+    """Code that a page shows stands in its file as it is, apart from the indentation."""
+    for page, name, block in anchors.anchored("from"):
+        file = TOP / name
+        whole = file.read_text(encoding="utf-8") if file.is_file() else ""
+        parts = [part.strip("\n") for part in re.split(r"^\s*(?://|#) \.\.\n", block, flags=re.M)]
+        flat = "\n".join(line.strip() for line in whole.splitlines())
+        for part in parts:
+            lines = "\n".join(line.strip() for line in textwrap.dedent(part).splitlines())
+            compare(f"{page}: code of {name}: {part[:60]!r}", True, bool(lines) and lines in flat)
+
+
+def signatures():
+    """The methods of the Python package: the parameters of each, by its name."""
+    found = {}
+    for node in ast.walk(ast.parse((TOP / "bindings/python/nagsched/desks.py").read_text(encoding="utf-8"))):
+        if isinstance(node, ast.FunctionDef) and not node.name.startswith("_"):
+            for argument in (*node.args.args, *node.args.kwonlyargs):
+                argument.annotation = None
+            found.setdefault(node.name, set()).add(re.sub(r"^self(, )?", "", ast.unparse(node.args)))
+    return found
+
+
+def methods(page):
+    """The methods that the page on Python names with parameters have these parameters."""
+    known = signatures()
+    for name, parameters in re.findall(r"`(\w+)\(([^`]*)\)`", anchors.text_of(page)):
+        if name in known:
+            compare(f"{page.name}: parameters of {name}", True, parameters in known[name])
+
+
+def main():
+    run_examples()
+    methods(TOP / "docs/embedding-python.md")
+    for page in anchors.PAGES:
+        text = anchors.text_of(page)
+        told(text)
+        helped(text)
+        explained(text)
+        compare(f"{anchors.name_of(page)}: generated text (run .ci/generated.py)", generated.generated(text), text)
+    compare("the pages list the commands", 1, sum("<!-- commands -->" in anchors.text_of(page) for page in anchors.PAGES))
+    code()
     if shutil.which("rt"):
         kit = subprocess.run(["rt", "version"], stdout=subprocess.PIPE, text=True).stdout.strip()
-        compare("the kit's line", True, f"`{kit}`" in page)
-    commands, answers = answered(block_after(page, "It begins, with the answers"))
-    office = (TOP / "examples/office.txt").read_text().splitlines()
-    written = output(office).splitlines()
-    compare("the office's commands", commands, [line for line in office[1:] if line][: len(commands)])
-    compare("the office's answers", answers, written[: len(answers)])
-    conversation = block_after(page, "three lines there and back").splitlines()[1:]
-    asked = [line for line in conversation if line.startswith(("{", "["))]
-    compare("a conversation", [line for line in conversation if line not in asked], output(asked, "live").splitlines())
-    drill = (TOP / "examples/drill.txt").read_text().splitlines()
-    for line in block_after(page, "This is of its input").splitlines():
-        compare(f"the drill's {line}", True, line in drill)
-    written = output(drill, "drill", "--workers", "1").splitlines()
-    for line in block_after(page, "and this of what it writes").splitlines()[1:]:
-        compare(f"the drill's {line}", True, line in written)
+        compare("the kit's version on README", True, f"`{kit}`" in anchors.text_of(TOP / "README.md"))
+    compare("the form of the pages", [], list(style.all_faults()))
+    commands.check(PROGRAM, anchors.PAGES, compare)
+    for argument in ("--crates", "check_queue"):
+        listed = subprocess.run([sys.executable, TOP / ".ci/map.py", argument], stdout=subprocess.PIPE, text=True)
+        compare(f".ci/map.py {argument}", (0, True), (listed.returncode, "check_queue" in listed.stdout))
+    for difference in wrong:
+        print(difference)
+    print(f"pages: {checked - len(wrong)} passed, {len(wrong)} failed")
+    return 1 if wrong else 0
 
 
-def nagios(page):
-    """The configuration that is moved to a setup: what is due first, what is disabled, and what waits."""
-    setup = " ".join(block_after(page, "The same as a setup").split("\n")).strip()
-    statuses = ['["take",0]', '["status","web;disk"]', '["status","web;http"]']
-    pending = "standing PENDING HARD 1 no STEADY"
-    wanted = f"taken 1 router\n{pending} none web;disk\n{pending} 90000 web;http\n"
-    compare("a configuration moved", wanted, output([setup, *statuses]))
-
-
-formats((TOP / "docs/FORMATS.md").read_text())
-helped((TOP / "docs/FORMATS.md").read_text())
-nagios((TOP / "docs/NAGIOS.md").read_text())
-readme((TOP / "README.md").read_text())
-commands.check(PROGRAM, [TOP / "README.md", *sorted((TOP / "docs").rglob("*.md")), TOP / "conformance/README.md"], compare)
-compare("the files of a crate, by .ci/map.py", 0, subprocess.run([sys.executable, TOP / ".ci/map.py", "check_queue"], stdout=subprocess.DEVNULL).returncode)
-for example in wrong:
-    print(example)
-print(f"pages: {checked - len(wrong)} passed, {len(wrong)} failed")
-sys.exit(1 if wrong else 0)
+if __name__ == "__main__":
+    sys.exit(main())

@@ -1,5 +1,5 @@
 #!/usr/bin/env python3
-"""Holds the schema of a setup, the program, the pages and the tools to each other: what the one accepts, the others do.
+"""Holds the schema of a setup, the program and the tools to each other: what the one accepts, the others do.
 
     .ci/schema.py [PROGRAM]     crates/nagsched/out/nagsched where no program is named
 
@@ -7,8 +7,8 @@ A part of the gate. docs/setup.schema.json is what `nagsched schema` writes. A d
 place at a time: each number to its limits and one past them, each member to values of other kinds, each required member left out,
 each object given an unknown member, each name to texts at and past its limits, each criteria to all short texts of its letters. The
 program's first refusals of kinds, ranges, counts and names have to come exactly where the schema refuses, and the explanation of
-`check` has to be of a member that the schema refuses too. The tables of FORMATS.md name the members of the schema, with their limits
-and defaults, and what tools/from_nagios.py writes is a setup by the schema.
+`check` has to be of a member that the schema refuses too. What tools/from_nagios.py writes is a setup by the schema. The tables of the
+pages are made from it by .ci/generated.py.
 """
 import copy
 import itertools
@@ -208,57 +208,6 @@ def documents(held):
             held.compare("a document", None, wrong)
 
 
-def rows(page, head):
-    """The rows of the table with this head: of each member its cells."""
-    lines = iter(page[page.index(head):].splitlines()[2:])
-    for line in itertools.takewhile(lambda line: line.startswith("|"), lines):
-        cells = [cell.strip() for cell in line.strip("|").split("|")]
-        for name in re.findall(r"`(\w+)`", cells[0]):
-            yield name, cells[1], cells[2]
-
-
-def default_told(cell):
-    """The default that a cell names, as it stands in the schema; a member that is required has none."""
-    return {"required": MISSING, "all defaults": {}, "empty": []}[cell] if cell in ("required", "all defaults", "empty") else json.loads(cell.strip("`"))
-
-
-def numbers_in(text):
-    """The whole numbers of a text, of which thousands are parted by commas."""
-    return {int(number.replace(",", "")) for number in re.findall(r"\d[\d,]*\d|\d", text)}
-
-
-def page_of_members(held, page, head, schema):
-    """A table of FORMATS.md names each member of an object with its limits and its default."""
-    told = {name: (kind, default) for name, kind, default in rows(page, head)}
-    held.compare(f"{head}: its members", set(schema["properties"]), set(told))
-    for name, part in schema["properties"].items():
-        kind, default = told.get(name, ("", "required"))
-        if default != "as for a host":
-            held.compare(f"{head}: {name}: the default", part.get("default", MISSING), default_told(default))
-        if not kind.startswith("as ") and "number" in kind + "percent":
-            held.compare(f"{head}: {name}: limits that aren't told", set(), set() if kind.startswith("as") else set(limits_of(part)) - numbers_in(kind))
-        held.compare(f"{head}: {name}: required", name in schema.get("required", ()), default == "required" or name == "max_check_attempts")
-
-
-def limits_of(part):
-    """The least and the most that a number of a part of the schema can be."""
-    for one in [part, *part.get("anyOf", [])]:
-        if one.get("type") == "integer":
-            yield from (one["minimum"], one["maximum"])
-
-
-def pages(held):
-    """The tables of FORMATS.md."""
-    page = (TOP / "docs/FORMATS.md").read_text(encoding="utf-8")
-    parts = SCHEMA["properties"]
-    page_of_members(held, page, "| Member of the document |", SCHEMA)
-    page_of_members(held, page, "| Member | Kind | Default | Example |\n|---|---|---|---|\n| `interval_length`", parts["options"])
-    page_of_members(held, page, "| Member of a host |", parts["hosts"]["items"])
-    page_of_members(held, page, "| Member of a service |", parts["services"]["items"])
-    for part in ("service_dependencies", "host_dependencies"):
-        page_of_members(held, page, "| Member | Kind | Default | Example |\n|---|---|---|---|\n| `dependent`", parts[part]["items"])
-
-
 def from_nagios(held):
     """The setup that tools/from_nagios.py makes of Nagios's own files is one by the schema."""
     office = TOP / "conformance/nagios"
@@ -272,7 +221,6 @@ def main():
     schema = (TOP / "docs/setup.schema.json").read_bytes()
     held.compare("what `nagsched schema` writes", (schema, 0), held.run(["schema"], b""))
     documents(held)
-    pages(held)
     from_nagios(held)
     held.end()
 

@@ -1,10 +1,10 @@
 #!/usr/bin/env python3
-"""Mails a change of state: a command for `nagsched-monitor --on-change`.
+"""Mails changes of state: a command for `nagsched-monitor --on-change`.
 
     nagsched-monitor --on-change "examples/mail_change.py monitor@example.org oncall@example.org" DIR
 
-It reads the change, one JSON object, from its standard input, and hands a mail to the server on this machine (or to `--server HOST[:PORT]`). It exits with 1
-where the server doesn't take it; the monitor tries again then.
+It reads changes from its standard input, a JSON object on each line, and hands one mail for all of them to the server on this machine (or to `--server
+HOST[:PORT]`). It exits with 1 if the server doesn't take the mail; the monitor tries again then.
 """
 import argparse
 import email.message
@@ -14,13 +14,16 @@ import smtplib
 import sys
 
 
-def mail_of(change, sender, receiver):
-    """The mail for a change."""
+def mail_of(changes, sender, receiver):
+    """The mail for changes."""
     mail = email.message.EmailMessage()
-    mail["From"], mail["To"], mail["Date"] = sender, receiver, email.utils.formatdate(change["time"])
-    flapping = " FLAPPING" if change["flapping"] else ""
-    mail["Subject"] = f"{change['name']} is {change['state']}{flapping}"
-    mail.set_content(f"{change['name']} was {change['was']}, and is {change['state']} {change['kind']} {change['attempt']}{flapping}.\n\n{change['output']}\n")
+    mail["From"], mail["To"], mail["Date"] = sender, receiver, email.utils.formatdate(changes[-1]["time"])
+    last = [f"{change['name']} is {change['state']}{' FLAPPING' * change['flapping']}" for change in changes]
+    mail["Subject"] = last[0] if len(last) == 1 else f"{last[0]}, and {len(last) - 1} more"
+    mail.set_content("\n".join(
+        f"{change['name']} was {change['was']}, and is {change['state']} {change['kind']} {change['attempt']}{' FLAPPING' * change['flapping']}.\n\n"
+        f"{change['output']}\n" for change in changes
+    ))
     return mail
 
 
@@ -30,7 +33,7 @@ def main():
     arguments.add_argument("receiver")
     arguments.add_argument("--server", default="localhost")
     words = arguments.parse_args()
-    mail = mail_of(json.load(sys.stdin), words.sender, words.receiver)
+    mail = mail_of([json.loads(line) for line in sys.stdin], words.sender, words.receiver)
     try:
         with smtplib.SMTP(words.server, timeout=20) as server:
             server.send_message(mail)

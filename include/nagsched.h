@@ -1,48 +1,49 @@
-/* nagsched: the proved scheduler of active checks, for C and for whatever can call C.
+/* nagsched: the proved scheduler of active checks, for C and for every language that can call C.
  *
- * One desk is shared by any number of threads. Each has a pass of its own, a handle by which it makes the six
- * calls: take, report, abandon, reschedule, enable, status. The answers are those of one thread that
- * makes all calls one after another, and the desk keeps them all, with their calls, in that order.
+ * Any number of threads share one desk. Each has a pass of its own, a handle by which it makes the six
+ * calls: take, report, abandon, reschedule, enable, status. The replies are those that one thread would get
+ * if it made all calls one after another. The desk stores all calls and replies, in that order.
  *
  *     struct nagsched_handle setup = NAGSCHED_EMPTY, passes[2] = {NAGSCHED_EMPTY, NAGSCHED_EMPTY};
  *     struct nagsched_refusal refusal;
- *     nagsched_read(document, bytes, &setup, &refusal);     REFUSED: nagsched_refusal_text has why
+ *     nagsched_read(document, bytes, &setup, &refusal);     REFUSED: nagsched_refusal_text says why
  *     nagsched_open(&setup, now, 1000, passes, 2);          a desk, and a pass for each of two threads
- *     nagsched_take(&passes[0], now, &reply);               in a thread; and so on with its reply
+ *     nagsched_take(&passes[0], now, &reply);               in a thread, which then handles the reply
  *     nagsched_gather(&passes[0], &passes[1]);              when the threads have ended
- *     nagsched_close(&passes[0]);                           now it is a book, with the history
+ *     nagsched_close(&passes[0]);                           the pass becomes a book, with the history
  *     nagsched_free(&passes[0]);
  *
- * A program that runs for months does this again and again, since the history grows by an entry of 56 bytes for each call, also for a take that
- * was answered IDLE: it lets no call be made for a moment, gathers, closes, saves, renews the book (nagsched_renew hands the entries out) and opens
- * a desk on it; the new passes have all their calls again, too. examples/loop.c is such a program. Plugins may run meanwhile.
+ * The history grows by an entry of 56 bytes with each call, even with a take whose reply is IDLE. So a program that runs for months repeats these
+ * steps: let no call be made for a moment, gather, close, save, renew the book (nagsched_renew hands the entries out), and open a desk on it. The
+ * new passes have all their calls again. Plugins may run meanwhile. examples/loop.c is such a program.
  *
- * Moments and times are milliseconds of one clock that the caller chooses, 0 to 2^60; a next check may be as late as 2^61. Moments needn't rise from
- * call to call: each call goes by its own. A saved state has moments in it, so its clock has to go on over restarts of program and machine: begin at
- * the wall clock, and go on by one that nobody sets. The next check after a report is counted from the moment of the take that began its run.
+ * Moments and times are milliseconds of one clock that the caller chooses, 0 to 2^60. A next check may be as late as 2^61. Moments needn't rise from
+ * call to call: each call uses its own. A saved state has moments in it, so its clock has to continue over restarts of program and machine: begin
+ * at the wall clock, and continue with a clock that nobody sets. The next check after a report is counted from the moment of the take that began
+ * its run.
  *
- * Every function except nagsched_version returns a status (enum nagsched_result) and writes its results through pointers. Texts come in
- * by pointer and length, without a zero at their end (strlen(text), not sizeof), and go out so into a buffer of the caller's. No pointer
- * may be NULL, even for an empty text or buffer, and one call may not get the same pointer for two arguments of one type: WRONG. What is
- * written stays good for as long as the caller keeps it: no function returns memory of its own.
+ * Every function except nagsched_version returns a status (enum nagsched_result) and writes its results through pointers. A text that the
+ * caller passes is a pointer and a length, without a zero at the end (strlen(text), not sizeof). A text for the caller goes into a buffer of the
+ * caller's in the same form. No pointer may be NULL, even for an empty text or buffer, and one call must not get the same pointer for two
+ * arguments of one type: both are WRONG. Results stay valid for as long as the caller keeps their memory: no function returns memory of its own.
  *
  * Which calls may run at the same time:
  *
- *     with different handles            any, also of passes of the same desk: that is what a desk is for
- *     with the same handle, const       any that take it as const, in any number of threads
- *     with the same handle, otherwise   one at a time; another thread may make the next one if it comes after by a lock, a start or
- *                                       a join
+ *     with different handles            any, also with passes of the same desk
+ *     with the same handle, const       all that take it as const, in any number of threads
+ *     with the same handle, otherwise   one at a time; another thread may make the next call if a lock, a thread start or a join
+ *                                       puts it after the first
  *
  * The library relies on these rules, which it can't test:
  *   - a handle is zeroed (NAGSCHED_EMPTY) before its first use, and never copied, read or written;
  *   - calls run at the same time only as above;
- *   - a try that returned NAGSCHED_WAIT is made again, with the same arguments, until it returns another status: its turn stops all
- *     others;
- *   - no call is made from a signal handler, or in a child after fork with a handle from before it;
- *   - what a pointer leads to is as large as its type, or as the length says, and no two pointers of a call lead to the same memory;
+ *   - a try that returned NAGSCHED_WAIT is made again, with the same arguments, until it returns another status: all other passes
+ *     wait for its turn;
+ *   - no call is made from a signal handler, or in a child after fork with a handle from before the fork;
+ *   - the memory at a pointer is as large as its type, or as the length says, and no two pointers of a call lead to the same memory;
  *   - the process has one allocator (malloc, free) for the whole life of a handle.
  *
- * The library starts no thread, never sleeps, opens no file and reads no clock. The pages that are named here are installed in share/doc/nagsched.
+ * The library starts no thread, never sleeps, opens no file and reads no clock. The pages named here are installed in share/doc/nagsched.
  */
 #ifndef NAGSCHED_H
 #define NAGSCHED_H
@@ -55,14 +56,10 @@
 extern "C" {
 #endif
 
-/* The number of this surface. A program compares it once with nagsched_version(): another number, another header.
- *
- * 2 has all that 1 has, and besides nagsched_save, nagsched_resume, nagsched_running and the refusals 11 to 19, which only
- * nagsched_resume gives. A program that was linked with libnagsched.so.1 goes on with that one, and doesn't load libnagsched.so.2;
- * compiled again with this header it runs as it did, where it says pass for what 1 called the caller of an entry. */
+/* The number of this interface. Compare it once with nagsched_version(): if they differ, the header and the library don't belong together. */
 #define NAGSCHED_VERSION 2u
 
-/* A setup, a pass, a book or a history; zeroed it is empty. */
+/* Refers to a setup, a pass, a book or a history. All zeros means empty. */
 struct nagsched_handle {
     void *at;
     uint64_t full;
@@ -70,20 +67,20 @@ struct nagsched_handle {
 
 #define NAGSCHED_EMPTY {0, 0}
 
-/* The statuses. After NAGSCHED_SPENT, NAGSCHED_WRONG and NAGSCHED_MISSING everything is as it was before the call, except for a length that
- * is written where a buffer is too small. After NAGSCHED_REFUSED only the refusal was written. After NAGSCHED_NO_MEMORY nothing was
- * changed either, but one of the six calls is counted, and its pass has seen the history so far. */
+/* The statuses. After NAGSCHED_SPENT, NAGSCHED_WRONG and NAGSCHED_MISSING everything is as it was before the call, except that a length is
+ * written if a buffer is too small. After NAGSCHED_REFUSED only the refusal was written. After NAGSCHED_NO_MEMORY nothing was changed
+ * either, except that one of the six calls is counted, and its pass has seen the history so far. */
 enum nagsched_result {
     NAGSCHED_OK = 0,
-    NAGSCHED_WAIT = 1,      /* the turn hasn't come: the same call again */
+    NAGSCHED_WAIT = 1,      /* another pass is first: make the same call again */
     NAGSCHED_SPENT = 2,     /* the pass has no call left */
-    NAGSCHED_NO_MEMORY = 3, /* memory was refused; of the six calls: it wasn't made, but is counted, nagsched_refused */
+    NAGSCHED_NO_MEMORY = 3, /* out of memory; one of the six calls wasn't made, but is counted (nagsched_refused) */
     NAGSCHED_REFUSED = 4,   /* the document is no setup, or the text no saved state: the refusal reports why and where */
-    NAGSCHED_MISSING = 5,   /* passes that aren't gathered yet, no object of that name, no host of a host, no check that is out */
-    NAGSCHED_WRONG = 6      /* a mistake of the caller's: a handle, a pointer or a number isn't one for this function */
+    NAGSCHED_MISSING = 5,   /* passes aren't gathered yet, no object has that name, the object is a host, or no check of it is running */
+    NAGSCHED_WRONG = 6      /* a mistake of the caller's: a handle, a pointer or a number that this function doesn't take */
 };
 
-/* What the check of an object returned. */
+/* The return code of a check. */
 enum nagsched_code { NAGSCHED_CODE_OK = 0, NAGSCHED_CODE_WARNING = 1, NAGSCHED_CODE_CRITICAL = 2, NAGSCHED_CODE_UNKNOWN = 3 };
 
 /* The state of a service, OK to UNKNOWN, or of a host, UP to UNREACHABLE. */
@@ -105,7 +102,7 @@ struct nagsched_standing {
     uint32_t state;     /* nagsched_state; never checked: OK or UP */
     uint32_t kind;      /* nagsched_kind */
     uint32_t attempt;   /* 1 to the object's maximum */
-    uint32_t last_hard; /* nagsched_state: that of the last result whose state was hard */
+    uint32_t last_hard; /* nagsched_state: the state of the last result whose state was hard */
     uint32_t flapping;  /* 1: the state keeps changing; 0 */
 };
 
@@ -118,7 +115,7 @@ enum nagsched_call_kind {
     NAGSCHED_CALL_STATUS = 5
 };
 
-/* A call, as the history keeps it. A field that its kind has no use for is 0. */
+/* A call, as the history stores it. A field that its kind doesn't use is 0. */
 struct nagsched_call {
     uint32_t kind;   /* nagsched_call_kind */
     uint32_t object; /* all but take */
@@ -132,29 +129,29 @@ enum nagsched_reply_kind {
     NAGSCHED_REPLY_TAKEN = 0,          /* object, run: check it now, and report under this run */
     NAGSCHED_REPLY_PUT_OFF = 1,        /* object, time: a dependency fails; time: its next check */
     NAGSCHED_REPLY_IDLE = 2,           /* nothing is due; time: when the next check will be */
-    NAGSCHED_REPLY_AT_LIMIT = 3,       /* as many checks of services run as may */
+    NAGSCHED_REPLY_AT_LIMIT = 3,       /* the limit of running checks of services is reached */
     NAGSCHED_REPLY_STANDING = 4,       /* standing, changed, time: the next check */
     NAGSCHED_REPLY_FREED = 5,          /* the run ended without a result; time: the next check */
     NAGSCHED_REPLY_DONE = 6,
-    NAGSCHED_REPLY_UNKNOWN_OBJECT = 7, /* from here on: the call was refused, and has changed nothing */
+    NAGSCHED_REPLY_UNKNOWN_OBJECT = 7, /* this and the following: the call was refused, and has changed nothing */
     NAGSCHED_REPLY_TIME_RANGE = 8,
     NAGSCHED_REPLY_NOT_RUNNING = 9,
     NAGSCHED_REPLY_WRONG_RUN = 10,
     NAGSCHED_REPLY_RUNS_SPENT = 11
 };
 
-/* What a call is answered. A field that its kind doesn't name is 0. */
+/* The reply to a call. A field that its kind doesn't name is 0. */
 struct nagsched_reply {
     uint32_t kind;     /* nagsched_reply_kind */
     uint32_t object;
     uint64_t run;
-    uint64_t time;     /* where has_time is 1 */
+    uint64_t time;     /* if has_time is 1 */
     uint32_t has_time; /* 0 or 1 */
     uint32_t changed;  /* 1: the state differs from the one before; 0 */
     struct nagsched_standing standing;
 };
 
-/* An entry of a history: the pass that made the call (its number: its place in the array of nagsched_open), the call, the reply. */
+/* An entry of a history: the number of the pass that made the call (its place in the array of nagsched_open), the call, the reply. */
 struct nagsched_entry {
     uint64_t pass;
     struct nagsched_call call;
@@ -173,7 +170,7 @@ enum nagsched_refusal_kind {
     NAGSCHED_REFUSAL_RANGE = 8,
     NAGSCHED_REFUSAL_DEPENDENCY_CYCLE = 9,
     NAGSCHED_REFUSAL_PARENT_CYCLE = 10,
-    NAGSCHED_REFUSAL_SAVED_TOO_LONG = 11, /* from here on: the text is no saved state */
+    NAGSCHED_REFUSAL_SAVED_TOO_LONG = 11, /* this and the following: the text is no saved state */
     NAGSCHED_REFUSAL_SAVED_NOT_JSON = 12,
     NAGSCHED_REFUSAL_SAVED_VERSION = 13,
     NAGSCHED_REFUSAL_SAVED_SHAPE = 14,
@@ -197,29 +194,29 @@ enum nagsched_part {
 /* Why a document is no setup, and where; or why a text is no saved state, and at which object. */
 struct nagsched_refusal {
     uint32_t kind;      /* nagsched_refusal_kind */
-    uint32_t part;      /* nagsched_part; NONE where the kind has no place, and of a saved state */
+    uint32_t part;      /* nagsched_part; NONE if the kind has no place, and for a saved state */
     uint64_t has_index; /* 0 or 1 */
     uint64_t index;     /* in the part's list, or in the saved state's list of objects, from 0 */
 };
 
-/* Returns the number of the surface that the library has: NAGSCHED_VERSION of its own header. It is no status. Any thread, at any time. */
+/* Returns the version of the library's interface: NAGSCHED_VERSION of its own header. This is not a status. Any thread, at any time. */
 uint32_t nagsched_version(void);
 
-/* Reads a JSON document (docs/FORMATS.md, "The setup document") of so many bytes, and makes a setup of it in an empty handle. The document
- * isn't used after the call.
+/* Reads a JSON document (docs/setup.md) of the given number of bytes, and makes a setup of it in an empty handle. The
+ * document isn't used after the call.
  *
- * OK. REFUSED: the document breaks a rule; refusal has the first fault, in the order of docs/FORMATS.md, and nagsched_refusal_text its
- * line; the program's `nagsched check` explains it in words. NO_MEMORY. WRONG: the handle isn't empty. Only REFUSED writes refusal.
+ * OK. REFUSED: the document breaks a rule. refusal has the first fault, in the order of docs/errors.md, and nagsched_refusal_text its
+ * line. The program's `nagsched check` explains it in words. NO_MEMORY. WRONG: the handle isn't empty. Only REFUSED writes refusal.
  * Allocates; takes longer with more bytes. */
 uint32_t nagsched_read(const uint8_t *document, size_t bytes, struct nagsched_handle *setup, struct nagsched_refusal *refusal);
 
-/* The lines that the program nagsched writes, each with its line feed: of a refusal, of the reply to a call as `run` writes it, and of an
- * entry as `drill` writes it. They go into room bytes at text, and length is the length of the whole line; 1,024 bytes are enough for each.
- * named is a setup, a pass (also one that waits) or a book, whose objects have the names; a number that it doesn't have has no name in
- * the line.
+/* The lines that the program nagsched writes, each with its line feed: for a refusal, for the reply to a call as `run` writes it, and for an
+ * entry as `drill` writes it. They go into room bytes at text, and length is the length of the whole line. 1,024 bytes are enough for each.
+ * named is a setup, a pass (also one that waits) or a book, and its objects have the names. A number without an object has no name in the
+ * line.
  *
- * OK. WRONG, with length: the line is longer than room, and nothing else is written. WRONG: a struct that no function gives. NO_MEMORY.
- * Allocate, and free it before they return. */
+ * OK. WRONG, with length: the line is longer than room, and nothing else is written. WRONG: a struct that no function returns. NO_MEMORY.
+ * They allocate memory, and free it before they return. */
 uint32_t nagsched_refusal_text(const struct nagsched_refusal *refusal, uint8_t *text, size_t room, size_t *length);
 uint32_t nagsched_reply_text(const struct nagsched_handle *named, const struct nagsched_call *call, const struct nagsched_reply *reply, uint8_t *text,
                              size_t room, size_t *length);
@@ -227,57 +224,58 @@ uint32_t nagsched_entry_text(const struct nagsched_handle *named, const struct n
 
 /* Objects by number, from 0: hosts first, in the order of their names' bytes, then services, in the order of their hosts' names and then of
  * their descriptions. A full name is the name of a host, or HOST;DESCRIPTION of a service: at most 511 bytes of UTF-8. named is a setup, a
- * pass (also one that waits) or a book; over its whole life the numbers stay.
+ * pass (also one that waits) or a book. Its numbers never change.
  *
- *     nagsched_count      how many objects there are, and how many of them are hosts
- *     nagsched_number     the number of the object with this full name. MISSING: there is none
+ *     nagsched_count      the number of objects, and the number of hosts among them
+ *     nagsched_number     the number of the object with this full name. MISSING: there is no such object
  *     nagsched_name       the full name of an object. WRONG, with length: it is longer than room, and nothing else is written
  *     nagsched_host_of    the host of a service. MISSING: the object is a host
  *
- * OK. WRONG: the handle has no setup, pass or book; a number that no object has. They allocate nothing. */
+ * OK. WRONG: the handle has no setup, pass or book, or no object has this number. They allocate nothing. */
 uint32_t nagsched_count(const struct nagsched_handle *named, uint32_t *objects, uint32_t *hosts);
 uint32_t nagsched_number(const struct nagsched_handle *named, const uint8_t *name, size_t bytes, uint32_t *number);
 uint32_t nagsched_name(const struct nagsched_handle *named, uint32_t number, uint8_t *name, size_t room, size_t *length);
 uint32_t nagsched_host_of(const struct nagsched_handle *named, uint32_t number, uint32_t *host);
 
-/* Opens a desk: a scheduler that as many threads share as there are passes. Each of count handles, 1 to 1,024 empty ones in an array, gets
- * a pass; its number is its place in the array. The handle that was given is empty then.
+/* Opens a desk: a scheduler for several threads, one for each pass. Each of count handles, 1 to 1,024 empty ones in an array, gets a pass,
+ * whose number is its place in the array. The handle of the setup or book is empty afterwards.
  *
- *     of a setup    start, 0 to 2^60, is the moment at which scheduling starts: first checks are spread from it. room is how many entries the
- *                   history has memory for at once; it is no limit, a call past it allocates
- *     of a book     without entries, as nagsched_renew and nagsched_resume leave one: start and room are the book's own, and have to be 0
+ *     on a setup    start, 0 to 2^60, is the moment at which scheduling starts: first checks are spread from it. room is the number of
+ *                   entries for which the history has memory at once. It is no limit: a call past it allocates
+ *     on a book     without entries, as nagsched_renew and nagsched_resume leave one: start and room are the book's own, and must be 0
  *
- * A pass has 2^32 - 1 calls, or with nagsched_open_with as many as calls says, 1 to 2^32 - 1.
+ * A pass has 2^32 - 1 calls, or with nagsched_open_with calls of them, 1 to 2^32 - 1.
  *
- * OK. NO_MEMORY: all handles are as they were. WRONG: a handle of another kind or one that isn't empty, a book with entries, a number out of
- * its limits. Allocate. (One case no proof excludes: a count of 63 bits of those who share the desk is full. No machine comes to it;
- * setup_or_book would be the desk's only pass then.) */
+ * OK. NO_MEMORY: all handles are as they were. WRONG: a handle of another kind or a pass handle that isn't empty, a book with entries, or a
+ * number out of its limits. Both allocate. (Proofs don't exclude one case, which no machine can reach: a 63-bit count of the desk's owners is
+ * full. Then setup_or_book would be the desk's only pass.) */
 uint32_t nagsched_open(struct nagsched_handle *setup_or_book, uint64_t start, size_t room, struct nagsched_handle *passes, size_t count);
 uint32_t nagsched_open_with(struct nagsched_handle *setup_or_book, uint64_t start, size_t room, uint64_t calls, struct nagsched_handle *passes,
                             size_t count);
 
 /* The six calls, one try each; nagsched_take and so on below try until the turn has come.
  *
- *     take         now: which object is to be checked at this moment? TAKEN: it begins to run; check it, and report or abandon it under
+ *     take         asks which object is to be checked at the moment now. TAKEN: its check begins; run it, and report or abandon it under
  *                  this run. PUT_OFF: it was due, but a dependency forbids its check; take again. IDLE: nothing is due before time,
- *                  unless a report, abandon, reschedule or enable of any pass makes something due sooner: sleep until time, and wake who
- *                  sleeps after each of these. AT_LIMIT: a service is due, but as many run as may: take again after a report. TIME_RANGE,
- *                  RUNS_SPENT
- *     report       the check of object under this run returned code, 0 to 3. STANDING: how it stands now, whether its state changed (a soft
- *                  problem that becomes hard has the same state: compare kind, too), and its next check. NOT_RUNNING, WRONG_RUN: the result comes too late
- *     abandon      the check of object under this run is given up at the moment now; no result will come. FREED, with its next check.
+ *                  unless a report, abandon, reschedule or enable of any pass makes something due sooner: sleep until time, and wake the
+ *                  sleeping threads after each of these. AT_LIMIT: a service is due, but the limit of running checks is reached: take
+ *                  again after a report. TIME_RANGE, RUNS_SPENT
+ *     report       the check of object under this run returned code, 0 to 3. STANDING: the object's standing, whether its state changed (a
+ *                  soft problem that becomes hard has the same state: compare kind, too), and its next check. NOT_RUNNING, WRONG_RUN: the
+ *                  result comes too late
+ *     abandon      the check of object under this run is abandoned at the moment now, and no result will come. FREED, with its next check.
  *                  NOT_RUNNING, WRONG_RUN, TIME_RANGE
- *     reschedule   the next check of object is at this time; forced: also where it is switched off or a dependency forbids it. DONE.
+ *     reschedule   the next check of object is at this time; forced: even if its checks are off or a dependency forbids it. DONE.
  *                  TIME_RANGE
  *     enable       the active checks of object are on, or off. DONE
- *     status       how object stands, and its next check. STANDING, with changed 0
+ *     status       the object's standing, and its next check. STANDING, with changed 0
  *
  * A refused call (UNKNOWN_OBJECT to RUNS_SPENT) changes nothing, is recorded like any other, and its status is OK.
  *
- * OK: the call was made and recorded, and reply has the answer. WAIT: another pass's turn comes first; nothing was made, and the same try
- * is to be made again (any other call with this pass is WRONG meanwhile). SPENT: the pass has no call left. NO_MEMORY: the call wasn't
- * made, and is counted (nagsched_refused). WRONG: the handle has no pass; a code above 3; a flag other than 0 and 1. A number that no object
- * has is refused by the reply UNKNOWN_OBJECT. A try never waits. It allocates only where the history has reached its room. */
+ * OK: the call was made and recorded, and reply has the reply. WAIT: another pass's turn comes first. The call wasn't made: make the same
+ * try again (meanwhile any other call with this pass is WRONG). SPENT: the pass has no call left. NO_MEMORY: the call wasn't made, and is
+ * counted (nagsched_refused). WRONG: the handle has no pass, a code is above 3, or a flag is neither 0 nor 1. A number without an object
+ * gets the reply UNKNOWN_OBJECT. A try never waits. It allocates only if the history has reached its room. */
 uint32_t nagsched_try_take(struct nagsched_handle *pass, uint64_t now, struct nagsched_reply *reply);
 uint32_t nagsched_try_report(struct nagsched_handle *pass, uint32_t object, uint64_t run, uint32_t code, struct nagsched_reply *reply);
 uint32_t nagsched_try_abandon(struct nagsched_handle *pass, uint32_t object, uint64_t run, uint64_t now, struct nagsched_reply *reply);
@@ -285,82 +283,82 @@ uint32_t nagsched_try_reschedule(struct nagsched_handle *pass, uint32_t object, 
 uint32_t nagsched_try_enable(struct nagsched_handle *pass, uint32_t object, uint32_t on, struct nagsched_reply *reply);
 uint32_t nagsched_try_status(struct nagsched_handle *pass, uint32_t object, struct nagsched_reply *reply);
 
-/* Reads how an object stands, without a turn: whoever is in a call, it doesn't wait. It is the standing after some history that begins with all
- * that this pass has seen, so that glances never go back; a pass sees its own reports.
+/* Reads an object's standing without a turn: it never waits for another call. The standing is that after some history that begins with all
+ * that this pass has seen, so that glances never go back. A pass sees its own reports.
  *
- * OK. WRONG: the handle has no pass, or one that waits; a number that no object has. Allocates nothing; one load of memory. */
+ * OK. WRONG: the handle has no pass, or one that waits, or no object has this number. Allocates nothing; one load of memory. */
 uint32_t nagsched_glance(struct nagsched_handle *pass, uint32_t object, struct nagsched_standing *standing);
 
-/* Adds another pass of the same desk to this one, in any order of their numbers, when the other's thread makes no more calls; the other handle
- * is empty then. This pass goes on under its own number.
+/* Joins another pass of the same desk to this one, in any order of their numbers, when the other's thread makes no more calls. The other handle
+ * is empty afterwards. This pass keeps its own number.
  *
- * OK. WRONG: a handle without a pass, or with one that waits; passes of two desks. Allocates nothing. */
+ * OK. WRONG: a handle has no pass, or one that waits, or the passes are of two desks. Allocates nothing. */
 uint32_t nagsched_gather(struct nagsched_handle *pass, struct nagsched_handle *other);
 
 /* Ends the desk: the pass in which all others are gathered becomes the desk's book, in the same handle.
  *
- * OK. MISSING: passes are left that have to be gathered first. WRONG: the handle has no pass, or one that waits. Allocates nothing. */
+ * OK. MISSING: other passes have to be gathered first. WRONG: the handle has no pass, or one that waits. Allocates nothing. */
 uint32_t nagsched_close(struct nagsched_handle *pass);
 
-/* The history: how many entries a book or an old history has, and the entry with an index from 0, in the order in which the calls were made.
- * nagsched_refused: how many calls of a book weren't made because memory ran out.
+/* The history: the number of entries of a book or an old history, and the entry with an index from 0, in the order in which the calls were
+ * made. nagsched_refused: the number of calls that a book didn't make because it was out of memory.
  *
- * OK. WRONG: the handle has neither; no entry has this index. Allocate nothing. */
+ * OK. WRONG: the handle has neither, or no entry has this index. They allocate nothing. */
 uint32_t nagsched_entries(const struct nagsched_handle *book_or_history, uint64_t *count);
 uint32_t nagsched_entry(const struct nagsched_handle *book_or_history, uint64_t index, struct nagsched_entry *entry);
 uint32_t nagsched_refused(const struct nagsched_handle *book, uint64_t *count);
 
-/* Hands out the entries of a book, into the empty handle history, and goes on with none: the book stands where it stood, has memory for room
- * entries at once, and nagsched_open opens a desk on it.
+/* Moves the entries of a book into the empty handle history. The book then has no entries and its scheduler is as it was. It has memory for
+ * room entries at once, and nagsched_open opens a desk on it.
  *
- * OK. NO_MEMORY: the book has its entries still. WRONG: the handle has no book; history isn't empty. Allocates room entries of 56 bytes, and
+ * OK. NO_MEMORY: the book still has its entries. WRONG: the handle has no book, or history isn't empty. Allocates room entries of 56 bytes, and
  * takes no longer with more entries. */
 uint32_t nagsched_renew(struct nagsched_handle *book, size_t room, struct nagsched_handle *history);
 
-/* The saved state of a book's scheduler, for nagsched_resume: all that it knows, without its setup and its entries. A program saves
- * a book when it ends, and at each renewal if it likes, and keeps the text where it keeps its own files.
+/* Writes the saved state of a book's scheduler, for nagsched_resume: all its knowledge, without its setup and its entries. A program saves
+ * a book when it ends, and perhaps at each renewal, and stores the text with its own files.
  *
- * It is one line of JSON without a line feed, of at most 16777216 bytes, written into room bytes at text; length is that of the whole
- * text. The buffer is the caller's, and stays as it is. The book isn't changed: it can be renewed, opened or saved again.
+ * The text is one line of JSON without a line feed, of at most 16777216 bytes, written into room bytes at text. length is the length of the
+ * whole text. The library doesn't keep the buffer. The book isn't changed: it can be renewed, opened or saved again.
  *
- * OK: all of it was written. WRONG, with length: it is longer than room; nothing was written but length, so that a program that gives
- * room 0 learns how much it takes. WRONG: the handle has no book (a desk is closed first). NO_MEMORY: nothing was written.
+ * OK: the whole text was written. WRONG, with length: the text is longer than room, and only length was written, so that a program can pass
+ * room 0 to learn the length. WRONG: the handle has no book (close the desk first). NO_MEMORY: nothing was written.
  * Allocates, whatever the room is, and frees it before it returns; takes longer with more objects. Any thread, also while others read
  * the book by functions that take it as const. */
 uint32_t nagsched_save(const struct nagsched_handle *book, uint8_t *text, size_t room, size_t *length);
 
-/* Makes the book that goes on from a saved state, into an empty handle, over a setup of the same document or of another one (which
- * objects go on as what: docs/OPERATING.md). The setup's handle is empty then. The text isn't used after the call.
+/* Makes a book that resumes a saved state, in an empty handle, over a setup of the same document or of another one (docs/saved-states.md
+ * says what each object keeps). The setup's handle is empty afterwards. The text isn't used after the call.
  *
  * start, 0 to 2^60 milliseconds, is the present moment: an object that the saved state doesn't have is first checked from then on. room
- * is how many entries the book has memory for at once; it has none yet, and nagsched_open opens a desk on it, with 0 for start and room.
- * A check that was out is still out: it is reported or abandoned under its run's number, or nagsched_running says which are out, so
- * that they can be abandoned. Run numbers go on from the saved ones.
+ * is the number of entries for which the book has memory at once. It has no entries yet, and nagsched_open opens a desk on it, with 0 for
+ * start and room. A check that was running is still running: report or abandon it under its run's number. nagsched_running lists the
+ * running checks. Run numbers continue from the saved ones.
  *
- * OK. REFUSED: the text is no saved state; refusal, which every other status leaves as it was, has why (SAVED_TOO_LONG to
- * SAVED_UNLAWFUL) and at which object, and nagsched_refusal_text says it. NO_MEMORY: nothing is known of the text. WRONG: the handle
- * has no setup, that for the book isn't empty, or the start is later than 2^60. With each but OK the setup stays in its handle.
+ * OK. REFUSED: the text is no saved state. refusal, which every other status leaves as it was, has the reason (SAVED_TOO_LONG to
+ * SAVED_UNLAWFUL) and the object, and nagsched_refusal_text has its line. NO_MEMORY: nothing is known of the text. WRONG: the handle has no
+ * setup, the book's handle isn't empty, or start is later than 2^60. With every status except OK the setup stays in its handle.
  * Allocates; takes longer with more bytes. Any thread, while no other call is made with the two handles. */
 uint32_t nagsched_resume(struct nagsched_handle *setup, const uint8_t *text, size_t bytes, uint64_t start, size_t room, struct nagsched_handle *book,
                          struct nagsched_refusal *refusal);
 
-/* The check of a book's object that is out: the number of its run, and the moment at which it was taken, in milliseconds. Asked for
- * each object, from 0 to nagsched_count's objects, it gives all checks that are out, and reads no entry. On an open desk whoever took
- * a check knows of it.
+/* The running check of a book's object: the number of its run, and the moment at which it was taken, in milliseconds. Call it for each
+ * object, from 0 to nagsched_count's objects, to get all running checks without reading an entry. On an open desk the thread that took a
+ * check knows of it.
  *
- * OK: run and start are written. MISSING: no check of the object is out. WRONG: the handle has no book, or the book no such object.
- * With these two run and start are as they were. Allocates nothing, and takes the same time whatever the book has. Any thread, also
- * while others read the book by functions that take it as const. What it gives is so until a call is made by a desk on the book. */
+ * OK: run and start are written. MISSING: no check of the object is running. WRONG: the handle has no book, or the book no such object.
+ * With these two statuses run and start are as they were. Allocates nothing, and takes the same time for every book. Any thread, also
+ * while others read the book by functions that take it as const. The result holds until a desk on the book makes a call. */
 uint32_t nagsched_running(const struct nagsched_handle *book, uint32_t object, uint64_t *run, uint64_t *start);
 
-/* Frees what a handle has, and makes it empty; an empty one stays so. A desk of which a pass is freed can't be closed any more: its history
- * is freed with the last of its passes.
+/* Frees what a handle refers to, and makes the handle empty. An empty handle stays empty. If a pass is freed, its desk can't be closed any
+ * more: its history is freed with the last of its passes.
  *
  * OK. WRONG: the handle has a pass that waits. */
 uint32_t nagsched_free(struct nagsched_handle *handle);
 
 /* The six calls, each tried until its turn has come; between two tries the processor is yielded. The statuses are those of a try, without WAIT. A
- * program that has its own way to wait, such as coroutines, makes the tries itself. */
+ * program with its own way to wait, such as coroutines, makes the tries itself. */
 static inline uint32_t nagsched_take(struct nagsched_handle *pass, uint64_t now, struct nagsched_reply *reply) {
     uint32_t status;
     while ((status = nagsched_try_take(pass, now, reply)) == NAGSCHED_WAIT) sched_yield();

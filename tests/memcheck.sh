@@ -1,8 +1,8 @@
 #!/usr/bin/env bash
-# Runs programs over the C library under valgrind's memcheck: no access that isn't allowed, no block that is left. Run by hand.
-#   tests/memcheck.sh [PREFIX]     where tools/build_c.sh has laid the library down, out/c where no folder is named
-# The programs are examples/embed.c, with its four workers and an operator, tests/c/wrong.c, tests/c/saved.c, which saves books and goes
-# on from what was saved, and tests/c/refused.c, which refuses each request for memory in turn.
+# Runs programs over the C library under valgrind's memcheck, to find forbidden accesses and blocks that are left. Run it manually.
+#   tests/memcheck.sh [PREFIX]     the folder in which tools/build_c.sh has installed the library; the default is out/c
+# The programs are examples/embed.c, with its four workers and an operator, tests/c/wrong.c, tests/c/saved.c, which saves and resumes
+# books, and tests/c/refused.c, which refuses each request for memory in turn.
 set -eu -o pipefail
 top=$(cd "$(dirname "$0")/.." && pwd)
 prefix=${1:-$top/out/c}

@@ -1,9 +1,9 @@
 #!/usr/bin/env bash
-# Refuses requests for memory that the gate doesn't refuse, and prints what came of them. Run it by hand; it takes some ten minutes.
-#   tests/refusals.sh [PROGRAM]     crates/nagsched/out/nagsched where no program is named; needs a C compiler, cc
+# Refuses requests for memory that the gate doesn't refuse, and prints the outcome. Run it manually; it takes about ten minutes.
+#   tests/refusals.sh [PROGRAM]     the default is crates/nagsched/out/nagsched; needs a C compiler, cc
 # The program runs over 4,096 hosts with its Nth request refused, for the first 2,000 numbers and every 61st after them. Each run has to end
-# in its answer of ample memory or in status 4. Then the tests of a core and a lock run with each of their requests refused in turn: the
-# call whose request was refused hands back what it was given, and succeeds when it is made again.
+# with the same output as with enough memory, or with status 4. Then the tests of a core and a lock run with each of their requests refused
+# in turn: the call whose request was refused hands back its arguments, and succeeds when it is made again.
 set -eu
 top=$(cd "$(dirname "$0")/.." && pwd)
 program=${1:-$top/crates/nagsched/out/nagsched}
@@ -19,7 +19,7 @@ awk 'BEGIN {
     print "[\"take\",0]"
 }' > "$work/many"
 
-# Runs the program with its Nth request refused: prints its status, and keeps its output.
+# Runs the program with its Nth request refused: prints its status, and stores its output.
 refused_at() {
     local status=0
     head -c 8 /dev/zero > "$work/requests"

@@ -24,188 +24,23 @@ mirrors: a host, a parent or a master that stands in another part stands there t
 of its original. What is left out is named with the objects that it matters to: a few of them, or with --all each.
 """
 import argparse
-import collections
-import fractions
-import functools
 import json
 import math
 import os
 import pathlib
 import sys
-from typing import Any, Callable, Collection, Counter, Dict, Iterator, List, Mapping, NoReturn, Optional, Sequence, Set, Tuple, Union
+from typing import Callable, Dict, List, Mapping, Sequence, Tuple
 
 import nagios_commands
 import nagios_groups
 import nagios_parts
 import nagios_periods
 import nagios_site
-
-MOST_UNITS = 525_600
-MINUTES, MILLISECONDS = 525_600, 86_400_000
-# How many objects are named of each kind that is left out.
-FEW = 5
-
-
-class CannotTakeOver(Exception):
-    """Something that a setup can't say."""
-
-
-class Value(str):
-    """The text of a member, with the place where it stands."""
-
-    place: str
-
-    def __new__(cls, text: str, place: str) -> "Value":
-        value = super().__new__(cls, text)
-        value.place = place
-        return value
-
-    def refuse(self, why: str) -> NoReturn:
-        raise CannotTakeOver(f"{self.place}: {why}")
-
-
-Members = Dict[str, Value]
-# An object of a file: its kind, its place and its members.
-Definition = Tuple[str, str, Members]
-Setup = Dict[str, Any]
-
-
-class LeftOut:
-    """What has no counterpart here, by kind: how often it was met, what that means, and for which objects."""
-
-    # The kinds by harm: what changes which checks are made and what counts as a problem, then who hears of it, then the rest by name.
-    WORST = (
-        "quotes around values", "parents of services", "passive_checks_enabled 0", "is_volatile", "passive results of hosts", "dependency_period", "flap thresholds of an object", "flap_detection_enabled 0",
-        "flap_detection_options", "initial_state", "event_handler", "dependencies of notifications", "hostescalation definitions",
-        "serviceescalation definitions", "contact definitions", "contactgroup definitions",
-    )
-
-    def __init__(self) -> None:
-        self.kinds: Counter[str] = collections.Counter()
-        self.meanings: Dict[str, str] = {}
-        self.names: Dict[str, List[str]] = collections.defaultdict(list)
-        # The time periods that include each time: an object that has one loses nothing.
-        self.always: Set[str] = set()
-
-    def add(self, kind: str, meaning: str, name: Optional[str] = None) -> None:
-        self.kinds[kind] += 1
-        self.meanings[kind] = meaning
-        if name is not None:
-            self.names[kind].append(name)
-
-    def tell(self, without: Collection[str] = (), named: int = 0) -> None:
-        """Names each kind that isn't one of these, the worst first, with so many of its objects."""
-        for kind in sorted(self.kinds, key=lambda kind: (self.WORST.index(kind) if kind in self.WORST else len(self.WORST), kind)):
-            if kind not in without:
-                count = len(set(self.names[kind])) or self.kinds[kind]
-                print(f"left out: {kind} ({count}): {self.meanings[kind]}{self.some(kind, named)}", file=sys.stderr)
-
-    def some(self, kind: str, named: int) -> str:
-        names = list(dict.fromkeys(self.names[kind]))
-        more = f" and {len(names) - named} more" if len(names) > named else ""
-        return f": {', '.join(names[:named])}{more}" if named and names else ""
-
-
-# ---- reading
-
-
-def lines_of(path: pathlib.Path) -> Iterator[Tuple[str, str]]:
-    """The lines of a file that say something, each with its place."""
-    try:
-        lines = path.read_bytes().split(b"\n")
-    except OSError as error:
-        raise CannotTakeOver(f"{path}: {error}") from None
-    for number, line in enumerate(lines, 1):
-        try:
-            text = line.decode("utf-8").strip()
-        except UnicodeDecodeError as error:
-            raise CannotTakeOver(f"{path}:{number}: {error}") from None
-        if text and text[0] not in "#;":
-            yield f"{path}:{number}", text
-
-
-def read_options(path: pathlib.Path) -> Members:
-    """The options of nagios.cfg; of one that stands twice the last counts."""
-    options = {}
-    for place, line in lines_of(path):
-        name, equals, value = line.partition("=")
-        if not equals:
-            raise CannotTakeOver(f"{place}: no option: {line}")
-        options[name.strip()] = Value(value.strip(), place)
-    return options
-
-
-def read_objects(path: pathlib.Path) -> List[Definition]:
-    """The definitions of an object file: the kind of each, its place and its members."""
-    objects: List[Definition] = []
-    members: Optional[Members] = None
-    for place, line in lines_of(path):
-        if members is None:
-            words = line.replace("{", " { ").split()
-            if len(words) != 3 or words[0] != "define" or words[2] != "{":
-                raise CannotTakeOver(f"{place}: no definition: {line}")
-            members = {}
-            objects.append((words[1], place, members))
-        elif line == "}":
-            members = None
-        else:
-            name, _, value = line.partition("\t") if "\t" in line else line.partition(" ")
-            members[name] = Value(value.strip(), place)
-    if members is not None:
-        raise CannotTakeOver(f"{path}: its last definition has no end")
-    return objects
-
-
-def required(members: Members, name: str, place: str) -> Value:
-    if name not in members:
-        raise CannotTakeOver(f"{place}: no {name}")
-    return members[name]
-
-
-exactly = functools.lru_cache(maxsize=1_024)(fractions.Fraction)
-
-
-def number(value: Value) -> fractions.Fraction:
-    """A number that is written with or without a point, exactly. Few are different among those of many objects."""
-    try:
-        return exactly(str(value))
-    except (ValueError, ZeroDivisionError):
-        value.refuse(f"no number: {value}")
-
-
-def whole(value: Value, of: fractions.Fraction, least: int, most: int) -> int:
-    """That number, where it is whole and within its limits."""
-    if of.denominator != 1 or not least <= of <= most:
-        value.refuse(f"{value} is {float(of):g} here; it can be a whole number from {least} to {most}")
-    return int(of)
-
-
-def switch(value: Value) -> bool:
-    if value not in ("0", "1"):
-        value.refuse(f"no switch: {value}")
-    return value == "1"
-
-
-# ---- options
-
-
-def delay(value: Value) -> Union[str, int]:
-    """A delay method: a letter, or seconds there and milliseconds here."""
-    return str(value) if value in ("n", "d", "s") else whole(value, number(value) * 1000, 0, MILLISECONDS)
-
-
-def factor(value: Value) -> Union[str, int]:
-    return "s" if value == "s" else whole(value, number(value), 1, nagios_parts.MOST_OBJECTS)
-
-
-def percent(value: Value) -> int:
-    """A percent, rounded up: they are whole here."""
-    return whole(value, fractions.Fraction(math.ceil(number(value))), 0, 100)
-
-
-def between(least: int, most: int) -> Callable[[Value], int]:
-    return lambda value: whole(value, number(value), least, most)
-
+from nagios_objects import dependency_of, host_of, service_of
+from nagios_values import (
+    FEW, MINUTES, MOST_UNITS, CannotTakeOver, Definition, LeftOut, Members, Setup, Value, between, delay, factor, lines_of, number, percent,
+    read_objects, read_options, switch, whole,
+)
 
 # Each option with a counterpart: how it is read, and what Nagios takes where it isn't there.
 OPTIONS: Dict[str, Tuple[Callable[[Value], object], str]] = {
@@ -253,113 +88,6 @@ def options_of(read: Members, left_out: LeftOut) -> Dict[str, object]:
             left_out.add("other options of nagios.cfg", "files, logs, commands and other parts of Nagios", name)
     return {name: how(read.get(name, Value(default, f"the default of {name}"))) for name, (how, default) in OPTIONS.items()}
 
-
-# ---- hosts and services
-
-TAKEN = {"host_name", "service_description", "parents", "check_interval", "retry_interval", "max_check_attempts", "active_checks_enabled"}
-# Members without a counterpart: the values at which they change nothing, their kind, and what that means here.
-MEMBERS: Dict[str, Tuple[Tuple[str, ...], str, str]] = {
-    "check_period": ((), "check_period", "a check is due at any time of the day"),
-    "check_command": ((), "check_command", "whoever takes a check runs its plugin"),
-    "passive_checks_enabled": (("1",), "passive_checks_enabled 0", "a passive result of it is taken all the same"),
-    "initial_state": (("o",), "initial_state", "an object begins as OK or UP, never checked"),
-    "flap_detection_enabled": (("1",), "flap_detection_enabled 0", "flapping is reported of every object"),
-    "flap_detection_options": (("a",), "flap_detection_options", "every result counts"),
-    "low_flap_threshold": (("0.000000", "0"), "flap thresholds of an object", "those of all hosts or all services hold"),
-    "high_flap_threshold": (("0.000000", "0"), "flap thresholds of an object", "those of all hosts or all services hold"),
-    "check_freshness": (("0",), "check_freshness", "nothing is checked for being stale"),
-    "freshness_threshold": (("0",), "check_freshness", "nothing is checked for being stale"),
-    "is_volatile": (("0",), "is_volatile", "a problem that comes again is no new one"),
-    "obsess": (("0", "1"), "", ""),
-    "parallelize_check": (("1",), "parallelize_check 0", "its check runs beside others"),
-    "event_handler": ((), "event_handler", "no event handler is run"),
-}
-OTHER = ("other members of hosts and services", "names, addresses, contacts, notifications, events and what is shown")
-
-
-def tell_members(members: Members, left_out: LeftOut, of: str) -> None:
-    for name, value in members.items():
-        if name in ("use", "register", "name"):
-            value.refuse("a template; let Nagios write them out: nagios4 -vp nagios.cfg")
-        if name in MEMBERS:
-            neutral, kind, meaning = MEMBERS[name]
-            if value not in neutral and not (name == "check_period" and value in left_out.always):
-                left_out.add(kind, meaning, of)
-        elif name not in TAKEN:
-            left_out.add(*OTHER, name)
-
-
-def name_of(value: Value) -> str:
-    size = len(value.encode())
-    if not 1 <= size <= 255 or ";" in value or any(ord(letter) < 32 or ord(letter) == 127 for letter in value):
-        value.refuse("a name has 1 to 255 bytes, no `;` and no control character")
-    return str(value)
-
-
-def timing(members: Members, place: str, left_out: LeftOut, of: str) -> Setup:
-    """What hosts and services have alike; intervals are still those of Nagios."""
-    tell_members(members, left_out, of)
-    attempts = required(members, "max_check_attempts", place)
-    taken: Setup = {
-        "check_interval": members.get("check_interval", Value("5", place)),
-        "retry_interval": members.get("retry_interval", Value("1", place)),
-        "max_check_attempts": whole(attempts, number(attempts), 1, 255),
-    }
-    if not switch(members.get("active_checks_enabled", Value("1", place))):
-        taken["enabled"] = False
-        left_out.add("objects without active checks", "switched off here; a passive result has no way in", of)
-    return taken
-
-
-def host_of(members: Members, place: str, left_out: LeftOut) -> Setup:
-    host: Setup = {"name": name_of(required(members, "host_name", place))}
-    parents = [parent.strip() for parent in members.get("parents", "").split(",") if parent.strip()]
-    if parents:
-        host["parents"] = parents
-    return host | timing(members, place, left_out, host["name"])
-
-
-def service_of(members: Members, place: str, left_out: LeftOut) -> Setup:
-    host = required(members, "host_name", place)
-    description = name_of(required(members, "service_description", place))
-    if members.get("parents"):
-        left_out.add("parents of services", "a service is checked whatever the services are that it names as parents", f"{host};{description}")
-    return {"host": str(host), "description": description} | timing(members, place, left_out, f"{host};{description}")
-
-
-# ---- dependencies
-
-
-def end_of(members: Members, place: str, before: str, service: bool) -> str:
-    """The full name of the dependent (before is `dependent_`) or of the master."""
-    host = required(members, before + "host_name", place)
-    return f"{host};{required(members, before + 'service_description', place)}" if service else str(host)
-
-
-def dependency_of(members: Members, place: str, service: bool, left_out: LeftOut) -> Optional[Setup]:
-    """A dependency of execution; none where it is one of notifications only."""
-    letters = "owucpn" if service else "odupn"
-    criteria = members.get("execution_failure_options", members.get("execution_failure_criteria"))
-    if "dependency_period" in members and members["dependency_period"] not in left_out.always:
-        left_out.add("dependency_period", "a dependency holds at any time", end_of(members, place, "dependent_", service))
-    if any(name.startswith("notification_failure") for name in members):
-        left_out.add("dependencies of notifications", "no notifications are sent", end_of(members, place, "dependent_", service))
-    if criteria is None:
-        return None
-    named = [letter.strip() for letter in criteria.split(",")]
-    if named == ["a"]:
-        named = list(letters.replace("n", ""))
-    for letter in named:
-        if len(letter) != 1 or letter not in letters:
-            criteria.refuse(f"no criteria: {criteria}")
-    dependency: Setup = {"dependent": end_of(members, place, "dependent_", service), "master": end_of(members, place, "", service)}
-    dependency["criteria"] = ",".join(named)
-    if switch(members.get("inherits_parent", Value("0", place))):
-        dependency["inherits_parent"] = True
-    return dependency
-
-
-# ---- the whole
 
 NOTHING_HERE = {
     "timeperiod": "a check is due at any time of the day",

@@ -37,7 +37,7 @@ done
 place 755 "$top/monitor/nagsched-gearman-runner" lib/nagsched/nagsched-gearman-runner
 place 755 "$runner" lib/nagsched/nagsched-runner
 ln -sf ../lib/nagsched/nagsched-runner "$root/bin/nagsched-runner"
-for script in from_nagios nagios_commands nagios_groups nagios_parts nagios_periods nagios_site; do
+for script in from_nagios nagios_commands nagios_groups nagios_objects nagios_parts nagios_periods nagios_site nagios_values; do
     place 644 "$top/tools/$script.py" "lib/nagsched/$script.py"
 done
 chmod 755 "$root/lib/nagsched/from_nagios.py"
@@ -60,10 +60,10 @@ python3 "$top/tools/pages.py" "$pages"
 for page in "$pages"/*; do
     place 644 "$page" "share/doc/nagsched/$(basename "$page")"
 done
-for example in office.txt office.out sequence.txt sequence.out drill.txt drill.out embed.c loop.c; do
+for example in office.txt office.out sequence.txt sequence.out drill.txt drill.out embed.c loop.c alertmanager.yml alert_rules.yml prometheus.yml; do
     place 644 "$top/examples/$example" "share/doc/nagsched/examples/$example"
 done
-for example in embed.py loop.py monitor.py mail_change.py alert_change.py; do
+for example in embed.py loop.py monitor.py mail_change.py; do
     place 755 "$top/examples/$example" "share/doc/nagsched/examples/$example"
 done
 # The loop in Rattle is a part of machine_room: its file and, in a folder, the modules that it names.
@@ -71,6 +71,9 @@ place 644 "$top/crates/machine_room/src/months.rt" share/doc/nagsched/examples/l
 for module in fault outside restart round runs; do
     place 644 "$top/crates/machine_room/src/$module.rt" "share/doc/nagsched/examples/loop/$module.rt"
 done
+# The first programs of the pages on C and Python.
+place 644 "$top/examples/first.c" share/doc/nagsched/examples/first.c
+place 755 "$top/examples/first.py" share/doc/nagsched/examples/first.py
 [ -n "$library" ] || exit 0
 place 644 "$built/include/nagsched.h" include/nagsched.h
 place 644 "$built/lib/libnagsched.a" lib/libnagsched.a

@@ -3,59 +3,90 @@
 
     tools/manual.py DIRECTORY
 
-They are the pages docs/FORMATS.md, EXPLANATIONS.md and MONITOR.md, and a section of OPERATING.md, in the form that `man` shows, so that nothing is written twice:
-nagsched(1) has the words, exit statuses and input, nagsched(5) the setup, commands, answers, saved states and refusals. The gate compares the words with the
-program's help.
+Each is made of sections of the pages in docs/, under the headings that manual pages have, so that nothing is written twice.
 """
 import pathlib
 import re
 import sys
 import textwrap
+from typing import Dict, Iterator, List
 
 TOP = pathlib.Path(__file__).resolve().parent.parent
-DATE = "2026-11-27"
-WIDTH = 79
+DATE = "2026-11-28"
+WIDTH = 110
 SUMMARY = {
-    ("nagsched", 1): "decides which host or service check is due, and what each result means",
-    ("nagsched", 5): "setup, commands, answers, saved states and refusals of nagsched",
-    ("nagsched-monitor", 1): "runs the plugins of a site, on the scheduler nagsched",
-    ("nagsched-from-nagios", 1): "makes a setup or a site from a Nagios configuration",
+    ("nagsched", 1): "decide which host or service is checked next, and what each result means",
+    ("nagsched", 5): "setup, saved states and refusals of nagsched",
+    ("nagsched-monitor", 1): "run the checks of a site",
+    ("nagsched-from-nagios", 1): "convert a Nagios configuration",
 }
-# What is called otherwise where it is installed.
+# What has another name in an installation.
 INSTALLED = {
     "tools/from_nagios.py": "nagsched-from-nagios",
     "monitor/nagsched-monitor": "nagsched-monitor",
     "crates/nagsched/out/nagsched": "nagsched",
+    "tools/timeline.py": "timeline.py",
     "examples/": "share/doc/nagsched/examples/",
     "docs/": "share/doc/nagsched/",
 }
-# The sections of FORMATS that stand on the page of the program; the others stand on that of the formats.
-OF_THE_PROGRAM = ("The words", "Exit statuses")
+# The sections of each manual page: a text, or the parts that each is made of, a page and a title there. The title "" is what is before the first section.
+PARTS = {
+    ("nagsched", 1): {
+        "Synopsis": [("program", "Synopsis")],
+        "Description": [("program", ""), ("program", "Input"), ("program", "Answers"), ("program", "run"), ("program", "live"), ("program", "check"), ("program", "drill")],
+        "Options": [("program", "Options")],
+        "Files": "nagsched opens no files. It reads standard input, and writes standard output.",
+        "Exit status": [("program", "Exit statuses")],
+        "Examples": [("program", "Examples")],
+    },
+    ("nagsched", 5): {
+        "Description": [("setup", ""), ("setup", "Options"), ("setup", "Hosts"), ("setup", "Services"), ("setup", "Dependencies"), ("setup", "Limits")],
+        "Saved states": [("saved-states", "The format")],
+        "Refusals": [("errors", "A refused setup"), ("errors", "A refused line"), ("errors", "A refused call"), ("errors", "A refused saved state")],
+        "Files": "share/doc/nagsched/setup.schema.json is the JSON Schema of a setup, as `nagsched schema` writes it.",
+        "Examples": [("setup", "A whole setup")],
+    },
+    ("nagsched-monitor", 1): {
+        "Synopsis": [("monitor", "Synopsis")],
+        "Description": [("monitor", ""), ("monitor", "Commands"), ("monitor", "When checks run"), ("monitor", "What a plugin's end means"), ("monitor", "Changes"),
+                        ("monitor", "Web page"), ("monitor", "Nagios's own files"), ("monitor", "Requests")],
+        "Options": [("monitor", "Options")],
+        "Files": [("monitor", "Files of a site"), ("monitor", "The database")],
+        "Exit status": [("monitor", "Exit statuses")],
+        "Examples": [("monitor", "Examples")],
+    },
+    ("nagsched-from-nagios", 1): {
+        "Synopsis": [("from-nagios", "Synopsis")],
+        "Description": [("from-nagios", ""), ("from-nagios", "What it reports"), ("from-nagios", "What becomes of what")],
+        "Options": [("from-nagios", "Options")],
+        "Files": [("from-nagios", "The files of a site")],
+        "Exit status": [("from-nagios", "Exit statuses")],
+        "Examples": [("from-nagios", "Compare the schedule")],
+    },
+}
 SEE = {
     ("nagsched", 1): "nagsched(5), nagsched-monitor(1), nagsched-from-nagios(1)",
     ("nagsched", 5): "nagsched(1), nagsched-monitor(1)",
-    ("nagsched-monitor", 1): "nagsched(1), nagsched(5), nagsched-from-nagios(1)",
-    ("nagsched-from-nagios", 1): "nagsched(1), nagsched(5), nagsched-monitor(1)",
+    ("nagsched-monitor", 1): "nagsched(1), nagsched(5), nagsched-from-nagios(1), systemd(1)",
+    ("nagsched-from-nagios", 1): "nagsched-monitor(1), nagsched(1), nagsched(5)",
 }
 
 
 # ---- reading a page
 
 
-def sections_of(page):
-    """The title of each section of the second level, and its lines."""
-    sections, lines = [], []
-    in_code = False
-    for line in page.read_text(encoding="utf-8").splitlines():
+def sections_of(page: pathlib.Path) -> Dict[str, List[str]]:
+    """The lines of each section of the second level by its title, those before the first under \"\"; comments are left out."""
+    sections: Dict[str, List[str]] = {"": []}
+    lines, in_code = sections[""], False
+    text = re.sub(r"^<!--.*?-->\n+|<!--.*?-->", "", page.read_text(encoding="utf-8"), flags=re.DOTALL | re.MULTILINE)
+    for line in text.splitlines():
         in_code ^= line.startswith("```")
         if line.startswith("## ") and not in_code:
-            lines = []
-            sections.append((line[3:], lines))
+            lines = sections.setdefault(line[3:], [])
         elif not (line.startswith("# ") and not in_code):
             lines.append(line)
-            if not sections:
-                sections.append(("Description", lines))
-    return [(title, lines) for title, lines in sections if any(line.strip() for line in lines)]
+    return sections
 
 
 # ---- writing
@@ -92,15 +123,17 @@ def cells_of(row):
 
 
 def table(rows):
-    """A table as a list: the first cell of each row, and the others behind it, each after its heading."""
+    """A table as a list: the first cell of each row, and then the others, each after its heading if there are more than one."""
     head, *body = [cells_of(row) for row in [rows[0], *rows[2:]]]
-    if any(head):
-        yield from [".PP", line("\\fI" + "\\fR, \\fI".join(escaped(name) for name in head if name) + "\\fR:")]
+    if len(head) > 2:
+        yield from [".PP", line("\\fI" + "\\fR, \\fI".join(escaped(name) for name in head) + "\\fR:")]
+    yield ".PD 0"
     for first, *others in body:
-        yield ".TP"
-        yield line(inline(first) or "\\&")
-        said = [cell if len(others) == 1 or not name else f"{name}: {cell}" for name, cell in zip(head[1:], others) if cell]
+        tag = inline(first).replace('"', "\\(dq")
+        yield f'.IP "{tag}" 4'
+        said = [cell if len(others) == 1 else f"{name}: {cell}" for name, cell in zip(head[1:], others) if cell]
         yield line(inline(". ".join(text.rstrip(".") for text in said)) if said else "\\&")
+    yield ".PD"
 
 
 def blocks_of(lines):
@@ -140,8 +173,8 @@ def items_of(lines):
     return items
 
 
-def section(title, lines):
-    yield f".SH {escaped(title.upper())}"
+def body(lines: List[str]) -> Iterator[str]:
+    """A section without its heading."""
     for kind, block in blocks_of(lines):
         if kind == "code":
             yield from [".PP", ".nf", ".RS 4", *(line(escaped(installed(text))) for text in block), ".RE", ".fi"]
@@ -164,12 +197,11 @@ def tidy(lines):
     kept, in_code = [], False
     for text in lines:
         in_code = text == ".nf" or in_code and text != ".fi"
-        is_tag = bool(kept) and kept[-1] == ".TP"
-        if text.startswith((".SH", ".SS", ".PP", ".TP", ".IP")) and kept and kept[-1] == ".PP":
+        if text.startswith((".SH", ".SS", ".PP", ".IP")) and kept and kept[-1] == ".PP":
             kept.pop()
         if text == ".PP" and kept and kept[-1].startswith((".SH", ".SS")):
             continue
-        if text.startswith(".") or in_code or is_tag:
+        if text.startswith(".") or in_code:
             kept.append(text)
         else:
             kept += [line(part) for part in textwrap.wrap(text, WIDTH, break_long_words=False, break_on_hyphens=False)]
@@ -178,40 +210,38 @@ def tidy(lines):
     return kept
 
 
-def page_of(name, number, version, sections):
+def page_of(name: str, number: int, version: str) -> Iterator[str]:
     yield f'.TH {name.upper()} {number} "{DATE}" "nagsched {version}" "nagsched"'
     yield ".ad l"
     yield ".SH NAME"
     yield f"{escaped(name)} \\- {escaped(SUMMARY[name, number])}"
-    for title, lines in sections:
-        yield from section(title, lines)
+    for heading, parts in PARTS[name, number].items():
+        yield f".SH {heading.upper()}"
+        if isinstance(parts, str):
+            yield from [".PP", line(inline(parts))]
+            continue
+        for page, title in parts:
+            if title and len(parts) > 1 or title.lower() not in (heading.lower(), "exit statuses", "examples", ""):
+                yield f".SS {inline(title)}"
+            yield from body(sections_of(TOP / f"docs/{page}.md")[title])
     yield ".SH SEE ALSO"
     yield ".PP"
-    yield "The C library has its reference in nagsched.h (\\fBpkg\\-config \\-\\-cflags \\-\\-libs nagsched\\fR), and EMBEDDING.md beside the other pages."
-    yield ".PP"
     yield ", ".join(f"\\fB{escaped(other.split('(')[0])}\\fR({other.split('(')[1]}" for other in SEE[name, number].split(", "))
+    yield ".PP"
+    yield "Pages with more, and examples: share/doc/nagsched. The C library is described in nagsched.h."
 
 
-def pages():
-    """The text of each page by the name of its file."""
-    version = (TOP / "VERSION").read_text().strip()
-    ((_, explanations),) = sections_of(TOP / "docs/EXPLANATIONS.md")
-    formats, monitor = sections_of(TOP / "docs/FORMATS.md"), sections_of(TOP / "docs/MONITOR.md")
-    parts = {
-        ("nagsched", 1): [part for part in formats if part[0] in OF_THE_PROGRAM],
-        ("nagsched", 5): [*(part for part in formats if part[0] not in OF_THE_PROGRAM), ("Explanations", explanations)],
-        ("nagsched-monitor", 1): monitor,
-        ("nagsched-from-nagios", 1): [part for part in sections_of(TOP / "docs/OPERATING.md") if part[0] == "Coming from Nagios"],
-    }
-    return {f"{name}.{number}": "\n".join(tidy(list(page_of(name, number, version, part)))) + "\n" for (name, number), part in parts.items()}
+def pages() -> Dict[str, str]:
+    """The text of each manual page by the name of its file."""
+    version = (TOP / "VERSION").read_text(encoding="utf-8").strip()
+    return {f"{name}.{number}": "\n".join(tidy(list(page_of(name, number, version)))) + "\n" for name, number in PARTS}
 
 
-def main(folder):
-    folder = pathlib.Path(folder)
+def main(folder: pathlib.Path) -> None:
     folder.mkdir(parents=True, exist_ok=True)
     for name, text in pages().items():
         (folder / name).write_text(text, encoding="utf-8")
 
 
 if __name__ == "__main__":
-    main(sys.argv[1])
+    main(pathlib.Path(sys.argv[1]))

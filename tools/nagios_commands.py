@@ -102,7 +102,8 @@ class Macros:
         return Macros(self._network, own_host, service).of_member(service, name, SERVICE_MACROS)
 
     def _host_group(self, name: str, of: str) -> Optional[str]:
-        return self._of_host("GROUPNAMES", of) if name == "NAMES" else self._of_group("host", name, of, self._network.groups.of_host.get(self._host["host_name"], []))
+        return self._of_host("GROUPNAMES", of) if name == "NAMES" else self._of_group("host", name, of,
+                                                                                      self._network.groups.of_host.get(self._host["host_name"], []))
 
     def _service_group(self, name: str, of: str) -> Optional[str]:
         if name == "NAMES":

@@ -116,7 +116,8 @@ def monitor_of(options: Options, before: Mapping[str, Any]) -> Dict[str, Any]:
         said["service_check_timeout_state"] = str(options["service_check_timeout_state"])
     if "use_timezone" in options:
         said["zone"] = zone_of(options["use_timezone"])
-    defaults = {"slots": SLOTS, "cached_host_check_horizon": int(DEFAULTS["cached_host_check_horizon"]), "service_check_timeout_state": DEFAULTS["service_check_timeout_state"]}
+    defaults = {"slots": SLOTS, "cached_host_check_horizon": int(DEFAULTS["cached_host_check_horizon"]),
+                "service_check_timeout_state": DEFAULTS["service_check_timeout_state"]}
     return {**defaults, **before, **said}
 
 

@@ -8,35 +8,39 @@ import re
 import sys
 
 TOP = pathlib.Path(__file__).resolve().parent.parent
-PAGES = ("EMBEDDING", "EMBEDDING_C", "EMBEDDING_PYTHON", "EXPLANATIONS", "FORMATS", "GLOSSARY", "MONITOR", "NAGIOS", "OPERATING", "SCHEDULING")
-FILES = ("README.md", "CHANGELOG.md", *(f"docs/{page}.md" for page in PAGES))
+# Pages for those who work on nagsched or audit it: they are read in the repository.
+NOT_INSTALLED = {"DECISIONS", "embedding-rattle", "lock", "proofs"}
+FILES = ("README.md", "CHANGELOG.md", *(f"docs/{page.name}" for page in sorted((TOP / "docs").glob("*.md")) if page.stem not in NOT_INSTALLED))
 PICTURES = ("docs/office.svg", "docs/sequence.svg", "docs/setup.schema.json")
 NAMES = (
     (r"crates/nagsched/out/nagsched\b", "nagsched"),
     (r"(?<![\w/])monitor/nagsched-(monitor|gearman-worker)\b(?!@)", r"nagsched-\1"),
     (r"(?<![\w/])tools/from_nagios\.py", "nagsched-from-nagios"),
     (r"\[docs/(\w+\.md)\]", r"[\1]"),
-    (r"\]\(docs/", "]("),
+    (r"\]\((?:docs|\.\.)/", "]("),
 )
-NOTE = """> These pages are installed with the programs `nagsched`, `nagsched-monitor` and `nagsched-from-nagios`; the folder `examples` is beside them. Files under
+NOTE = """> These pages are installed with the programs `nagsched`, `nagsched-monitor` and `nagsched-from-nagios`. The folder `examples` is next to them. Files under
 > `crates/`, `tools/`, `monitor/`, `bench/` and `.ci/`, and pages without a link, are in the repository.
 
 """
-# The trial where the program is built from its sources, and where it is installed.
-TRIAL = re.compile(r"(## See it in two minutes\n\n).*?(?=Line 1 of `examples/office\.txt`)", re.DOTALL)
-TRIAL_INSTALLED = r"""\1This answers the calls of an example that is beside this page:
+# What the pages say of the repository, between these comments, and what an installation has in its place.
+OF_THE_REPOSITORY = re.compile(r"<!-- repository: (\w+) -->\n(.*?)<!-- end -->\n*", re.DOTALL)
+INSTEAD = {
+    "build": """nagsched is installed with this page. This runs an example that is installed, too:
 
 ```
 nagsched < examples/office.txt
 ```
 
-"""
+""",
+}
+COMMENT = re.compile(r"^<!--.*?-->\n+|<!--.*?-->", re.DOTALL | re.MULTILINE)
 LINK = re.compile(r"\[([^\]\[]*)\]\(([\w./-]+)(#[\w-]*)?\)")
 
 
 def installed(text: str) -> str:
-    """A page under the names of an installation, with the trial that works there."""
-    text = TRIAL.sub(TRIAL_INSTALLED, text)
+    """A page under the names of an installation, with what works there."""
+    text = COMMENT.sub("", OF_THE_REPOSITORY.sub(lambda part: INSTEAD.get(part.group(1), ""), text))
     for old, new in NAMES:
         text = re.sub(old, new, text)
     there = {pathlib.PurePath(file).name for file in (*FILES, *PICTURES)}

@@ -1,16 +1,16 @@
-/* The guard of the C library: what the proved functions can't see of a pointer. It is C, read and tested, not proved.
+/* The guard of the C library: it checks what the proved functions can't see of a pointer. It is C, read and tested, not proved.
  *
- * A function that is declared in nagsched.h and takes pointers stands here. It answers NAGSCHED_WRONG where one of them is
- * NULL, or where two of one type are the same, and goes on to the proved function otherwise. tools/build_c.sh gives the
- * proved nagsched_open the name nagsched_proved_open, and so on, and links them behind these.
+ * This file has each function of nagsched.h that takes pointers. It returns NAGSCHED_WRONG if one of them is NULL, or if two of
+ * one type are the same, and calls the proved function otherwise. tools/build_c.sh gives the proved nagsched_open the name
+ * nagsched_proved_open, and so on, and links the proved functions with these.
  *
- * The proved functions that open a desk take its mark besides, by which passes of two desks are kept apart.
+ * The proved functions that open a desk also take its mark, which keeps the passes of two desks apart.
  */
 #include "nagsched.h"
 
 #include <stdatomic.h>
 
-/* A function of the header: its name behind nagsched_, its parameters, what has to be so of them, and their names. */
+/* A function of the header: its name after nagsched_, its parameters, the condition on them, and their names. */
 #define GUARDED(name, parameters, has_to_be, names)  \
     uint32_t nagsched_proved_##name parameters;      \
     uint32_t nagsched_##name parameters {            \
@@ -18,14 +18,14 @@
         return nagsched_proved_##name names;         \
     }
 
-/* A mark that no other desk of the process has: 2^64 desks would have to be opened before one comes twice. */
+/* A mark that no other desk of the process has: a mark comes again only after 2^64 desks. */
 static uint64_t new_mark(void) {
     static _Atomic uint64_t marks;
     return atomic_fetch_add(&marks, 1);
 }
 
-/* The same for a function that only reads a handle, which it takes as const. The proved one takes what the handle leads to out of it
- * and puts it back; it does so with a copy of the handle. So nothing that another thread may read is written.
+/* The same for a function that only reads a handle, which it takes as const. The proved function takes the target out of a handle and
+ * puts it back, and it does so with a copy of the handle. So it writes nothing that another thread may read.
  */
 #define GUARDED_READER(name, read, parameters, has_to_be, names) \
     uint32_t nagsched_proved_##name parameters;                 \
@@ -35,7 +35,7 @@ static uint64_t new_mark(void) {
         return nagsched_proved_##name names;                    \
     }
 
-/* Whether a handle is none of so many others. */
+/* Whether a handle is different from these others. */
 #define IS_NONE_OF(handle, others, count) ((uintptr_t)(handle) - (uintptr_t)(others) >= (count) * sizeof *(others))
 
 typedef struct nagsched_handle handle;

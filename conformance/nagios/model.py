@@ -1,4 +1,4 @@
-"""The rules of both sides: those of docs/SCHEDULING.md (`Rules`), and what Nagios Core 4.4.6 does (`Nagios`).
+"""The rules of both sides: those of docs/rules.md (`Rules`), and what Nagios Core 4.4.6 does (`Nagios`).
 
 `Rules` says what the program must answer. `Nagios` says what Nagios's own code must report. judge.py holds each of them to that, and explains
 each difference between the two by rows of docs/NAGIOS.md. Times are in seconds, except nagsched's own, which are in milliseconds.
@@ -209,7 +209,7 @@ def objects_of(setup: histories.Setup, options: dict[str, Any]) -> list[Object]:
 
 
 class Rules:
-    """The rules of docs/SCHEDULING.md. teeth.py puts wrong ones in their place."""
+    """The rules of docs/rules.md. teeth.py puts wrong ones in their place."""
 
     def __init__(self, setup: histories.Setup) -> None:
         self.options = {**DEFAULTS, **setup.get("options", {})}

@@ -1,12 +1,12 @@
-"""Why the monitor can't begin or go on, or refuses a request. The text of each is one line."""
+"""Reasons why the monitor can't begin or continue, or refuses a request. The text of each is one line."""
 
 
 class MonitorFault(Exception):
-    """The monitor can't begin, or can't go on."""
+    """The monitor can't begin, or can't continue."""
 
 
 class SiteFault(MonitorFault):
-    """A file of the site is wrong: which one, where and why."""
+    """A file of the site is wrong. The text names the file, the place and the reason."""
 
 
 class DamagedRow(MonitorFault):

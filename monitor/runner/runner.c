@@ -1,5 +1,5 @@
 /* nagsched-runner [--only FILE]: runs plugins. It reads jobs from its standard input and writes results to its standard output, one JSON object a line;
- * docs/MONITOR.md describes them. Each line that is read has one answer.
+ * docs/scaling.md describes them. Each line that is read has one answer.
  *
  * The runner ends with its standard input, or when nobody reads its results. Its plugins are killed then, with their process groups, even if the runner was
  * killed itself. A plugin is over when its process ends, whatever children it leaves. Nothing is waited for without a limit.
@@ -18,167 +18,15 @@
 #include <time.h>
 #include <unistd.h>
 
-#include "allowed.h"
-#include "lines.h"
-#include "processes.h"
+#include "runner.h"
 
-enum { READ_BYTES = 65536, EVENTS_AT_ONCE = 64, MOST_UNSENT = 1 << 20, NO_ROOM_WAIT = 100, LONGEST_WAIT = 60000 };
+enum { EVENTS_AT_ONCE = 64, NO_ROOM_WAIT = 100, LONGEST_WAIT = 60000 };
 /* How long a plugin that was killed may take to end, in seconds, before it is reported as stuck. */
 static const double GRACE = 5.0;
 
-/* One of a plugin's streams, and what is kept of it. */
-struct stream {
-    int file;
-    size_t length;
-    char bytes[MOST_KEPT];
-};
-
-struct plugin {
-    struct plugin *before, *after;
-    long long job;
-    struct started started;
-    double deadline;
-    int trouble; /* the error for which its output can't be awaited; 0 if it can */
-    char program[256];
-    enum { RUNS, IS_KILLED, IS_STUCK } phase;
-    struct stream output, errors;
-};
-
-struct runner {
-    const struct allowed *allowed; /* NULL: every command line */
-    int poll, ended;
-    bool is_over, is_behind, takes_jobs, has_ended_ones, is_line_too_long, waits_for_reader;
-    size_t unread_length, unsent_length;
-    struct plugin running; /* the ring's head */
-};
-
-/* What events carry that are none of a stream. */
-static const char JOBS, ENDED, RESULTS;
-static char unread[MOST_LINE], unsent[MOST_UNSENT];
-
-static double now(void) {
-    struct timespec time;
-    clock_gettime(CLOCK_MONOTONIC, &time);
-    return (double)time.tv_sec + (double)time.tv_nsec / 1e9;
-}
-
-static struct kept kept_text(const char *text) {
-    return (struct kept){text, strlen(text)};
-}
-
-/* ---- results */
-
-static bool has_room(const struct runner *runner) {
-    return runner->unsent_length + MOST_RESULT <= MOST_UNSENT;
-}
-
-static char *next_line(const struct runner *runner) {
-    return unsent + runner->unsent_length;
-}
-
-static void end_line(struct runner *runner, const char *end) {
-    runner->unsent_length = (size_t)(end - unsent);
-}
-
-static bool poll_for(const struct runner *runner, int how, int file, unsigned events, const void *whose) {
-    struct epoll_event event = {.events = events, .data.ptr = (void *)(size_t)whose};
-    return epoll_ctl(runner->poll, how, file, &event) == 0;
-}
-
-/* Writes the results that wait, as far as they are read. */
-static void send_results(struct runner *runner) {
-    size_t sent = 0;
-    bool is_full = false;
-    while (sent < runner->unsent_length && !is_full && !runner->is_over) {
-        ssize_t written = write(STDOUT_FILENO, unsent + sent, runner->unsent_length - sent);
-        if (written >= 0)
-            sent += (size_t)written;
-        else if (errno == EAGAIN)
-            is_full = true;
-        else if (errno != EINTR)
-            runner->is_over = true; /* nobody reads any more */
-    }
-    memmove(unsent, unsent + sent, runner->unsent_length - sent);
-    runner->unsent_length -= sent;
-    if (is_full != runner->waits_for_reader && poll_for(runner, is_full ? EPOLL_CTL_ADD : EPOLL_CTL_DEL, STDOUT_FILENO, EPOLLOUT, &RESULTS))
-        runner->waits_for_reader = is_full;
-}
-
-/* ---- one plugin */
-
-/* A process that is being started has this file too, for a moment: closing it alone doesn't end its events. */
-static void close_stream(const struct runner *runner, struct stream *stream) {
-    if (stream->file < 0)
-        return;
-    poll_for(runner, EPOLL_CTL_DEL, stream->file, 0, NULL);
-    close(stream->file);
-    stream->file = -1;
-}
-
-/* Reads what there is of a stream, and keeps its beginning. */
-static void read_stream(const struct runner *runner, struct stream *stream) {
-    static char bytes[READ_BYTES];
-    ssize_t got = stream->file < 0 ? 0 : read(stream->file, bytes, sizeof bytes);
-    if (got < 0)
-        return;
-    size_t room = MOST_KEPT - stream->length, taken = (size_t)got < room ? (size_t)got : room;
-    memcpy(stream->bytes + stream->length, bytes, taken);
-    stream->length += taken;
-    if (got == 0)
-        close_stream(runner, stream);
-}
-
-static struct kept kept_of(const struct stream *stream) {
-    return (struct kept){stream->bytes, stream->length};
-}
-
-static void write_ending(struct runner *runner, const struct plugin *plugin, struct ending ending) {
-    end_line(runner, write_result(next_line(runner), plugin->job, ending, kept_of(&plugin->output), kept_of(&plugin->errors)));
-}
-
-/* Answers a job that was never run: the machine lacked something, or the program can't be run. */
-static void fail(struct runner *runner, long long job, const char *program, int error) {
-    char words[MOST_KEPT];
-    snprintf(words, sizeof words, "%.2000s: %s", program, strerror(error));
-    struct kept why = kept_text(words), none = {"", 0};
-    if (is_local_trouble(error))
-        end_line(runner, write_lost(next_line(runner), job, why));
-    else
-        end_line(runner, write_result(next_line(runner), job, (struct ending){"failed", 0, false}, why, none));
-}
-
-static void forget(const struct runner *runner, struct plugin *plugin) {
-    plugin->before->after = plugin->after;
-    plugin->after->before = plugin->before;
-    close_stream(runner, &plugin->output);
-    close_stream(runner, &plugin->errors);
-    free(plugin);
-}
-
-/* How a process ended that has this status. */
-static struct ending ending_of(const struct plugin *plugin, int status) {
-    if (plugin->phase == IS_KILLED)
-        return (struct ending){"limit", SIGKILL, false};
-    return WIFEXITED(status) ? (struct ending){"exited", WEXITSTATUS(status), false} : (struct ending){"signal", WTERMSIG(status), false};
-}
-
-/* Reports a plugin whose process has ended with this status. */
-static void finish(struct runner *runner, struct plugin *plugin, int status) {
-    int error = process_forget(&plugin->started);
-    if (plugin->trouble != 0)
-        error = plugin->trouble;
-    else if (plugin->phase == RUNS && WIFSIGNALED(status) && WTERMSIG(status) == SIGKILL && was_memory_short())
-        error = ENOMEM;
-    read_stream(runner, &plugin->output);
-    read_stream(runner, &plugin->errors);
-    if (plugin->phase == IS_STUCK)
-        end_line(runner, write_gone(next_line(runner), plugin->job));
-    else if (error != 0)
-        fail(runner, plugin->job, plugin->program, error);
-    else
-        write_ending(runner, plugin, ending_of(plugin, status));
-    forget(runner, plugin);
-}
+/* What the other events carry that are none of a stream. */
+static const char JOBS, ENDED;
+static char unread[MOST_LINE];
 
 /* ---- jobs */
 

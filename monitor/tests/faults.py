@@ -10,12 +10,13 @@ from nagsched_monitor.core.rhythm import TOLERANCE
 from nagsched_monitor.core.running import Owner
 from nagsched_monitor.faults import ConversationEnded, NotStored
 from nagsched_monitor.inputs.requests import Request
-from nagsched_monitor.run.runners import Job
+from nagsched_monitor.run.jobs import Job
 from nagsched_monitor.scheduler.live_process import Conversation
 from nagsched_monitor.scheduler.protocol import Standing
 from nagsched_monitor.site.site import read_site
+from nagsched_monitor.store.rows import Cell
 from nagsched_monitor.store.store import Store, Write
-from nagsched_monitor.store.writes import DropDocument, KeepCalls, KeepChange
+from nagsched_monitor.store.writes import drop_documents
 
 from .simulated import BEGIN, PROGRAM, SimulatedClock, SimulatedMonitor
 
@@ -104,23 +105,30 @@ class Faulty:
 
     def _store(self) -> Store:
         store = Store(self.folder)
-        write = store.write
+        write, insert_all = store.write, store.insert_all
+        inserted: List[Tuple[str, Sequence[Cell]]] = []
+
+        def noted(table: str, rows: Sequence[Tuple[int, Sequence[Cell]]]) -> None:
+            inserted.extend((table, cells) for _, cells in rows)
+            insert_all(table, rows)
 
         def counted(*writes: Write) -> None:
             self.writes += 1
             if self.writes == self.refused:
                 self.quiet_from = max(END, self._now())
                 raise NotStored("the disk is full")
+            inserted.clear()
             write(*writes)
-            for each in writes:
-                if isinstance(each, KeepCalls):
-                    self.reported += [words for _, line, words in each.calls if words is not None and words.startswith("result ")]
-                elif isinstance(each, KeepChange) and each.document is not None:
-                    self.documents.add(each.document)
+            for table, cells in inserted:
+                if table == "calls" and str(cells[2]).startswith("result "):
+                    self.reported.append(str(cells[2]))
+                elif table == "outbox":
+                    self.documents.add(str(cells[0]))
             if self.writes == self.last:
                 raise Killed
 
         setattr(store, "write", counted)
+        setattr(store, "insert_all", noted)
         return store
 
     def _converse(self) -> Callable[..., Conversation]:
@@ -146,7 +154,7 @@ class Faulty:
         with contextlib.suppress(NotStored):
             for number, document in self.monitor.store.outbox():
                 self.taken.add(document)
-                self.monitor.store.write(DropDocument(number))
+                self.monitor.store.write(drop_documents(number))
         return None
 
     # ---- what happens

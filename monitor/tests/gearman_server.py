@@ -1,4 +1,4 @@
-"""A stand-in for libgearman: a server of one queue, its clients, and workers that do what a test says. No process, no socket, no time of its own."""
+"""A stand-in for a server of one queue, its clients, and workers that do what a test says. No process, no socket, no time of its own."""
 from dataclasses import dataclass, field
 from typing import Any, Dict, List, Optional
 
@@ -73,8 +73,7 @@ class StandInClient:
             raise ServerFault("lost connection")
         if self.server.is_silent:
             return []
-        # The library sends the job first that it was handed last.
-        for job in reversed(self.sent):
+        for job in self.sent:
             self.server.waiting.append(job)
             self.come.append(Happening(Kind.KNOWN, job.number))
         self.sent.clear()

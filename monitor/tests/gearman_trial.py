@@ -1,5 +1,4 @@
 """A Gearman server and workers that run as processes, for trials with Debian's packages."""
-import ctypes
 import json
 import os
 import pathlib
@@ -13,22 +12,13 @@ import threading
 import time
 from typing import Dict, List, Optional, Sequence
 
-from nagsched_monitor.run.gearman import LIBRARY
-from nagsched_monitor.run.runner_program import queue_runner_words
-
 HERE = pathlib.Path(__file__).resolve().parent.parent
 WORKER = HERE / "nagsched-gearman-worker"
 
 
 def missing() -> Optional[str]:
-    """What isn't here of that which a trial wants; None where all is."""
-    if shutil.which("gearmand", path=search_path()) is None:
-        return "gearmand"
-    try:
-        ctypes.CDLL(LIBRARY)
-    except OSError:
-        return LIBRARY
-    return None
+    """What a trial wants and isn't here; None if all is."""
+    return "gearmand" if shutil.which("gearmand", path=search_path()) is None else None
 
 
 def search_path() -> str:
@@ -40,6 +30,11 @@ def is_open(address: str, port: int) -> bool:
     with socket.socket() as tried:
         tried.settimeout(1)
         return tried.connect_ex((address, port)) == 0
+
+
+def runner_words(trial: "GearmanTrial", queue: str, *options: str) -> List[str]:
+    """The command of a runner that hands jobs to a queue."""
+    return [str(HERE / "nagsched-gearman-runner"), "--key", str(trial.key), *options, trial.place(), queue]
 
 
 class GearmanTrial:
@@ -118,30 +113,37 @@ class GearmanTrial:
 
 
 class HandedJobs:
-    """A runner for queues, that is handed jobs; each answer is kept by the number of its job."""
+    """A runner for each queue, that is handed jobs; each answer is kept by the number of its job."""
 
     def __init__(self, trial: GearmanTrial, wait: float) -> None:
-        words = queue_runner_words(trial.place(), wait, ["--key", str(trial.key)])
-        self.runner = subprocess.Popen(words, stdin=subprocess.PIPE, stdout=subprocess.PIPE, stderr=subprocess.DEVNULL, bufsize=0)
+        self._trial, self._wait = trial, wait
+        self._runners: Dict[str, "subprocess.Popen[bytes]"] = {}
         self.answers: Dict[int, List[Dict[str, object]]] = {}
         self.sent = 0
-        self._reader = threading.Thread(target=self._read, daemon=True)
-        self._reader.start()
 
-    def _read(self) -> None:
-        assert self.runner.stdout is not None
-        for line in self.runner.stdout:
-            answer = json.loads(line)
-            self.answers.setdefault(answer["job"], []).append(answer)
+    def _runner(self, queue: str) -> "subprocess.Popen[bytes]":
+        if queue not in self._runners:
+            words = runner_words(self._trial, queue, "--wait", str(self._wait))
+            self._runners[queue] = subprocess.Popen(words, stdin=subprocess.PIPE, stdout=subprocess.PIPE, stderr=subprocess.DEVNULL, bufsize=0)
+            threading.Thread(target=self._read, args=(self._runners[queue],), daemon=True).start()
+        return self._runners[queue]
+
+    def _read(self, runner: "subprocess.Popen[bytes]") -> None:
+        assert runner.stdout is not None
+        with runner.stdout as lines:
+            for line in lines:
+                answer = json.loads(line)
+                self.answers.setdefault(answer["job"], []).append(answer)
 
     def hand(self, count: int, queue: str, words: Sequence[str], limit: float = 10) -> None:
-        assert self.runner.stdin is not None
+        jobs = self._runner(queue).stdin
+        assert jobs is not None
         lines = b""
         for _ in range(count):
             self.sent += 1
-            lines += json.dumps({"job": self.sent, "words": list(words), "limit": limit, "queue": queue}).encode() + b"\n"
+            lines += json.dumps({"job": self.sent, "words": list(words), "limit": limit}).encode() + b"\n"
         while lines:
-            lines = lines[self.runner.stdin.write(lines) or 0 :]
+            lines = lines[jobs.write(lines) or 0 :]
 
     def hand_steadily(self, rate: float, seconds: float, queue: str, words: Sequence[str]) -> None:
         """Hands on so many jobs a second, in batches as a monitor does."""
@@ -178,9 +180,7 @@ class HandedJobs:
         return found
 
     def close(self) -> None:
-        assert self.runner.stdin is not None
-        self.runner.stdin.close()
-        self.runner.wait(timeout=30)
-        self._reader.join(timeout=10)
-        if self.runner.stdout is not None:
-            self.runner.stdout.close()
+        for runner in self._runners.values():
+            assert runner.stdin is not None
+            runner.stdin.close()
+            runner.wait(timeout=30)

@@ -14,7 +14,7 @@ import tempfile
 import time
 from typing import Any, Dict, List, Optional
 
-from .gearman_trial import GearmanTrial, is_open, search_path
+from .gearman_trial import GearmanTrial, is_open, runner_words, search_path
 from .ssh_server import SshServer, free_port
 from .waiting import comes
 
@@ -34,7 +34,8 @@ def states_of(folder: pathlib.Path, program: str, count: int, seconds: float = 1
         end = time.monotonic() + seconds
         while time.monotonic() < end and len(found) < count:
             time.sleep(0.5)
-            printed = subprocess.run([sys.executable, str(MONITOR), str(folder), "status"], stdout=subprocess.PIPE, stderr=subprocess.DEVNULL, text=True, check=False)
+            printed = subprocess.run([sys.executable, str(MONITOR), str(folder), "status"], stdout=subprocess.PIPE, stderr=subprocess.DEVNULL, text=True,
+                                     check=False)
             lines = [re.fullmatch(r"(\w+) \w+ \d+(?: FLAPPING| out| off)* ([^:]*): (.*)", line) for line in printed.stdout.splitlines()]
             found = {line.group(2): [line.group(1), line.group(3)] for line in lines if line and line.group(1) != "PENDING"}
     finally:
@@ -46,7 +47,8 @@ def states_of(folder: pathlib.Path, program: str, count: int, seconds: float = 1
 def write_site(folder: pathlib.Path, commands: Dict[str, str], **files: Any) -> None:
     """A site of one host that isn't checked, and a service for each of these commands."""
     services = [{"host": "far", "description": name, "check_interval": 2, "max_check_attempts": 1} for name in commands]
-    setup = {"options": {"interval_length": 1}, "hosts": [{"name": "far", "check_interval": 0, "max_check_attempts": 1, "enabled": False}], "services": services}
+    setup = {"options": {"interval_length": 1}, "hosts": [{"name": "far", "check_interval": 0, "max_check_attempts": 1, "enabled": False}],
+             "services": services}
     lines = {f"far;{name}": {"line": line} for name, line in commands.items()}
     for name, document in {"setup": setup, "commands": lines, **files}.items():
         (folder / f"{name}.json").write_text(json.dumps(document))
@@ -88,7 +90,8 @@ def behind_the_wall(program: str) -> List[str]:
             folder = pathlib.Path(holder)
             (folder / "ask.py").write_text(ASK.format(port=port))
             line = f"{sys.executable} {folder}/ask.py"
-            write_site(folder, {"behind": line, "before": line}, queues={"server": trial.place(), "key": str(trial.key), "queues": {"wall": ["far;behind"]}})
+            write_site(folder, {"behind": line, "before": line}, runners={"runners": {"wall": runner_words(trial, "wall")},
+                                                                          "objects": {"wall": ["far;behind"]}})
             found = states_of(folder, program, 2)
     finally:
         listening.kill()

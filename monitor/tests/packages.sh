@@ -1,19 +1,21 @@
 #!/bin/bash
-# The monitor beside what Debian has for it: Nagios's pages (nagios4-cgi) and NSCA over its files (tests/packages.py), a browser and promtool
-# (tests/page_pictures.py), and gearmand with workers, NRPE and SSH (tests/packages_gearman.py). What isn't installed is fetched and unpacked into a temporary
-# folder; chromium-headless-shell and prometheus are installed where PICTURES is named, they aren't there and root runs this. What can't be had is passed over,
-# and named.
+# The monitor with what Debian has for it: Nagios's pages (nagios4-cgi) and NSCA over its files (tests/packages.py), a browser and promtool
+# (tests/page_pictures.py), gearmand with workers, NRPE and SSH (tests/packages_gearman.py), a runner over SSH (tests/packages_ssh.py), and Alertmanager
+# (tests/packages_alerts.py). What isn't installed is fetched and unpacked into a temporary folder; chromium-headless-shell and prometheus are installed if
+# PICTURES is named, they aren't there and root runs this. What can't be had is passed over, and named.
 #
-#     monitor/tests/packages.sh PROGRAM [pages [PICTURES] | gearman [WHAT..]]       PROGRAM is nagsched, PICTURES a folder for pictures of the pages, WHAT as
-#                                                                                  packages_gearman.py has it; both parts without a second word
+#     monitor/tests/packages.sh PROGRAM [pages [PICTURES] | gearman [WHAT..] | ssh [CUTS] | alerts [SECONDS]]
+#
+# PROGRAM is nagsched, PICTURES a folder for pictures of the pages, WHAT as packages_gearman.py has it, CUTS how often the connection is cut, SECONDS how long
+# Alertmanager is away. All parts are tried without a second word.
 set -eu
 program=$(realpath "$1")
-part=${2:-both}
+part=${2:-all}
 pictures=
 what=()
 case $part in
     pages) pictures=${3:+$(realpath -m "$3")} ;;
-    gearman) what=("${@:3}") ;;
+    gearman | ssh | alerts) what=("${@:3}") ;;
 esac
 here=$(cd "$(dirname "$0")" && pwd)
 work=$(mktemp -d)
@@ -63,7 +65,7 @@ fetch() {
 
 gearman() {
     export PATH="$PATH:/usr/sbin:/sbin"
-    command -v gearmand >/dev/null && ldconfig -p | grep -q 'libgearman.so.8' || fetch gearman-job-server libgearman8
+    command -v gearmand >/dev/null || fetch gearman-job-server
     command -v nrpe >/dev/null && [ -x /usr/lib/nagios/plugins/check_nrpe ] || fetch nagios-nrpe-server nagios-nrpe-plugin
     command -v sshd >/dev/null && [ -x /usr/lib/nagios/plugins/check_by_ssh ] || fetch openssh-server monitoring-plugins-basic
     if [ -d unpacked ]; then
@@ -74,7 +76,18 @@ gearman() {
     python3 "$here/packages_gearman.py" "$program" ${what[@]+"${what[@]}"}
 }
 
+alerts() {
+    command -v prometheus-alertmanager >/dev/null || fetch prometheus-alertmanager
+    [ ! -d unpacked ] || export PATH="$PATH:$work/unpacked/usr/bin"
+    python3 "$here/packages_alerts.py" "$program" ${what[@]+"${what[@]}"}
+}
+
+ssh() {
+    python3 "$here/packages_ssh.py" "$program" ${what[@]+"${what[@]}"}
+}
+
 status=0
-[ "$part" = gearman ] || (pages) || status=1
-[ "$part" = pages ] || (gearman) || status=1
+for each in pages gearman ssh alerts; do
+    [ "$part" != all ] && [ "$part" != "$each" ] || ($each) || status=1
+done
 exit $status

@@ -23,7 +23,7 @@ from typing import Any, Callable, Counter, Dict, List, Tuple
 HERE = pathlib.Path(__file__).resolve().parent.parent
 sys.path.insert(0, str(HERE))
 
-from tests.gearman_trial import GearmanTrial, HandedJobs, missing  # noqa: E402
+from tests.gearman_trial import GearmanTrial, HandedJobs, missing, runner_words  # noqa: E402
 from tests.gearman_walls import remote, wall  # noqa: E402
 
 MONITOR = HERE / "nagsched-monitor"
@@ -70,8 +70,8 @@ def write_site(folder: pathlib.Path, trial: GearmanTrial) -> None:
         (folder / f"part-{part}.json").write_text(json.dumps(document))
         commands.update({f"h{part}": {"line": "/bin/true"}, **{f"h{part};{it['description']}": {"line": "/bin/true"} for it in services}})
     (folder / "commands.json").write_text(json.dumps(commands))
-    (folder / "monitor.json").write_text(json.dumps({"slots": 500}))
-    (folder / "queues.json").write_text(json.dumps({"server": trial.place(), "key": str(trial.key), "queues": {"checks": ["*"]}}))
+    (folder / "runners.json").write_text(json.dumps(
+        {"runners": {"checks": runner_words(trial, "checks")}, "objects": {"checks": ["*"]}, "slots": {"checks": 500}}))
 
 
 class RunningSite:

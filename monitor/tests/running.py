@@ -5,6 +5,9 @@ import subprocess
 import sys
 from typing import Any, Dict, List, Optional
 
+from nagsched_monitor.faults import MonitorFault
+from nagsched_monitor.inputs import control
+
 from .simulated import PROGRAM, SiteTest
 from .waiting import LONG, comes
 
@@ -28,7 +31,13 @@ class ProcessTest(SiteTest):
         return output
 
     def await_socket(self, running: "subprocess.Popen[str]") -> None:
-        self.assertTrue(comes(lambda: self.ask("status", "no such object").returncode == 0 or running.poll() is not None))
+        self.assertTrue(comes(lambda: self.is_answering() or running.poll() is not None))
+
+    def is_answering(self) -> bool:
+        try:
+            return bool(control.ask(self.folder, b'{"do":"signs"}'))
+        except MonitorFault:
+            return False
 
     def ask(self, *words: str) -> "subprocess.CompletedProcess[str]":
         return subprocess.run([sys.executable, str(MONITOR), str(self.folder), *words], capture_output=True, text=True, check=False)

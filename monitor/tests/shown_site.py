@@ -6,10 +6,9 @@ import time
 from typing import Any, Dict, List, Optional, Tuple
 
 from nagsched_monitor.outputs.page import Server, Site
-from nagsched_monitor.store.counters import KeepFigures
 from nagsched_monitor.store.rows import KeptChange, KeptStanding
 from nagsched_monitor.store.store import Store
-from nagsched_monitor.store.writes import DropStandings, KeepChange, KeepStandings
+from nagsched_monitor.store.writes import drop_standings, keep_change, keep_figures, keep_standings
 
 from .simulated import SiteTest
 
@@ -28,10 +27,10 @@ def fill(folder: pathlib.Path, standings: List[Dict[str, Any]], figures: Optiona
     """A database with these objects."""
     store = Store(folder)
     store.write(
-        DropStandings([kept.name for _, kept in store.standings()]),
-        KeepStandings([(number, KeptStanding(**it)) for number, it in enumerate(standings, 1)]),
-        KeepFigures({"written_at": time.time(), **(figures or {})}),
-        *(KeepChange(change, None) for change in changes),
+        drop_standings([kept.name for kept in store.standings()]),
+        keep_standings([KeptStanding(**it) for it in standings]),
+        keep_figures({"written_at": time.time(), **(figures or {})}),
+        *(keep_change(change, None) for change in changes),
     )
     store.close()
 

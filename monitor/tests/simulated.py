@@ -12,14 +12,14 @@ from nagsched_monitor.core.engine import Engine
 from nagsched_monitor.inputs.requests import Request
 from nagsched_monitor.program.loop import Loop
 from nagsched_monitor.program.turn_timer import Pace
-from nagsched_monitor.run.runners import Event, Finished, Job, Lost
+from nagsched_monitor.run.jobs import Event, Finished, Job, Lost
 from nagsched_monitor.scheduler.live_process import Conversation
 from nagsched_monitor.scheduler.schedulers import Converse
 from nagsched_monitor.scheduler.scheduling import Scheduling
 from nagsched_monitor.site.site import Site, read_site
 from nagsched_monitor.store.rows import KeptChange, KeptResult
 from nagsched_monitor.store.store import Store
-from nagsched_monitor.store.writes import KeepResult
+from nagsched_monitor.store.writes import keep_result
 
 PROGRAM = os.environ.get("NAGSCHED", "nagsched")
 # 2026-11-27 08:00:00, in UTC.
@@ -75,6 +75,9 @@ class SimulatedRunners:
         """The names of the objects whose plugins run now."""
         return [event.job.name for end, _, event in self._ends if end > self.clock.now]
 
+    def signs(self) -> Dict[str, Dict[str, int]]:
+        return {}
+
     def kill(self, job: Job) -> bool:
         """Its plugin is killed, and lost."""
         is_there = id(job) in self.jobs()
@@ -123,7 +126,7 @@ class SimulatedMonitor:
             self.close()
             raise
         self.runners = SimulatedRunners(self.clock, plugin)
-        self.engine = Engine(site, self.scheduling, self.runners, self.store, self.clock, self.log)
+        self.engine = Engine(self.scheduling, self.runners, self.store, self.clock, self.log)
         self.engine.requests.log = self.log
         self.loop = Loop(self.engine, Pace(self.clock, SimulatedPoller(self.clock, self.runners)), self.clock, self.log)
         self.loop.after = [self.take_changes]
@@ -175,8 +178,8 @@ class SimulatedMonitor:
     def give(self, name: str, code: int, words: str) -> None:
         """A passive result, which is stored."""
         self.store.last_result += 1
-        self.store.write(KeepResult(name, code, words, self.store.last_result))
-        self.engine.expect(KeptResult(self.store.last_result, name, code, words))
+        self.store.write(keep_result(name, code, words, self.store.last_result))
+        self.engine.passive.expect(KeptResult(self.store.last_result, name, code, words))
 
     def starts(self) -> Dict[str, List[int]]:
         """When each object's plugin was started, in milliseconds from the beginning."""

@@ -10,9 +10,8 @@ from typing import Any, List, Tuple
 from unittest import mock
 
 from nagsched_monitor.faults import MonitorFault
-from nagsched_monitor.inputs import control
 from nagsched_monitor.program.helper_process import LONGEST_PAUSE, Beside
-from nagsched_monitor.program.places import is_own, place_of
+from nagsched_monitor.program.places import is_own, place_of, test_url
 
 from .simulated import PROGRAM, SiteTest
 from .waiting import comes
@@ -107,25 +106,20 @@ class PageProcess(SiteTest):
         def came() -> bool:
             status, text = self.get(port, "/metrics")
             self.assertEqual(status, 200, text)
-            return float(text.partition('nagsched_checks_total{result="UP"} ')[2].partition("\n")[0]) >= count
+            return float(text.partition('result="UP"} ')[2].partition("\n")[0]) >= count
 
         self.assertTrue(comes(came))
 
     def compare(self, port: int) -> None:
-        """The page comes to show each object as the monitor says that it stands."""
+        """The page comes to show each object as its plugin says."""
         wanted = [("h0", "UP", "HARD", 1, "number 0"), ("h1", "UP", "HARD", 1, "number 1"), ("h2", "DOWN", "HARD", 2, "number 2")]
-
-        def said() -> List[Tuple[Any, ...]]:
-            objects = json.loads(control.ask(self.folder, b'{"do":"status"}'))["objects"]
-            return [(it["name"], it["state"], it["kind"], it["attempt"], it["output"]) for it in objects]
 
         def shown() -> List[Tuple[Any, ...]]:
             objects = json.loads(self.get(port, "/status.json")[1])["objects"]
             return [(it["name"], it["state"], it["kind"], it["attempt"], it["words"]) for it in objects]
 
-        for answer in (said, shown):
-            comes(lambda: answer() == wanted)
-            self.assertEqual(answer(), wanted)
+        comes(lambda: shown() == wanted)
+        self.assertEqual(shown(), wanted)
 
     def test_a_monitor_that_is_killed(self) -> None:
         running = self.started("--page", "127.0.0.1:0")
@@ -154,7 +148,7 @@ class PageProcess(SiteTest):
 
     def await_any(self, running: "subprocess.Popen[bytes]") -> None:
         words = [sys.executable, str(MONITOR), str(self.folder), "status"]
-        self.assertTrue(comes(lambda: subprocess.run(words, capture_output=True, check=False).returncode == 0))
+        self.assertTrue(comes(lambda: subprocess.run(words, capture_output=True, check=False).returncode == 0 and (self.folder / "monitor.socket").exists()))
 
 
 class Pauses(SiteTest):
@@ -195,6 +189,13 @@ class Pauses(SiteTest):
 
 
 class Places(SiteTest):
+    def test_addresses_of_web_servers(self) -> None:
+        for given in ("http://localhost:9093", "https://alerts.example.org/alertmanager/", "http://[::1]:9093"):
+            test_url(given, "--alertmanager")
+        for given in ("localhost:9093", "file:///etc/passwd", "http://", "", "//here", "ftp://here"):
+            with self.assertRaisesRegex(MonitorFault, "--alertmanager: it has to be an address", msg=given):
+                test_url(given, "--alertmanager")
+
     def test_places(self) -> None:
         for given, place, own in (
             ("127.0.0.1:80", ("127.0.0.1", 80), True), ("localhost:0", ("127.0.0.1", 0), True), ("[::1]:8080", ("::1", 8080), True),

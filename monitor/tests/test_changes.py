@@ -14,7 +14,7 @@ from nagsched_monitor.outputs.changes import MOST_AGE, PAUSE, Notifier, document
 from nagsched_monitor.scheduler.protocol import Standing
 from nagsched_monitor.store.rows import KeptChange
 from nagsched_monitor.store.store import Store
-from nagsched_monitor.store.writes import KeepChange
+from nagsched_monitor.store.writes import keep_change
 
 from .simulated import SiteTest
 from .waiting import LONG, comes
@@ -58,7 +58,7 @@ class Command(SiteTest):
     def keep(self, count: int) -> None:
         for number in range(1, count + 1):
             change = KeptChange(number, 1000.0 * number, f"h{number}", "DOWN", "HARD", 3, False, 'a "word"')
-            self.store.write(KeepChange(change, document_of(change, None)))
+            self.store.write(keep_change(change, document_of(change, None)))
 
     def notifier(self, command: Optional[str]) -> Notifier:
         return Notifier(command, self.store, self.lines.append, lambda: time.monotonic() + self.passed, lambda: self.began + self.passed)
@@ -73,9 +73,10 @@ class Command(SiteTest):
             time.sleep(0.005)
         notifier.close()
 
-    def test_each_once_and_in_order(self) -> None:
+    def test_all_that_wait_at_once_and_in_order(self) -> None:
         self.keep(5)
-        self.worked(f"cat >> {self.folder}/taken")
+        self.worked(f"echo run >> {self.folder}/runs; cat >> {self.folder}/taken")
+        self.assertEqual((self.folder / "runs").read_text(), "run\n")
         taken = [json.loads(line) for line in (self.folder / "taken").read_text().splitlines()]
         self.assertEqual([it["name"] for it in taken], ["h1", "h2", "h3", "h4", "h5"])
         self.assertEqual((taken[0]["output"], taken[0]["was"], taken[0]["state"]), ('a "word"', None, "DOWN"))
@@ -84,7 +85,7 @@ class Command(SiteTest):
         self.keep(2)
         self.worked(f"cat >> {self.folder}/taken; test -e {self.folder}/ok || {{ touch {self.folder}/ok; exit 1; }}")
         names = [json.loads(line)["name"] for line in (self.folder / "taken").read_text().splitlines()]
-        self.assertEqual(names, ["h1", "h1", "h2"])
+        self.assertEqual(names, ["h1", "h2", "h1", "h2"])
 
     def test_a_relay_that_is_away_for_ten_minutes(self) -> None:
         """Nothing is lost, however often the command fails."""

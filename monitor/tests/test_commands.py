@@ -1,5 +1,4 @@
-"""The two commands for changes that stand among the examples, over servers on this machine."""
-import http.server
+"""The command for changes that is among the examples, over a mail server on this machine."""
 import json
 import pathlib
 import socketserver
@@ -7,7 +6,7 @@ import subprocess
 import sys
 import threading
 import unittest
-from typing import Any, Dict, List
+from typing import Any, Dict, Sequence
 
 EXAMPLES = pathlib.Path(__file__).resolve().parent.parent.parent / "examples"
 CHANGE = {
@@ -16,42 +15,14 @@ CHANGE = {
 }
 
 
-def given(script: str, *words: str, **members: Any) -> "subprocess.CompletedProcess[str]":
-    change = json.dumps({**CHANGE, **members})
-    return subprocess.run([sys.executable, str(EXAMPLES / script), *words], input=change, capture_output=True, text=True, check=False, timeout=60)
-
-
-class Alerts(unittest.TestCase):
-    def test_a_problem_and_its_end(self) -> None:
-        posted: List[Any] = []
-
-        class Alertmanager(http.server.BaseHTTPRequestHandler):
-            def do_POST(self) -> None:
-                posted.append((self.path, json.loads(self.rfile.read(int(self.headers["Content-Length"])))))
-                self.send_response(200)
-                self.end_headers()
-
-            def log_message(self, *_: Any) -> None:
-                pass
-
-        with http.server.HTTPServer(("127.0.0.1", 0), Alertmanager) as server:
-            threading.Thread(target=server.serve_forever, daemon=True).start()
-            address = f"http://127.0.0.1:{server.server_port}"
-            self.assertEqual(given("alert_change.py", address).returncode, 0)
-            self.assertEqual(given("alert_change.py", address, state="OK").returncode, 0)
-            server.shutdown()
-        self.assertEqual([path for path, _ in posted], ["/api/v2/alerts"] * 2)
-        (begun,), (ended,) = posted[0][1], posted[1][1]
-        self.assertEqual(begun["labels"], {"alertname": "nagsched", "host": "web", "service": "http"})
-        self.assertEqual((begun["startsAt"], ended["endsAt"]), ("2026-11-27T08:00:00+00:00",) * 2)
-
-    def test_no_server(self) -> None:
-        refused = given("alert_change.py", "http://127.0.0.1:9")
-        self.assertEqual((refused.returncode, refused.stderr.count("\n")), (1, 1))
+def given(script: str, *words: str, changes: Sequence[Dict[str, Any]] = ({},)) -> "subprocess.CompletedProcess[str]":
+    lines = "".join(json.dumps({**CHANGE, **change}) + "\n" for change in changes)
+    return subprocess.run([sys.executable, str(EXAMPLES / script), *words], input=lines, capture_output=True, text=True, check=False, timeout=60)
 
 
 class Mails(unittest.TestCase):
-    def test_a_mail(self) -> None:
+    def mail(self, *changes: Dict[str, Any]) -> str:
+        """The mail for changes."""
         heard: Dict[str, str] = {}
 
         class Server(socketserver.StreamRequestHandler):
@@ -70,11 +41,22 @@ class Mails(unittest.TestCase):
 
         with socketserver.TCPServer(("127.0.0.1", 0), Server) as server:
             threading.Thread(target=server.handle_request, daemon=True).start()
-            sent = given("mail_change.py", "--server", f"127.0.0.1:{server.server_address[1]}", "monitor@example.org", "oncall@example.org")
+            place = f"127.0.0.1:{server.server_address[1]}"
+            sent = given("mail_change.py", "--server", place, "monitor@example.org", "oncall@example.org", changes=changes)
         self.assertEqual((sent.returncode, sent.stderr), (0, ""))
-        self.assertIn("Subject: web;http is CRITICAL\r\n", heard["mail"])
-        self.assertIn("was OK, and is CRITICAL HARD 3.", heard["mail"])
-        self.assertIn("no answer", heard["mail"])
+        return heard["mail"]
+
+    def test_a_mail(self) -> None:
+        mail = self.mail({})
+        self.assertIn("Subject: web;http is CRITICAL\r\n", mail)
+        self.assertIn("was OK, and is CRITICAL HARD 3.", mail)
+        self.assertIn("no answer", mail)
+
+    def test_a_mail_for_several(self) -> None:
+        mail = self.mail({}, {"name": "db", "state": "DOWN", "output": "it is gone"})
+        self.assertIn("Subject: web;http is CRITICAL, and 1 more\r\n", mail)
+        self.assertIn("db was OK, and is DOWN HARD 3.", mail)
+        self.assertIn("it is gone", mail)
 
     def test_no_server(self) -> None:
         refused = given("mail_change.py", "--server", "127.0.0.1:9", "a@example.org", "b@example.org")

@@ -3,6 +3,7 @@ from typing import Dict, Tuple
 
 from nagsched_monitor.store.counters import BOUNDS, BUCKETS, Counters
 from nagsched_monitor.store.store import Store
+from nagsched_monitor.store.writes import keep_figures
 
 from .simulated import SimulatedClock, SimulatedMonitor, SiteTest, fine
 
@@ -83,7 +84,7 @@ class Histogram(SiteTest):
             counters.started(each)
         store = Store(self.folder)
         self.addCleanup(store.close)
-        store.write(counters.write(0))
+        store.write(keep_figures(counters.changed(0)))
         return counters, store.figures()
 
     def test_bounds(self) -> None:

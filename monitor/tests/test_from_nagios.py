@@ -23,7 +23,8 @@ GROUPS: Dict[str, Dict[str, str]] = {
     "contactgroup oncall": {"alias": "On call", "members": "ann"},
     "hostgroup alpha": {"alias": "The alphas", "members": "db,web"},
     "hostgroup middle": {"alias": "The middles", "members": "web"},
-    "hostgroup zebra": {"alias": "The zebras", "members": "db,web", "notes": "group notes $HOSTNAME$", "notes_url": "http://g/$HOSTGROUPNAME$", "action_url": "http://a/"},
+    "hostgroup zebra": {"alias": "The zebras", "members": "db,web", "notes": "group notes $HOSTNAME$", "notes_url": "http://g/$HOSTGROUPNAME$",
+                        "action_url": "http://a/"},
     "servicegroup as": {"alias": "A services", "members": "web,http"},
     "servicegroup zs": {"alias": "Z services", "members": "db,plain,web,http", "notes": "sg notes"},
 }
@@ -35,7 +36,8 @@ HOSTS: Dict[str, Dict[str, str]] = {
     "lone": {"address": "192.0.2.9"},
 }
 SERVICES: Dict[str, Dict[str, str]] = {
-    "web;http": {"display_name": "Http shown", "notes": "svc $SERVICEDESC$ of $HOSTNAME$", "notes_url": "http://sn/?a b=$SERVICEDESC$&c=1", "action_url": "http://sa/", "_OID": "1.3"},
+    "web;http": {"display_name": "Http shown", "notes": "svc $SERVICEDESC$ of $HOSTNAME$", "notes_url": "http://sn/?a b=$SERVICEDESC$&c=1",
+                 "action_url": "http://sa/", "_OID": "1.3"},
     "web;more": {},
     "db;plain": {},
 }
@@ -43,19 +45,23 @@ SERVICES: Dict[str, Dict[str, str]] = {
 MACROS: Dict[str, Dict[str, Optional[str]]] = {
     "web": {
         "HOSTGROUPNAME": "zebra", "HOSTGROUPNAMES": "zebra,middle,alpha", "HOSTGROUPALIAS": "The zebras", "HOSTNOTES": "about 192.0.2.7 & more",
-        "HOSTNOTESURL": "http://n/?h=A%20b-c_d.e%2Ff%3Ag~h%3Fi%3Dj%26k%25l%2Bm%40n%2Co", "HOSTACTIONURL": "http://act/web", "_HOSTGROUPX": "gx", "_HOSTRACK": "r 7",
+        "HOSTNOTESURL": "http://n/?h=A%20b-c_d.e%2Ff%3Ag~h%3Fi%3Dj%26k%25l%2Bm%40n%2Co", "HOSTACTIONURL": "http://act/web", "_HOSTGROUPX": "gx",
+        "_HOSTRACK": "r 7",
         "HOSTSTATE": None, "HOSTPARENTS": None, "LONGDATETIME": None,
     },
-    "db": {"HOSTGROUPMEMBERS": "db,web", "HOSTGROUPNOTES": "group notes db", "HOSTGROUPNOTESURL": "http://g/zebra", "HOSTGROUPACTIONURL": "http://a/", "HOSTNOTES": "",
+    "db": {"HOSTGROUPMEMBERS": "db,web", "HOSTGROUPNOTES": "group notes db", "HOSTGROUPNOTESURL": "http://g/zebra", "HOSTGROUPACTIONURL": "http://a/",
+           "HOSTNOTES": "",
            "HOSTNOTESURL": "", "HOSTGROUPNAMES": "zebra,alpha"},
-    "lone": {"HOSTGROUPNAME": "$HOSTGROUPNAME$", "HOSTGROUPNAMES": "", "HOSTALIAS": "lone", "HOSTADDRESS:web": "192.0.2.7", "HOSTALIAS:web": ALIAS, "_HOSTRACK:web": "r 7",
+    "lone": {"HOSTGROUPNAME": "$HOSTGROUPNAME$", "HOSTGROUPNAMES": "", "HOSTALIAS": "lone", "HOSTADDRESS:web": "192.0.2.7", "HOSTALIAS:web": ALIAS,
+             "_HOSTRACK:web": "r 7",
              "HOSTGROUPMEMBERS:zebra": "db,web", "HOSTNAME:nosuch": None},
     "web;http": {"SERVICEGROUPNAME": "zs", "SERVICEGROUPNAMES": "zs,as", "SERVICEGROUPALIAS": "Z services", "SERVICENOTES": "svc http of web",
                  "SERVICENOTESURL": "http://sn/?a b=http&c=1", "SERVICEACTIONURL": "http://sa/", "SERVICESTATEID:db:plain": None},
     "db;plain": {"HOSTGROUPNAME": "zebra", "SERVICEGROUPMEMBERS": "db,plain,web,http", "SERVICEGROUPNOTES": "sg notes", "SERVICEDESC:web:http": "http",
                  "SERVICEDISPLAYNAME:web:http": "Http shown", "HOSTADDRESS:web": "192.0.2.7"},
     "web;more": {"HOSTGROUPALIAS:alpha": "The alphas", "SERVICEGROUPALIAS:as": "A services", "HOSTGROUPNAME:alpha": "alpha", "SERVICEDESC::http": "http",
-                 "HOSTADDRESS:zebra:,": "192.0.2.8,192.0.2.7", "HOSTALIAS:zebra:|": f"Db|{ALIAS}", "HOSTDISPLAYNAME:alpha:, ": "db, Web shown", "HOSTGROUPNAMES:web": "zebra,middle,alpha",
+                 "HOSTADDRESS:zebra:,": "192.0.2.8,192.0.2.7", "HOSTALIAS:zebra:|": f"Db|{ALIAS}", "HOSTDISPLAYNAME:alpha:, ": "db, Web shown",
+                 "HOSTGROUPNAMES:web": "zebra,middle,alpha",
                  "HOSTGROUPALIAS:web": None},
 }
 
@@ -97,7 +103,8 @@ class TakingOver(unittest.TestCase):
             text += defined("command", {"command_name": f"of {name}", "command_line": line})
         for name, members in {**HOSTS, **SERVICES}.items():
             host, semicolon, description = name.partition(";")
-            own = {"host_name": host, **({"service_description": description} if semicolon else {}), **members, "check_command": f"of {name}", "max_check_attempts": "3"}
+            own = {"host_name": host, **({"service_description": description} if semicolon else {}), **members, "check_command": f"of {name}",
+                   "max_check_attempts": "3"}
             text += defined("service" if semicolon else "host", own)
         return text
 
@@ -134,7 +141,8 @@ class TakingOver(unittest.TestCase):
         self.take(self.small())
         self.assertEqual(self.read("monitor"), before)
         self.take(self.small(), "max_concurrent_checks=40\ncached_host_check_horizon=9\nservice_check_timeout_state=w\nuse_timezone=:America/Lima\n")
-        self.assertEqual(self.read("monitor"), {**before, "slots": 40, "cached_host_check_horizon": 9, "service_check_timeout_state": "w", "zone": "America/Lima"})
+        self.assertEqual(self.read("monitor"), {**before, "slots": 40, "cached_host_check_horizon": 9, "service_check_timeout_state": "w",
+                                                "zone": "America/Lima"})
 
     def test_options_that_would_be_lost(self) -> None:
         """A monitor.json that can't be read stops it, and so does a zone that nobody knows; nothing is changed then."""
@@ -150,7 +158,8 @@ class TakingOver(unittest.TestCase):
         self.assertIn("use_timezone=Mars/Olympus", ran.stderr)
 
     def test_what_is_named(self) -> None:
-        options = {"enable_environment_macros": "NAGIOS_", "accept_passive_service_checks": "services", "accept_passive_host_checks": "hosts", "log_passive_checks": "logged"}
+        options = {"enable_environment_macros": "NAGIOS_", "accept_passive_service_checks": "services", "accept_passive_host_checks": "hosts",
+                   "log_passive_checks": "logged"}
         neutral = {"enable_environment_macros": "0", "accept_passive_service_checks": "1", "accept_passive_host_checks": "1", "log_passive_checks": "1"}
         for option, word in options.items():
             told = [line for line in self.take(self.small(), f"{option}={1 - int(neutral[option])}\n").splitlines() if option in line]
@@ -161,29 +170,34 @@ class TakingOver(unittest.TestCase):
         told = self.take(self.small() + defined("host", {**host, "passive_checks_enabled": "0"})).splitlines()
         self.assertIn("left out: passive_checks_enabled 0 (1): a passive result of it is taken all the same: h", told)
         self.assertNotIn("passive_checks", self.take(self.small() + defined("host", {**host, "passive_checks_enabled": "1"})))
-        ran = subprocess.run([sys.executable, str(SCRIPT), str(self.folder / "nagios.cfg"), str(self.folder / "objects")], capture_output=True, text=True, check=False)
+        ran = subprocess.run([sys.executable, str(SCRIPT), str(self.folder / "nagios.cfg"), str(self.folder / "objects")], capture_output=True, text=True,
+                             check=False)
         self.assertNotIn("zone", ran.stderr)
         (self.folder / "nagios.cfg").write_text("use_timezone=Europe/Paris\n")
-        ran = subprocess.run([sys.executable, str(SCRIPT), str(self.folder / "nagios.cfg"), str(self.folder / "objects")], capture_output=True, text=True, check=False)
+        ran = subprocess.run([sys.executable, str(SCRIPT), str(self.folder / "nagios.cfg"), str(self.folder / "objects")], capture_output=True, text=True,
+                             check=False)
         self.assertIn("left out: use_timezone (1): times are those of the machine's zone", ran.stderr)
 
     def test_values_that_a_shell_obeys(self) -> None:
         """They are written out as Nagios does it, and the objects are named; one whose command line itself needs the shell isn't."""
         host = {"alias": "Web; rm -rf /", "_PLAIN": "a b", "check_command": "dummy", "max_check_attempts": "3"}
-        lines = {"bare": "/bin/true $HOSTALIAS$", "quoted": "/bin/true '$HOSTALIAS$'", "plain": "/bin/true $_HOSTPLAIN$", "piped": "/bin/true $HOSTALIAS$ | cat"}
+        lines = {"bare": "/bin/true $HOSTALIAS$", "quoted": "/bin/true '$HOSTALIAS$'", "plain": "/bin/true $_HOSTPLAIN$",
+                 "piped": "/bin/true $HOSTALIAS$ | cat"}
         text = "".join(defined("command", {"command_name": name, "command_line": line}) + defined("host", {"host_name": name, **host, "check_command": name})
                        for name, line in lines.items())
         told = [line for line in self.take(text).splitlines() if "quotes" in line]
         self.assertEqual(told, ["left out: quotes around values (1): an alias or custom variable has a sign that the shell of its command line obeys: bare"])
-        self.assertEqual({name: entry.get("shell", False) for name, entry in self.read("commands").items()}, {"bare": True, "quoted": False, "plain": False, "piped": True})
+        self.assertEqual({name: entry.get("shell", False) for name, entry in self.read("commands").items()},
+                         {"bare": True, "quoted": False, "plain": False, "piped": True})
 
     def test_files_that_it_does_not_know_stay(self) -> None:
         self.take(self.small())
-        (self.site / "queues.json").write_text("{}")
+        (self.site / "runners.json").write_text("{}")
         (self.site / "mirrors.json").write_text("{}")
         (self.site / "part-1.json").write_text("{}")
         self.take(self.small(2))
-        self.assertEqual(sorted(path.name for path in self.site.iterdir()), ["commands.json", "groups.json", "monitor.json", "passive.json", "periods.json", "queues.json", "setup.json"])
+        self.assertEqual(sorted(path.name for path in self.site.iterdir()),
+                         ["commands.json", "groups.json", "monitor.json", "passive.json", "periods.json", "runners.json", "setup.json"])
         self.assertEqual((self.site / "commands.json").stat().st_mode & 0o777, 0o600)
 
     def test_a_reader_sees_all_files_of_one_time(self) -> None:

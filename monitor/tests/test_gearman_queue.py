@@ -5,7 +5,7 @@ import unittest
 from typing import Any, Dict, List
 
 from nagsched_monitor.run.gearman import Happening, Kind
-from nagsched_monitor.run.gearman_queue import GRACE, MOST_WAITING, RETRY, SILENCE, Queue
+from nagsched_monitor.run.gearman_queue import GRACE, RETRY, SILENCE, Queue
 from nagsched_monitor.run.gearman_seal import JOB, RESULT, Seal
 
 from .gearman_server import ServedJob, StandInServer
@@ -85,13 +85,12 @@ class OneQueue(unittest.TestCase):
             self.pass_by(1)
         self.assertEqual({end for _, end, _ in self.ends()}, {"lost"})
         self.assertIn("the server of the queue dmz wasn't reached", self.answers[0]["lost"])
-        self.add(2)
-        self.assertEqual(self.ends()[2:], [(4, "exited", "the server of the queue dmz isn't reached")])
+        self.add()
         self.server.is_there = True
         self.pass_by(RETRY)
         self.server.answer(self.take())
         self.pass_by()
-        self.assertEqual(self.ends()[3:], [(3, "exited", "fine")])
+        self.assertEqual(self.ends()[2:], [(3, "exited", "fine")])
 
     def test_a_server_that_gives_no_answer(self) -> None:
         """Another connection is tried; what the first one had isn't answered twice."""
@@ -140,22 +139,19 @@ class OneQueue(unittest.TestCase):
         self.assertEqual(self.ends(), [(1, "lost", "its worker gave no result")])
 
     def test_nobody_takes_anything(self) -> None:
-        """What waits is given up; one job goes on trying, and others are answered at once, until a worker takes it."""
+        """What waits is given up, and the server forgets it; what came later goes on waiting."""
         self.add(3)
         self.pass_by()
-        self.pass_by(WAIT)
+        self.pass_by(1)
+        self.add()
+        self.pass_by(WAIT - 1)
         self.assertEqual(self.ends(), [(number, "lost", "no worker took it from the queue dmz") for number in (1, 2, 3)])
-        self.assertEqual(self.server.waiting, [])
-        self.add(3)
         self.pass_by()
-        self.assertEqual([(it["job"], it["end"], it["code"]) for it in self.answers[3:]], [(5, "exited", 3), (6, "exited", 3)])
         self.assertEqual([job.workload["words"][1] for job in self.server.waiting], ["4"])
         self.server.answer(self.take())
         self.pass_by()
-        self.add(2)
-        self.pass_by()
-        self.assertEqual(len(self.server.waiting), 2)
-        self.assertIn("a worker takes jobs again", self.lines[-1])
+        self.assertEqual(self.ends()[3:], [(4, "exited", "fine")])
+        self.assertEqual(self.lines, [])
 
     def test_workers_that_have_too_much_to_do(self) -> None:
         """While a worker works, a job that waits too long is given up by itself."""
@@ -169,17 +165,9 @@ class OneQueue(unittest.TestCase):
         self.assertEqual(self.ends(), [(2, "lost", "no worker took it from the queue dmz")])
         self.assertEqual([job.workload["words"][1] for job in self.server.waiting], ["2", "3"])
 
-    def test_the_server_has_so_many_at_most(self) -> None:
-        self.add(MOST_WAITING + 50)
-        self.pass_by()
-        self.assertEqual(len(self.server.waiting), MOST_WAITING)
-        for _ in range(20):
-            self.take()
-        self.pass_by()
-        self.assertEqual(len(self.server.waiting), MOST_WAITING)
-
     def test_an_answer_that_is_no_result(self) -> None:
-        several: List[Dict[str, Any]] = [{"job": "another"}, {"code": "0"}, {"code": True}, {"code": 256}, {"end": "fine"}, {"output": None}, {"stderr": 1}, {"lost": 1, "end": 1}]
+        several: List[Dict[str, Any]] = [{"job": "another"}, {"code": "0"}, {"code": True}, {"code": 256}, {"end": "fine"}, {"output": None}, {"stderr": 1},
+                                         {"lost": 1, "end": 1}]
         for wrong in several:
             self.add()
             self.pass_by()
@@ -197,7 +185,8 @@ class OneQueue(unittest.TestCase):
         """Neither are damaged ones, those of another key, and those of jobs before taken."""
         result = {"job": "mark-1", "code": 0, "end": "exited", "output": "forged"}
         good = self.server.seal.sign(RESULT, result)
-        bad = [b"", b"[]", b"\xff", b"[" * 100_000, json.dumps(result).encode(), Seal(b"another key of the network").sign(RESULT, result), self.server.seal.sign(JOB, result),
+        bad = [b"", b"[]", b"\xff", b"[" * 100_000, json.dumps(result).encode(), Seal(b"another key of the network").sign(RESULT, result),
+               self.server.seal.sign(JOB, result),
                good[:-1], good.replace(b"forged", b"folded")]
         for data in bad:
             self.add()
@@ -216,7 +205,8 @@ class OneQueue(unittest.TestCase):
         self.pass_by()
         self.answer_with(b'{"job":"mark-1","code":1,"end":"exited","output":"fine","stderr":"words"}')
         self.answer_with(b"[" * 100_000)
-        self.assertEqual(self.answers, [{"job": 1, "code": 1, "end": "exited", "output": "fine", "stderr": "words"}, {"job": 2, "lost": "its worker's answer was no result"}])
+        self.assertEqual(self.answers, [{"job": 1, "code": 1, "end": "exited", "output": "fine", "stderr": "words"},
+                                        {"job": 2, "lost": "its worker's answer was no result"}])
 
     def test_a_result_that_a_worker_lost(self) -> None:
         self.add()

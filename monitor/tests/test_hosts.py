@@ -33,7 +33,8 @@ class Asked(unittest.TestCase):
         for before, now, host_is, wanted in (
             ("OK", "CRITICAL", "UP", True), (None, "WARNING", "UP", True), ("PENDING", "UNKNOWN", "PENDING", True), ("WARNING", "CRITICAL", "UP", True),
             ("CRITICAL", "CRITICAL", "UP", False), ("OK", "CRITICAL", "DOWN", False), ("WARNING", "CRITICAL", "UNREACHABLE", False),
-            ("OK", "OK", "UP", False), ("CRITICAL", "OK", "UP", False), ("CRITICAL", "OK", "DOWN", True), ("OK", "OK", "UNREACHABLE", True), ("OK", "OK", "PENDING", True),
+            ("OK", "OK", "UP", False), ("CRITICAL", "OK", "UP", False), ("CRITICAL", "OK", "DOWN", True), ("OK", "OK", "UNREACHABLE", True),
+            ("OK", "OK", "PENDING", True),
         ):
             self.assertEqual(self.asked("web;http", before, now, web=host_is), ["web"] if wanted else [], (before, now, host_is))
 

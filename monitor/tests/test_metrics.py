@@ -1,8 +1,13 @@
-"""The figures for Prometheus: each line by the rules of the text format, and the sums of the histogram."""
+"""The figures for Prometheus: each line by the rules of the text format, the sums of the histogram, and the file for node_exporter."""
+import json
 import re
+import sys
 import time
 from typing import Dict, List, Tuple
+from unittest import mock
 
+from nagsched_monitor.inputs import control
+from nagsched_monitor.outputs import textfile
 from nagsched_monitor.outputs.metrics import escaped, family
 from nagsched_monitor.store.counters import BOUNDS, RESULTS
 
@@ -23,7 +28,8 @@ def unescaped(text: str) -> str:
 class Families:
     """A text in the format, read line by line. Each family begins with its help and its type, and stands once."""
 
-    def __init__(self, text: str) -> None:
+    def __init__(self, text: str, site: str = "") -> None:
+        self.site = site
         self.kinds: Dict[str, str] = {}
         self.helps: Dict[str, str] = {}
         self.samples: Dict[Tuple[str, Labels], float] = {}
@@ -56,14 +62,14 @@ class Families:
         self.samples[name, labels] = float(value)
 
     def of(self, name: str, **labels: str) -> float:
-        return self.samples[name, tuple(labels.items())]
+        return self.samples[name, (("site", self.site), *labels.items())]
 
 
 class Metrics(ShownSite):
     def families(self) -> Families:
         status, headers, text = self.ask("/metrics")
         self.assertEqual((status, headers["content-type"]), (200, "text/plain; version=0.0.4; charset=utf-8"))
-        families = Families(text)
+        families = Families(text, self.folder.name)
         self.assertEqual(families.wrong, [])
         self.assertEqual(sorted(families.kinds), sorted(families.helps))
         return families
@@ -79,7 +85,7 @@ class Metrics(ShownSite):
         families = self.families()
         self.assertEqual({name: kind for name, kind in families.kinds.items() if kind != "gauge"}, {
             "nagsched_checks_total": "counter", "nagsched_calls_total": "counter", "nagsched_saves_total": "counter",
-            "nagsched_check_latency_seconds": "histogram",
+            "nagsched_check_latency_seconds": "histogram", "nagsched_faults_total": "counter",
         })
         self.assertEqual((families.of("nagsched_due"), families.of("nagsched_out")), (1, 1))
         self.assertEqual([families.of("nagsched_checks_total", result=result) for result in RESULTS], [7, 0, 0, 0, 0, 0, 0, 1, 0, 0])
@@ -103,18 +109,70 @@ class Metrics(ShownSite):
         bounds = [dict(labels)["le"] for (sample, labels), _ in families.samples.items() if sample == f"{name}_bucket"]
         self.assertEqual(bounds, [*(f"{bound:g}" for bound in BOUNDS), "+Inf"])
 
+    def test_each_object(self) -> None:
+        """Its state with its groups; what wasn't checked has none, and what is soft or flaps a series more."""
+        self.write("groups.json", {"web;http": {"host_groups": ["linux", "dmz"], "contacts": ["ada"]}})
+        fill(self.folder, [
+            standing("web"), standing("web;http", "UNKNOWN"), standing("web;disk", "WARNING", "SOFT"), standing("db", "UNREACHABLE", flapping=True),
+            standing("new", "PENDING", None)])
+        self.serve()
+        families = self.families()
+        states = {labels: value for (name, labels), value in families.samples.items() if name == "nagsched_state"}
+        self.assertEqual(len(states), 4)
+        self.assertEqual(families.of("nagsched_state", host="web", service="http", host_groups=",linux,dmz,", contacts=",ada,"), 3)
+        self.assertEqual((families.of("nagsched_state", host="db"), families.of("nagsched_state", host="web")), (2, 0))
+        self.assertEqual((families.of("nagsched_soft", host="web", service="disk"), families.of("nagsched_flapping", host="db")), (1, 1))
+        self.assertEqual(sum(name in ("nagsched_soft", "nagsched_flapping") for name, _ in families.samples), 2)
+
+    def test_signs_of_life(self) -> None:
+        """While the monitor gives no answer, only what the database knows."""
+        now = time.time()
+        fill(self.folder, [], {"written_at": now - 100, "faults": 2.0})
+        self.serve()
+        families = self.families()
+        self.assertEqual((families.of("nagsched_up"), families.of("nagsched_last_turn_timestamp_seconds")), (0, now - 100))
+        self.assertEqual(families.of("nagsched_faults_total"), 2)
+        self.assertFalse([name for name, _ in families.samples if "stuck" in name or "waiting" in name])
+        runners = {"local": {"running": 3, "wanted": 4, "stuck": 1, "waiting": 0}}
+        signs = {"turn": now - 7, "is_stuck": True, "passive_waiting": 5, "changes_waiting": 6, "oldest_change": 7.5, "runners": runners}
+        with mock.patch.object(control, "ask", return_value=json.dumps(signs).encode()):
+            families = self.families()
+        self.assertEqual([families.of(f"nagsched_{name}") for name in ("up", "stuck", "passive_waiting", "changes_waiting", "oldest_change_seconds")],
+                         [1, 1, 5, 6, 7.5])
+        self.assertEqual(families.of("nagsched_last_turn_timestamp_seconds"), now - 7)
+        self.assertEqual([families.of(f"nagsched_{name}", runner="local") for name in ("runners", "runners_wanted", "runners_stuck", "runner_waiting")],
+                         [3, 4, 1, 0])
+
     def test_nothing_yet(self) -> None:
         """A site whose monitor has counted nothing has all families; where no state was saved there are no seconds since."""
         fill(self.folder, [])
         self.serve()
         families = self.families()
-        self.assertEqual(len(families.kinds), 8)
+        self.assertEqual(len(families.kinds), 22)
         self.assertEqual([name for name, _ in families.samples if "since_save" in name], [])
 
 
 class Format(SiteTest):
     def test_escaping(self) -> None:
         for text in ("plain", '"', "\\", "\n", '\\n"\n\\', "ä", "{}=,"):
-            families = Families("\n".join(family("x", "gauge", "Some help.", [("", {"a": text, "b": text}, 1.5)])) + "\n")
-            self.assertEqual((families.wrong, families.samples), ([], {("x", (("a", text), ("b", text))): 1.5}))
+            families = Families("\n".join(family("x", "gauge", "Some help.", [("", {"a": text, "b": text}, 1.5)], text)) + "\n")
+            self.assertEqual((families.wrong, families.samples), ([], {("x", (("site", text), ("a", text), ("b", text))): 1.5}))
             self.assertEqual(unescaped(escaped(text)), text)
+
+
+class Textfile(SiteTest):
+    def test_a_file(self) -> None:
+        """It is there while its process works, as a whole; what can't be read leaves it as it was."""
+        fill(self.folder, [standing("web")])
+        file = self.folder / "nagsched.prom"
+        seen: List[List[str]] = []
+
+        def is_ended(seconds: float) -> bool:
+            seen.append(Families(file.read_text()).wrong)
+            (self.folder / "monitor.db").write_text("this is no database")
+            return len(seen) == 3
+
+        with mock.patch.object(textfile, "is_ended", is_ended), mock.patch.object(textfile, "ignore_signals"), mock.patch("builtins.print") as said:
+            with mock.patch.object(sys, "argv", ["textfile", str(self.folder), str(file)]):
+                self.assertEqual(textfile.main(), 0)
+        self.assertEqual((seen, file.exists(), said.call_count), ([[]] * 3, False, 1))

@@ -114,7 +114,7 @@ class Handed(Parted):
         monitor = self.site()
         monitor.run(230)
         self.assertEqual(sorted(monitor.site.objects), ["far", "far;web", "gateway", "gateway;ping", "near", "near;web"])
-        self.assertEqual(sorted(name for _, kept in monitor.store.standings() for name in [kept.name]), sorted(monitor.site.objects))
+        self.assertEqual(sorted(name for kept in monitor.store.standings() for name in [kept.name]), sorted(monitor.site.objects))
         self.assertEqual({name: len(starts) for name, starts in monitor.starts().items()}, {name: 4 for name in monitor.site.objects})
         self.assertEqual(self.assert_alike(), 8)
 

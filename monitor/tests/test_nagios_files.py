@@ -1,10 +1,8 @@
 """Nagios's own files: what `status.dat` says is what the monitor says, and the pipe's lines are obeyed."""
-import json
 import os
 import pathlib
 import signal
 import subprocess
-import sys
 import time
 from typing import Callable, Dict, List, Mapping, Tuple
 
@@ -18,7 +16,6 @@ from .simulated import BEGIN, SiteTest
 from .waiting import comes
 
 Block = Dict[str, str]
-TOP = pathlib.Path(__file__).resolve().parent.parent
 WELL = KeptStanding("web", "UP", "HARD", 1, False, 1000.5, 1000.5, 2000.25, 2060.9, True, None, 0.5, 0.25, "fine|rta=0.8ms;1;2")
 BAD = KeptStanding("web;http", "CRITICAL", "SOFT", 2, True, 1500.0, 900.0, 2001.0, None, False, 2002.0, None, None, "no\x07answer\nof\\it")
 NEW = KeptStanding("web;new", "PENDING", "HARD", 1, False, None, None, None, 3000.0, True, None, None, None, "")
@@ -100,7 +97,8 @@ class Blocks(SiteTest):
                    "check_latency": "0.250", "check_period": "always", "check_command": "check_ping", "check_interval": "5.000000", "last_time_up": "2000",
                    "last_time_down": "0", "check_type": "0", "should_be_scheduled": "1", "last_update": "2050"}),
             (http, {"current_state": "2", "last_hard_state": "0", "state_type": "0", "current_attempt": "2", "plugin_output": "no answer",
-                    "long_plugin_output": "of\\it", "is_flapping": "1", "active_checks_enabled": "0", "should_be_scheduled": "0", "next_check": "0", "last_time_critical": "2001",
+                    "long_plugin_output": "of\\it", "is_flapping": "1", "active_checks_enabled": "0", "should_be_scheduled": "0", "next_check": "0",
+                    "last_time_critical": "2001",
                     "last_time_ok": "1500", "last_hard_state_change": "900", "check_type": "1", "check_execution_time": "0.000"}),
             (new, {"has_been_checked": "0", "current_state": "0", "last_check": "0", "next_check": "3000", "last_state_change": "0", "current_attempt": "1"}),
         ]
@@ -129,19 +127,20 @@ class Outage(SiteTest):
         states, compared = set(), 0
         for _ in range(80):
             monitor.run(3)
-            objects = monitor.ask(do="status")["objects"]
             # Nothing is taken for more than a second, so that the table is as the monitor is.
             if monitor.engine.out() or monitor.scheduling._standings._marked:
                 continue
             files.write()
             blocks = objects_of((self.folder / "nagios/status.dat").read_bytes())
-            self.assertEqual(list(sorted(blocks)), [it["name"] for it in objects])
-            for it in objects:
-                block = blocks[it["name"]]
-                marks = f"{' FLAPPING' if it['flapping'] else ''}{'' if it['on'] else ' off'}"
-                self.assertEqual(line_of(it["name"], block), f"{it['state']} {it['kind']} {it['attempt']}{marks} {it['name']}: {it['output']}")
-                self.assertEqual(int(block["next_check"]), int(it["next"] or 0))
-                states.add((it["state"], it["kind"]))
+            objects = monitor.engine.objects
+            self.assertEqual(sorted(blocks), sorted(objects))
+            for name, known in objects.items():
+                block, it = blocks[name], known.standing
+                assert it is not None
+                marks = f"{' FLAPPING' if it.flapping else ''}{'' if known.on else ' off'}"
+                self.assertEqual(line_of(name, block), f"{it.state} {it.kind} {it.attempt}{marks} {name}: {known.words}")
+                self.assertEqual(int(block["next_check"]), (known.next or 0) // 1000)
+                states.add((it.state, it.kind))
                 compared += 1
         self.assertGreater(compared, 100)
         wanted = {("DOWN", "HARD"), ("DOWN", "SOFT"), ("UNREACHABLE", "HARD"), ("CRITICAL", "HARD"), ("OK", "HARD"), ("UP", "HARD"), ("PENDING", "HARD"),
@@ -224,17 +223,11 @@ class Process(ProcessTest):
         self.write("commands.json", {name: {"line": f"echo 'of {name}|a=1'; exit {code}", "shell": True}
                                      for name, code in (("h00", 0), ("h01", 2), ("h00;http", 1), ("h00;ssh", 2))})
         self.begin()
-        words = [sys.executable, "-m", "nagsched_monitor.outputs.nagios_files", "--every", "0.2", str(self.folder), str(self.nagios)]
-        helper = subprocess.Popen(words, stdin=subprocess.PIPE, cwd=TOP)
-        self.addCleanup(helper.wait, 10)
-        assert helper.stdin is not None
-        self.addCleanup(helper.stdin.close)
+        files = NagiosFiles(self.folder, self.nagios, False)
 
         def same() -> bool:
-            try:
-                blocks = objects_of((self.nagios / "status.dat").read_bytes())
-            except FileNotFoundError:
-                return False
+            files.write()
+            blocks = objects_of((self.nagios / "status.dat").read_bytes())
             lines = self.ask("status").stdout.splitlines()
             return len(lines) == 4 and "PENDING" not in "".join(lines) and [line_of(name, blocks[name]) for name in sorted(blocks)] == lines
 

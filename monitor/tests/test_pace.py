@@ -70,8 +70,8 @@ class Waiting(unittest.TestCase):
         self.addCleanup(os.close, self.there)
         self.addCleanup(os.close, self.back)
         self.read: List[bytes] = []
-        self.poller = FilePoller(lambda file: self.read.append(os.read(file, 10)))
-        self.poller.watch(self.there)
+        self.poller = FilePoller()
+        self.poller.watch(self.there, lambda file: self.read.append(os.read(file, 10)))
         self.clock = SystemClock()
         self.pace = Pace(self.clock, self.poller)
 

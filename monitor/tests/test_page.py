@@ -180,6 +180,21 @@ class Page(ShownSite):
             for (_, width), (_, its) in zip(came, wanted):
                 self.assertAlmostEqual(float(str(width)[:-1]), float(its[:-1]), delta=0.01)
 
+    def test_groups(self) -> None:
+        """Each group with how many are wrong; a page shows one group alone; an object's page names its own."""
+        self.write("groups.json", {"a": {"host_groups": ["x & y"]}, "a;web": {"host_groups": ["x & y"], "service_groups": ["shop"], "contacts": ["ada"]}})
+        fill(self.folder, [standing("a"), standing("a;web", "CRITICAL"), standing("b")])
+        self.serve()
+        reader = self.read()
+        self.assertEqual(reader.tables[-1], [["shop", "1", "1"], ["x & y", "1", "2"]])
+        link = next(link for link in reader.links() if "group" in link and "26" in link)
+        wrong, hosts, services, groups = self.read(link).tables
+        self.assertEqual([[row[1] for row in rows] for rows in (wrong, hosts, services)], [["a;web"], ["a"], ["a;web"]])
+        self.assertEqual(len(self.read("/?group=none").tables), 0)
+        self.assertIn("ada", self.read("/object?name=a%3Bweb").texts)
+        self.write("groups.json", "{")
+        self.assertEqual(self.read().tables[-1], groups)
+
     def test_no_monitor_at_work(self) -> None:
         fill(self.folder, [standing("h")], {"written_at": time.time() - 600})
         self.serve()
@@ -205,7 +220,7 @@ class Data(ShownSite):
         status, headers, text = self.ask("/status.json")
         came = json.loads(text)
         self.assertEqual((status, headers["content-type"], headers["content-length"]), (200, "application/json", str(len(text.encode()))))
-        self.assertEqual(came["objects"], objects)
+        self.assertEqual(came["objects"], [{**it, "phase": None} for it in objects])
         self.assertEqual((came["wrong"], came["out"], came["due"], came["is_silent"]), (["h;a"], 1, 1, False))
         self.assertEqual((came["checks_a_second"], came["latest_start"], came["calls"], came["saved_at"]), (2.5, 0.75, 8, None))
 

@@ -7,7 +7,6 @@ from unittest import mock
 from nagsched_monitor.faults import ConversationEnded
 from nagsched_monitor.site.site import read_site
 from nagsched_monitor.store.store import Write
-from nagsched_monitor.store.writes import DropResult
 
 from .simulated import PROGRAM, SimulatedClock, SimulatedMonitor, SiteTest, fine, host, service
 
@@ -116,7 +115,7 @@ class PassiveResults(SiteTest):
 
         def killing(*writes: Write) -> None:
             write(*writes)
-            if any(isinstance(each, DropResult) for each in writes):
+            if monitor.store.waiting() == []:
                 setattr(monitor.store, "write", write)
                 os.kill(monitor.scheduling.process_ids()[0], signal.SIGKILL)
 

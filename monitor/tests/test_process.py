@@ -1,4 +1,6 @@
 """The monitor as a process: killed at random moments it loses nothing; asked, reloaded, and out of room."""
+import contextlib
+import io
 import json
 import os
 import pathlib
@@ -9,14 +11,16 @@ import sqlite3
 import subprocess
 import sys
 import time
-from typing import List
+from typing import Any, List
 from unittest import mock
 
-from nagsched_monitor.program import main
+from nagsched_monitor.program import main, monitor
 
-from nagsched_monitor.faults import MonitorFault
+from nagsched_monitor.faults import ConversationEnded, MonitorFault, NotStored
 from nagsched_monitor.program import reading
+from nagsched_monitor.scheduler.live_process import Conversation
 from nagsched_monitor.site.site import Site
+from nagsched_monitor.store.store import Store
 
 from .running import MONITOR, ProcessTest
 from .simulated import PROGRAM, SiteTest
@@ -139,12 +143,13 @@ class Running(ProcessTest):
         self.assertRegex(output, r"\d\d:\d\d:\d\d[+-]\d\d:\d\d h00;trap is CRITICAL HARD 1: door open")
         self.assertEqual(json.loads((self.folder / "changes").read_text())["name"], "h00;trap")
         self.assertEqual(running.returncode, 0)
-        self.assertEqual(self.ask("status").returncode, 1)
+        self.assertEqual(self.ask("enable", "h00").returncode, 1)
 
     def test_reload(self) -> None:
         """Ten checks run while the site is read anew: each is reported. A bad site is refused with its line, and the old goes on."""
         self.write_site(self.objects(10), [])
-        self.write("commands.json", {f"h{number:02}": {"line": f"until test -e {self.folder}/go; do sleep 0.1; done; echo slow; echo >> {self.folder}/ended", "shell": True} for number in range(10)})
+        self.write("commands.json", {f"h{number:02}": {"line": f"until test -e {self.folder}/go; do sleep 0.1; done; echo slow; echo >> {self.folder}/ended",
+                                                       "shell": True} for number in range(10)})
         running = self.begin()
         self.assertTrue(comes(lambda: sum(" out " in line for line in self.ask("status").stdout.splitlines()) == 10))
         self.write("commands.json", {f"h{number:02}": {"line": "echo 'quick", "shell": False} for number in range(10)})
@@ -244,5 +249,44 @@ class Reloading(SiteTest):
     def test_more_slots_than_files(self) -> None:
         self.write_site([{"name": "web", "max_check_attempts": 1}], [], monitor={"slots": 200})
         wanted = "slots: 200 plugins may take 900 open files"
-        with mock.patch.object(main, "raise_file_limit", return_value=500), self.assertRaisesRegex(MonitorFault, wanted):
-            main.Monitor(main.words_of(["--program", PROGRAM, str(self.folder)]))
+        with mock.patch.object(monitor, "raise_file_limit", return_value=500), self.assertRaisesRegex(MonitorFault, wanted):
+            monitor.Monitor(main.words_of(["--program", PROGRAM, str(self.folder)]))
+
+
+class Starting(SiteTest):
+    """A start that can't be ends with a status and one line."""
+
+    def setUp(self) -> None:
+        super().setUp()
+        self.write_site([{"name": "web", "max_check_attempts": 1}], [])
+
+    def refused(self) -> str:
+        told = io.StringIO()
+        with contextlib.redirect_stderr(told), mock.patch.object(monitor, "START_PAUSE", 0.0), mock.patch.object(main, "Log"):
+            self.assertEqual(main.main(["--program", PROGRAM, str(self.folder)]), 1)
+        self.assertEqual(told.getvalue().count("\n"), 1)
+        return told.getvalue()
+
+    def test_a_full_disk(self) -> None:
+        with mock.patch.object(Store, "write", side_effect=NotStored("monitor.db: database or disk is full")):
+            self.assertEqual(self.refused(), f"nagsched-monitor: monitor.db: database or disk is full; it was tried {monitor.START_TRIES} times\n")
+
+    def test_no_room_for_a_file(self) -> None:
+        for what in ("monitor.lock", "monitor.db"):
+            opened = os.open
+
+            def full(path: Any, *others: Any, **more: Any) -> int:
+                if str(path).endswith(what):
+                    raise OSError(28, "No space left on device")
+                return opened(path, *others, **more)
+
+            with mock.patch.object(os, "open", full):
+                self.assertIn("No space left on device", self.refused())
+
+    def test_no_room_in_a_database(self) -> None:
+        with mock.patch.object(Store, "_take_over", side_effect=sqlite3.OperationalError("database or disk is full")):
+            self.assertIn("database or disk is full", self.refused())
+
+    def test_no_scheduler(self) -> None:
+        with mock.patch.object(Conversation, "__init__", side_effect=ConversationEnded("no room for a process")):
+            self.assertIn(f"no room for a process; it was tried {monitor.START_TRIES} times", self.refused())

@@ -1,21 +1,16 @@
 """What can be asked of a monitor: each word, and each bad line, which gets an error and changes nothing."""
-import contextlib
 import json
-import socket
-import threading
 from typing import Any, Dict, List
 from unittest import mock
 
-from nagsched_monitor.inputs import control
 
 from nagsched_monitor.core import passive
 
-from nagsched_monitor.faults import MonitorFault, NotStored
+from nagsched_monitor.faults import NotStored
 from nagsched_monitor.inputs import requests
 from nagsched_monitor.inputs.requests import Request
 
 from .simulated import SimulatedMonitor, SiteTest, fine
-from .waiting import comes
 
 HOST = {"name": "web", "check_interval": 60, "max_check_attempts": 3}
 TRAP = {"host": "web", "description": "trap", "max_check_attempts": 1, "enabled": False}
@@ -32,12 +27,24 @@ class Words(SiteTest):
     def ask(self, **members: Any) -> Dict[str, Any]:
         return self.monitored.ask(**members)
 
-    def test_status(self) -> None:
-        answer = self.ask(do="status", pattern="web*trap")
-        self.assertEqual([(it["name"], it["state"], it["on"]) for it in answer["objects"]], [("web;trap", "PENDING", False)])
-        (web,) = self.ask(do="status", pattern="web")["objects"]
-        self.assertEqual((web["state"], web["kind"], web["attempt"], web["out"], web["output"]), ("UP", "HARD", 1, False, "fine"))
-        self.assertEqual(web["next"] - self.monitored.clock.wall(), 30)
+    def test_signs(self) -> None:
+        """How the monitor is; they are told although nothing can be stored."""
+        signs = self.ask(do="signs")
+        self.assertEqual({name: signs[name] for name in ("is_stuck", "passive_waiting", "changes_waiting", "oldest_change", "made", "out")}, {
+            "is_stuck": False, "passive_waiting": 0, "changes_waiting": 0, "oldest_change": 0.0, "made": 1, "out": 0})
+        self.assertLess(self.monitored.clock.wall() - signs["turn"], 2)
+        self.ask(do="result", name="web;trap", code=2, output="bad")
+        self.monitored.run(1)
+        began = self.monitored.clock.wall()
+        self.monitored.run(9)
+        with mock.patch.object(self.monitored.store, "write", side_effect=NotStored("the disk is full")):
+            self.ask(do="save")
+            self.monitored.run(60)
+            signs = self.ask(do="signs")
+        self.assertTrue(signs["is_stuck"])
+        self.assertEqual(signs["changes_waiting"], 1)
+        self.assertAlmostEqual(signs["oldest_change"], self.monitored.clock.wall() - began, delta=2)
+        self.assertGreater(self.monitored.clock.wall() - signs["turn"], 30)
 
     def test_reschedule(self) -> None:
         at = self.monitored.clock.wall() + 5
@@ -71,6 +78,18 @@ class Words(SiteTest):
         self.assertEqual(self.monitored.store.switches(), {"web": True})
         self.monitored.run(1)
         self.assertEqual(len(self.monitored.starts()["web"]), 2)
+
+    def test_a_switch_that_is_taken_away(self) -> None:
+        """What the setup says counts again, also over a restart."""
+        self.ask(do="disable", name="web")
+        self.monitored.run(100)
+        self.assertTrue(self.ask(do="default", name="web")["on"])
+        self.assertEqual(self.monitored.store.switches(), {})
+        self.monitored.run(1)
+        self.assertEqual(len(self.monitored.starts()["web"]), 2)
+        self.assertFalse(self.ask(do="default", name="web;trap")["on"])
+        self.assertEqual([line for line in self.monitored.lines if line.startswith("asked: ")], [
+            "asked: disable web", "asked: default web", "asked: default web;trap"])
 
     def test_an_object_that_never_was_on(self) -> None:
         """It has no time of its own until it is switched on; then it has one, and a phase."""
@@ -127,7 +146,7 @@ class Words(SiteTest):
         for word in ("disable", "enable", "reschedule"):
             self.ask(do=word, name="web")
         self.ask(do="result", name="web;trap", code=1)
-        self.ask(do="status")
+        self.ask(do="signs")
         self.ask(do="disable", name="nobody")
         told = [line for line in self.monitored.lines if line.startswith("asked: ")]
         self.assertEqual([line.split()[1:3] for line in told], [["disable", "web"], ["enable", "web"], ["reschedule", "web"], ["result", "web;trap"]])
@@ -136,7 +155,8 @@ class Words(SiteTest):
         """The answer says that it may be asked again, and nothing has changed."""
         before = self.monitored.store.last_call
         with mock.patch.object(self.monitored.store, "write", side_effect=NotStored("the disk is full")):
-            several: List[Dict[str, Any]] = [{"do": "disable", "name": "web"}, {"do": "result", "name": "web;trap", "code": 2}, {"do": "reschedule", "name": "web"}]
+            several: List[Dict[str, Any]] = [{"do": "disable", "name": "web"}, {"do": "result", "name": "web;trap", "code": 2},
+                                             {"do": "reschedule", "name": "web"}]
             for asked in several:
                 self.assertEqual(self.ask(**asked), {"error": "the disk is full", "again": True})
             self.assertNotIn("again", self.ask(do="enable", name="nobody"))
@@ -159,7 +179,7 @@ class Words(SiteTest):
         for line, word in (
             (b"", "no JSON"), (b"\xff", "no JSON"), (b"[" * 100_000, "no JSON"), (b"[]", "object"), (b"{}", "None"), (b'{"do":7}', "7"),
             (b'{"do":"fly"}', "'fly'"),
-            (b'{"do":"status","pattern":1}', "pattern"), (b'{"do":"status","patern":"x"}', "'patern'"),
+            (b'{"do":"signs","pattern":1}', "'pattern'"), (b'{"do":"status"}', "'status'"),
             (b'{"do":"reschedule"}', "name"), (b'{"do":"reschedule","name":"x"}', "no object 'x'"),
             (b'{"do":"reschedule","name":"web","at":"now"}', "at is"), (b'{"do":"reschedule","name":"web","at":-1e30}', "no time"),
             (b'{"do":"reschedule","name":"web","at":1e400}', "no time"), (b'{"do":"reschedule","name":"web","force":1}', "force"),
@@ -173,127 +193,3 @@ class Words(SiteTest):
             with self.subTest(line):
                 self.assertIn(word, self.monitored.ask_line(line)["error"])
         self.assertEqual((self.monitored.store.last_call, self.monitored.store.waiting(), self.monitored.loop.status), (before, [], None))
-
-
-class Socket(SiteTest):
-    """The socket by itself: each request is answered by `answer` in the turn in which it came."""
-
-    def serving(self, answer: bytes = b"") -> control.Control:
-        self.files: List[int] = []
-        self.heard: List[bytes] = []
-
-        def asked(request: Request) -> None:
-            self.heard.append(request.line)
-            request.reply(answer or b"heard " + request.line + b"\n")
-
-        made = control.Control(self.folder, asked, self.files.append, self.files.remove)
-        self.addCleanup(made.close)
-        return made
-
-    def asking(self) -> socket.socket:
-        connection = socket.socket(socket.AF_UNIX, socket.SOCK_STREAM)
-        self.addCleanup(connection.close)
-        connection.connect(control.short_path(self.folder / control.NAME))
-        return connection
-
-    def turn(self, made: control.Control) -> bool:
-        """One turn of the loop around it: what can be read is read."""
-        for file in list(self.files):
-            made.read(file)
-        return made.work()
-
-    def test_lines_there_and_back(self) -> None:
-        made = self.serving()
-        self.assertEqual((self.folder / control.NAME).stat().st_mode & 0o777, 0o600)
-        answers: List[bytes] = []
-        asking = threading.Thread(target=lambda: answers.extend([control.ask(self.folder, b"one"), control.ask(self.folder, b"two")]))
-        asking.start()
-        self.assertTrue(comes(lambda: self.turn(made) or not asking.is_alive()))
-        self.assertEqual(answers, [b"heard one\n", b"heard two\n"])
-
-    def test_one_that_asks_much_leaves_room_for_others(self) -> None:
-        """Of each client so many lines are handed on in one turn; the rest waits, and nothing is lost."""
-        made = self.serving()
-        greedy, other = self.asking(), self.asking()
-        greedy.sendall(b"".join(b"%d\n" % number for number in range(1_000)))
-        self.turn(made)
-        self.turn(made)
-        other.sendall(b"other\n")
-        self.turn(made)
-        self.assertLess(self.heard.index(b"other"), 4 * control.LINES_IN_TURN)
-        self.assertTrue(comes(lambda: not self.turn(made) and len(self.heard) == 1_001))
-        self.assertEqual([line for line in self.heard if line != b"other"], [b"%d" % number for number in range(1_000)])
-
-    def test_long_requests_have_a_turn_each(self) -> None:
-        made = self.serving()
-        there = self.asking()
-        there.sendall(b'one\n{"do":"status"}\n{"do":"status"}\ntwo\n')
-        heard = []
-        for _ in range(6):
-            self.turn(made)
-            heard.append(len(self.heard))
-        self.assertEqual(sorted(set(heard) - {0}), [2, 3, 4])
-        self.assertEqual(self.heard, [b"one", b'{"do":"status"}', b'{"do":"status"}', b"two"])
-
-    def test_one_that_reads_slowly_holds_up_nobody(self) -> None:
-        made = self.serving(b"x" * 1_000_000 + b"\n")
-        slow = self.asking()
-        slow.sendall(b"one\n")
-        self.assertTrue(comes(lambda: self.turn(made) or self.heard == [b"one"]))
-        other = self.asking()
-        other.settimeout(30)
-        other.sendall(b"two\n")
-        got: List[bytes] = []
-        other.setblocking(False)
-
-        def is_answered() -> bool:
-            self.turn(made)
-            with contextlib.suppress(BlockingIOError):
-                got.append(other.recv(1 << 20))
-            return sum(map(len, got)) == 1_000_001
-
-        self.assertTrue(comes(is_answered))
-        slow.settimeout(30)
-        read = 0
-
-        def is_read() -> bool:
-            nonlocal read
-            self.turn(made)
-            read += len(slow.recv(1 << 20))
-            return read == 1_000_001
-
-        self.assertTrue(comes(is_read))
-        self.assertFalse(made.is_sending())
-
-    def test_one_that_says_nothing_is_forgotten(self) -> None:
-        made = self.serving()
-        there = self.asking()
-        there.settimeout(30)
-        self.assertTrue(comes(lambda: self.turn(made) or len(self.files) == 2))
-        with mock.patch.object(control, "IDLE", -1.0):
-            self.turn(made)
-        self.assertEqual((len(self.files), there.recv(1)), (1, b""))
-
-    def test_a_line_that_is_too_long(self) -> None:
-        made = self.serving()
-        there = self.asking()
-        there.settimeout(30)
-        sending = threading.Thread(target=lambda: there.sendall(b"x" * (control.LONGEST_LINE + control.READ_BYTES)), daemon=True)
-        sending.start()
-        self.assertTrue(comes(lambda: self.turn(made) or len(self.files) == 1))
-        self.assertEqual(self.heard, [])
-
-    def test_no_room_for_a_connection(self) -> None:
-        """It waits until there is."""
-        made = self.serving(b"done\n")
-        there = self.asking()
-        there.sendall(b"one\n")
-        with mock.patch.object(socket.socket, "accept", side_effect=OSError(24, "too many files")):
-            made.read(self.files[0])
-        self.assertEqual(len(self.files), 1)
-        self.assertTrue(comes(lambda: self.turn(made) or self.heard == [b"one"]))
-        self.assertEqual(there.recv(100), b"done\n")
-
-    def test_no_monitor(self) -> None:
-        with self.assertRaisesRegex(MonitorFault, "no monitor runs on"):
-            control.ask(self.folder, b"{}")

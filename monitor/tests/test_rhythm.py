@@ -15,7 +15,8 @@ class Even(SiteTest):
 
     def site(self, slots: int = 500) -> None:
         services = [service("h", f"s{number:03}", retry_interval=15) for number in range(COUNT)]
-        self.write_site([host("h", check_interval=3600)], services, {"service_inter_check_delay_method": "s", "max_service_check_spread": 1}, monitor={"slots": slots})
+        self.write_site([host("h", check_interval=3600)], services, {"service_inter_check_delay_method": "s", "max_service_check_spread": 1},
+                        monitor={"slots": slots})
 
     def assert_even(self, monitor: SimulatedMonitor) -> None:
         """The checks of the last minute: about 10 in each second."""

@@ -32,7 +32,8 @@ class OverSsh(unittest.TestCase):
         with self.runner(server) as runner:
             results = runner.ran({"job": 1, "words": ["echo", "fine"], "limit": 9}, {"job": 2, "words": ["id"], "limit": 9})
             self.assertEqual(runner.end(), 0)
-        self.assertEqual([(it["end"], it["output"]) for it in results], [("exited", "fine\n"), ("failed", "this machine's --only file doesn't allow this command line")])
+        self.assertEqual([(it["end"], it["output"]) for it in results],
+                         [("exited", "fine\n"), ("failed", "this machine's --only file doesn't allow this command line")])
 
     def test_a_connection_that_is_cut(self) -> None:
         """Each job has one result at most, and what had none is no longer run."""

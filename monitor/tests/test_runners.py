@@ -8,10 +8,12 @@ import tempfile
 import threading
 import time
 import unittest
-from typing import Any, List
+from typing import Any, Callable, Dict, List
 from unittest import mock
 
-from nagsched_monitor.run.runners import Finished, Gone, Job, Lost, RunnerProcesses
+from nagsched_monitor.run.jobs import Finished, Gone, Job, Lost
+from nagsched_monitor.run.runners import RunnerProcesses
+from nagsched_monitor.site.runner_file import LOCAL
 
 from .waiting import LONG, comes
 
@@ -19,9 +21,9 @@ from .waiting import LONG, comes
 class ManyRunners(unittest.TestCase):
     def setUp(self) -> None:
         self.lines: List[str] = []
-        self.files: List[int] = []
+        self.files: Dict[int, Callable[[int], None]] = {}
         self.passed = 0.0
-        self.runners = RunnerProcesses(2, self.lines.append, self.files.append, self.files.remove, lambda: time.monotonic() + self.passed)
+        self.runners = RunnerProcesses(2, self.lines.append, self.files.__setitem__, self.files.__delitem__, lambda: time.monotonic() + self.passed)
         self.addCleanup(self.runners.close)
 
     def wait(self, count: int) -> List[Any]:
@@ -30,7 +32,7 @@ class ManyRunners(unittest.TestCase):
         def came() -> bool:
             self.runners.flush()
             for file in select.select(self.files, [], [], 0.1)[0]:
-                self.runners.read(file)
+                self.files[file](file)
             events.extend(self.runners.events())
             return len(events) >= count
 
@@ -111,17 +113,17 @@ class Pauses(unittest.TestCase):
     def test_one_that_ends_at_once(self) -> None:
         """It is started again after a pause that grows: no storm of processes and of lines."""
         lines: List[str] = []
-        files: List[int] = []
+        files: Dict[int, Callable[[int], None]] = {}
         now = [0.0]
         with mock.patch.dict(os.environ, {"NAGSCHED_RUNNER": "/bin/false"}):
-            made = RunnerProcesses(1, lines.append, files.append, files.remove, lambda: now[0])
+            made = RunnerProcesses(1, lines.append, files.__setitem__, files.__delitem__, lambda: now[0])
         self.addCleanup(made.close)
         for _ in range(600):
             now[0] += 0.1
-            for process in list(made._processes.values()):
+            for process in made._pools[LOCAL].processes.values():
                 process.process.wait()
-            for file in list(files):
-                made.read(file)
+            for file, read in list(files.items()):
+                read(file)
             made.flush()
         self.assertTrue(3 <= len(lines) <= 7, lines)
 
@@ -137,11 +139,11 @@ class StandIn(unittest.TestCase):
         runner.write_text(f"#!/bin/sh\nread line\ncat {folder.name}/answers\nread line\nread line\nread line\n")
         runner.chmod(0o700)
         self.lines: List[str] = []
-        files: List[int] = []
+        files: Dict[int, Callable[[int], None]] = {}
         with mock.patch.dict(os.environ, {"NAGSCHED_RUNNER": str(runner)}):
-            made = RunnerProcesses(1, self.lines.append, files.append, files.remove)
+            made = RunnerProcesses(1, self.lines.append, files.__setitem__, files.__delitem__)
         self.addCleanup(made.close)
-        self.jobs = [Job("web", run, ["true"], 10, "dmz" if run == 3 else None) for run in (1, 2)]
+        self.jobs = [Job("web", run, ["true"], 10) for run in (1, 2)]
         for job in self.jobs:
             made.start(job)
         made.flush()
@@ -149,7 +151,7 @@ class StandIn(unittest.TestCase):
 
         def came() -> bool:
             for file in select.select(files, [], [], 0.1)[0]:
-                made.read(file)
+                files[file](file)
             events.extend(made.events())
             return len(events) >= count
 
@@ -171,7 +173,8 @@ class StandIn(unittest.TestCase):
 
     def test_bad_lines(self) -> None:
         """None ends the monitor: each is logged, and the check that it speaks of is made again."""
-        for line, is_read in (("hello", False), ("[1]", False), ("[" * 100_000, False), ("{}", False), ('{"job":"1","end":"exited","code":0,"output":""}', False),
+        for line, is_read in (("hello", False), ("[1]", False), ("[" * 100_000, False), ("{}", False),
+                              ('{"job":"1","end":"exited","code":0,"output":""}', False),
                               ("\xff", False), ('{"job":true,"end":"exited","code":0,"output":""}', False), ('{"error":"no \\u001b number"}', False),
                               ('{"job":1,"end":"exited","output":""}', True), ('{"job":1,"end":"exited","code":"0","output":""}', True),
                               ('{"job":1,"end":"exited","code":-1,"output":""}', True), ('{"job":1,"end":"exited","code":true,"output":""}', True),

@@ -3,7 +3,7 @@ import unittest
 from typing import Tuple
 
 from nagsched_monitor.core.verdict import verdict
-from nagsched_monitor.run.runners import Finished, Job
+from nagsched_monitor.run.jobs import Finished, Job
 
 WARNING, CRITICAL, UNKNOWN = 1, 2, 3
 

@@ -1,12 +1,12 @@
-/* Books: calls past their room, and books that are renewed. One that goes on is compared with one that never ended. Books of many entries
- * and of none, large rooms and large documents.
+/* Books: calls past their room, and renewed books. A renewed book is compared with a book that never ended. Books with many entries and
+ * without entries, large rooms and large documents.
  */
 #include "counted.h"
 
 #define CALLS 200
 #define RESULTS 37
 
-/* A desk of one pass, which moves to the other handle where the book is renewed. */
+/* A desk of one pass, which moves to the other handle when the book is renewed. */
 struct desk {
     struct nagsched_handle handles[2];
     int at;
@@ -14,7 +14,7 @@ struct desk {
 
 #define NO_DESK {{NAGSCHED_EMPTY, NAGSCHED_EMPTY}, 0}
 
-/* The pass, and the book when the desk has ended. */
+/* The pass, or the book when the desk has ended. */
 static struct nagsched_handle *of(struct desk *desk) { return &desk->handles[desk->at]; }
 
 /* Opens a desk whose book has this room. */
@@ -31,7 +31,7 @@ static void is_of(const struct nagsched_handle *book_or_history, uint64_t wanted
     IS(entries == wanted);
 }
 
-/* Ends the desk, renews its book and opens the next one: what was recorded is in the history. */
+/* Ends the desk, renews its book and opens the next desk: the recorded entries are in the history. */
 static void renew(struct desk *desk, size_t room, struct nagsched_handle *history) {
     struct nagsched_handle *book = of(desk);
     GIVES(OK, nagsched_close(book));
@@ -43,7 +43,7 @@ static void renew(struct desk *desk, size_t room, struct nagsched_handle *histor
 
 static int is_same(const struct nagsched_reply *one, const struct nagsched_reply *other) { return memcmp(one, other, sizeof *one) == 0; }
 
-/* Calls are kept past the room as below it, each with its reply. */
+/* Calls are stored past the room as below it, each with its reply. */
 static void past_the_room(size_t room, uint64_t calls) {
     struct desk desk = NO_DESK;
     struct nagsched_reply reply = {0};
@@ -65,7 +65,7 @@ static void call(struct nagsched_handle *pass, uint64_t made, struct nagsched_re
     else GIVES(OK, nagsched_report(pass, 1, made / 2 + 1, made % 8 < 4 ? NAGSCHED_CODE_CRITICAL : NAGSCHED_CODE_OK, reply));
 }
 
-/* Makes 200 calls to both, which answer alike. */
+/* Makes 200 calls to both, and compares the replies. */
 static void call_both(struct desk *whole, struct desk *part, uint64_t from) {
     for (uint64_t made = from; made < from + CALLS; made++) {
         struct nagsched_reply one, other;
@@ -75,7 +75,7 @@ static void call_both(struct desk *whole, struct desk *part, uint64_t from) {
     }
 }
 
-/* The entries of a book or a history are those of the whole book from one on. */
+/* The entries of a book or a history are those of the whole book from this one on. */
 static void stands_in(const struct nagsched_handle *part, const struct nagsched_handle *whole, uint64_t from) {
     is_of(part, CALLS);
     for (uint64_t at = 0; at < CALLS; at++) {
@@ -104,7 +104,7 @@ static void goes_on(void) {
     GIVES(OK, nagsched_free(&history));
 }
 
-/* A check that is out when the book is renewed isn't taken meanwhile, is refused under another run, and is reported afterwards. */
+/* A check that is running when the book is renewed isn't taken again, is refused under another run, and is reported afterwards. */
 static void check_is_out(void) {
     struct desk desk = NO_DESK;
     struct nagsched_handle history = NAGSCHED_EMPTY;
@@ -127,8 +127,8 @@ static void check_is_out(void) {
     GIVES(OK, nagsched_free(&history));
 }
 
-/* Of 37 results the 16th, 18th and 20th are CRITICAL, the others OK: the service flaps from the 21st to the 36th, though the book
- * is renewed after each. */
+/* The 16th, 18th and 20th of 37 results are CRITICAL, the others OK: the service flaps from the 21st to the 36th, though the book is
+ * renewed after each. */
 static void flaps(void) {
     struct desk desk = NO_DESK;
     struct nagsched_handle history = NAGSCHED_EMPTY;
@@ -147,7 +147,7 @@ static void flaps(void) {
     GIVES(OK, nagsched_free(of(&desk)));
 }
 
-/* Makes the calls of a history again, which are answered as before. */
+/* Makes the calls of a history again, and compares the replies. */
 static void make_again(struct nagsched_handle *pass, const struct nagsched_handle *history) {
     for (uint64_t at = 0; at < CALLS; at++) {
         struct nagsched_entry entry;
@@ -159,7 +159,7 @@ static void make_again(struct nagsched_handle *pass, const struct nagsched_handl
     }
 }
 
-/* After a restart, the calls of a book that ended are made again to a new one: it stands where the old one stood. */
+/* After a restart, the calls of the old book are made again to a new one, which is then in the same state. */
 static void made_again(void) {
     struct desk desks[] = {NO_DESK, NO_DESK, NO_DESK}, *whole = &desks[0], *part = &desks[1], *again = &desks[2];
     struct nagsched_handle history = NAGSCHED_EMPTY, copy = NAGSCHED_EMPTY;
@@ -177,7 +177,7 @@ static void made_again(void) {
     GIVES(OK, nagsched_free(&copy));
 }
 
-/* A book of many entries, for which memory is asked again and again: all are there, and none was refused. */
+/* A book of many entries, with many requests for memory: it has all entries, and no call was refused. */
 static void many_entries(uint64_t calls) {
     struct desk desk = NO_DESK;
     struct nagsched_handle history = NAGSCHED_EMPTY;
@@ -200,7 +200,7 @@ static void many_entries(uint64_t calls) {
     GIVES(OK, nagsched_free(of(&desk)));
 }
 
-/* A book without entries is renewed like any other, with each room, again and again, and stands where it stood. */
+/* A book without entries is renewed like any other, with each room, many times, and its state stays the same. */
 static void without_entries(void) {
     static const size_t rooms[] = {4, 0, 0, 1000001, 0, 1};
     struct desk desk = NO_DESK;
@@ -229,7 +229,7 @@ static void without_entries(void) {
     GIVES(OK, nagsched_free(of(&desk)));
 }
 
-/* A document of so many bytes, and a room for so many entries. */
+/* A document of this many bytes, and a room for this many entries. */
 static void large(size_t bytes, size_t room) {
     struct nagsched_handle setup = NAGSCHED_EMPTY, pass = NAGSCHED_EMPTY;
     struct nagsched_refusal refusal;

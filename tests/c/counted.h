@@ -1,4 +1,4 @@
-/* What the C programs of the gate share: comparisons that are counted, and the last line that prints them. */
+/* Shared by the C programs of the gate: comparisons that are counted, and the last line, which prints the counts. */
 #ifndef COUNTED_H
 #define COUNTED_H
 
@@ -10,7 +10,7 @@
 
 static long passed, failed;
 
-/* Counts one thing that has to be so, and prints it where it isn't. */
+/* Counts one condition, and prints it if it doesn't hold. */
 static inline void has_to_be(int is_so, const char *what, const char *file, int line) {
     if (is_so) {
         passed++;
@@ -23,7 +23,7 @@ static inline void has_to_be(int is_so, const char *what, const char *file, int 
 #define IS(test) has_to_be((test), #test, __FILE__, __LINE__)
 #define GIVES(status, call) has_to_be((call) == NAGSCHED_##status, #call " gives " #status, __FILE__, __LINE__)
 
-/* Tells the counts as the last line, and gives the program's status. */
+/* Prints the counts as the last line, and returns the program's status. */
 static inline int told(const char *name) {
     printf("%s: %ld passed, %ld failed\n", name, passed, failed);
     return failed != 0;

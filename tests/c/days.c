@@ -1,6 +1,6 @@
-/* A room that is watched for days by four threads and an operator. Each day is a generation: in the evening a check is out, the desk is
- * closed, and its state is saved as text; another book resumes that state, and its operator ends the check. All days together are the
- * history of one scheduler, which answers their calls in the same way.
+/* Four threads and an operator watch a room for days. Each day is a generation: in the evening a check is running, the desk is closed, and
+ * its state is saved as text. Another book resumes that state, and its operator ends the check. All days together are the history of one
+ * scheduler, which gives the same replies to their calls.
  */
 #include "counted.h"
 
@@ -9,7 +9,7 @@
 enum { DAYS = 10, WORKERS = 4, OPERATOR = WORKERS, MOMENTS = 48, OBJECTS = 4, SERVICE = 3, MOST = DAYS * (2 * WORKERS * MOMENTS + 3 * OBJECTS + 8) };
 static const uint64_t HALF_HOUR = 1800000, DAY = 86400000, EVENING = 85500000;
 
-/* Two hosts, of which the second lies behind the first, and a service of each: objects 0 to 3. All are due every four hours. */
+/* Two hosts, the first of them the parent of the second, and a service of each: objects 0 to 3. All are due every four hours. */
 #define OFTEN "\"check_interval\":240,\"retry_interval\":30,\"max_check_attempts\":3}"
 static const char ROOM[] = "{\"options\":{\"service_inter_check_delay_method\":\"n\",\"host_inter_check_delay_method\":\"n\"},"
                            "\"hosts\":[{\"name\":\"a\"," OFTEN ",{\"name\":\"b\",\"parents\":[\"a\"]," OFTEN "],"
@@ -23,7 +23,7 @@ struct worker {
 
 static struct nagsched_entry history[MOST];
 static size_t entries;
-static uint64_t runs, out[OBJECTS];             /* how many runs were handed out, and under which an object is being checked */
+static uint64_t runs, out[OBJECTS];             /* the number of runs handed out, and the run under which each object is being checked */
 static struct nagsched_standing board[OBJECTS]; /* as it was shown in the evening */
 
 static void read_room(struct nagsched_handle *setup) {
@@ -31,7 +31,7 @@ static void read_room(struct nagsched_handle *setup) {
     GIVES(OK, nagsched_read((const uint8_t *)ROOM, strlen(ROOM), setup, &refusal));
 }
 
-/* What a machine reports: OK, but for some hours of each 31. */
+/* The code that a machine reports: OK, except for some hours of each 31. */
 static uint32_t code_at(uint32_t object, uint64_t moment) {
     const uint64_t hour = (moment / (2 * HALF_HOUR) + 7 * object) % 31;
     return hour < 5 ? NAGSCHED_CODE_CRITICAL : hour < 7 ? NAGSCHED_CODE_WARNING : NAGSCHED_CODE_OK;
@@ -58,7 +58,7 @@ static void is_shown(struct nagsched_handle *pass) {
     }
 }
 
-/* The operator ends the check that is out since the evening: by a report, and every third day by giving it up. */
+/* The operator ends the check that has been running since the evening: by a report, and every third day by an abandon. */
 static void end_the_night(struct nagsched_handle *pass, uint64_t day, uint64_t run) {
     struct nagsched_reply reply;
     if (day % 3 == 2) GIVES(OK, nagsched_abandon(pass, SERVICE, run, day * DAY, &reply));
@@ -66,8 +66,8 @@ static void end_the_night(struct nagsched_handle *pass, uint64_t day, uint64_t r
     IS(reply.kind == (day % 3 == 2 ? NAGSCHED_REPLY_FREED : NAGSCHED_REPLY_STANDING));
 }
 
-/* The operator has the service checked in the evening, when nothing else is due, and that check is out then. The board shows what the
- * status says.
+/* The operator has the service checked in the evening, when nothing else is due, and that check stays running. The board shows the
+ * standing of the status reply.
  */
 static void begin_the_night(struct nagsched_handle *pass, uint64_t day) {
     const uint64_t now = day * DAY + EVENING;
@@ -86,8 +86,8 @@ static void begin_the_night(struct nagsched_handle *pass, uint64_t day) {
     is_shown(pass);
 }
 
-/* Puts the entries of a closed desk behind those of the days before. Run numbers go on, no object is taken while its check is out, and each
- * worker took at each of its moments once. */
+/* Adds the entries of a closed desk to those of the days before. Run numbers continue, no object is taken while its check is running, and
+ * each worker took at each of its moments once. */
 static void keep(const struct nagsched_handle *book, uint64_t day) {
     uint64_t count = 0, refused = 9, moments[WORKERS] = {0};
     GIVES(OK, nagsched_entries(book, &count));
@@ -121,7 +121,7 @@ static void restart(struct nagsched_handle *book, uint64_t start, struct nagsche
     GIVES(OK, nagsched_resume(&setup, text, length, start, 0, next, &refusal));
 }
 
-/* A day on this setup or book, which is the next day's book then. */
+/* A day on this setup or book, which becomes the next day's book. */
 static void watch(struct nagsched_handle *book, uint64_t day) {
     struct nagsched_handle passes[WORKERS + 1] = {NAGSCHED_EMPTY};
     struct worker workers[WORKERS];
@@ -160,7 +160,7 @@ static uint32_t make(struct nagsched_handle *pass, const struct nagsched_call *c
     }
 }
 
-/* One scheduler, which never ended, answers the calls of all days in the same way. */
+/* One scheduler, which never ended, gives the same replies to the calls of all days. */
 static void make_again(void) {
     struct nagsched_handle pass = NAGSCHED_EMPTY, setup = NAGSCHED_EMPTY;
     struct nagsched_reply reply;

@@ -1,5 +1,5 @@
-/* Desks of several passes: calls out of the order of their numbers, which refusal comes first, passes that are spent, as many passes and
- * hosts as there can be, two threads that call, and one that glances while the other reports.
+/* Desks of several passes: calls out of the order of their numbers, the order of refusals, and spent passes. Also the most passes and hosts
+ * that a desk can have, two threads that make calls, and one that glances while the other reports.
  */
 #include "counted.h"
 
@@ -16,7 +16,7 @@
 
 static struct nagsched_handle passes[PASSES];
 
-/* Opens a desk on a document for so many passes, with so many calls each. */
+/* Opens a desk on a document for this many passes, with this many calls each. */
 static void open_desk(const char *document, size_t count, uint64_t calls) {
     struct nagsched_handle setup = NAGSCHED_EMPTY;
     struct nagsched_refusal refusal;
@@ -24,7 +24,7 @@ static void open_desk(const char *document, size_t count, uint64_t calls) {
     GIVES(OK, nagsched_open_with(&setup, 0, 0, calls, passes, count));
 }
 
-/* Puts the passes together and closes their desk, whose book has so many entries. */
+/* Gathers the passes and closes their desk, whose book has this many entries. */
 static void close_desk(size_t count, uint64_t wanted) {
     uint64_t entries, refused;
     for (size_t at = 1; at < count; at++) GIVES(OK, nagsched_gather(&passes[0], &passes[at]));
@@ -60,7 +60,7 @@ static void out_of_order(void) {
     GIVES(OK, nagsched_free(&passes[0]));
 }
 
-/* An object that isn't there is reported before a moment past the last one, and that before another run's number. */
+/* An unknown object is refused before a moment past the last one, and that before another run's number. */
 static void first_refusals(void) {
     struct nagsched_reply reply;
     open_desk(ONE_SERVICE, 1, 20);
@@ -138,7 +138,7 @@ static void two_threads(void) {
     GIVES(OK, nagsched_free(&passes[0]));
 }
 
-/* Takes and reports the service again and again; each report leaves another standing than the one before. */
+/* Takes and reports the service many times. After each report its standing is another than before. */
 static void *report_often(void *pass) {
     static const uint32_t codes[] = {NAGSCHED_CODE_CRITICAL, NAGSCHED_CODE_WARNING, NAGSCHED_CODE_OK};
     struct nagsched_reply reply;
@@ -153,7 +153,7 @@ static int is_same(const struct nagsched_standing *one, const struct nagsched_st
     return memcmp(one, other, sizeof *one) == 0;
 }
 
-/* Each standing that is read while another thread reports is one of the history's, and they come in the history's order. */
+/* Each standing that is read while another thread reports is in the history, and the standings come in the history's order. */
 static void glances(void) {
     static struct nagsched_standing seen[GLANCES];
     pthread_t thread;

@@ -1,5 +1,5 @@
-/* Passes put together in other orders than that of their numbers, some from several threads at once, and what they are afterwards;
- * passes of two desks, however often either desk's were put together; and who may end a desk.
+/* Passes gathered in other orders than that of their numbers, some from several threads at once, and their state afterwards. Also passes
+ * of two desks, after any gatherings at either desk, and which pass can end a desk.
  */
 #include "counted.h"
 
@@ -11,7 +11,7 @@
 
 static struct nagsched_handle passes[MANY], others[MANY];
 
-/* Opens a desk for so many passes. */
+/* Opens a desk for this many passes. */
 static void open_on(struct nagsched_handle *of, size_t count) {
     struct nagsched_handle setup = NAGSCHED_EMPTY;
     struct nagsched_refusal refusal;
@@ -19,7 +19,7 @@ static void open_on(struct nagsched_handle *of, size_t count) {
     GIVES(OK, nagsched_open(&setup, 0, 0, of, count));
 }
 
-/* A call by each of these, whose number stands in its entry then. */
+/* Each of these passes makes a call, and its number is in the entry. */
 static void call_by(struct nagsched_handle *pass) {
     struct nagsched_reply reply;
     GIVES(OK, nagsched_status(pass, 1, &reply));
@@ -39,7 +39,7 @@ static void is_closed(struct nagsched_handle *pass, const uint64_t *by, uint64_t
     GIVES(OK, nagsched_free(pass));
 }
 
-/* A desk of two, put together in each order: the first of the two goes on, under its own number, and closes. */
+/* A desk of two, gathered in each order: the first of the two stays, under its own number, and closes the desk. */
 static void two(size_t first) {
     struct nagsched_handle *one = &passes[first], *other = &passes[1 - first];
     open_on(passes, 2);
@@ -56,7 +56,7 @@ static void two(size_t first) {
     is_closed(one, (const uint64_t[]){1 - first, first, first}, 3);
 }
 
-/* A desk of three, put together in each order by each of its passes, directly and by way of the second. */
+/* A desk of three, gathered in each order by each of its passes, directly and through the second. */
 static void three(size_t first, size_t second, int by_way) {
     struct nagsched_handle *one = &passes[first], *other = &passes[second], *last = &passes[3 - first - second];
     open_on(passes, 3);
@@ -92,7 +92,7 @@ static void pairs(void) {
     is_closed(left[0], (const uint64_t[]){MANY - 1}, 1);
 }
 
-/* Passes of two desks are never put together, in either order, whatever was gathered at either desk before. */
+/* Passes of two desks are never gathered, in either order, after any gatherings at either desk. */
 static void are_apart(struct nagsched_handle *one, struct nagsched_handle *other) {
     const struct nagsched_handle one_was = *one, other_was = *other;
     for (int times = 0; times < 20; times++) {
@@ -116,7 +116,7 @@ static void two_desks(void) {
         }
 }
 
-/* A desk that is opened after another has ended is another, though it lies where that one lay, and so is one on its renewed book. */
+/* A desk that is opened after another has ended is a different desk, though it has the same address. So is a desk on its renewed book. */
 static void desks_after_another(void) {
     struct nagsched_handle history = NAGSCHED_EMPTY, next = NAGSCHED_EMPTY;
     open_on(others, 1);
@@ -133,7 +133,7 @@ static void desks_after_another(void) {
     GIVES(OK, nagsched_free(&others[0]));
 }
 
-/* A thread's part of a desk's passes: it puts them together while the other threads do so with theirs. */
+/* A thread's part of a desk's passes: it gathers them while the other threads gather theirs. */
 static void *gather_part(void *given) {
     struct nagsched_handle *mine = given;
     struct nagsched_reply reply;
@@ -162,7 +162,7 @@ static void in_threads(void) {
     GIVES(OK, nagsched_free(&passes[0]));
 }
 
-/* Where a pass was given up, no other ends the desk. */
+/* If a pass was freed, no other pass can end the desk. */
 static void one_is_gone(void) {
     open_on(passes, 3);
     GIVES(OK, nagsched_free(&passes[1]));

@@ -1,5 +1,5 @@
-/* What each number of the header stands for, by literal numbers: the names are held to them, and to the word that the library
- * writes for each, so that two which change places are seen though library and header change alike.
+/* The meaning of each number of the header, by literal numbers. Each name is compared with its number, and with the word that the library
+ * writes for the number. So the tests see it if two numbers change places in both the library and the header.
  */
 #include "counted.h"
 
@@ -73,7 +73,7 @@ static void standings(void) {
     }
 }
 
-/* Each refusal of a document, and each part of one. No refusal has the kind 11: want of memory is a status. */
+/* Each refusal of a document, and each part of one. No refusal of a document has the kind 11: out of memory is a status. */
 static void refusals(void) {
     const char *const kinds[] = {"L12 TooLong", "L1 NotJson", "L2 Shape hosts 3", "L3 TooMany", "L4 BadName hosts 3", "L5 Duplicate hosts 3",
                                  "L6 UnknownHost hosts 3", "L7 UnknownMaster hosts 3", "L8 Range hosts 3", "L9 DependencyCycle",
@@ -147,7 +147,7 @@ static void documents(void) {
     is_refused("{\"hosts\":[{\"name\":\"h\",\"parents\":[\"h\"],\"max_check_attempts\":3}]}", 10, 0, 0, 0);
 }
 
-/* A document of this many hosts, or of this many bytes behind a setup, is refused by its size. */
+/* A document of this many hosts, or of this many bytes after a setup, is refused by its size. */
 static void sizes(void) {
     const size_t bytes = ((size_t)16 << 20) + 1, hosts = 4097;
     char *document = malloc(bytes + 1), *end = document;
@@ -160,7 +160,7 @@ static void sizes(void) {
     free(document);
 }
 
-/* Each of the six calls, as the history keeps it; each code, as the state that it leaves; and a reply of each kind that these come to. */
+/* Each of the six calls, as the history stores it; each code, with the state after it; and a reply of each kind that these calls get. */
 static void calls(void) {
     struct nagsched_reply reply;
     struct nagsched_entry entry;
@@ -197,7 +197,7 @@ static void calls(void) {
     GIVES(OK, nagsched_free(&desk));
 }
 
-/* Hosts are up, down and unreachable: a child whose parent is down is taken as unreachable. */
+/* Hosts are up, down and unreachable: a child whose parent is down counts as unreachable. */
 static void hosts(void) {
     static const char PARENT[] = "{\"options\":{\"host_inter_check_delay_method\":\"n\"},\"hosts\":[{\"name\":\"a\",\"max_check_attempts\":1},"
                                  "{\"name\":\"b\",\"parents\":[\"a\"],\"max_check_attempts\":1}]}";
@@ -216,7 +216,7 @@ static void hosts(void) {
     GIVES(OK, nagsched_free(&desk));
 }
 
-/* The statuses of functions: 1, that another turn comes first, needs a second thread (wrong.c). */
+/* The statuses of functions. 1, when another turn comes first, needs a second thread (wrong.c). */
 static void statuses(void) {
     struct nagsched_handle desk = NAGSCHED_EMPTY;
     struct nagsched_reply reply;

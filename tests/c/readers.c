@@ -1,7 +1,7 @@
 /* Two threads that read the same handles at once: a setup, a pass, a book and a history. Meanwhile the handles, and all that they
- * lead to, lie in memory that can't be written: a call that takes a handle as const and writes to it ends the program.
+ * lead to, are in memory that can't be written: a call that takes a handle as const and writes to it ends the program.
  *
- * Linked with -Wl,--wrap=malloc,--wrap=realloc,--wrap=free: what is asked for before the threads start lies in that memory.
+ * Linked with -Wl,--wrap=malloc,--wrap=realloc,--wrap=free: blocks that are requested before the threads start are in that memory.
  */
 #define _GNU_SOURCE
 #include "counted.h"
@@ -20,7 +20,7 @@ void *__real_malloc(size_t size);
 void *__real_realloc(void *old, size_t size);
 void __real_free(void *block);
 
-/* The memory that is sealed while the threads read: handles first, then blocks, each behind its size. */
+/* The memory that is sealed while the threads read: handles first, then blocks, each after its size. */
 static struct sealed {
     struct nagsched_handle setup, pass, book, history;
     size_t used;
@@ -52,7 +52,7 @@ void __wrap_free(void *block) {
     if (block && !lies_there(block)) __real_free(block);
 }
 
-/* Ends the program where what is only read was written. */
+/* Ends the program if sealed memory was written. */
 static void was_written(int signal) {
     static const char said[] = "readers.c: a call that reads has written\nreaders: 0 passed, 1 failed\n";
     ssize_t written = write(STDOUT_FILENO, said, sizeof said - 1);
@@ -65,7 +65,7 @@ static int is_text(uint32_t status, const uint8_t *text, const size_t *length, c
     return status == NAGSCHED_OK && *length == strlen(line) && memcmp(text, line, *length) == 0;
 }
 
-/* How many of the calls that know names are answered as they have to be, of four. */
+/* How many of four calls that read names give the expected results. */
 static int named(const struct nagsched_handle *of) {
     uint32_t objects = 0, hosts = 0, number = 0, host = 9;
     uint8_t text[64];
@@ -76,7 +76,7 @@ static int named(const struct nagsched_handle *of) {
     return right + is_text(nagsched_name(of, 1, text, sizeof text, &length), text, &length, "h;s");
 }
 
-/* The same of calls that know entries, of four: one of them is a text. */
+/* The same for four calls that read entries: one of them writes a text. */
 static int kept(const struct nagsched_handle *of, const struct nagsched_handle *names, uint64_t index) {
     struct nagsched_entry entry;
     uint64_t entries = 0;
@@ -89,13 +89,13 @@ static int kept(const struct nagsched_handle *of, const struct nagsched_handle *
     return right + is_text(nagsched_entry_text(names, &entry, text, sizeof text, &length), text, &length, line);
 }
 
-/* Whether no check is out. */
+/* Whether no check is running. */
 static int running(const struct nagsched_handle *of) {
     uint64_t run = 9, begun = 9;
     return nagsched_running(of, 1, &run, &begun) == NAGSCHED_MISSING && run == 9 && begun == 9;
 }
 
-/* Whether what is saved is what was saved before. */
+/* Whether the saved state is the same as before. */
 static int is_saved(const struct nagsched_handle *of) {
     static uint8_t before[1024];
     static size_t length_before;
@@ -105,7 +105,7 @@ static int is_saved(const struct nagsched_handle *of) {
     return nagsched_save(of, text, sizeof text, &length) == NAGSCHED_OK && length == length_before && memcmp(text, before, length) == 0;
 }
 
-/* One round of a thread's reads, of which so many are right. */
+/* One round of a thread's reads. Returns how many are right. */
 static int round_of(uint64_t index) {
     struct nagsched_reply reply = {.kind = NAGSCHED_REPLY_DONE};
     struct nagsched_call call = {.kind = NAGSCHED_CALL_ENABLE, .object = 1, .flag = 1};
@@ -129,7 +129,7 @@ static void *read_often(void *given) {
     return given;
 }
 
-/* A desk of one pass that has made calls of which the texts are known. */
+/* A desk of one pass that has made calls with known texts. */
 static void open_and_ask(struct nagsched_handle *pass) {
     struct nagsched_handle setup = NAGSCHED_EMPTY;
     struct nagsched_reply reply;

@@ -1,9 +1,9 @@
-/* Refuses each request for memory in turn, through the whole life of a desk: read, opened, asked past its room, gathered,
- * closed, written as text, renewed, opened again, saved, gone on from over a setup, freed.
+/* Refuses each request for memory in turn, through the whole life of a desk: it is read, opened, used past its room, gathered, closed,
+ * written as text, renewed, opened again, saved, resumed over a setup, and freed.
  *
  * Linked with -Wl,--wrap=malloc,--wrap=realloc,--wrap=free, so that each request and each block is counted. A function that is
- * refused memory says so, leaves all handles and blocks as they were, and does the same again as if nothing had been. So
- * each life ends with the same text, and with no block.
+ * refused memory reports it, leaves all handles and blocks as they were, and succeeds when it is called again. So each life ends with
+ * the same text, and with no block left.
  */
 #include "counted.h"
 
@@ -35,7 +35,7 @@ void __wrap_free(void *block) {
     __real_free(block);
 }
 
-/* A network with what a setup can have. */
+/* A network with everything that a setup can have. */
 static const char NETWORK[] =
     "{\"options\":{\"interval_length\":60,\"service_inter_check_delay_method\":\"n\",\"host_inter_check_delay_method\":\"n\"},"
     "\"hosts\":[{\"name\":\"gateway\",\"max_check_attempts\":2},{\"name\":\"printer\",\"parents\":[\"gateway\"],\"max_check_attempts\":2}],"
@@ -45,7 +45,7 @@ static const char NETWORK[] =
     "\"host_dependencies\":[{\"dependent\":\"printer\",\"master\":\"gateway\",\"criteria\":\"d\"}]}";
 static const char TWICE[] = "{\"hosts\":[{\"name\":\"h\",\"max_check_attempts\":3},{\"name\":\"h\",\"max_check_attempts\":3}]}";
 
-/* All that a life has. */
+/* Everything in a life. */
 static struct {
     struct nagsched_handle setup, first[PASSES], history, second[PASSES], again, resumed;
     struct nagsched_refusal refusal;
@@ -54,7 +54,7 @@ static long unmade, uncounted;
 static char told_text[1 << 16], first_text[1 << 16];
 static size_t told_length, first_length;
 
-/* A call that may be refused memory, and is made again then: all is as it was, and the second time it isn't refused. */
+/* A call that may be refused memory. If it is, everything is as it was, and a second call isn't refused. */
 #define AGAIN(status, call)                                                       \
     do {                                                                          \
         const long before = blocks;                                               \
@@ -68,7 +68,7 @@ static size_t told_length, first_length;
         }                                                                         \
     } while (0)
 
-/* The same, where the second answer has to be OK. */
+/* The same, if the second status has to be OK. */
 #define OK(call)                                                                  \
     do {                                                                          \
         uint32_t status_given;                                                    \
@@ -76,7 +76,7 @@ static size_t told_length, first_length;
         has_to_be(status_given == NAGSCHED_OK, #call, __FILE__, __LINE__);        \
     } while (0)
 
-/* One of the six calls, whose refusal is counted by the book besides. */
+/* One of the six calls, whose refusal the book also counts. */
 #define ASK(call)                       \
     do {                                \
         const long unmade_before = unmade; \
@@ -84,7 +84,7 @@ static size_t told_length, first_length;
         uncounted += unmade - unmade_before; \
     } while (0)
 
-/* Keeps a text, behind those before. */
+/* Stores a text, after the earlier ones. */
 static void keep(const uint8_t *text, size_t length) {
     if (told_length + length > sizeof told_text) exit(2);
     memcpy(told_text + told_length, text, length);
@@ -138,8 +138,8 @@ static void close_desk(struct nagsched_handle *passes) {
     uncounted = 0;
 }
 
-/* Saves a book, and goes on from what was saved over a setup of the same document: the book that goes on saves to the same. What is no
- * saved state is refused. */
+/* Saves a book, and resumes the saved state over a setup of the same document: the resumed book saves to the same text. Any other text is
+ * refused. */
 static void save(const struct nagsched_handle *book) {
     uint8_t text[2048], again[2048];
     size_t length = 0, length_again = 0;

@@ -1,5 +1,5 @@
-/* States that are saved and gone on from: the text, worked out by hand; over a setup of the same document and over another one; each
- * refusal, by literal numbers; and the checks that are out.
+/* States that are saved and resumed: the text, which was worked out manually; resumed over a setup of the same document and over another
+ * one; each refusal, by literal numbers; and the running checks.
  */
 #include "counted.h"
 
@@ -15,7 +15,7 @@ static const char CHANGED[] = "{\"options\":{\"service_inter_check_delay_method\
     "\",\"next_check\":null,\"results\":\"\",\"run\":" run ",\"state\":\"UP\"}"
 #define STATE(objects, start) "{\"format\":1,\"objects\":[" objects "],\"runs\":2,\"start\":" start "}"
 
-/* What is saved of one failed check at 0 and a second one that is out since 60000. */
+/* The saved state after one failed check at 0, with a second check running since 60000. */
 static const char SAVED[] = STATE(
     OBJECT("1", "h", "null") ","
     "{\"attempt\":1,\"check_interval\":300000,\"checked\":true,\"enabled\":true,\"enabled_in_setup\":true,\"flapping\":\"STEADY\",\"forced\":false,"
@@ -39,7 +39,7 @@ static void saves_to(const struct nagsched_handle *book, const char *wanted) {
     GIVES(OK, nagsched_save(book, text, length, &length));
 }
 
-/* A book over this document that goes on from the saved state. */
+/* A book over this document that resumes the saved state. */
 static void go_on(const char *document, uint64_t start, struct nagsched_handle *book) {
     struct nagsched_handle setup = NAGSCHED_EMPTY;
     uint64_t entries = 9;
@@ -50,14 +50,14 @@ static void go_on(const char *document, uint64_t start, struct nagsched_handle *
     IS(entries == 0);
 }
 
-/* The check of this object is out under this run since then; or none is out, where the run is 0. */
+/* The check of this object is running under this run since this moment. If the run is 0, no check of it is running. */
 static void is_out(const struct nagsched_handle *book, uint32_t object, uint64_t wanted, uint64_t since) {
     uint64_t run = 0, start = 0;
     IS(nagsched_running(book, object, &run, &start) == (wanted ? 0u : 5u));
     IS(run == wanted && start == since);
 }
 
-/* One check fails, and a second one is taken: what is saved then is the text. */
+/* One check fails, and a second one is taken: the saved state is the text. */
 static void save(void) {
     struct nagsched_handle setup = NAGSCHED_EMPTY, desk = NAGSCHED_EMPTY;
     struct nagsched_reply reply;
@@ -74,7 +74,7 @@ static void save(void) {
     GIVES(OK, nagsched_free(&desk));
 }
 
-/* Over the same setup everything goes on: the check that is out isn't taken again, and is reported under its number. */
+/* Over the same setup everything continues: the running check isn't taken again, and is reported under its number. */
 static void same_setup(void) {
     struct nagsched_handle book = NAGSCHED_EMPTY, desk = NAGSCHED_EMPTY;
     struct nagsched_reply reply;
@@ -94,7 +94,7 @@ static void same_setup(void) {
     GIVES(OK, nagsched_free(&desk));
 }
 
-/* Over another setup the soft problem is hard, since one attempt is enough there; the new host is due from the start on; run numbers go on. */
+/* Over another setup the soft problem is hard, since one attempt is enough there. The new host is due from the start on. Run numbers continue. */
 static void changed_setup(void) {
     struct nagsched_handle book = NAGSCHED_EMPTY, desk = NAGSCHED_EMPTY;
     struct nagsched_standing standing;
@@ -114,7 +114,7 @@ static void changed_setup(void) {
     GIVES(OK, nagsched_free(&desk));
 }
 
-/* So many bytes are refused as this kind, at this index, if there is one; the setup and the empty handle stay as they were. */
+/* This many bytes are refused as this kind, at this index, if there is one. The setup and the empty handle stay as they were. */
 static void are_refused(const char *text, size_t bytes, uint32_t kind, uint64_t has_index, uint64_t index) {
     struct nagsched_handle setup = NAGSCHED_EMPTY, before, book = NAGSCHED_EMPTY;
     read_document(ONE_SERVICE, &setup);

@@ -1,4 +1,4 @@
-/* Makes the calls of a script by the library, and writes each reply as text: what `nagsched run` writes for the same calls.
+/* Makes the calls of a script by the library, and writes each reply as text, as `nagsched run` does for the same calls.
  *
  * Standard input: a line with the start, a line with the setup, and a line for each call: take NOW, report RUN CODE NAME,
  * abandon RUN NOW NAME, reschedule TIME FORCED NAME, enable ON NAME, status NAME. Names go to the end of the line.
@@ -17,7 +17,7 @@ static void must(uint32_t status, const char *what) {
     exit(1);
 }
 
-/* Makes the call that a line says: its word, two numbers at most, and a name. */
+/* Makes the call of a line: its word, two numbers at most, and a name. */
 static uint32_t make(struct nagsched_handle *pass, const char *line, size_t bytes, struct nagsched_call *call, struct nagsched_reply *reply) {
     uint64_t first = 0, second = 0;
     uint32_t object;

@@ -1,5 +1,5 @@
-/* Tells replies that no conformance case comes to: the last run, the highest attempt, an object that flaps, and each refusal of a
- * call, by the structs that stand for them.
+/* Writes the lines of replies that no conformance case has, from their structs: the last run, the highest attempt, an object that flaps,
+ * and each refusal of a call.
  */
 #include "counted.h"
 
@@ -16,7 +16,7 @@ static void is_told(struct nagsched_reply reply, const char *line) {
     has_to_be(length == strlen(line) && memcmp(text, line, length) == 0, line, __FILE__, __LINE__);
 }
 
-/* What is known of a service that was checked. */
+/* The standing of a service that was checked. */
 static struct nagsched_standing standing(uint32_t state, uint32_t kind, uint32_t attempt, uint32_t flapping) {
     return (struct nagsched_standing){
         .checked = 1, .state = state, .kind = kind, .attempt = attempt, .last_hard = NAGSCHED_STATE_OK, .flapping = flapping};

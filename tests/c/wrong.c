@@ -1,8 +1,8 @@
-/* Makes each mistake that include/nagsched.h names, and sees that it is answered WRONG and that nothing has changed: no
- * handle, no result, and at the end no entry that wasn't asked for.
+/* Makes each mistake that include/nagsched.h names. Each returns WRONG and changes nothing: no handle and no result, and at the end the
+ * history has only the entries of good calls.
  *
- * Linked with -Wl,--wrap=malloc,--wrap=realloc: a call that asks for memory holds its turn meanwhile, and there another thread
- * makes its own call, which has to wait.
+ * Linked with -Wl,--wrap=malloc,--wrap=realloc: while a call that requests memory holds its turn, another thread makes its own call, which
+ * has to wait.
  */
 #include "counted.h"
 
@@ -10,7 +10,7 @@
 
 #define LATEST ((uint64_t)1 << 60)
 
-/* All handles, and whatever a call may write. */
+/* All handles, and everything that a call can write. */
 static struct everything {
     struct nagsched_handle empty, setup, of_desk[2], theirs, book, history, two[2];
     struct nagsched_refusal refusal;
@@ -24,7 +24,7 @@ static struct everything {
     uint8_t text[64];
 } it, was;
 
-/* What was saved of a book. */
+/* The saved state of a book. */
 static uint8_t saved[1024];
 static size_t saved_length;
 
@@ -32,7 +32,7 @@ static size_t saved_length;
 #define MINE (&it.of_desk[0])
 #define YOURS (&it.of_desk[1])
 
-/* A mistake: the status is WRONG, and all is as it was. */
+/* A mistake: the status is WRONG, and everything is as it was. */
 #define WRONG(mistake)                                                               \
     do {                                                                             \
         memcpy(&was, &it, sizeof it);                                                \
@@ -40,7 +40,7 @@ static size_t saved_length;
         has_to_be(memcmp(&was, &it, sizeof it) == 0, #mistake " changes nothing", __FILE__, __LINE__); \
     } while (0)
 
-/* A function that wants a handle of some kinds: an empty one, and one of another kind. */
+/* A function that needs a handle of some kinds gets an empty handle, and a handle of another kind. */
 #define NOT_BY(function, handle, ...)            \
     do {                                         \
         WRONG(function(&it.empty, __VA_ARGS__)); \
@@ -81,7 +81,7 @@ static void readings(void) {
     WRONG(nagsched_read(document, strlen(SETUP), &it.setup, &it.refusal));
 }
 
-/* A text that finds no room reports its length, and writes nothing else. */
+/* For a text without room the function reports the length, and writes nothing else. */
 #define NO_ROOM(wanted, call)                            \
     do {                                                 \
         memcpy(&was, &it, sizeof it);                    \
@@ -161,7 +161,7 @@ static void openings(void) {
     IS(memcmp(&was, &it, sizeof it) == 0);
 }
 
-/* States that can't be saved or gone on from, and checks that can't be out. */
+/* States that can't be saved or resumed, and checks that can't be running. */
 static void savings(void) {
     const uint8_t *document = (const uint8_t *)SETUP;
     NOT_BY(nagsched_save, &it.setup, it.text, sizeof it.text, &it.length);
@@ -290,7 +290,7 @@ static void no_savings(void) {
     WRONG(nagsched_running(&it.book, 0, &it.count, NULL));
 }
 
-/* One pointer given for two things. A setup that lies beside the passes' handles is none of them. */
+/* One pointer for two arguments. A setup next to the passes' handles is different from them. */
 static void one_for_two(void) {
     WRONG(nagsched_count(&it.setup, &it.number, &it.number));
     WRONG(nagsched_gather(MINE, MINE));
@@ -370,7 +370,7 @@ static void histories(void) {
     WRONG(nagsched_renew(&it.book, 0, &it.history));
 }
 
-/* A pass that waits has its turn to come, and does nothing else before. */
+/* A pass that waits can do nothing else before its turn. */
 static void waiting(void) {
     struct nagsched_reply reply;
     waits_for_memory = 1;
@@ -388,7 +388,7 @@ static void waiting(void) {
     WRONG(nagsched_gather(YOURS, MINE));
     WRONG(nagsched_close(YOURS));
     WRONG(nagsched_free(YOURS));
-    /* This one's ticket is behind. */
+    /* This pass has a later ticket. */
     GIVES(WAIT, nagsched_try_report(MINE, 0, 1, 2, &reply));
     GIVES(WAIT, nagsched_try_report(MINE, 0, 1, 2, &reply));
     WRONG(nagsched_try_report(MINE, 1, 1, 2, &it.reply));
@@ -416,7 +416,7 @@ static void refused_calls(void) {
     IS(reply.kind == NAGSCHED_REPLY_WRONG_RUN);
 }
 
-/* What the history has to be, whatever was done wrong meanwhile. */
+/* The expected history, after all the mistakes. */
 static void history_of(const struct nagsched_handle *book) {
     static const struct { uint64_t pass; uint32_t call, reply; } wanted[] = {
         {0, NAGSCHED_CALL_TAKE, NAGSCHED_REPLY_TAKEN},          {1, NAGSCHED_CALL_TAKE, NAGSCHED_REPLY_TAKEN},
@@ -437,7 +437,7 @@ static void history_of(const struct nagsched_handle *book) {
     IS(count == 0);
 }
 
-/* A pass with one call makes no second one. */
+/* A pass with one call can't make a second one. */
 static void spent(void) {
     struct nagsched_handle setup = NAGSCHED_EMPTY, pass = NAGSCHED_EMPTY;
     GIVES(OK, read_setup(&setup));

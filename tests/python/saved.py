@@ -1,6 +1,6 @@
-"""Saves a book with bindings/python/nagsched and goes on from what was saved: over a setup of the same document, and over another.
+"""Saves a book with bindings/python/nagsched and resumes it: over a setup of the same document, and over another.
 
-Wants NAGSCHED_LIBRARY and PYTHONPATH. The last line counts what was compared.
+Needs NAGSCHED_LIBRARY and PYTHONPATH. The last line counts the comparisons.
 """
 import json
 import sys
@@ -13,7 +13,7 @@ told = []
 
 
 def setup(hosts, max_check_attempts):
-    """A setup of these hosts, which are never due themselves, and one service of the last, of which one attempt or more are made."""
+    """A setup of these hosts, which are never due themselves, and one service of the last host, with one or more attempts."""
     return nagsched.Setup(json.dumps({
         "options": {"service_inter_check_delay_method": "n", "host_inter_check_delay_method": "n"},
         "hosts": [{"name": name, "check_interval": 0, "max_check_attempts": 3} for name in hosts],
@@ -26,7 +26,7 @@ def is_so(what, test):
 
 
 def saved_state():
-    """What is saved of one failed check at 0 and a second one that is out since a minute later."""
+    """The saved state after one failed check at 0, with a second check running since a minute later."""
     with setup(["h"], 3).open() as desk:
         mine = desk.passes[0]
         mine.report(1, mine.take(0).run, Code.CRITICAL)
@@ -37,7 +37,7 @@ def saved_state():
 
 
 def same_setup(saved):
-    """Over the same setup everything goes on, and is saved to the same text."""
+    """Over the same setup everything continues, and is saved to the same text."""
     with setup(["h"], 3).resume(saved, 0) as book:
         is_so("the same text", book.save() == saved and len(book) == 0)
         with book.open() as desk:
@@ -50,7 +50,7 @@ def same_setup(saved):
 
 
 def changed_setup(saved):
-    """Over another setup a soft problem is hard, where one attempt is enough there; a new host stands before the others."""
+    """Over another setup a soft problem is hard, if one attempt is enough there. A new host comes before the others."""
     with setup(["g", "h"], 1).resume(saved.decode(), 2 * MINUTE) as book:
         is_so("it is out still", book.all_running() == {2: Run(2, MINUTE)})
         with book.open() as desk:

@@ -96,7 +96,7 @@ def calls(desk):
 
 
 def savings(book):
-    """A book is saved and asked for checks that are out; what is no saved state is refused, and its setup stays."""
+    """A book is saved and asked for running checks. A text that is no saved state is refused, and its setup stays."""
     raises(Wrong, book.running, 2)
     raises(Wrong, book.running, -1)
     raises(TypeError, book.running, "h")
@@ -150,7 +150,7 @@ def one_pass_by_many():
 
 
 def interrupted():
-    """An interrupt in a call that waits comes when the call has been answered."""
+    """An interrupt in a call that waits comes when the call has its reply."""
     with nagsched.Setup(SETUP).open() as desk:
         answers, came = [nagsched.Result.WAIT, KeyboardInterrupt(), nagsched.Result.WAIT], None
 

@@ -14,13 +14,13 @@
 
 Moments are milliseconds of a clock of your own, 0 to 2**60. Objects are numbers from 0, or names by `number` and `name`.
 
-Each of the six calls is made whole. One pass is used by one thread at a time; a second one's call raises Wrong. So it is with a
-setup, a book or a history: where two threads may read one at once, they make the call again. (The library lets them read at the
-same time; this package has one lock for each thing.) What is refused raises: see Error. Nothing here is shared but what a desk's
-passes share.
+Each of the six calls waits for its turn and returns the reply. Only one thread at a time can use a pass: a second thread's call raises
+Wrong. The same holds for a setup, a book or a history: if two threads read one at once, a thread that gets Wrong makes the call again.
+(The library lets them read at the same time; this package has one lock for each object.) Refusals raise errors: see Error. Objects of
+this package share only what the passes of a desk share.
 
-The library is the one that NAGSCHED_LIBRARY names, else libnagsched.so in this package's folder, else the one that the
-system's loader finds. Beyond the library this package needs nothing but Python, 3.9 or later.
+The package loads the library that NAGSCHED_LIBRARY names, otherwise libnagsched.so in this package's folder, otherwise the library that
+the system's loader finds. Apart from the library this package only needs Python, 3.9 or later.
 """
 from .desks import Book, Desk, History, Pass, Setup
 from .errors import Error, Missing, NoMemory, Refused, Spent, Wrong

@@ -1,4 +1,4 @@
-"""Setups, desks with their passes, books and histories: objects, each of which has a handle of the library."""
+"""Setups, desks with their passes, books and histories: each of these objects has a handle of the library."""
 from __future__ import annotations
 
 import ctypes
@@ -17,7 +17,7 @@ _Self = typing.TypeVar("_Self", bound="_Owner")
 
 
 class _Owner:
-    """What has a handle of the library, and gives it up at the end of a `with`, or with the object."""
+    """An object with a handle of the library, which it frees at the end of a `with`, or when Python deletes the object."""
 
     def __init__(self, handle: HandleStruct):
         self._handle, self._busy = handle, threading.Lock()
@@ -33,7 +33,7 @@ class _Owner:
             free(self._handle)
 
     def free(self) -> None:
-        """Gives up what this has; a second time it does nothing."""
+        """Frees what this refers to. A second call does nothing."""
         self._call(LIBRARY.free, "it can't be given up now")
 
     def _call(self, function: typing.Callable[..., int], what: str, *given: object) -> None:
@@ -42,13 +42,13 @@ class _Owner:
             must(function(self._handle, *given), what)
 
     def _got(self, out: typing.Any, function: typing.Callable[..., int], what: str, *given: object) -> typing.Any:
-        """What one call with the handle gives."""
+        """The result of one call with the handle."""
         self._call(function, what, *given, ctypes.byref(out))
         return out
 
 
 class _Alone:
-    """Holds a thing for one call of one thread; where another thread is in a call with it, that is wrong use."""
+    """Reserves an object for one call of one thread. It is wrong use if another thread is in a call with it."""
 
     def __init__(self, lock: threading.Lock):
         self._lock = lock
@@ -62,16 +62,16 @@ class _Alone:
 
 
 class _Named(_Owner):
-    """What knows the objects of a setup: hosts first, then services, each in the order of their names."""
+    """The objects of a setup: hosts first, then services, each in the order of their names."""
 
     @property
     def objects(self) -> int:
-        """How many objects there are."""
+        """The number of objects."""
         return self._counts()[0]
 
     @property
     def hosts(self) -> int:
-        """How many of the objects, the first ones, are hosts."""
+        """The number of hosts, which are the first objects."""
         return self._counts()[1]
 
     def _counts(self) -> tuple[int, int]:
@@ -80,7 +80,7 @@ class _Named(_Owner):
         return objects.value, hosts.value
 
     def number(self, name: str) -> int:
-        """The number of the object with a full name, HOST or HOST;DESCRIPTION; raises Missing where there is none."""
+        """The number of the object with a full name, HOST or HOST;DESCRIPTION. Raises Missing if there is no such object."""
         written = name.encode()
         return int(self._got(U32(), LIBRARY.number, f"no object {name!r}", written, len(written)).value)
 
@@ -105,7 +105,7 @@ class _Named(_Owner):
             return written_text(LIBRARY.reply_text, self._handle, struct_of_call(call), struct_of_reply(reply))
 
     def _opened(self, start: int, room: int, passes: int, calls: int | None) -> Desk:
-        """A desk on what this has, which is empty then."""
+        """A desk on this object, which is empty afterwards."""
         if not 1 <= passes <= 1024:
             raise Wrong(f"a desk has 1 to 1,024 passes, not {passes}")
         handles = (HandleStruct * passes)()
@@ -117,7 +117,7 @@ class _Named(_Owner):
 
 
 class Setup(_Named):
-    """A setup, read from a JSON document (docs/FORMATS.md). Raises Refused, with the refusal, where it breaks a rule."""
+    """A setup, read from a JSON document (docs/setup.md). Raises Refused, with the refusal, if the document breaks a rule."""
 
     def __init__(self, document: str | bytes):
         written = document.encode() if isinstance(document, str) else bytes(memoryview(document))
@@ -129,17 +129,19 @@ class Setup(_Named):
         super().__init__(handle)
 
     def open(self, passes: int = 1, *, start: int = 0, room: int = 1000, calls: int | None = None) -> Desk:
-        """Opens a desk with so many passes, which has the setup then. Scheduling starts at the moment `start`; memory is
-        taken for `room` entries, and for more as they come. Each pass has `calls` calls, 2**32 - 1 where none are named."""
+        """Opens a desk with this number of passes. The desk takes over the setup. Scheduling starts at the moment `start`, in
+        milliseconds. The desk has memory for `room` entries, and takes more when it needs it. Each pass has `calls` calls; the default is
+        2**32 - 1."""
         return self._opened(start, room, passes, calls)
 
     def resume(self, saved: str | bytes, start: int, room: int = 1000) -> Book:
-        """A book that goes on from what `Book.save` gave, over this setup, which may be another one than it was saved under. The book
-        has the setup then. `start`, in milliseconds, is the present moment: an object that wasn't saved is first checked from then on.
-        Memory is taken for `room` entries, and for more as they come. A check that was out is still out, under its run's number.
+        """A book that resumes the text from `Book.save`, over this setup, which may differ from the setup of the saved book. The book
+        takes over the setup. `start`, in milliseconds, is the present moment: an object that wasn't saved is first checked from then on.
+        The book has memory for `room` entries, and takes more when it needs it. A check that was running is still running, under its
+        run's number.
 
-        Raises Refused, with the refusal, where `saved` is no saved state, NoMemory, and Wrong where `start` is above 2**60 or the setup
-        is in use or was used up. In each case the setup stays as it is. Other threads of Python go on meanwhile."""
+        Raises Refused, with the refusal, if `saved` is no saved state, NoMemory, and Wrong if `start` is above 2**60 or the setup is in
+        use or was used up. In each case the setup stays as it is. Other threads of Python continue meanwhile."""
         written = saved.encode() if isinstance(saved, str) else bytes(memoryview(saved))
         handle, refusal = HandleStruct(), RefusalStruct()
         with _Alone(self._busy):
@@ -156,26 +158,26 @@ class Pass(_Named):
     def take(self, now: int) -> Reply:
         """Asks which object is to be checked at this moment. The kind of the reply:
 
-        TAKEN       object begins to run: check it, and report or abandon it under run
+        TAKEN       the check of object begins: run it, and report or abandon it under run
         PUT_OFF     object was due, but a dependency forbids its check, and the next is at time; take again
-        IDLE        nothing is due before time, or ever where it is None
-        AT_LIMIT    a service is due, but as many run as may: take again after a report
+        IDLE        nothing is due before time, or ever if time is None
+        AT_LIMIT    a service is due, but the limit of running checks is reached: take again after a report
         TIME_RANGE, RUNS_SPENT    the call is refused, and changes nothing
         """
         return self._made(LIBRARY.try_take, u64(now))
 
     def report(self, object: int, run: int, code: Code | int) -> Reply:
-        """Reports that the check of an object under this run returned a code. STANDING: how it stands now, whether its state changed, and its
-        next check. NOT_RUNNING and WRONG_RUN: the result comes too late, and changes nothing."""
+        """Reports that the check of an object under this run returned a code. STANDING: the object's standing, whether its state changed, and
+        its next check. NOT_RUNNING and WRONG_RUN: the result comes too late, and changes nothing."""
         return self._made(LIBRARY.try_report, u32(object), u64(run), u32(code))
 
     def abandon(self, object: int, run: int, now: int) -> Reply:
-        """Gives the check of an object under this run up: no result will come. FREED, with its next check; NOT_RUNNING, WRONG_RUN or TIME_RANGE
-        where nothing changes."""
+        """Abandons the check of an object under this run: no result will come. FREED, with its next check. With NOT_RUNNING, WRONG_RUN or
+        TIME_RANGE nothing changes."""
         return self._made(LIBRARY.try_abandon, u32(object), u64(run), u64(now))
 
     def reschedule(self, object: int, time: int, forced: bool = False) -> Reply:
-        """Sets the next check of an object; forced: also where it is switched off or a dependency forbids it. DONE, or TIME_RANGE."""
+        """Sets the next check of an object; forced: even if its checks are off or a dependency forbids it. DONE, or TIME_RANGE."""
         return self._made(LIBRARY.try_reschedule, u32(object), u64(time), int(bool(forced)))
 
     def enable(self, object: int, on: bool) -> Reply:
@@ -183,17 +185,17 @@ class Pass(_Named):
         return self._made(LIBRARY.try_enable, u32(object), int(bool(on)))
 
     def status(self, object: int) -> Reply:
-        """Asks how an object stands, and when it is checked next. STANDING, and nothing changes."""
+        """Asks for an object's standing, and when it is checked next. STANDING, and nothing changes."""
         return self._made(LIBRARY.try_status, u32(object))
 
     def glance(self, object: int) -> Standing:
-        """Reads how an object stands, without a call: it never waits, whoever else is in a call. It is at least as new as all that this pass
-        has seen, its own reports among it."""
+        """Reads an object's standing without a call: it never waits for another call. The standing is at least as new as all that this pass
+        has seen, including its own reports."""
         return standing_of(self._got(StandingStruct(), LIBRARY.glance, f"no object {object}", u32(object)))
 
     def _made(self, attempt: typing.Callable[..., int], *given: int) -> Reply:
-        """Makes one of the six calls whole. An interrupt that comes meanwhile is raised when the call has been answered:
-        given up before, its turn would stop every other pass."""
+        """Makes one of the six calls. An interrupt that comes meanwhile is raised when the call has its reply: if the call stopped before,
+        its turn would stop every other pass."""
         with _Alone(self._busy):
             reply, unanswered, status, interrupt = ReplyStruct(kind=len(ReplyKind)), len(ReplyKind), None, None
             while status is None:
@@ -209,7 +211,7 @@ class Pass(_Named):
 
 
 class _Entries(_Owner):
-    """What has entries: their number by len, one by its index, all of them in a loop."""
+    """An object with entries: their number by len, one by its index, all of them in a loop."""
 
     def __len__(self) -> int:
         return int(self._got(U64(), LIBRARY.entries, "it has no entries now").value)
@@ -233,11 +235,11 @@ class Book(_Named, _Entries):
 
     @property
     def refused(self) -> int:
-        """How many calls weren't made because memory was refused."""
+        """The number of calls that weren't made because the book was out of memory."""
         return int(self._got(U64(), LIBRARY.refused, "it is no book now").value)
 
     def renew(self, room: int = 1000) -> History:
-        """Hands the entries out, and goes on with none: a new generation, for which `open` opens a desk."""
+        """Hands the entries out, and continues without entries: a new generation, for which `open` opens a desk."""
         handle = HandleStruct()
         self._call(LIBRARY.renew, "the book can't be renewed", u64(room), handle)
         return History(handle)
@@ -246,13 +248,13 @@ class Book(_Named, _Entries):
         """The saved state of the scheduler, for `Setup.resume`: one line of JSON, without a line feed, of at most 16 MiB. It has all that
         the scheduler knows, without the setup and the entries. The book stays as it is, and can be renewed or opened.
 
-        Raises NoMemory, and Wrong where the book is in use or was used up. Other threads of Python go on meanwhile."""
+        Raises NoMemory, and Wrong if the book is in use or was used up. Other threads of Python continue meanwhile."""
         room = 512 * (self.objects + 1)
         with _Alone(self._busy):
             return written_bytes(room, LIBRARY.save, self._handle)
 
     def running(self, object: int) -> Run | None:
-        """The check of this object that is out, or None. It is read from the book's present state, not from its entries."""
+        """The running check of this object, or None. It is read from the book's present state, not from its entries."""
         number, start = U64(), U64()
         try:
             self._call(LIBRARY.running, f"no object {object}", u32(object), ctypes.byref(number), ctypes.byref(start))
@@ -261,7 +263,7 @@ class Book(_Named, _Entries):
         return Run(number.value, start.value)
 
     def all_running(self) -> dict[int, Run]:
-        """All checks that are out, by the numbers of their objects."""
+        """All running checks, by the numbers of their objects."""
         runs = ((object, self.running(object)) for object in range(self.objects))
         return {object: run for object, run in runs if run is not None}
 
@@ -285,7 +287,7 @@ class Desk:
             each.free()
 
     def close(self) -> Book:
-        """Gathers all passes, when their threads have ended, and gives the book with the history."""
+        """Gathers all passes, when their threads have ended, and returns the book with the history."""
         first = self.passes[0]
         while self._apart:
             other = self._apart[-1]

@@ -1,4 +1,4 @@
-"""What is raised where a function of the library gives another status than OK."""
+"""The errors that are raised when a function of the library returns another status than OK."""
 from __future__ import annotations
 
 from .kinds import Result
@@ -6,7 +6,7 @@ from .records import Refusal
 
 
 class Error(Exception):
-    """A function of the library gave another status than OK; but for a setup that was read nothing has changed."""
+    """A function of the library returned another status than OK. Except for a setup that was read, nothing has changed."""
 
     status: Result
 
@@ -18,13 +18,13 @@ class Spent(Error):
 
 
 class NoMemory(Error, MemoryError):
-    """Memory was refused. One of the six calls wasn't made then, and the book counts it as refused."""
+    """Out of memory. If it was one of the six calls, it wasn't made, and the book counts it as refused."""
 
     status = Result.NO_MEMORY
 
 
 class Refused(Error, ValueError):
-    """The document is no setup, or the text no saved state: `refusal` has why and where."""
+    """The document is no setup, or the text no saved state: `refusal` says why and where."""
 
     status = Result.REFUSED
 
@@ -34,13 +34,13 @@ class Refused(Error, ValueError):
 
 
 class Missing(Error, LookupError):
-    """No object of that name, or passes that aren't gathered yet."""
+    """No object has that name, or passes aren't gathered yet."""
 
     status = Result.MISSING
 
 
 class Wrong(Error, ValueError):
-    """A mistake of the caller's: a number out of its range, a thing that was closed, a pass that another thread uses."""
+    """A mistake of the caller's: a number out of its range, a closed object, or a pass that another thread uses."""
 
     status = Result.WRONG
 

@@ -1,12 +1,12 @@
 """The numbers of include/nagsched.h: statuses, codes, states, and the kinds of calls, replies and refusals."""
 import enum
 
-# The number of the surface that this package is for.
+# The version of the library's interface that this package needs.
 VERSION = 2
 
 
 class Result(enum.IntEnum):
-    """What each function of the library gives."""
+    """The statuses that the functions of the library return."""
 
     OK = 0
     WAIT = 1
@@ -18,7 +18,7 @@ class Result(enum.IntEnum):
 
 
 class Code(enum.IntEnum):
-    """What the check of an object returned."""
+    """The return code of a check."""
 
     OK = 0
     WARNING = 1
@@ -57,7 +57,7 @@ class CallKind(enum.IntEnum):
 
 
 class ReplyKind(enum.IntEnum):
-    """The answers; from UNKNOWN_OBJECT on the call was refused, and has changed nothing."""
+    """The replies. From UNKNOWN_OBJECT on, the call was refused, and has changed nothing."""
 
     TAKEN = 0
     PUT_OFF = 1
@@ -99,7 +99,7 @@ class RefusalKind(enum.IntEnum):
 
 
 class Part(enum.IntEnum):
-    """The part of a document that a refusal means."""
+    """The part of a document to which a refusal refers."""
 
     NONE = 0
     DOCUMENT = 1

@@ -50,7 +50,7 @@ LAYOUT = {
 
 
 def _check_layout() -> None:
-    """Refuses to go on where this Python lays the structs out otherwise than the header does."""
+    """Stops if this Python has another layout of the structs than the header."""
     for struct, wanted in LAYOUT.items():
         offsets = [getattr(struct, name).offset for name, *_ in struct._fields_]
         if (ctypes.sizeof(struct), offsets) != wanted:
@@ -58,7 +58,7 @@ def _check_layout() -> None:
 
 
 def u32(value: int) -> int:
-    """A number for a uint32_t, which ctypes by itself would cut."""
+    """A number for a uint32_t, which ctypes alone would truncate."""
     value = operator.index(value)
     if not 0 <= value < 1 << 32:
         raise Wrong(f"{value} is no number of 32 bits")
@@ -111,7 +111,7 @@ FUNCTIONS = {
 }
 
 
-# The functions that take long by the size of what they are given: other threads of Python go on meanwhile.
+# The functions whose time depends on the size of their arguments: other threads of Python continue meanwhile.
 LONG = ("read", "save", "resume")
 
 
@@ -147,7 +147,7 @@ def must(status: int, what: str) -> None:
 
 
 def written_bytes(room: int, function: typing.Callable[..., int], *given: object) -> bytes:
-    """What the library writes into a buffer of `room` bytes, which grows to the length that the library says."""
+    """The bytes that the library writes into a buffer of `room` bytes, which grows to the length that the library reports."""
     length = _SIZE(0)
     while True:
         buffer = ctypes.create_string_buffer(room)
@@ -172,19 +172,19 @@ def refused(refusal: RefusalStruct) -> Refused:
 
 
 def standing_of(struct: StandingStruct) -> Standing:
-    """The standing that a struct has."""
+    """The standing in a struct."""
     return Standing(bool(struct.checked), State(struct.state), Kind(struct.kind), struct.attempt, State(struct.last_hard), bool(struct.flapping))
 
 
 def reply_of(struct: ReplyStruct) -> Reply:
-    """The reply that a struct has."""
+    """The reply in a struct."""
     kind = ReplyKind(struct.kind)
     standing = standing_of(struct.standing) if kind == ReplyKind.STANDING else None
     return Reply(kind, struct.object, struct.run, struct.time if struct.has_time else None, bool(struct.changed), standing)
 
 
 def entry_of(struct: EntryStruct) -> Entry:
-    """The entry that a struct has."""
+    """The entry in a struct."""
     made = struct.call
     call = Call(CallKind(made.kind), made.object, made.run, made.moment, Code(made.code), bool(made.flag))
     return Entry(getattr(struct, "pass"), call, reply_of(struct.reply))

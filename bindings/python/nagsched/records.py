@@ -1,4 +1,4 @@
-"""What goes into the calls and comes out of them: named tuples."""
+"""The arguments and results of the calls, as named tuples."""
 from __future__ import annotations
 
 import typing
@@ -7,7 +7,7 @@ from .kinds import CallKind, Code, Kind, Part, RefusalKind, ReplyKind, State
 
 
 class Standing(typing.NamedTuple):
-    """What is known of an object: where no result has come in yet, `checked` is False and the state OK or UP."""
+    """The standing of an object. If no result has come in yet, `checked` is False and the state is OK or UP."""
 
     checked: bool
     state: State
@@ -18,7 +18,7 @@ class Standing(typing.NamedTuple):
 
 
 class Call(typing.NamedTuple):
-    """A call, as the history keeps it; a field that its kind has no use for is 0 or False."""
+    """A call, as the history stores it. A field that its kind doesn't use is 0 or False."""
 
     kind: CallKind
     object: int = 0
@@ -29,7 +29,7 @@ class Call(typing.NamedTuple):
 
 
 class Reply(typing.NamedTuple):
-    """What a call was answered. `object` and `run` are 0 where the kind has none; `time` is None for never."""
+    """The reply to a call. `object` and `run` are 0 if the kind has none; `time` is None for never."""
 
     kind: ReplyKind
     object: int = 0
@@ -40,7 +40,7 @@ class Reply(typing.NamedTuple):
 
 
 class Entry(typing.NamedTuple):
-    """An entry of a history: the number of the pass that made the call, the call, and the answer."""
+    """An entry of a history: the number of the pass that made the call, the call, and the reply."""
 
     pass_number: int
     call: Call
@@ -48,14 +48,14 @@ class Entry(typing.NamedTuple):
 
 
 class Run(typing.NamedTuple):
-    """A check that is out: the number of its run, and the moment at which it was taken, in milliseconds."""
+    """A running check: the number of its run, and the moment at which it was taken, in milliseconds."""
 
     number: int
     start: int
 
 
 class Refusal(typing.NamedTuple):
-    """Why a document is no setup, and where: the part, and the index in its list, if there is one. Of a saved state the part is
+    """Why a document is no setup, and where: the part, and the index in its list, if there is one. For a saved state the part is
     NONE, and the index is that of an object in the state's list."""
 
     kind: RefusalKind

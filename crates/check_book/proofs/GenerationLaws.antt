@@ -1,5 +1,5 @@
 -- Histories that go on from one book to the next, renewed or resumed.
-use Rattle.std.proofs.Common.{◌≡◌, ℕ, List, [], ◌∷◌, ◌++◌, refl, sym, ap, ◌∙◌}
+use Rattle.std.proofs.Common.{◌≡◌, ℕ, List, [], ◌∷◌, ◌++◌, refl, sym, ap, subst, ◌∙◌}
 use Rattle.ticket_steps.specs.declared.kept.Entry.{Entry}
 use Rattle.ticket_steps.specs.History.{replay, IsLegal}
 use Rattle.check_sched.specs.declared.call.Call.{Call}
@@ -11,6 +11,8 @@ use Rattle.check_sched.proofs.SavedLaws.{resumed_same}
 use Rattle.check_sched.proofs.StandingLaws.{replay_setup}
 use Rattle.check_sched.proofs.StateLaws.{legal_joined, replay_is_state}
 pub use Rattle.check_sched.proofs.StateLaws.{joined_legal}
+use Rattle.check_book.specs.declared.book.Book.{Book}
+use Rattle.check_book.specs.Books.{entries_of, opening_of, sched_of}
 use Rattle.check_book.specs.BookState.{BookState, book_at, book_step}
 use Rattle.check_book.specs.Resumed.{resumed_from}
 use Rattle.check_book.proofs.HistoryLaws.{book_is_legal, book_sched}
@@ -53,3 +55,12 @@ resumed_book_state opened start room earlier later is =
     book_sched (book_at (resumed_from left start) room) later
     ∙ ap (λ t. replay step t later) (resumed_same left start (replay_is_state opened earlier is))
     ∙ replay_started start left later ∙ ap (started start) (sym (joined_state opened earlier later))
+
+-- ---- the state of a book
+
+-- A book's scheduler is in a state that a scheduler can be in.
+pub book_is_state : (book : Book) → IsState (sched_of book)
+book_is_state book =
+    let opened = opening_of book in
+    let replayed = ap (λ (s : BookState). s.sched) book.replayed ∙ book_sched opened (entries_of book) in
+    subst IsState (sym replayed) (replay_is_state opened.sched (entries_of book) book.opened)

@@ -134,6 +134,7 @@ impl Book {
         entries: Vec<Entry<Call, Reply>>,
         room: usize,
     ) -> Result<Book, Setup>
+        requires state { IsState sched }
         requires none { entries.items ≡ [] }
         requires reserved { room ≤ vec_capacity entries }
         ensures empty { IfOk result (λ book. (entries_of book ≡ []) × (refused_of book ≡ 0)) }
@@ -142,8 +143,6 @@ impl Book {
         ensures opening { IfOk result (λ book. opening_of book ≡ book_at sched room) }
         ensures err { IfErr result (λ handed_back. handed_back ≡ sched.setup) }
     {
-        // for the proof: it stands in a state that a scheduler can be in
-        sched.is_state();
         let opened = Opening::of(&sched);
         let log = Log {
             sched,
@@ -184,8 +183,6 @@ impl Book {
             return Err(self);
         };
         let Book { mut log } = self;
-        // for the proof: what it stands at is a state that a scheduler can be in
-        log.sched.is_state();
         let earlier = (*log).begin_anew(entries, room);
         Ok((Book { log }, earlier))
     }

@@ -50,7 +50,7 @@ pub fn replies()
 /// word for each object of the setup (`words`), which [`decode`](check_rules::decode) reads as the
 /// standing of the object with that number (`read`). It is so from every state on that a scheduler can
 /// be in (`words_from`, `read_from`), and each book opens in such a state (`opened`), a renewed one
-/// too. Each book is over a setup as [`Setup`](check_objects::Setup) has it (`books`), and so its board
+/// too, and is in such a state at any time (`state`). Each book is over a setup as [`Setup`](check_objects::Setup) has it (`books`), and so its board
 /// has at most 4,096 words (`few`).
 pub fn board_shows_standings()
     ensures words { (setup : Configuration) → (start room : ℕ)
@@ -70,6 +70,7 @@ pub fn board_shows_standings()
         → decoded (slice_index (book_board (replay book_step opened history)) object)
         ≡ Some (standing_at (replay book_step opened history).sched.standings object) }
     ensures opened { (book : Book) → IsState (opening_of book).sched }
+    ensures state { (book : Book) → IsState (sched_of book) }
     ensures books { (book : Book) → IsSetup (sched_of book).setup }
     ensures few { (book : Book) → length (book_board (state_of book)) ≤ 4096 }
 {}

@@ -1,13 +1,14 @@
--- What becomes of the objects when a scheduler goes on over a setup from a saved state.
-use Rattle.std.specs.Prelude.{ℕ, ◌==◌, ◌&&◌, Bool, false, not, nat_lt, List, [], count_by, drop, Option, Some, None, is_none, is_some, option_map, if◌then◌else◌}
+-- The changes that a resume from a saved state over a setup makes.
+use Rattle.std.specs.Prelude.{ℕ, ◌==◌, ◌&&◌, Bool, false, not, nat_lt, List, [], count_by, drop, Option, Some, None, is_none, is_some, option_map, zip}
+use Rattle.std.specs.Prelude.{if◌then◌else◌}
 use Rattle.check_drafts.specs.declared.object.Object.{Object}
 use Rattle.check_objects.specs.Configuration.{Configuration, host_count, number_of, objects_of}
 use Rattle.check_saved.specs.Saved.{Saved, SavedObject, saved_named}
 use Rattle.check_saved.specs.Scheduling.{Scheduling}
-use Rattle.check_sched.specs.Report.{milliseconds}
 use Rattle.check_sched.specs.Roster.{running_among}
 use Rattle.check_sched.specs.Saved.{each_object, is_same_switch, keeps_limit, objects_kept}
 use Rattle.check_sched.specs.State.{limit_of}
+use Rattle.check_spread.specs.Spread.{milliseconds}
 use Rattle.check_changes.specs.declared.figures.Figures.{Figures}
 use Rattle.check_changes.specs.declared.kept.Kept.{Kept}
 
@@ -40,27 +41,31 @@ new_count setup saved = count_by (λ n. is_none (saved_named saved n.name)) (obj
 abbrev pub dropped_count : Configuration → Saved → ℕ
 dropped_count setup saved = count_by (λ o. is_none (number_of setup o.name)) saved.objects
 
--- The scheduling of every object before the limit is applied. First times say nothing of what is out, so none is given.
+-- The scheduling of every object before the limit is applied. First times don't affect which objects are out, so no times are given.
 abbrev pub objects_before_limit : Configuration → Saved → List Scheduling
 objects_before_limit setup saved = objects_kept setup saved []
 
--- The runs that are given up, since more services are out than the limit allows: then those of all services that are kept. The run of an
--- object that is dropped goes with it, and isn't counted: it doesn't count against the limit either.
+-- The number of runs that are abandoned because more services are out than the limit allows: then all runs of services that are kept. The run
+-- of an object that is dropped goes with it, and isn't counted. It doesn't count against the limit either.
 abbrev pub given_up_count : Configuration → Saved → ℕ
 given_up_count setup saved =
     let objects = objects_before_limit setup saved in
     if keeps_limit setup objects then 0 else running_among (drop (host_count setup) objects)
+
+-- how many objects are out in the first of two lists by number, and aren't in the second
+abbrev pub ended_among : List Scheduling → List Scheduling → ℕ
+ended_among before after = count_by (λ p. is_some p.0.run && is_none p.1.run) (zip before after)
 
 -- whether an object is kept and out
 abbrev pub is_out : Option Kept → Bool
 is_out None = false
 is_out (Some k) = k.out
 
--- whether more of these services are out than the limit allows; a limit of 0 is none
+-- whether more of these services are out than the limit allows; 0 is no limit
 abbrev pub are_too_many : Configuration → List (Option Kept) → Bool
 are_too_many setup services = not (limit_of setup == 0) && nat_lt (limit_of setup) (count_by is_out services)
 
--- the same count of the objects by number: the services that are out, where these are too many
+-- the same count for the objects by number: the services that are out, if they are too many
 unfoldable pub given_up_among : Configuration → List (Option Kept) → ℕ
 given_up_among setup kept =
     let services = drop (host_count setup) kept in count_by (λ o. are_too_many setup services && is_out o) services

@@ -1,4 +1,4 @@
--- The lines of what becomes of the objects, and the words that explain why a saved state is refused.
+-- The lines that report the changes of a resume, and the words that explain why a saved state is refused.
 use Rattle.std.specs.Prelude.{ℕ, Bool, List, [], ◌++◌, Option, Some, None, codes, decimal, flat_map, option_map, if◌then◌else◌}
 use Rattle.std.specs.List.{enumerate_from}
 use Rattle.check_objects.specs.Configuration.{Configuration, name_of, objects_of}
@@ -13,13 +13,13 @@ use Rattle.check_changes.specs.Changes.{figures_of, kept_by}
 abbrev pub count_line : List ℕ → ℕ → List ℕ
 count_line word count = word ++ (codes " " ++ (decimal count ++ codes "\n"))
 
--- how many objects are kept, new and dropped, and how many runs are given up
+-- the numbers of objects that are kept, new and dropped, and of runs that are abandoned
 unfoldable pub figures_text : Figures → List ℕ
 figures_text f =
     count_line (codes "kept") f.kept
     ++ (count_line (codes "new") f.new ++ (count_line (codes "dropped") f.dropped ++ count_line (codes "given_up") f.given_up))
 
--- the line of a value of an object, where the setup changes it
+-- the line of a value of an object, if the setup changes it
 abbrev pub changed_line : Bool → List ℕ → List ℕ → List ℕ
 changed_line changes value name = if changes then codes "changed " ++ (value ++ (codes " " ++ (name ++ codes "\n"))) else []
 
@@ -52,7 +52,7 @@ changes_text setup saved = figures_text (figures_of setup saved) ++ changed_text
 abbrev pub at_object : ℕ → List ℕ → List ℕ
 at_object index words = codes "objects " ++ (decimal index ++ (codes ": " ++ words))
 
--- The words of a fault. Want of memory is none of a saved state.
+-- The words of a fault. Out of memory isn't a fault of a saved state.
 abbrev pub saved_explanation : SavedFault → List ℕ
 saved_explanation saved.TooLong = codes "the saved state has more than 16777216 bytes\n"
 saved_explanation saved.NotJson = codes "the saved state is no JSON\n"

@@ -7,9 +7,9 @@ use check_saved::SavedFault;
 use std::alloc::{AllocError, Global};
 use std::fmt;
 
-/// Appends a line of plain words that explains why a saved state is refused: which object of the list of
-/// objects, if it is one, and what it has to be. An Err means out of memory, and the text stays as it was.
-/// (Our own profile.)
+/// Appends a line of plain words that explains why a saved state is refused: the object in the list of
+/// objects, if it is one, and the requirement that it fails. An Err means out of memory, and the text stays
+/// as it was. (Our own profile.)
 pub fn push_explanation(
     alloc: Global,
     text: &mut String,

@@ -1,4 +1,4 @@
-//! How many objects are kept, new and dropped, and how many runs are given up.
+//! The numbers of objects that are kept, new and dropped, and of runs that are abandoned.
 
 ghost use Rattle.std.specs.Prelude.{◌≡◌, ◌≤◌, count_by, is_none, is_some, length};
 ghost use Rattle.check_objects.specs.Configuration.{host_count, number_of};
@@ -8,7 +8,7 @@ use crate::kept::Kept;
 use check_objects::Setup;
 use check_saved::{Saved, SavedObject};
 
-/// How many objects of a setup and a saved state there are of each sort, and how many runs go.
+/// The numbers of objects of a setup and a saved state, and of the runs that end.
 #[derive(Clone, Copy, Debug, PartialEq, Eq)]
 pub struct Figures {
     /// Objects of both.
@@ -17,12 +17,12 @@ pub struct Figures {
     pub new: usize,
     /// Objects that only the saved state has.
     pub dropped: usize,
-    /// Runs of services that are given up, since more services are out than the setup's limit allows.
+    /// Runs of services that are abandoned because more services are out than the setup's limit allows.
     pub given_up: usize,
 }
 
 impl Figures {
-    /// The figures of a setup and a saved state, where these are the objects of the setup by number.
+    /// The figures of a setup and a saved state. `kept` has the objects of the setup by number.
     pub(crate) fn of(setup: &Setup, saved: &Saved, kept: &[Option<Kept>]) -> Figures
         requires { kept.now ≡ kept_of setup.now saved.now }
         ensures { result ≡ figures_of setup.now saved.now }
@@ -68,7 +68,8 @@ fn is_dropped(setup: &Setup, object: &SavedObject) -> bool
     setup.number(&object.name).is_none()
 }
 
-/// How many runs of services are given up: all that are out, where they are more than the limit allows.
+/// The number of runs of services that are abandoned: all that are out, if they are more than the limit
+/// allows.
 fn count_given_up(setup: &Setup, kept: &[Option<Kept>]) -> usize
     requires { host_count setup.now ≤ length kept.now }
     ensures { result ≡ given_up_among setup.now kept.now }

@@ -2,14 +2,14 @@
 
 ghost use Rattle.std.specs.Prelude.{◌≡◌, ◌≤◌, IfOk, length};
 ghost use Rattle.check_objects.specs.Configuration.{IsSetup};
-ghost use Rattle.check_sched.specs.Report.{milliseconds};
 ghost use Rattle.check_changes.specs.Changes.{kept_by, kept_of};
 
 use check_objects::{MAX_INTERVAL, Object, Setup};
 use check_saved::{Saved, SavedObject};
+use check_spread::milliseconds;
 use std::alloc::{AllocError, Global};
 
-/// An object that is kept: one of the setup whose full name the saved state has.
+/// An object that is kept: an object of the setup whose full name is in the saved state.
 #[derive(Clone, Copy, Debug, PartialEq, Eq)]
 pub struct Kept {
     /// Whether a check of it is out.
@@ -18,11 +18,11 @@ pub struct Kept {
     pub attempts: bool,
     /// Whether the setup has another check interval for it, in milliseconds.
     pub interval: bool,
-    /// Whether of the two setups one has its active checks enabled and the other hasn't.
+    /// Whether one of the two setups has its active checks enabled, and the other doesn't.
     pub enabled: bool,
 }
 
-/// Every object of the setup by number, where it is kept. An Err means out of memory.
+/// Every object of the setup by number, or None if it is new. An Err means out of memory.
 pub(crate) fn list_kept(
     alloc: Global,
     setup: &Setup,
@@ -42,7 +42,7 @@ pub(crate) fn list_kept(
     Ok(kept)
 }
 
-/// What the setup makes of an object that is kept.
+/// Compares an object that is kept with its saved object.
 fn compare(setup: &Setup, object: &Object, saved: &SavedObject) -> Kept
     requires valid_setup { IsSetup setup.now }
     requires interval { object.now.check_interval ≤ MAX_INTERVAL }
@@ -54,13 +54,4 @@ fn compare(setup: &Setup, object: &Object, saved: &SavedObject) -> Kept
         interval: milliseconds(setup, object.check_interval) != saved.interval,
         enabled: object.enabled != saved.setup_enabled,
     }
-}
-
-/// An interval of units of `interval_length`, in milliseconds.
-fn milliseconds(setup: &Setup, interval: u64) -> u64
-    requires valid_setup { IsSetup setup.now }
-    requires interval { interval ≤ MAX_INTERVAL }
-    ensures { result ≡ milliseconds setup.now interval }
-{
-    interval * setup.options().interval_length * 1000
 }

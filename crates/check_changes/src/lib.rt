@@ -1,11 +1,11 @@
 #![tactic(auto)]
-//! What becomes of the objects when a scheduler goes on over a setup from a saved state: how many are
-//! kept, new and dropped, how many runs are given up, and which values the setup changes of an object
-//! that is kept. An engineer asks for it before the scheduler goes on.
+//! The changes that a resume over a setup makes: the numbers of objects that are kept, new and dropped, the
+//! number of runs that are abandoned, and the values that the setup changes for an object that is kept. An
+//! engineer reads them before the resume.
 //!
-//! The modules: `kept` compares the objects of the setup with those of the saved state, `figures` counts
-//! them, `text` has the lines, `explanation` the words for a saved state that is refused, and `laws` what the
-//! figures add up to.
+//! The modules: `kept` compares the objects of the setup with those of the saved state, and `figures` counts
+//! them. `text` has the lines, `explanation` the words for a saved state that is refused, and `laws` the sums
+//! of the figures.
 
 mod explanation;
 mod figures;

@@ -1,4 +1,4 @@
-//! The lines of what becomes of the objects.
+//! The lines that report the changes of a resume.
 
 ghost use Rattle.std.specs.Prelude.{◌≡◌, ◌≤◌, ◌++◌, OnErr, OnOk, length, string_bytes};
 ghost use Rattle.check_objects.specs.Configuration.{object_count};
@@ -10,11 +10,12 @@ use check_objects::Setup;
 use check_saved::Saved;
 use std::alloc::{AllocError, Global};
 
-/// Appends what becomes of the objects when a scheduler goes on over this setup from this saved state,
-/// each line with its line feed: how many objects are kept, how many are new and how many are dropped, how
-/// many runs are given up, and of each object that is kept the values that the setup changes, in the order
-/// of the objects' numbers. Nothing of it goes by the start of the scheduler. It takes time linear in the
-/// objects of both. An Err means out of memory, and the text stays as it was. (Our own profile.)
+/// Appends the changes that a resume from this saved state over this setup makes, each line with its line
+/// feed. The first lines are the numbers of objects that are kept, new and dropped, and the number of runs
+/// that are abandoned. Then, for each object that is kept, follow the values that the setup changes, in the
+/// order of the objects' numbers. The start of the scheduler has no effect on the lines. It takes time
+/// linear in the objects of both. An Err means out of memory, and the text stays as it was. (Our own
+/// profile.)
 pub fn push_changes(
     alloc: Global,
     text: &mut String,
@@ -85,7 +86,7 @@ fn push_kept(text: &mut String, name: &str, kept: Kept) -> Result<(), AllocError
     push_value(text, kept.enabled, "enabled", name)
 }
 
-/// Appends the line of a value of an object, where the setup changes it.
+/// Appends the line of a value of an object, if the setup changes it.
 fn push_value(text: &mut String, changes: bool, value: &str, name: &str) -> Result<(), AllocError>
     ensures { OnOk result (string_bytes text.new
         ≡ string_bytes text.old ++ changed_line changes value.now name.now) }

@@ -1,4 +1,5 @@
 pub mod PassLemmas
+pub mod PublicLaws
 pub mod ScheduleLemmas
 pub mod BoardLemmas
 mod RecordLemmas

@@ -15,7 +15,6 @@ ghost use Rattle.check_book.specs.Books.{entries_of, opening_of, refused_of, roo
 
 use crate::passes::{Hold, Pass, Turn};
 use check_book::Book;
-use check_book::laws::board_shows_standings;
 use check_rules::{Standing, decode};
 use check_sched::{Call, Reply};
 use crossbeam_utils::Backoff;
@@ -306,8 +305,6 @@ impl Desk {
         ensures standing { object < objects_of self.now
             → result.1 ≡ Some (standing_after self.now (pass_of result.0).seen object) }
     {
-        // for the proof: what each word of a board is read as
-        board_shows_standings();
         if self.objects <= object {
             return (pass, None);
         }

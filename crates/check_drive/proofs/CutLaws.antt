@@ -29,15 +29,17 @@ use Rattle.check_script.specs.declared.refusal.InputRefusal.TheVariants as refus
 use Rattle.check_script.specs.declared.refusal.LineFault.{LineFault}
 use Rattle.check_script.specs.declared.refusal.LineFault.TheVariants as fault
 use Rattle.check_script.specs.Command.{command_by}
-use Rattle.check_script.specs.LiveInput.{has_feed}
+use Rattle.check_script.specs.LiveInput.{behind_line, has_feed}
 use Rattle.check_script.specs.Line.{at_line, command_in, command_of, is_blank}
 use Rattle.check_script.specs.declared.script.TheConstants.{MAX_INPUT_BYTES}
-use Rattle.check_script.specs.Input.{lines_of}
-use Rattle.check_script.specs.ResumedScript.{ResumedScript, in_saved, resumed_in, resumed_script_of}
-use Rattle.check_script.specs.Script.{Script, commands_behind, commands_of, in_setup, script_by, script_in, script_of}
-use Rattle.check_script.proofs.ScriptLemmas.{commands_by_number, commands_from, script_with}
-use Rattle.check_text.specs.Text.{answer_line, resumed_from, resumed_script_text, saved_line, script_text, state_by, text, text_from, text_resumed}
-use Rattle.check_text.proofs.LiveLaws.{accepted, line_first, lines_by}
+use Rattle.check_script.specs.declared.start.Start.{Start}
+use Rattle.check_script.specs.declared.start.Start.TheVariants as starts
+use Rattle.check_script.specs.Input.{first_line_of, lines_of}
+use Rattle.check_script.specs.Script.{Script, beginning_of, beginning_over, commands_behind, in_saved, in_setup, resumed_from, script_behind, script_of}
+use Rattle.check_script.proofs.LiveInputLemmas.{behind_on, first_on}
+use Rattle.check_script.proofs.ScriptLemmas.{commands_by_number, commands_from}
+use Rattle.check_text.specs.Text.{answer_line, saved_line, script_text, state_by, text, text_from}
+use Rattle.check_text.proofs.LiveLaws.{accepted, begun, lines_by, script_with}
 use Rattle.check_text.proofs.TextLemmas.{command_keeps}
 use Rattle.check_drive.specs.Cut.{first_part, second_part, whole_input}
 use Rattle.check_text.specs.Output.{AreWholeLines}
@@ -172,118 +174,103 @@ save_said c n = rw save_read refl
 save_line : (c : Configuration) (n : ℕ) → commands_from (command_by c) n (save_text ∷ []) ≡ Ok (command.Save ∷ [])
 save_line c n = rw (save_said c n) refl
 
--- ---- scripts by their lines
+-- ---- scripts by what comes after the setup document
 
-over_made : (c : Configuration) (lines : List (List ℕ)) (commands : Result (List RunCommand) InputRefusal) (script : Script RunCommand)
-    → commands_from (command_by c) 2 lines ≡ commands → (commands >>= λ all. Ok (script_with c all)) ≡ Ok script
-    → (all : List RunCommand) × (commands_from (command_by c) 2 lines ≡ Ok all) × (script_with c all ≡ script)
-over_made c lines (Ok all) script same h = (all, same, cc)
-over_made c lines (Err e) script same h = cc
+-- an input of a document and these bytes begins as they do over its setup
+begins_with : (how : Start) (document bytes : List ℕ) → has_feed document ≡ false
+    → beginning_of how (document ++ 10 ∷ bytes) ≡ (in_setup (setup_of document) >>= λ c. beginning_over how c bytes)
+begins_with how document bytes free =
+    ap (λ l. in_setup (setup_of l) >>= λ c. beginning_over how c (behind_line (document ++ 10 ∷ bytes)))
+    (first_on document (10 ∷ bytes) free ∙ append-nil document)
+    ∙ ap (λ l. in_setup (setup_of document) >>= λ c. beginning_over how c l) (behind_on document (10 ∷ bytes) free)
 
-over_parts : (setup : Result Configuration InputRefusal) (lines : List (List ℕ)) (script : Script RunCommand)
-    → (setup >>= λ c. (commands_of (command_by c) lines >>= λ all. Ok (script_with c all))) ≡ Ok script
-    → (c : Configuration) × (all : List RunCommand) × (setup ≡ Ok c) × (commands_from (command_by c) 2 lines ≡ Ok all) × (script_with c all ≡ script)
-over_parts (Err e) lines script h = cc
-over_parts (Ok c) lines script h =
-    let p = over_made c lines (commands_of (command_by c) lines) script (sym (commands_by_number (command_by c) 2 lines)) h in
+over_made : (s : State) (lines : List (List ℕ)) (commands : Result (List RunCommand) InputRefusal) (script : Script)
+    → commands_from (command_by s.setup) 2 lines ≡ commands → (commands >>= λ all. Ok (script_with s all)) ≡ Ok script
+    → (all : List RunCommand) × (commands_from (command_by s.setup) 2 lines ≡ Ok all) × (script_with s all ≡ script)
+over_made s lines (Ok all) script same h = (all, same, cc)
+over_made s lines (Err e) script same h = cc
+
+over_parts : (start : ℕ) (setup : Result Configuration InputRefusal) (bytes : List ℕ) (script : Script)
+    → ((setup >>= λ c. beginning_over (starts.Fresh start) c bytes) >>= script_behind) ≡ Ok script
+    → (c : Configuration) × (all : List RunCommand) × (setup ≡ Ok c) × (commands_from (command_by c) 2 (lines_of bytes) ≡ Ok all)
+    × (script_with (opening c start) all ≡ script)
+over_parts start (Err e) bytes script h = cc
+over_parts start (Ok c) bytes script h =
+    let lines = lines_of bytes in
+    let p = over_made (opening c start) lines (commands_behind 2 (command_by c) lines) script (sym (commands_by_number (command_by c) 2 lines)) h in
     (c, p.0, refl, p.1, p.2)
 
-over_back : (document : List ℕ) (c : Configuration) (lines : List (List ℕ)) (all : List RunCommand) → in_setup (setup_of document) ≡ Ok c
-    → commands_from (command_by c) 2 lines ≡ Ok all → script_in command_by (document ∷ lines) ≡ Ok (script_with c all)
-over_back document c lines all s f = let g : commands_of (command_by c) lines ≡ Ok all = commands_by_number (command_by c) 2 lines ∙ f in rw (s, g) refl
+over_back : (start : ℕ) (c : Configuration) (bytes : List ℕ) (all : List RunCommand) → commands_from (command_by c) 2 (lines_of bytes) ≡ Ok all
+    → (beginning_over (starts.Fresh start) c bytes >>= script_behind) ≡ Ok (script_with (opening c start) all)
+over_back start c bytes all f =
+    let g : commands_behind 2 (command_by c) (lines_of bytes) ≡ Ok all = commands_by_number (command_by c) 2 (lines_of bytes) ∙ f in rw g refl
 
-resumed_back : (document text : List ℕ) (c : Configuration) (saved : Saved) (later : List (List ℕ)) (b : List RunCommand)
-    → in_setup (setup_of document) ≡ Ok c → saved_of_text text ≡ Ok saved → commands_from (command_by c) 3 later ≡ Ok b
-    → resumed_in (document ∷ text ∷ later) ≡ Ok (record { setup = c; saved = saved; commands = b })
-resumed_back document text c saved later b s v f =
-    let g : commands_behind 3 (command_by c) later ≡ Ok b = commands_by_number (command_by c) 3 later ∙ f in
-    let w : in_saved (saved_of_text text) ≡ Ok saved = ap in_saved v in
-    rw (s, w, g) refl
+resumed_back : (c : Configuration) (text rest : List ℕ) (saved : Saved) (b : List RunCommand) → has_feed text ≡ false
+    → saved_of_text text ≡ Ok saved → commands_from (command_by c) 3 (lines_of rest) ≡ Ok b
+    → (beginning_over (starts.Resumed None) c (text ++ 10 ∷ rest) >>= script_behind) ≡ Ok (script_with (resumed_from c saved None) b)
+resumed_back c text rest saved b free v f =
+    let first : first_line_of (text ++ 10 ∷ rest) ≡ text = first_on text (10 ∷ rest) free ∙ append-nil text in
+    let w : in_saved (saved_of_text (first_line_of (text ++ 10 ∷ rest))) ≡ Ok saved = ap (λ l. in_saved (saved_of_text l)) first ∙ ap in_saved v in
+    let g : commands_behind 3 (command_by c) (lines_of rest) ≡ Ok b = commands_by_number (command_by c) 3 (lines_of rest) ∙ f in
+    ap (λ r. (r >>= λ d. Ok (begun (resumed_from c d None) 3 (behind_line (text ++ 10 ∷ rest)))) >>= script_behind) w
+    ∙ ap (λ l. script_behind (begun (resumed_from c saved None) 3 l)) (behind_on text (10 ∷ rest) free)
+    ∙ ap (λ r. r >>= λ all. Ok (script_with (resumed_from c saved None) all)) g
 
--- ---- the whole, by lines
+text_by : (how : Start) (input : List ℕ) (script : Script) → script_of how input ≡ Ok script → text how input ≡ text_from script.state script.commands
+unfolding text
+text_by how input script e = ap script_text e
 
-cut_lines : (start : ℕ) (document : List ℕ) (first later : List (List ℕ)) (script : Script RunCommand) → start ≤ 2 ^ 60
-    → script_in command_by (document ∷ (first ++ later)) ≡ Ok script
+script_short : (how : Start) (input : List ℕ) → length input ≤ MAX_INPUT_BYTES → script_of how input ≡ (beginning_of how input >>= script_behind)
+unfolding script_of
+script_short how input few = let short : nat_lt MAX_INPUT_BYTES (length input) ≡ false = grind (arith, nat_tests, few) in rw short refl
+
+-- the text of a document and these bytes, by the script that they are over its setup
+text_with : (how : Start) (document bytes : List ℕ) (c : Configuration) (script : Script) → has_feed document ≡ false → in_setup (setup_of document) ≡ Ok c
+    → (beginning_over how c bytes >>= script_behind) ≡ Ok script → length (document ++ 10 ∷ bytes) ≤ MAX_INPUT_BYTES
+    → text how (document ++ 10 ∷ bytes) ≡ text_from script.state script.commands
+text_with how document bytes c script free setup made few =
+    text_by how (document ++ 10 ∷ bytes) script
+    (script_short how (document ++ 10 ∷ bytes) few
+    ∙ ap (λ r. r >>= script_behind) (begins_with how document bytes free ∙ ap (λ r. r >>= λ d. beginning_over how d bytes) setup) ∙ made)
+
+-- ---- the cut
+
+pub cut_and_gone_on : (start : ℕ) (document front rest : List ℕ) (script : Script) → start ≤ 2 ^ 60
+    → has_feed document ≡ false → AreWholeLines front → script_of (starts.Fresh start) (whole_input document front rest) ≡ Ok script
     → (before : List ℕ) × (s : State)
-    × (script_text start (script_in command_by (document ∷ (first ++ save_text ∷ []))) ≡ before ++ saved_line s)
-    × (script_text start (script_in command_by (document ∷ (first ++ later)))
-    ≡ before ++ resumed_script_text None (resumed_in (document ∷ saved_text (saved_of s) ∷ later)))
-cut_lines start document first later script moment e =
-    let p = over_parts (in_setup (setup_of document)) (first ++ later) script e in
+    × (length (first_part document front) ≤ MAX_INPUT_BYTES → text (starts.Fresh start) (first_part document front) ≡ before ++ saved_line s)
+    × (length (second_part document s rest) ≤ MAX_INPUT_BYTES
+    → text (starts.Fresh start) (whole_input document front rest) ≡ before ++ text (starts.Resumed None) (second_part document s rest))
+cut_and_gone_on start document front rest script moment free whole e =
+    let how = starts.Fresh start in
+    let input = whole_input document front rest in
+    let there : (beginning_of how input >>= script_behind) ≡ Ok script = accepted how input script e in
+    let p = over_parts start (in_setup (setup_of document)) (front ++ rest) script
+    (ap (λ r. r >>= script_behind) (sym (begins_with how document (front ++ rest) free)) ∙ there) in
     let c = p.0 in
-    let q = split (command_by c) first later 2 p.1 p.3 in
+    let q = split (command_by c) (lines_of front) (lines_of rest) 2 p.1 (ap (commands_from (command_by c) 2) (sym (lines_by front rest whole)) ∙ p.3) in
     let a = q.0 in
     let b = q.1 in
     let read = setup_by document c (setup_is (setup_of document) c p.2) in
     let opened = opening c start in
     let s = through opened a in
-    let there = through_is opened a (opening_can_be c start read.setup moment) in
+    let is = through_is opened a (opening_can_be c start read.setup moment) in
     let keeps = through_keeps opened a in
     let texts : AreTexts (objects_of s.setup) = subst (λ d. AreTexts (objects_of d)) (sym keeps) read.texts in
-    let text_is = inverse (saved_of s) (saved_of_state s there) (saved_is_writable s there.valid_setup texts) in
-    let with_save = over_back document c (first ++ save_text ∷ []) (a ++ command.Save ∷ []) p.2
-    (join (command_by c) first (save_text ∷ []) a (command.Save ∷ []) q.2 (save_line c) 2) in
-    let all = over_back document c (first ++ later) (a ++ b) p.2 (join (command_by c) first later a b q.2 q.3 2) in
-    let again = resumed_back document (saved_text (saved_of s)) c (saved_of s) later b p.2 text_is (q.3 3) in (
+    let saved = saved_text (saved_of s) in
+    let text_is = inverse (saved_of s) (saved_of_state s is) (saved_is_writable s is.valid_setup texts) in
+    let with_save = ap (commands_from (command_by c) 2) (lines_by front save_text whole)
+    ∙ join (command_by c) (lines_of front) (save_text ∷ []) a (command.Save ∷ []) q.2 (save_line c) 2 in
+    let again = resumed_back c saved rest (saved_of s) b (saved_free (saved_of s)) text_is (q.3 3) in (
       text_from opened a,
       s,
-      ap (script_text start) with_save ∙ text_on opened a (command.Save ∷ []) ∙ ap (λ l. text_from opened a ++ l) (append-nil (saved_line s)),
-      ap (script_text start) all ∙ text_on opened a b
-          ∙ ap (λ t. text_from opened a ++ text_from t b) (sym (goes_on_there c s there keeps))
-          ∙ ap (λ r. text_from opened a ++ resumed_script_text None r) (sym again),
-    )
-
--- ---- by bytes
-
-script_by_lines : (input : List ℕ) (lines : List (List ℕ)) → lines_of input ≡ lines → length input ≤ MAX_INPUT_BYTES
-    → script_of input ≡ script_in command_by lines
-unfolding script_by
-script_by_lines input lines e few =
-    let short : nat_lt MAX_INPUT_BYTES (length input) ≡ false = grind (arith, nat_tests, few) in
-    rw (short, e) refl
-
-resumed_by_lines : (input : List ℕ) (lines : List (List ℕ)) → lines_of input ≡ lines → length input ≤ MAX_INPUT_BYTES
-    → resumed_script_of input ≡ resumed_in lines
-unfolding resumed_script_of
-resumed_by_lines input lines e few =
-    let short : nat_lt MAX_INPUT_BYTES (length input) ≡ false = grind (arith, nat_tests, few) in
-    rw (short, e) refl
-
-text_by_script : (start : ℕ) (input : List ℕ) (r : Result (Script RunCommand) InputRefusal) → script_of input ≡ r → text start input ≡ script_text start r
-unfolding text
-text_by_script start input r e = ap (script_text start) e
-
-resumed_by_script : (start : Option ℕ) (input : List ℕ) (r : Result ResumedScript InputRefusal) → resumed_script_of input ≡ r
-    → text_resumed start input ≡ resumed_script_text start r
-unfolding text_resumed
-resumed_by_script start input r e = ap (resumed_script_text start) e
-
-pub cut_and_gone_on : (start : ℕ) (document front rest : List ℕ) (script : Script RunCommand) → start ≤ 2 ^ 60
-    → has_feed document ≡ false → AreWholeLines front → script_of (whole_input document front rest) ≡ Ok script
-    → (before : List ℕ) × (s : State)
-    × (length (first_part document front) ≤ MAX_INPUT_BYTES → text start (first_part document front) ≡ before ++ saved_line s)
-    × (length (second_part document s rest) ≤ MAX_INPUT_BYTES
-    → text start (whole_input document front rest) ≡ before ++ text_resumed None (second_part document s rest))
-cut_and_gone_on start document front rest script moment free whole e =
-    let first = lines_of front in
-    let later = lines_of rest in
-    let input = whole_input document front rest in
-    let lines : lines_of input ≡ document ∷ (first ++ later) =
-    line_first document (front ++ rest) free ∙ ap (λ l. document ∷ l) (lines_by front rest whole) in
-    let there : script_in command_by (document ∷ (first ++ later)) ≡ Ok script = ap (script_in command_by) (sym lines) ∙ accepted input script e in
-    let cut = cut_lines start document first later script moment there in
-    let before = cut.0 in
-    let s = cut.1 in
-    let saved = saved_text (saved_of s) in
-    let head : lines_of (first_part document front) ≡ document ∷ (first ++ save_text ∷ []) =
-    line_first document (front ++ save_text) free ∙ ap (λ l. document ∷ l) (lines_by front save_text whole) in
-    let tail : lines_of (second_part document s rest) ≡ document ∷ saved ∷ later =
-    line_first document (saved ++ 10 ∷ rest) free ∙ ap (λ l. document ∷ l) (line_first saved rest (saved_free (saved_of s))) in (
-      before,
-      s,
-      λ few. text_by_script start (first_part document front) _ (script_by_lines (first_part document front) (document ∷ (first ++ save_text ∷ [])) head few) ∙ cut.2,
       λ few.
-          text_by_script start input (Ok script) e ∙ ap (script_text start) (sym there) ∙ cut.3
-          ∙ ap (λ l. before ++ l) (sym (resumed_by_script None (second_part document s rest) _
-          (resumed_by_lines (second_part document s rest) (document ∷ saved ∷ later) tail few))),
+          text_with how document (front ++ save_text) c (script_with opened (a ++ command.Save ∷ [])) free p.2
+          (over_back start c (front ++ save_text) (a ++ command.Save ∷ []) with_save) few
+          ∙ text_on opened a (command.Save ∷ []) ∙ ap (λ l. text_from opened a ++ l) (append-nil (saved_line s)),
+      λ few.
+          text_by how input script e ∙ ap (λ (t : Script). text_from t.state t.commands) (sym p.4) ∙ ap (text_from opened) q.4 ∙ text_on opened a b
+          ∙ ap (λ t. text_from opened a ++ text_from t b) (sym (goes_on_there c s is keeps))
+          ∙ ap (λ l. text_from opened a ++ l) (sym (text_with (starts.Resumed None) document (saved ++ 10 ∷ rest) c
+          (script_with (resumed_from c (saved_of s) None) b) free p.2 again few)),
     )

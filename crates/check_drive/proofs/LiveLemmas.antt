@@ -26,15 +26,16 @@ use Rattle.check_script.specs.Script.{in_setup}
 use Rattle.check_script.proofs.LiveInputLemmas.{Consumes-none, Consumes-then, behind_none, behind_stays, feed_split, first_all, first_free, first_stays, lines_apart}
 use Rattle.check_text.proofs.LiveLaws.{line_first, lines_by}
 use Rattle.check_script.proofs.KeptLemmas.{setup_stays, too_long}
-use Rattle.check_text.specs.LiveText.{answer_to, answers_from, said, state_after}
+use Rattle.check_script.specs.declared.start.Start.{Start}
+use Rattle.check_text.specs.LiveText.{answer_to, answers_from, live_text, said, state_after}
 use Rattle.check_text.specs.Text.{input_refusal_text, refused_text}
 use Rattle.check_text.specs.Output.{AreWholeLines}
 use Rattle.check_text.proofs.OutputLemmas.{Appends-Keeps, Appends-none, Appends-trans, front_none, whole_on}
 use Rattle.check_text.proofs.TextLemmas.{answer_line_ends}
-use Rattle.check_drive.specs.declared.drive.Outcome.{Outcome}
 use Rattle.check_drive.specs.Drive.{IsInput}
 use Rattle.check_text.specs.Written.{IsLineWritten, LeftOfLine}
-use Rattle.check_drive.specs.Live.{AfterAll, AfterLines, AnsweredLines, Conversed, IsLiveOf, LeavesText, TalkEnded}
+use Rattle.check_drive.specs.Live.{AfterAll, AfterLines, AnsweredLines, Conversed, LeavesText, LineFailed, TalkEnded}
+use Rattle.check_drive.specs.Streams.{streams}
 
 -- ---- what is read
 
@@ -298,7 +299,7 @@ pub talk_ends : (begins : ℕ) (first s : State) (opened hand part : List ℕ) (
     (flushed : Result (Unit {0}) LiveError) (wrote_all : Result (Unit {0}) DriveError)
     → Talked begins first opened had mid held wrote number s hand → Consumes mid left part → has_feed (hand ++ part) ≡ false → IsAtEnd left
     → Appends wrote wrote' (answer_to s (said s number (first_line_of (hand ++ part)))) → Keeps wrote' holds → IsWritten flushed wrote_all → IsOkUnless wrote_all errors.Write
-    → TalkEnded begins first opened had left held holds flushed
+    → TalkEnded begins first opened (streams had left held holds) flushed
 talk_ends begins first s opened hand part had mid left held wrote wrote' holds number (Ok _) written k read free end wrote_it kept w f =
     let given = Consumes-then had mid left k.given part k.consumed read in
     let text = ended_text begins first s opened hand part had mid left held wrote number k free in
@@ -315,7 +316,7 @@ talk_ends begins first s opened hand part had mid left held wrote wrote' holds n
 pub talk_fails : (begins : ℕ) (first s : State) (opened hand coming : List ℕ) (had mid left held wrote holds : Option (List ℕ)) (number : ℕ)
     (e : LiveError) (ended : Result (Unit {0}) LiveError)
     → Talked begins first opened had mid held wrote number s hand → IsInput mid coming
-    → LeavesText (told e) wrote holds (answers_from s number (lines_of (hand ++ coming))) → ended ≡ Err e → TalkEnded begins first opened had left held holds ended
+    → LeavesText (told e) wrote holds (answers_from s number (lines_of (hand ++ coming))) → ended ≡ Err e → TalkEnded begins first opened (streams had left held holds) ended
 talk_fails begins first s opened hand coming had mid left held wrote holds number e ended k i f r =
     rw r (
       k.given ++ coming,
@@ -327,12 +328,12 @@ talk_fails begins first s opened hand coming had mid left held wrote holds numbe
 
 -- as many lines as can be numbered were answered
 pub talk_spent : (begins : ℕ) (first s : State) (opened hand : List ℕ) (had left held holds : Option (List ℕ)) (number : ℕ) (e : LiveError)
-    → Talked begins first opened had left held holds number s hand → TalkEnded {T = Unit {0}} begins first opened had left held holds (Err e)
+    → Talked begins first opened had left held holds number s hand → TalkEnded {T = Unit {0}} begins first opened (streams had left held holds) (Err e)
 talk_spent begins first s opened hand had left held holds number e k =
     talk_fails begins first s opened hand (rest_of left) had left left held holds holds number e (Err e) k (rest_input left) (leaves_none (told e) holds _) refl
 
 pub lines_answered : (begins : ℕ) (first s : State) (opened hand : List ℕ) (had left held holds : Option (List ℕ)) (number count : ℕ)
-    → Talked begins first opened had left held holds number s hand → number ≡ count + begins → AnsweredLines count begins first opened had left held holds
+    → Talked begins first opened had left held holds number s hand → number ≡ count + begins → AnsweredLines count begins first opened (streams had left held holds)
 lines_answered begins first s opened hand had left held holds number count k e = record {
   given = k.given;
   front = k.taken;
@@ -346,7 +347,7 @@ lines_answered begins first s opened hand had left held holds number count k e =
 
 -- a line couldn't be taken or answered: no loop over lines is spent then, and one over reads by as many bytes
 pub line_spends : (begins : ℕ) (first s : State) (opened hand part : List ℕ) (had mid left held wrote holds : Option (List ℕ)) (number : ℕ) (e : LiveError)
-    → Talked begins first opened had mid held wrote number s hand → Consumes mid left part → AfterLine part e → AfterLines begins first opened had left held holds e
+    → Talked begins first opened had mid held wrote number s hand → Consumes mid left part → AfterLine part e → AfterLines begins first opened (streams had left held holds) e
 line_spends begins first s opened hand part had mid left held wrote holds number (live.Reader fault) k read h = tt
 line_spends begins first s opened hand part had mid left held wrote holds number live.Writer k read h = tt
 line_spends begins first s opened hand part had mid left held wrote holds number live.Memory k read h = tt
@@ -356,11 +357,6 @@ line_spends begins first s opened hand part had mid left held wrote holds number
     (k.given ++ part, Consumes-then had mid left k.given part k.consumed read, omega (arith, sizes, h))
 
 -- ---- one line
-
--- what is shown of a line that couldn't be taken or answered
-abbrev pub LineFailed : State → ℕ → List ℕ → Option (List ℕ) → Option (List ℕ) → Option (List ℕ) → DriveError → Type 0
-LineFailed s number hand had held holds e =
-    (coming : List ℕ) × IsInput had coming × LeavesText e held holds (answers_from s number (lines_of (hand ++ coming)))
 
 pub untaken : (s : State) (number : ℕ) (hand given : List ℕ) (had left held holds : Option (List ℕ)) (e : DriveError)
     → Consumes had left given → Keeps held holds → LineFailed s number hand had held holds e
@@ -400,16 +396,15 @@ setup_refused (Ok c) why h = cc
 setup_refused (Err e) why h = (e, refl, cc)
 
 -- an error, whatever came before it
-pub live_failed : (outcomes : List ℕ → Outcome) (says : List ℕ → List ℕ) (reads : Option (List ℕ) → Option (List ℕ) → List ℕ → Type 0) (e : DriveError)
-    (had left held holds : Option (List ℕ)) (input : List ℕ) → IsInput had input
-    → LeavesText e held holds (says input) → IsLiveOf outcomes says reads (Err e) had left held holds
-live_failed outcomes says reads e had left held holds input i f = record { input = input; is_input = i; outcome_is = tt; written = tt; read = tt; front = f }
+pub live_failed : (how : Start) (e : DriveError) (had left held holds : Option (List ℕ)) (input : List ℕ) → IsInput had input
+    → LeavesText e held holds (live_text how input) → Conversed how (Err e) (streams had left held holds)
+live_failed how e had left held holds input i f = record { input = input; is_input = i; outcome_is = tt; written = tt; read = tt; fault = f }
 
 -- an error before anything was written
-pub live_unwritten : (outcomes : List ℕ → Outcome) (says : List ℕ → List ℕ) (reads : Option (List ℕ) → Option (List ℕ) → List ℕ → Type 0) (e : DriveError)
-    (had left held : Option (List ℕ)) (given : List ℕ) → Consumes had left given → IsLiveOf outcomes says reads (Err e) had left held held
-live_unwritten outcomes says reads e had left held given read =
-    live_failed outcomes says reads e had left held held (given ++ rest_of left) (input_on had left given (rest_of left) read (rest_input left)) (leaves_none e held _)
+pub live_unwritten : (how : Start) (e : DriveError) (had left held : Option (List ℕ)) (given : List ℕ) → Consumes had left given
+    → Conversed how (Err e) (streams had left held held)
+live_unwritten how e had left held given read =
+    live_failed how e had left held held (given ++ rest_of left) (input_on had left given (rest_of left) read (rest_input left)) (leaves_none e held _)
 
 -- there are no lines behind the setup
 pub not_long : (c : Configuration) (given : List ℕ) → in_setup (setup_of (first_line_of given)) ≡ Ok c → has_feed given ≡ false
@@ -436,7 +431,7 @@ refused_stays given left false feed end = setup_stays given (rest_of left) (inr 
 
 -- what only writes spends none
 pub written_lines : {T : Type 0} (r : Result T LiveError) (written : Result T DriveError) (begins : ℕ) (first : State) (opened : List ℕ)
-    (had left held holds : Option (List ℕ)) → IsWritten r written → IfErr r (AfterLines begins first opened had left held holds)
+    (had left held holds : Option (List ℕ)) → IsWritten r written → IfErr r (AfterLines begins first opened (streams had left held holds))
 written_lines (Ok x) written begins first opened had left held holds w = tt
 written_lines (Err (live.Reader fault)) written begins first opened had left held holds w = tt
 written_lines (Err live.Writer) written begins first opened had left held holds w = tt
@@ -463,15 +458,6 @@ reads_spend live.Writer given had left read h = λ s. absurd s
 reads_spend live.Memory given had left read h = λ s. absurd s
 reads_spend live.LinesSpent given had left read h = λ s. absurd h
 reads_spend live.ReadsSpent given had left read h = λ s. (given, read, omega (arith, h))
-
-pub behind_few : (bytes : List ℕ) → length (behind_line bytes) ≤ length bytes
-behind_few [] = omega arith
-behind_few (b ∷ bs) =
-    let again = behind_few bs in
-    elim (b == 10) as (λ v. length (cond v bs (behind_line bs)) ≤ suc (length bs)) [
-      | true ↦ omega arith
-      | false ↦ omega (arith, again)
-    ]
 
 -- ---- errors of what only writes
 
@@ -510,44 +496,3 @@ written_line live.LinesSpent written given (e, inl f) = cc
 written_line live.LinesSpent written given (e, inr f) = cc
 written_line live.ReadsSpent written given (e, inl f) = cc
 written_line live.ReadsSpent written given (e, inr f) = cc
-
--- ---- where it is known what the reader had
-
-known_written : (outcomes : List ℕ → Outcome) (says : List ℕ → List ℕ) (reads : Option (List ℕ) → Option (List ℕ) → List ℕ → Type 0)
-    (ended : Result Outcome DriveError) (had left held holds : Option (List ℕ)) → IsLiveOf outcomes says reads ended had left held holds
-    → OnOk ended (IfSome had (λ input. Appends held holds (says input)))
-known_written outcomes says reads (Err e) had left held holds i = tt
-known_written outcomes says reads (Ok o) None left held holds i = tt
-known_written outcomes says reads (Ok o) (Some bytes) left held holds i = subst (λ l. Appends held holds (says l)) i.is_input i.written
-
-known_outcome : (outcomes : List ℕ → Outcome) (says : List ℕ → List ℕ) (reads : Option (List ℕ) → Option (List ℕ) → List ℕ → Type 0)
-    (ended : Result Outcome DriveError) (had left held holds : Option (List ℕ)) → IsLiveOf outcomes says reads ended had left held holds
-    → IfOk ended (λ outcome. IfSome had (λ input. outcome ≡ outcomes input))
-known_outcome outcomes says reads (Err e) had left held holds i = tt
-known_outcome outcomes says reads (Ok o) None left held holds i = tt
-known_outcome outcomes says reads (Ok o) (Some bytes) left held holds i = i.outcome_is ∙ ap outcomes i.is_input
-
-known_read : (outcomes : List ℕ → Outcome) (says : List ℕ → List ℕ) (reads : Option (List ℕ) → Option (List ℕ) → List ℕ → Type 0)
-    (ended : Result Outcome DriveError) (had left held holds : Option (List ℕ)) → IsLiveOf outcomes says reads ended had left held holds
-    → OnOk ended (IfSome had (reads had left))
-known_read outcomes says reads (Err e) had left held holds i = tt
-known_read outcomes says reads (Ok o) None left held holds i = tt
-known_read outcomes says reads (Ok o) (Some bytes) left held holds i = subst (reads (Some bytes) left) i.is_input i.read
-
-known_fault : (outcomes : List ℕ → Outcome) (says : List ℕ → List ℕ) (reads : Option (List ℕ) → Option (List ℕ) → List ℕ → Type 0)
-    (ended : Result Outcome DriveError) (had left held holds : Option (List ℕ)) → IsLiveOf outcomes says reads ended had left held holds
-    → IfErr ended (λ e. IfSome had (λ input. LeavesText e held holds (says input)))
-known_fault outcomes says reads (Ok o) had left held holds i = tt
-known_fault outcomes says reads (Err e) None left held holds i = tt
-known_fault outcomes says reads (Err e) (Some bytes) left held holds i = subst (λ l. LeavesText e held holds (says l)) i.is_input i.front
-
-pub conversed : (outcomes : List ℕ → Outcome) (says : List ℕ → List ℕ) (reads : Option (List ℕ) → Option (List ℕ) → List ℕ → Type 0)
-    (ended : Result Outcome DriveError) (had left held holds : Option (List ℕ)) → IsLiveOf outcomes says reads ended had left held holds
-    → Conversed outcomes says reads ended had left held holds
-conversed outcomes says reads ended had left held holds i = record {
-  written = known_written outcomes says reads ended had left held holds i;
-  outcome_is = known_outcome outcomes says reads ended had left held holds i;
-  read = known_read outcomes says reads ended had left held holds i;
-  fault = known_fault outcomes says reads ended had left held holds i;
-  input = i;
-}

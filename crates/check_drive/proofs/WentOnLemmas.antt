@@ -24,25 +24,25 @@ use Rattle.check_script.specs.declared.refusal.ScriptError.{ScriptError}
 use Rattle.check_script.specs.LiveError.{IsSpent, IsWritten, told, told_by}
 use Rattle.check_script.specs.Input.{first_line_of, lines_of}
 use Rattle.check_script.specs.LiveInput.{StopsSoon, behind_line, has_feed}
-use Rattle.check_script.specs.ResumedScript.{in_saved}
-use Rattle.check_script.specs.Script.{in_setup}
+use Rattle.check_script.specs.declared.start.Start.{Start}
+use Rattle.check_script.specs.declared.start.Start.TheVariants as start
+use Rattle.check_script.specs.Script.{Beginning, beginning_of, beginning_over, in_saved, in_setup, resumed_from}
+use Rattle.check_script.proofs.InputLemmas.{behind_fewer}
+use Rattle.check_sched.specs.State.{State, opening}
 use Rattle.check_script.proofs.KeptLemmas.{line_stays}
 use Rattle.check_script.proofs.LiveInputLemmas.{Consumes-none, Consumes-then, behind_none, behind_on, behind_soon, behind_stays, first_all, first_stays}
 use Rattle.check_script.proofs.ScriptLemmas.{length-lines_of}
 use Rattle.check_text.proofs.OutputLemmas.{Appends-none}
-use Rattle.check_text.specs.LiveText.{answers_from, live_from, live_over, live_resumed_over, live_text, live_text_resumed}
-use Rattle.check_text.specs.Text.{refusal_line, resumed_from}
-use Rattle.check_drive.specs.declared.beginning.Beginning.{Beginning}
-use Rattle.check_drive.specs.declared.beginning.Beginning.TheVariants as beginning
+use Rattle.check_text.specs.LiveText.{answers_from, answers_over, live_text}
+use Rattle.check_text.specs.Text.{refusal_line}
 use Rattle.check_drive.specs.declared.drive.Outcome.{Outcome}
 use Rattle.check_drive.specs.declared.drive.Outcome.TheVariants as outcome
 use Rattle.check_drive.specs.Drive.{IsInput, outcome_by}
-use Rattle.check_sched.specs.State.{State, opening}
-use Rattle.check_drive.specs.Live.{AfterAll, AfterLater, AfterLines, HadMany, IsLiveOf, LaterReads, LeavesText, ReadBehind, ReadBy, ReadResumedBy}
-use Rattle.check_drive.specs.Live.{TalkEnded, TalkReads, WentOn, later_outcome, later_text, saved_in, talk_outcome, talk_text}
+use Rattle.check_drive.specs.Streams.{streams}
+use Rattle.check_drive.specs.Live.{AfterAll, AfterLater, AfterLines, Conversed, HadMany, HasReadLive, LeavesText, ReadBy, ReadOver, TalkEnded, TookDocument, WentOn, live_outcome, saved_in}
 use Rattle.check_drive.proofs.DriveLemmas.{front_tells}
 use Rattle.check_drive.proofs.LiveLemmas.{end_input, input_all, input_on, leaves_kept, live_failed}
-use Rattle.check_drive.proofs.LiveLemmas.{behind_few, not_long, refused_stays, rest_input, rest_of, setup_is, setup_refused, written_errs, written_ifs, written_oks}
+use Rattle.check_drive.proofs.LiveLemmas.{not_long, refused_stays, rest_input, rest_of, setup_is, setup_refused, written_errs, written_ifs, written_oks}
 
 -- ---- what is kept of line 2
 
@@ -55,9 +55,8 @@ kept_saved line = front_tells saved_of_text 16777216 KEPT_SAVED_BYTES (Err fault
 -- nothing follows the setup: line 2 has no byte
 pub unfollowed : (hand : List ℕ) (r : Result Saved ScriptError) (left : Option (List ℕ)) → hand ≡ [] → IsAtEnd left
     → Gives (λ saved. saved) r (in_saved (saved_of_text []))
-    → Gives (λ saved. saved) r (saved_in (hand ++ [])) × (false ≡ has_feed (hand ++ [])) × (hand ≡ behind_line (hand ++ []))
-    × (false ≡ false → IsAtEnd left ⊎ (KEPT_SAVED_BYTES ≤ length (hand ++ [])))
-unfollowed hand r left e end g = rw e (g, refl, refl, λ f. inl end)
+    → Gives (λ saved. saved) r (saved_in (hand ++ [])) × TookDocument KEPT_SAVED_BYTES (hand ++ []) false hand left
+unfollowed hand r left e end g = rw e (g, record { follows = refl; hand_is = refl; ended = λ f. inl end })
 
 pub unread : (hand : List ℕ) → hand ≡ [] → StopsSoon KEPT_SAVED_BYTES (hand ++ [])
 unread hand e = rw e (record { at_the_bound = omega arith; at_the_feed = omega arith })
@@ -73,22 +72,19 @@ saved_is : (r : Result Saved SavedFault) (saved : Saved) → in_saved r ≡ Ok s
 saved_is (Ok other) saved e = cc
 saved_is (Err f) saved e = cc
 
-saved_refused : (r : Result Saved SavedFault) (why : InputRefusal) → in_saved r ≡ Err why
-    → (e : SavedFault) × (r ≡ Err e) × (why ≡ refusal.Saved e)
-saved_refused (Ok saved) why h = cc
-saved_refused (Err e) why h = (e, refl, cc)
+-- what a scheduler starts with that continues from this saved state, or its refusal
+abbrev pub from_saved : Option ℕ → Configuration → List ℕ → Result Saved InputRefusal → Result Beginning InputRefusal
+from_saved moment c bytes r = r >>= λ saved. Ok (record { state = resumed_from c saved moment; number = 3; rest = behind_line bytes })
 
-refused_text : (start : Option ℕ) (c : Configuration) (bytes : List ℕ) (why : InputRefusal) → saved_in bytes ≡ Err why
-    → live_resumed_over start (Ok c) bytes ≡ refusal_line why
-refused_text start c bytes why s =
-    let r = saved_refused (saved_of_text (first_line_of bytes)) why s in
-    ap (λ x. live_from start c x (lines_of (behind_line bytes))) r.1 ∙ ap refusal_line (sym r.2)
+over_refused : (moment : Option ℕ) (c : Configuration) (bytes : List ℕ) (why : InputRefusal) → saved_in bytes ≡ Err why
+    → beginning_over (start.Resumed moment) c bytes ≡ Err why
+over_refused moment c bytes why s = ap (from_saved moment c bytes) s
 
-none_text : (start : Option ℕ) (c : Configuration) (saved : Saved) (bytes : List ℕ) → saved_in bytes ≡ Ok saved → has_feed bytes ≡ false
-    → live_resumed_over start (Ok c) bytes ≡ []
-none_text start c saved bytes s free =
-    ap (λ r. live_from start c r (lines_of (behind_line bytes))) (saved_is (saved_of_text (first_line_of bytes)) saved s)
-    ∙ ap (λ l. answers_from (resumed_from c saved start) 3 (lines_of l)) (behind_none bytes free)
+none_text : (moment : Option ℕ) (c : Configuration) (saved : Saved) (bytes : List ℕ) → saved_in bytes ≡ Ok saved → has_feed bytes ≡ false
+    → answers_over (beginning_over (start.Resumed moment) c bytes) ≡ []
+none_text moment c saved bytes s free =
+    ap (λ r. answers_over (from_saved moment c bytes r)) s
+    ∙ ap (λ l. answers_from (resumed_from c saved moment) 3 (lines_of l)) (behind_none bytes free)
 
 saved_stays : (bytes more : List ℕ) → has_feed bytes ≡ true → saved_in (bytes ++ more) ≡ saved_in bytes
 saved_stays bytes more feed = ap (λ l. in_saved (saved_of_text l)) (first_stays bytes more feed)
@@ -109,12 +105,12 @@ pub saved_ends : (bytes : List ℕ) (saved : Saved) (left : Option (List ℕ)) (
     → (follow ≡ false → IsAtEnd left ⊎ (KEPT_SAVED_BYTES ≤ length bytes)) → follow ≡ false → IsAtEnd left
 saved_ends bytes saved left follow s feed ended f = ends_at bytes saved left s (sym feed ∙ f) (ended f)
 
-on_text : (start : Option ℕ) (c : Configuration) (saved : Saved) (bytes more : List ℕ) → saved_in bytes ≡ Ok saved → has_feed bytes ≡ true
-    → live_resumed_over start (Ok c) (bytes ++ more) ≡ answers_from (resumed_from c saved start) 3 (lines_of (behind_line bytes ++ more))
-on_text start c saved bytes more s feed =
-    let there = saved_is (saved_of_text (first_line_of (bytes ++ more))) saved (saved_stays bytes more feed ∙ s) in
-    ap (λ r. live_from start c r (lines_of (behind_line (bytes ++ more)))) there
-    ∙ ap (λ l. answers_from (resumed_from c saved start) 3 (lines_of l)) (behind_stays bytes more feed)
+on_text : (moment : Option ℕ) (c : Configuration) (saved : Saved) (bytes more : List ℕ) → saved_in bytes ≡ Ok saved → has_feed bytes ≡ true
+    → answers_over (beginning_over (start.Resumed moment) c (bytes ++ more))
+    ≡ answers_from (resumed_from c saved moment) 3 (lines_of (behind_line bytes ++ more))
+on_text moment c saved bytes more s feed =
+    ap (λ r. answers_over (from_saved moment c (bytes ++ more) r)) (saved_stays bytes more feed ∙ s)
+    ∙ ap (λ l. answers_from (resumed_from c saved moment) 3 (lines_of l)) (behind_stays bytes more feed)
 
 -- no line feed came where nothing may follow
 never_follows : (may_follow : Bool) (hand part : List ℕ) (had : Option (List ℕ)) → (may_follow ≡ false → part ≡ [])
@@ -134,26 +130,26 @@ never_long may_follow hand part had none end long f =
 -- ---- behind a setup
 
 -- an error before anything was written, where these bytes come
-gone_by : (b : Beginning) (c : Configuration) (may_follow : Bool) (hand coming : List ℕ) (e : LiveError) (had left held holds : Option (List ℕ))
-    → IsInput had coming → (may_follow ≡ false → coming ≡ []) → Keeps held holds → WentOn b c may_follow hand (Err e) had left held holds
-gone_by b c may_follow hand coming e had left held holds input none kept =
-    record { coming = coming; is_input = input; short = none; outcome_is = tt; written = tt; read = tt; front = leaves_kept (told e) held holds _ kept }
+gone_by : (how : Start) (c : Configuration) (may_follow : Bool) (hand coming : List ℕ) (e : LiveError) (had left held holds : Option (List ℕ))
+    → IsInput had coming → (may_follow ≡ false → coming ≡ []) → Keeps held holds → WentOn how c may_follow hand (Err e) (streams had left held holds)
+gone_by how c may_follow hand coming e had left held holds input none kept =
+    record { coming = coming; is_input = input; short = none; outcome_is = tt; written = tt; read = tt; fault = leaves_kept (told e) held holds _ kept }
 
-pub gone_unwritten : (b : Beginning) (c : Configuration) (may_follow : Bool) (hand part : List ℕ) (e : LiveError) (had left held holds : Option (List ℕ))
+pub gone_unwritten : (how : Start) (c : Configuration) (may_follow : Bool) (hand part : List ℕ) (e : LiveError) (had left held holds : Option (List ℕ))
     → Consumes had left part → (may_follow ≡ false → (hand ≡ []) × IsAtEnd had) → Keeps held holds
-    → WentOn b c may_follow hand (Err e) had left held holds
-gone_unwritten b c true hand part e had left held holds read end kept =
-    gone_by b c true hand (part ++ rest_of left) e had left held holds (input_on had left part (rest_of left) read (rest_input left)) (λ f. cc) kept
-gone_unwritten b c false hand part e had left held holds read end kept =
-    gone_by b c false hand [] e had left held holds (end_input had (end refl).1) (λ f. refl) kept
+    → WentOn how c may_follow hand (Err e) (streams had left held holds)
+gone_unwritten how c true hand part e had left held holds read end kept =
+    gone_by how c true hand (part ++ rest_of left) e had left held holds (input_on had left part (rest_of left) read (rest_input left)) (λ f. cc) kept
+gone_unwritten how c false hand part e had left held holds read end kept =
+    gone_by how c false hand [] e had left held holds (end_input had (end refl).1) (λ f. refl) kept
 
 -- what is shown of the lines behind a setup from whose start on a scheduler is spoken to is what is shown of all behind it
-pub gone_opened : (start : ℕ) (c : Configuration) (may_follow : Bool) (hand : List ℕ) (had left held holds : Option (List ℕ)) (r : Result Outcome LiveError)
+pub gone_opened : (moment : ℕ) (c : Configuration) (may_follow : Bool) (hand : List ℕ) (had left held holds : Option (List ℕ)) (r : Result Outcome LiveError)
     → (may_follow ≡ false → (hand ≡ []) × IsAtEnd had) → IfOk r (λ o. o ≡ outcome.Ran)
     → (may_follow ≡ false → (r ≡ Ok outcome.Ran) × (left ≡ had) × (holds ≡ held))
-    → (may_follow ≡ true → TalkEnded 2 (opening c start) hand had left held holds r)
-    → WentOn (beginning.Opened start) c may_follow hand r had left held holds
-gone_opened start c false hand had left held holds r end ran unread lines =
+    → (may_follow ≡ true → TalkEnded 2 (opening c moment) hand (streams had left held holds) r)
+    → WentOn (start.Fresh moment) c may_follow hand r (streams had left held holds)
+gone_opened moment c false hand had left held holds r end ran unread lines =
     let n = unread refl in
     let none = end refl in
     rw (n.0, n.1, n.2, none.0)
@@ -164,11 +160,11 @@ gone_opened start c false hand had left held holds r end ran unread lines =
       outcome_is = refl;
       written = Appends-none held;
       read = Consumes-none had;
-      front = tt;
+      fault = tt;
     })
-gone_opened start c true hand had left held holds r end ran unread lines =
+gone_opened moment c true hand had left held holds r end ran unread lines =
     let t = lines refl in
-    record { coming = t.0; is_input = t.1; short = λ f. cc; outcome_is = ran; written = t.3; read = t.2; front = t.4 }
+    record { coming = t.0; is_input = t.1; short = λ f. cc; outcome_is = ran; written = t.3; read = t.2; fault = t.4 }
 
 -- an input by which what was saved is refused
 pub record Refuses (may_follow : Bool) (hand : List ℕ) (had left : Option (List ℕ)) (why : InputRefusal) : Type 0 where
@@ -206,77 +202,78 @@ refuses may_follow true hand part had left why s read none end feed ended =
 refuses may_follow false hand part had left why s read none end feed ended =
     refuses_by may_follow hand part had left why s read none end (sym feed) (ended refl)
 
-gone_refused_by : (start : Option ℕ) (c : Configuration) (may_follow : Bool) (hand part : List ℕ) (had left held holds : Option (List ℕ))
+gone_refused_by : (moment : Option ℕ) (c : Configuration) (may_follow : Bool) (hand part : List ℕ) (had left held holds : Option (List ℕ))
     (why : InputRefusal) (wrote : Result Outcome DriveError) (r : Result Outcome LiveError)
     → Refuses may_follow hand had left why → Consumes had left part → StopsSoon KEPT_SAVED_BYTES (hand ++ part)
     → IfOk wrote (λ o. o ≡ outcome.Refused) → OnOk wrote (Appends held holds (refusal_line why))
     → IfErr wrote (λ e. LeavesText e held holds (refusal_line why)) → IsWritten r wrote
-    → WentOn (beginning.Saved start) c may_follow hand r had left held holds
-gone_refused_by start c may_follow hand part had left held holds why wrote r z read soon refused written fault w =
+    → WentOn (start.Resumed moment) c may_follow hand r (streams had left held holds)
+gone_refused_by moment c may_follow hand part had left held holds why wrote r z read soon refused written fault w =
     let line = refusal_line why in
-    let text = sym (refused_text start c (hand ++ z.coming) why z.refused) in
+    let over = sym (over_refused moment c (hand ++ z.coming) why z.refused) in
+    let text = ap answers_over over in
     record {
       coming = z.coming;
       is_input = z.is_input;
       short = z.short;
-      outcome_is = subst (λ k. IfOk r (λ o. o ≡ k)) (sym (ap outcome_by z.refused)) (written_ifs r wrote (λ o. o ≡ outcome.Refused) w refused);
+      outcome_is = subst (λ k. IfOk r (λ o. o ≡ k)) (ap outcome_by over) (written_ifs r wrote (λ o. o ≡ outcome.Refused) w refused);
       written = subst (λ l. OnOk r (Appends held holds l)) text (written_oks r wrote (Appends held holds line) w written);
-      read = on_ok_any r (subst (λ q. ReadBehind (λ given. hand ++ given) q had left z.coming) (sym z.refused) (part, read, soon));
-      front = subst (λ l. IfErr r (λ e. LeavesText (told e) held holds l)) text (written_errs r wrote (λ e. LeavesText e held holds line) w fault);
+      read = on_ok_any r (subst (λ q. ReadOver (λ given. hand ++ given) q had left z.coming) over (part, read, soon));
+      fault = subst (λ l. IfErr r (λ e. LeavesText (told e) held holds l)) text (written_errs r wrote (λ e. LeavesText e held holds line) w fault);
     }
 
 -- what is shown of the refusal of what was saved is what is shown of all behind the setup
-pub gone_refused : (start : Option ℕ) (c : Configuration) (may_follow follow : Bool) (hand part : List ℕ) (had left held holds : Option (List ℕ))
+pub gone_refused : (moment : Option ℕ) (c : Configuration) (may_follow follow : Bool) (hand part : List ℕ) (had left held holds : Option (List ℕ))
     (why : InputRefusal) (wrote : Result Outcome DriveError) (r : Result Outcome LiveError)
     → saved_in (hand ++ part) ≡ Err why → Consumes had left part → (may_follow ≡ false → part ≡ [])
     → StopsSoon KEPT_SAVED_BYTES (hand ++ part) → (may_follow ≡ false → (hand ≡ []) × IsAtEnd had) → follow ≡ has_feed (hand ++ part)
     → (follow ≡ false → IsAtEnd left ⊎ (KEPT_SAVED_BYTES ≤ length (hand ++ part)))
     → IfOk wrote (λ o. o ≡ outcome.Refused) → OnOk wrote (Appends held holds (refusal_line why))
     → IfErr wrote (λ e. LeavesText e held holds (refusal_line why)) → IsWritten r wrote
-    → WentOn (beginning.Saved start) c may_follow hand r had left held holds
-gone_refused start c may_follow follow hand part had left held holds why wrote r s read none soon end feed ended refused written fault w =
-    gone_refused_by start c may_follow hand part had left held holds why wrote r
+    → WentOn (start.Resumed moment) c may_follow hand r (streams had left held holds)
+gone_refused moment c may_follow follow hand part had left held holds why wrote r s read none soon end feed ended refused written fault w =
+    gone_refused_by moment c may_follow hand part had left held holds why wrote r
     (refuses may_follow follow hand part had left why s read none end feed ended) read soon refused written fault w
 
 -- what is shown of the lines behind what was saved is what is shown of all behind the setup
-pub gone_answered : (start : Option ℕ) (c : Configuration) (saved : Saved) (may_follow follow : Bool) (hand part : List ℕ)
+pub gone_answered : (moment : Option ℕ) (c : Configuration) (saved : Saved) (may_follow follow : Bool) (hand part : List ℕ)
     (had mid left held holds : Option (List ℕ)) (r : Result Outcome LiveError)
     → saved_in (hand ++ part) ≡ Ok saved → Consumes had mid part → (may_follow ≡ false → part ≡ [])
     → (may_follow ≡ false → (hand ≡ []) × IsAtEnd had) → follow ≡ has_feed (hand ++ part) → (follow ≡ false → IsAtEnd mid)
     → IfOk r (λ o. o ≡ outcome.Ran)
     → (follow ≡ false → (r ≡ Ok outcome.Ran) × (left ≡ mid) × (holds ≡ held))
-    → (follow ≡ true → TalkEnded 3 (resumed_from c saved start) (behind_line (hand ++ part)) mid left held holds r)
-    → WentOn (beginning.Saved start) c may_follow hand r had left held holds
-gone_answered start c saved may_follow false hand part had mid left held holds r s read none end feed ended ran unread lines =
+    → (follow ≡ true → TalkEnded 3 (resumed_from c saved moment) (behind_line (hand ++ part)) (streams mid left held holds) r)
+    → WentOn (start.Resumed moment) c may_follow hand r (streams had left held holds)
+gone_answered moment c saved may_follow false hand part had mid left held holds r s read none end feed ended ran unread lines =
     let n = unread refl in
-    let text = none_text start c saved (hand ++ part) s (sym feed) in
+    let text = none_text moment c saved (hand ++ part) s (sym feed) in
     rw (n.0, n.1, n.2)
     (record {
       coming = part;
       is_input = input_all had mid part read (ended refl);
       short = none;
-      outcome_is = sym (ap outcome_by s);
+      outcome_is = sym (ap (λ r. outcome_by (from_saved moment c (hand ++ part) r)) s);
       written = subst (λ l. Appends held held l) (sym text) (Appends-none held);
-      read = subst (λ q. ReadBehind (λ given. hand ++ given) q had mid part) (sym s) read;
-      front = tt;
+      read = subst (λ q. ReadOver (λ given. hand ++ given) (from_saved moment c (hand ++ part) q) had mid part) (sym s) read;
+      fault = tt;
     })
-gone_answered start c saved may_follow true hand part had mid left held holds (Ok o) s read none end feed ended ran unread lines =
+gone_answered moment c saved may_follow true hand part had mid left held holds (Ok o) s read none end feed ended ran unread lines =
     let t = lines refl in
     let bytes = append_assoc hand part t.0 in
     let stays = ap saved_in (sym bytes) ∙ saved_stays (hand ++ part) t.0 (sym feed) ∙ s in
-    let text = ap (live_resumed_over start (Ok c)) (sym bytes) ∙ on_text start c saved (hand ++ part) t.0 s (sym feed) in
+    let text = ap (λ l. answers_over (beginning_over (start.Resumed moment) c l)) (sym bytes) ∙ on_text moment c saved (hand ++ part) t.0 s (sym feed) in
     record {
       coming = part ++ t.0;
       is_input = input_on had mid part t.0 read t.1;
       short = λ f. absurd (never_follows may_follow hand part had none end (sym feed) f);
-      outcome_is = ran ∙ sym (ap outcome_by stays);
+      outcome_is = ran ∙ sym (ap (λ r. outcome_by (from_saved moment c (hand ++ (part ++ t.0)) r)) stays);
       written = subst (λ l. Appends held holds l) (sym text) t.3;
-      read = subst (λ q. ReadBehind (λ given. hand ++ given) q had left (part ++ t.0)) (sym stays) (Consumes-then had mid left part t.0 read t.2);
-      front = tt;
+      read = subst (λ q. ReadOver (λ given. hand ++ given) (from_saved moment c (hand ++ (part ++ t.0)) q) had left (part ++ t.0)) (sym stays) (Consumes-then had mid left part t.0 read t.2);
+      fault = tt;
     }
-gone_answered start c saved may_follow true hand part had mid left held holds (Err e) s read none end feed ended ran unread lines =
+gone_answered moment c saved may_follow true hand part had mid left held holds (Err e) s read none end feed ended ran unread lines =
     let t = lines refl in
-    let text = ap (live_resumed_over start (Ok c)) (sym (append_assoc hand part t.0)) ∙ on_text start c saved (hand ++ part) t.0 s (sym feed) in
+    let text = ap (λ l. answers_over (beginning_over (start.Resumed moment) c l)) (sym (append_assoc hand part t.0)) ∙ on_text moment c saved (hand ++ part) t.0 s (sym feed) in
     record {
       coming = part ++ t.0;
       is_input = input_on had mid part t.0 read t.1;
@@ -284,7 +281,7 @@ gone_answered start c saved may_follow true hand part had mid left held holds (E
       outcome_is = tt;
       written = tt;
       read = tt;
-      front = subst (λ l. LeavesText (told e) held holds l) (sym text) t.4;
+      fault = subst (λ l. LeavesText (told e) held holds l) (sym text) t.4;
     }
 
 -- ---- the whole
@@ -314,102 +311,93 @@ soon_behind given more true feed soon = rw (behind_stays given more (sym feed)) 
 soon_behind given more false feed soon =
     rw (behind_on given more (sym feed)) (behind_soon KEPT_SAVED_BYTES more (omega arith) (rw (behind_none given (sym feed)) at soon))
 
-read_behind : (r : Result Saved InputRefusal) (had mid left : Option (List ℕ)) (given coming : List ℕ) (whole : Bool) → whole ≡ has_feed given
-    → Consumes had mid given → ReadBehind (λ more. behind_line given ++ more) r mid left coming → ReadBehind behind_line r had left (given ++ coming)
-read_behind (Ok saved) had mid left given coming whole feed read more = Consumes-then had mid left given coming read more
+read_behind : (r : Result Beginning InputRefusal) (had mid left : Option (List ℕ)) (given coming : List ℕ) (whole : Bool) → whole ≡ has_feed given
+    → Consumes had mid given → ReadOver (λ more. behind_line given ++ more) r mid left coming → ReadOver behind_line r had left (given ++ coming)
+read_behind (Ok b) had mid left given coming whole feed read more = Consumes-then had mid left given coming read more
 read_behind (Err e) had mid left given coming whole feed read more =
     (given ++ more.0, Consumes-then had mid left given more.0 read more.1, soon_behind given more.0 whole feed more.2)
 
--- what is said of an input whose setup is this one
-talk_over : (b : Beginning) (c : Configuration) (input behind : List ℕ) → setup_of (first_line_of input) ≡ Ok c → behind_line input ≡ behind
-    → (talk_text b input ≡ later_text b c behind) × (talk_outcome b input ≡ later_outcome b behind)
-unfolding live_text live_text_resumed
-talk_over (beginning.Opened start) c input behind s b = (
-  ap (λ r. live_over start r (lines_of (behind_line input))) s ∙ ap (λ l. answers_from (opening c start) 2 (lines_of l)) b,
-  ap (λ r. outcome_by (in_setup r)) s,
-)
-talk_over (beginning.Saved start) c input behind s b = (
-  ap (λ r. live_resumed_over start r (behind_line input)) s ∙ ap (live_resumed_over start (Ok c)) b,
-  ap (λ r. outcome_by (in_setup r >>= λ d. saved_in (behind_line input))) s ∙ ap (λ l. outcome_by (saved_in l)) b,
-)
+-- an input whose setup is this one
+live_over : (how : Start) (c : Configuration) (input behind : List ℕ) → setup_of (first_line_of input) ≡ Ok c → behind_line input ≡ behind
+    → beginning_of how input ≡ beginning_over how c behind
+live_over how c input behind s b = ap (λ r. in_setup r >>= λ d. beginning_over how d (behind_line input)) s ∙ ap (beginning_over how c) b
 
-talk_read : (b : Beginning) (c : Configuration) (given coming : List ℕ) (had mid left : Option (List ℕ)) (whole : Bool) → whole ≡ has_feed given
+text_over : (how : Start) (input : List ℕ) (r : Result Beginning InputRefusal) → beginning_of how input ≡ r → live_text how input ≡ answers_over r
+unfolding live_text
+text_over how input r e = ap answers_over e
+
+live_read : (how : Start) (c : Configuration) (given coming : List ℕ) (had mid left : Option (List ℕ)) (whole : Bool) → whole ≡ has_feed given
     → setup_of (first_line_of (given ++ coming)) ≡ Ok c → behind_line (given ++ coming) ≡ behind_line given ++ coming → Consumes had mid given
-    → LaterReads b (behind_line given) mid left coming → TalkReads b had left (given ++ coming)
-talk_read (beginning.Opened start) c given coming had mid left whole feed s b read later =
-    subst (λ q. ReadBy q had left (given ++ coming)) (sym s) (Consumes-then had mid left given coming read later)
-talk_read (beginning.Saved start) c given coming had mid left whole feed s b read later =
-    subst (λ q. ReadResumedBy q had left (given ++ coming)) (sym s)
-    (subst (λ l. ReadBehind behind_line (saved_in l) had left (given ++ coming)) (sym b)
-    (read_behind (saved_in (behind_line given ++ coming)) had mid left given coming whole feed read later))
+    → ReadOver (λ more. behind_line given ++ more) (beginning_over how c (behind_line given ++ coming)) mid left coming
+    → HasReadLive how had left (given ++ coming)
+live_read how c given coming had mid left whole feed s b read later =
+    subst (λ q. ReadBy how q had left (given ++ coming)) (sym s)
+    (subst (λ l. ReadOver behind_line (beginning_over how c l) had left (given ++ coming)) (sym b)
+    (read_behind (beginning_over how c (behind_line given ++ coming)) had mid left given coming whole feed read later))
 
 -- what is shown of all behind a setup is what is shown of the whole
-pub whole_gone : (b : Beginning) (c : Configuration) (given : List ℕ) (had mid left held holds : Option (List ℕ)) (whole : Bool)
+pub whole_gone : (how : Start) (c : Configuration) (given : List ℕ) (had mid left held holds : Option (List ℕ)) (whole : Bool)
     (r : Result Outcome LiveError)
     → in_setup (setup_of (first_line_of given)) ≡ Ok c → whole ≡ has_feed given → Consumes had mid given
-    → WentOn b c whole (behind_line given) r mid left held holds → IsLiveOf (talk_outcome b) (talk_text b) (TalkReads b) (told_by r) had left held holds
-whole_gone b c given had mid left held holds whole (Ok o) s feed read w =
+    → WentOn how c whole (behind_line given) r (streams mid left held holds) → Conversed how (told_by r) (streams had left held holds)
+whole_gone how c given had mid left held holds whole (Ok o) s feed read w =
     let input = given ++ w.coming in
     let parts = parts_stay given w.coming whole feed w.short in
     let setup = ap setup_of parts.0 ∙ setup_is (setup_of (first_line_of given)) c s in
-    let says = talk_over b c input (behind_line given ++ w.coming) setup parts.1 in
+    let over = live_over how c input (behind_line given ++ w.coming) setup parts.1 in
     record {
       input = input;
       is_input = input_on had mid given w.coming read w.is_input;
-      outcome_is = w.outcome_is ∙ sym says.1;
-      written = subst (Appends held holds) (sym says.0) w.written;
-      read = talk_read b c given w.coming had mid left whole feed setup parts.1 read w.read;
-      front = tt;
+      outcome_is = w.outcome_is ∙ sym (ap outcome_by over);
+      written = subst (Appends held holds) (sym (text_over how input _ over)) w.written;
+      read = live_read how c given w.coming had mid left whole feed setup parts.1 read w.read;
+      fault = tt;
     }
-whole_gone b c given had mid left held holds whole (Err e) s feed read w =
+whole_gone how c given had mid left held holds whole (Err e) s feed read w =
     let input = given ++ w.coming in
     let parts = parts_stay given w.coming whole feed w.short in
     let setup = ap setup_of parts.0 ∙ setup_is (setup_of (first_line_of given)) c s in
-    let says = talk_over b c input (behind_line given ++ w.coming) setup parts.1 in
-    live_failed (talk_outcome b) (talk_text b) (TalkReads b) (told e) had left held holds input
-    (input_on had mid given w.coming read w.is_input) (subst (LeavesText (told e) held holds) (sym says.0) w.front)
+    let over = live_over how c input (behind_line given ++ w.coming) setup parts.1 in
+    live_failed how (told e) had left held holds input
+    (input_on had mid given w.coming read w.is_input) (subst (LeavesText (told e) held holds) (sym (text_over how input _ over)) w.fault)
 
 -- ---- a refused setup
 
-talk_refused : (b : Beginning) (input : List ℕ) (e : LoadError) → setup_of (first_line_of input) ≡ Err e
-    → (talk_text b input ≡ refusal_line (refusal.Setup e)) × (talk_outcome b input ≡ outcome.Refused)
-unfolding live_text live_text_resumed
-talk_refused (beginning.Opened start) input e s =
-    (ap (λ r. live_over start r (lines_of (behind_line input))) s, ap (λ r. outcome_by (in_setup r)) s)
-talk_refused (beginning.Saved start) input e s =
-    (ap (λ r. live_resumed_over start r (behind_line input)) s, ap (λ r. outcome_by (in_setup r >>= λ d. saved_in (behind_line input))) s)
+begins_refused : (how : Start) (input : List ℕ) (e : LoadError) → setup_of (first_line_of input) ≡ Err e
+    → beginning_of how input ≡ Err (refusal.Setup e)
+begins_refused how input e s = ap (λ r. in_setup r >>= λ d. beginning_over how d (behind_line input)) s
 
-refusal_read : (b : Beginning) (input given : List ℕ) (e : LoadError) (had left : Option (List ℕ)) → setup_of (first_line_of input) ≡ Err e
-    → Consumes had left given → StopsSoon KEPT_SETUP_BYTES given → TalkReads b had left input
-refusal_read (beginning.Opened start) input given e had left s read soon = rw s (given, read, soon)
-refusal_read (beginning.Saved start) input given e had left s read soon = rw s (given, read, soon)
+refusal_read : (how : Start) (input given : List ℕ) (e : LoadError) (had left : Option (List ℕ)) → setup_of (first_line_of input) ≡ Err e
+    → Consumes had left given → StopsSoon KEPT_SETUP_BYTES given → HasReadLive how had left input
+refusal_read how input given e had left s read soon = rw s (given, read, soon)
 
 -- what is shown of a setup's refusal is what is shown of the whole
-pub setup_refusal : (b : Beginning) (given : List ℕ) (had left held holds : Option (List ℕ)) (why : InputRefusal) (whole : Bool)
+pub setup_refusal : (how : Start) (given : List ℕ) (had left held holds : Option (List ℕ)) (why : InputRefusal) (whole : Bool)
     (r : Result Outcome DriveError)
     → in_setup (setup_of (first_line_of given)) ≡ Err why → Consumes had left given → StopsSoon KEPT_SETUP_BYTES given → whole ≡ has_feed given
     → (whole ≡ false → IsAtEnd left ⊎ (KEPT_SETUP_BYTES ≤ length given)) → IfOk r (λ o. o ≡ outcome.Refused)
     → OnOk r (Appends held holds (refusal_line why)) → IfErr r (λ e. LeavesText e held holds (refusal_line why))
-    → IsLiveOf (talk_outcome b) (talk_text b) (TalkReads b) r had left held holds
-setup_refusal b given had left held holds why whole (Ok o) s read soon feed end refused wrote f =
+    → Conversed how r (streams had left held holds)
+setup_refusal how given had left held holds why whole (Ok o) s read soon feed end refused wrote f =
     let no = setup_refused (setup_of (first_line_of given)) why s in
     let input = given ++ rest_of left in
     let setup = refused_stays given left whole feed end ∙ no.1 in
-    let says = talk_refused b input no.0 setup in
+    let over = begins_refused how input no.0 setup in
     record {
       input = input;
       is_input = input_on had left given (rest_of left) read (rest_input left);
-      outcome_is = refused ∙ sym says.1;
-      written = subst (Appends held holds) (ap refusal_line no.2 ∙ sym says.0) wrote;
-      read = refusal_read b input given no.0 had left setup read soon;
-      front = tt;
+      outcome_is = refused ∙ sym (ap outcome_by over);
+      written = subst (Appends held holds) (ap refusal_line no.2 ∙ sym (text_over how input _ over)) wrote;
+      read = refusal_read how input given no.0 had left setup read soon;
+      fault = tt;
     }
-setup_refusal b given had left held holds why whole (Err e) s read soon feed end refused wrote f =
+setup_refusal how given had left held holds why whole (Err e) s read soon feed end refused wrote f =
     let no = setup_refused (setup_of (first_line_of given)) why s in
     let input = given ++ rest_of left in
-    let says = talk_refused b input no.0 (refused_stays given left whole feed end ∙ no.1) in
-    live_failed (talk_outcome b) (talk_text b) (TalkReads b) e had left held holds input
-    (input_on had left given (rest_of left) read (rest_input left)) (subst (LeavesText e held holds) (ap refusal_line no.2 ∙ sym says.0) f)
+    let over = begins_refused how input no.0 (refused_stays given left whole feed end ∙ no.1) in
+    live_failed how e had left held holds input
+    (input_on had left given (rest_of left) read (rest_input left))
+    (subst (LeavesText e held holds) (ap refusal_line no.2 ∙ sym (text_over how input _ over)) f)
 
 -- ---- a loop that is spent
 
@@ -418,7 +406,7 @@ memory_later e hand had left is = λ s. absurd (subst IsSpent is s)
 
 -- each line that was answered has a byte at least
 lines_many : (e : LiveError) (begins : ℕ) (first : State) (hand : List ℕ) (had left held holds : Option (List ℕ))
-    → AfterLines begins first hand had left held holds e → IsSpent e → HadMany (2 ^ 64 - 1 - begins) hand had left
+    → AfterLines begins first hand (streams had left held holds) e → IsSpent e → HadMany (2 ^ 64 - 1 - begins) hand had left
 lines_many (live.Reader fault) begins first hand had left held holds a s = absurd s
 lines_many live.Writer begins first hand had left held holds a s = absurd s
 lines_many live.Memory begins first hand had left held holds a s = absurd s
@@ -431,7 +419,7 @@ lines_many live.LinesSpent begins first hand had left held holds a s =
 lines_many live.ReadsSpent begins first hand had left held holds g s = (g.0, g.1, omega (arith, g.2))
 
 pub opened_later : {T : Type 0} (r : Result T LiveError) (first : State) (hand : List ℕ) (had left held holds : Option (List ℕ))
-    → IfErr r (AfterLines 2 first hand had left held holds) → IfErr r (AfterLater hand had left)
+    → IfErr r (AfterLines 2 first hand (streams had left held holds)) → IfErr r (AfterLater hand had left)
 opened_later (Ok x) first hand had left held holds h = tt
 opened_later (Err e) first hand had left held holds h = λ s.
     let many = lines_many e 2 first hand had left held holds h s in (many.0, many.1, omega (arith, many.2))
@@ -447,7 +435,7 @@ behind_less (b ∷ bs) feed =
 
 -- the loops behind a saved state whose line feed was given
 lines_later : (e : LiveError) (first : State) (hand part : List ℕ) (had mid left held holds : Option (List ℕ)) → has_feed (hand ++ part) ≡ true
-    → Consumes had mid part → AfterLines 3 first (behind_line (hand ++ part)) mid left held holds e → AfterLater hand had left e
+    → Consumes had mid part → AfterLines 3 first (behind_line (hand ++ part)) (streams mid left held holds) e → AfterLater hand had left e
 lines_later e first hand part had mid left held holds feed read a = λ s.
     let many = lines_many e 3 first (behind_line (hand ++ part)) mid left held holds a s in
     let all = length-append part many.0 in
@@ -457,7 +445,7 @@ lines_later e first hand part had mid left held holds feed read a = λ s.
 
 pub answered_later : {T : Type 0} (r : Result T LiveError) (x : T) (first : State) (hand part : List ℕ) (had mid left held holds : Option (List ℕ)) (follow : Bool)
     → follow ≡ has_feed (hand ++ part) → Consumes had mid part → (follow ≡ false → r ≡ Ok x)
-    → IfErr r (AfterLines 3 first (behind_line (hand ++ part)) mid left held holds) → IfErr r (AfterLater hand had left)
+    → IfErr r (AfterLines 3 first (behind_line (hand ++ part)) (streams mid left held holds)) → IfErr r (AfterLater hand had left)
 answered_later (Ok y) x first hand part had mid left held holds follow feed read none h = tt
 answered_later (Err e) x first hand part had mid left held holds false feed read none h = let clash = none refl in cc
 answered_later (Err e) x first hand part had mid left held holds true feed read none h =
@@ -468,7 +456,7 @@ later_spends : (e : LiveError) (given : List ℕ) (had mid left : Option (List �
     → AfterLater (behind_line given) mid left e → AfterAll had left e
 later_spends e given had mid left read h = λ s.
     let all = h s in
-    let few = behind_few given in
+    let few = behind_fewer given in
     let sizes = length-append given all.0 in
     (given ++ all.0, Consumes-then had mid left given all.0 read all.1, omega (arith, few, sizes, all.2))
 

@@ -1,4 +1,4 @@
-pub mod Beginning
 pub mod Cut
 pub mod Drive
 pub mod Live
+pub mod Streams

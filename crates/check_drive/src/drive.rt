@@ -1,15 +1,14 @@
 //! A run: reads an input, carries out its commands on one scheduler, and writes the lines of the answers.
 ghost use Rattle.std.specs.Prelude.{◌≡◌, ◌≢◌, ◌≤◌, IfOk, IfErr, string_capacity};
 ghost use Rattle.check_sched.specs.Step.{step};
-ghost use Rattle.check_script.specs.Agreement.{Gives};
+ghost use Rattle.check_script.specs.Start.{CanStart};
 ghost use Rattle.check_text.specs.Text.{answer_line, line_from, state_by, text, text_from};
 ghost use Rattle.check_text.specs.Written.{IsLineWritten, IsTextWritten};
-ghost use Rattle.check_drive.specs.Beginning.{CanBegin, begun_by, begun_text};
-ghost use Rattle.check_drive.specs.Drive.{Drove, outcome_by, outcome_of, run_outcome, run_text};
+ghost use Rattle.check_drive.specs.Drive.{Drove, outcome_of};
+ghost use Rattle.check_drive.specs.Streams.{streams};
 
-use crate::beginning::{Beginning, open, resume};
 use check_sched::{Call, LAST_MOMENT, Sched};
-use check_script::{DriveError, ResumedScript, RunCommand, Script, ScriptError, read_input};
+use check_script::{DriveError, MAX_READ_BYTES, RunCommand, Script, Start, read_at_most};
 use check_text::{REPLY_BYTES, flush, push_reply, write_refusal, write_saved, write_text};
 use std::alloc::Global;
 use std::io::{Read, Write};
@@ -25,11 +24,31 @@ pub enum Outcome {
     Refused,
 }
 
-/// Reads a setup and a script, checks every line, then makes the calls on one scheduler that starts
-/// at the moment `start`, in milliseconds, and writes the line of each reply. The command `save` is no
-/// call: it is answered by the line of what is saved of the scheduler, and changes nothing. An input
+/// Makes the calls of a script on a scheduler that starts fresh at the moment `start`, in milliseconds.
+/// It is [`run`] with this start.
+pub fn drive<R: Read, W: Write>(
+    alloc: Global,
+    start: u64,
+    reader: &mut R,
+    writer: &mut W,
+) -> Result<Outcome, DriveError>
+    requires { start ≤ LAST_MOMENT }
+    ensures { Drove (Start.Fresh start) result
+        (streams (R.remaining reader.old) (R.remaining reader.new)
+        (W.contents writer.old) (W.contents writer.new)) }
+{
+    run(alloc, Start::Fresh(start), reader, writer)
+}
+
+/// Reads a setup, a saved state if the scheduler starts from one, and a script, checks every line, then
+/// makes the calls on one scheduler that starts so, and writes the line of each reply. The command `save`
+/// is no call: it is answered by the line of the scheduler's saved state, and changes nothing. An input
 /// that is refused writes the line of its first refusal and nothing else. The writer is flushed once, at
 /// the end.
+///
+/// Line 1 is the setup. A saved state is line 2, whatever its length, as the line `saved` has it after that
+/// word. The first refusal is that of the input's length, then of the setup, then of the saved state, then
+/// of the lines in their order.
 ///
 /// The input is read whole, but no more than 67,108,865 bytes of it. Any error of the reader or the
 /// writer, an interruption among them, and a write that takes no byte, ends the run: `Read` comes
@@ -39,80 +58,41 @@ pub enum Outcome {
 ///
 /// Input, text and commands are our own profile. The rules of the calls are those of check_sched, after the
 /// chapters of the Nagios Core 4 manual that it names.
-pub fn drive<R: Read, W: Write>(
+pub fn run<R: Read, W: Write>(
     alloc: Global,
-    start: u64,
+    start: Start,
     reader: &mut R,
     writer: &mut W,
 ) -> Result<Outcome, DriveError>
-    requires { start ≤ LAST_MOMENT }
-    ensures { Drove outcome_of (text start) result (R.remaining reader.old) (R.remaining reader.new)
-        (W.contents writer.old) (W.contents writer.new) }
+    requires { CanStart start }
+    ensures { Drove start result
+        (streams (R.remaining reader.old) (R.remaining reader.new)
+        (W.contents writer.old) (W.contents writer.new)) }
 {
-    drive_from(alloc, Beginning::Opened(start), reader, writer)
-}
-
-/// A run, whatever its scheduler begins with.
-pub(crate) fn drive_from<R: Read, W: Write>(
-    alloc: Global,
-    beginning: Beginning,
-    reader: &mut R,
-    writer: &mut W,
-) -> Result<Outcome, DriveError>
-    requires { CanBegin beginning }
-    ensures { Drove (run_outcome beginning) (run_text beginning) result
-        (R.remaining reader.old) (R.remaining reader.new)
-        (W.contents writer.old) (W.contents writer.new) }
-{
-    let input = read_input(alloc, reader)?;
-    let outcome = answer(alloc, beginning, &input, writer)?;
+    let input = read_at_most(alloc, reader, MAX_READ_BYTES)?;
+    let outcome = answer(alloc, start, &input, writer)?;
     flush(writer)?;
     Ok(outcome)
 }
 
 /// Writes the text of an input that was read.
+#[tactic(auto, unfolding(check_text::specs::Text::text, crate::specs::Drive::outcome_of))]
 fn answer<W: Write>(
     alloc: Global,
-    beginning: Beginning,
+    start: Start,
     input: &[u8],
     writer: &mut W,
 ) -> Result<Outcome, DriveError>
-    requires { CanBegin beginning }
+    requires { CanStart start }
     ensures wrote { IsTextWritten result (W.contents writer.old) (W.contents writer.new)
-        (begun_text (begun_by beginning input.now)) }
-    ensures outcome { IfOk result (λ outcome.
-        outcome ≡ outcome_by (begun_by beginning input.now)) }
+        (text start input.now) }
+    ensures outcome { IfOk result (λ outcome. outcome ≡ outcome_of start input.now) }
 {
-    match begin(alloc, beginning, input) {
-        Ok((sched, commands)) => carry_out(alloc, sched, &commands, writer),
+    match Script::read(alloc, start, input) {
+        Ok(Script { sched, commands }) => carry_out(alloc, sched, &commands, writer),
         Err(error) => {
             write_refusal(alloc, error.refusal()?, writer)?;
             Ok(Outcome::Refused)
-        }
-    }
-}
-
-/// The scheduler of a run on an input, and the commands of the input, or its first refusal.
-fn begin(
-    alloc: Global,
-    beginning: Beginning,
-    input: &[u8],
-) -> Result<(Sched, Vec<RunCommand>), ScriptError>
-    requires { CanBegin beginning }
-    ensures { Gives (λ begun. (begun.0, begun.1.items)) result (begun_by beginning input.now) }
-{
-    match beginning {
-        Beginning::Opened(start) => {
-            let Script { setup, commands } = Script::read(alloc, input)?;
-            Ok((open(alloc, setup, start)?, commands))
-        }
-        Beginning::Saved(start) => {
-            let ResumedScript {
-                setup,
-                saved,
-                commands,
-            } = ResumedScript::read(alloc, input)?;
-            Ok((resume(alloc, setup, &saved, start)?, commands))
         }
     }
 }

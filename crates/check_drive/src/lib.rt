@@ -4,18 +4,15 @@
 //!
 //! `drive` is a run: an input is read by `check_script`, its calls are made, and the lines are made and
 //! written by `check_text`. `live` is a conversation, whose lines `live_lines` takes one at a time, and
-//! whose errors `live_faults` converts. `drive_resumed` and `live_resumed` are the same of a scheduler
-//! that goes on from what was saved of another; `beginning` has what a scheduler begins with. `laws` says
-//! what a run that is cut and gone on from writes.
+//! whose errors `live_faults` converts. Both start their scheduler fresh or from a saved state, as `Start`
+//! of `check_script` says. `laws` says what two runs write of which the second continues from the saved
+//! state of the first.
 //!
 //! These are public, since a function `drive` and a module of that name can't stand side by side at the
 //! root.
 
-pub mod beginning;
 pub mod drive;
-pub mod drive_resumed;
 pub mod laws;
 pub mod live;
 mod live_faults;
 mod live_lines;
-pub mod live_resumed;

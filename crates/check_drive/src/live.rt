@@ -3,39 +3,41 @@ ghost use Rattle.std.specs.Prelude.{◌≡◌, ◌≢◌, ◌≤◌, ◌++◌, �
 ghost use Rattle.std.specs.Io.KnownBytes.{Appends, Consumes, IsAtEnd, Keeps};
 ghost use Rattle.check_objects.specs.Setup.{setup_of};
 ghost use Rattle.check_script.specs.Agreement.{Gives};
-ghost use Rattle.check_script.specs.Input.{first_line_of, lines_of};
+ghost use Rattle.check_script.specs.Input.{first_line_of};
 ghost use Rattle.check_script.specs.LiveError.{AfterLine, AfterReads, told, told_by};
 ghost use Rattle.check_script.specs.LiveInput.{StopsSoon, behind_line, front_of, has_feed};
 ghost use Rattle.check_script.specs.Script.{in_setup};
-ghost use Rattle.check_text.specs.LiveText.{answer_to, answers_from, live_text, said, state_after};
+ghost use Rattle.check_script.specs.Start.{CanStart};
+ghost use Rattle.check_text.specs.LiveText.{answer_to, said, state_after};
 ghost use Rattle.check_text.specs.Text.{refusal_line};
-ghost use Rattle.check_drive.specs.Beginning.{CanBegin};
-ghost use Rattle.check_drive.specs.Drive.{IsInput};
-ghost use Rattle.check_drive.specs.Live.{AfterAll, AfterLater, AfterLines, Conversed, HasReadLive, IsLiveOf, LeavesText};
-ghost use Rattle.check_drive.specs.Live.{TalkEnded, TalkReads, WentOn, live_outcome, saved_in, talk_outcome, talk_text};
+ghost use Rattle.check_drive.specs.Live.{AfterAll, AfterLater, AfterLines, AnsweredNext, Conversed, LeavesText, LineFailed, TalkEnded, TookDocument, WentOn, saved_in};
+ghost use Rattle.check_drive.specs.Streams.{streams};
 
-use crate::beginning::{Beginning, open, resume};
 use crate::drive::{Outcome, answer_command};
 use crate::live_faults::{as_told, as_written};
 use crate::live_lines::take_next_line;
 use check_objects::Setup;
 use check_saved::Saved;
-use check_sched::{LAST_MOMENT, Sched};
+use check_sched::Sched;
 use check_script::{
     ASKED_BYTES, DriveError, InputBuffer, InputRefusal, KEPT_LINE_BYTES, KEPT_SAVED_BYTES,
-    KEPT_SETUP_BYTES, KeptLine, LiveError, RunCommand, ScriptError, read_kept, read_saved,
-    read_setup, take_document,
+    KEPT_SETUP_BYTES, KeptLine, LiveError, RunCommand, ScriptError, Start, open, read_kept,
+    read_saved, read_setup, resume, take_document,
 };
 use check_text::{REPLY_BYTES, flush, write_refusal};
 use std::alloc::{AllocError, Global};
 use std::io::{Read, Write};
 
-/// Reads a setup, opens a scheduler at the moment `start`, in milliseconds, and then answers each
-/// line when it is complete: its line feed has come, or the input has ended behind it. A call is
-/// made and the line of its reply written; the command `save` is answered by the line of what is saved
-/// of the scheduler, and changes nothing; a line that is no command is answered with the line of its
-/// refusal, and the scheduler stays as it was; a blank line is passed over. A refused setup writes
-/// the line of its refusal, and ends the conversation.
+/// Reads a setup, and a saved state if the scheduler starts from one, starts the scheduler, and then
+/// answers each line when it is complete: its line feed has come, or the input has ended behind it. A call
+/// is made and the line of its reply written; the command `save` is answered by the line of the scheduler's
+/// saved state, and changes nothing; a line that is no command is answered with the line of its refusal,
+/// and the scheduler stays as it was; a blank line is passed over.
+///
+/// Line 1 is the setup. A refused setup writes the line of its refusal, and ends the conversation before
+/// more is asked for. A saved state is line 2, as the line `saved` has it after that word. If it is refused,
+/// it ends the conversation likewise: when its line has come, or as soon as it has more than 16,777,216
+/// bytes. Otherwise line 2 has no answer then.
 ///
 /// What was written is flushed before the reader is asked for more, and at the end. A reader is asked
 /// for more only where no whole line is at hand. Of line 1 no more is kept than 16,777,217 bytes, and
@@ -51,72 +53,73 @@ use std::io::{Read, Write};
 /// chapters of the Nagios Core 4 manual that it names.
 pub fn live<R: Read, W: Write>(
     alloc: Global,
-    start: u64,
+    start: Start,
     reader: &mut R,
     writer: &mut W,
 ) -> Result<Outcome, DriveError>
-    requires start { start ≤ LAST_MOMENT }
-    ensures { Conversed live_outcome (live_text start) HasReadLive result
-        (R.remaining reader.old) (R.remaining reader.new)
-        (W.contents writer.old) (W.contents writer.new) }
+    requires { CanStart start }
+    ensures { Conversed start result
+        (streams (R.remaining reader.old) (R.remaining reader.new)
+        (W.contents writer.old) (W.contents writer.new)) }
 {
-    as_told(converse(alloc, Beginning::Opened(start), reader, writer))
+    as_told(converse(alloc, start, reader, writer))
 }
 
-/// A conversation, whatever its scheduler begins with. A loop is spent only where 2^64 - 3 bytes were
-/// given.
-pub(crate) fn converse<R: Read, W: Write>(
+/// A conversation, which tells a loop that is spent from a fault of the reader: a loop is spent only where
+/// 2^64 - 3 bytes were given.
+fn converse<R: Read, W: Write>(
     alloc: Global,
-    beginning: Beginning,
+    start: Start,
     reader: &mut R,
     writer: &mut W,
 ) -> Result<Outcome, LiveError>
-    requires { CanBegin beginning }
-    ensures input { IsLiveOf (talk_outcome beginning) (talk_text beginning) (TalkReads beginning)
-        (told_by result) (R.remaining reader.old) (R.remaining reader.new)
-        (W.contents writer.old) (W.contents writer.new) }
+    requires { CanStart start }
+    ensures conversed { Conversed start (told_by result)
+        (streams (R.remaining reader.old) (R.remaining reader.new)
+        (W.contents writer.old) (W.contents writer.new)) }
     ensures spent { IfErr result (AfterAll (R.remaining reader.old) (R.remaining reader.new)) }
 {
     let mut at_hand = InputBuffer::new(alloc);
     let (setup, whole) = read_first(alloc, &mut at_hand, reader)?;
     match setup {
-        Ok(setup) => go_on(alloc, beginning, setup, whole, at_hand, reader, writer),
+        Ok(setup) => go_on(alloc, start, setup, whole, at_hand, reader, writer),
         Err(ScriptError::Refused(refusal)) => as_written(refuse(alloc, refusal, writer)),
         Err(ScriptError::Memory) => Err(LiveError::Memory),
     }
 }
 
-/// Goes on behind a setup: answers the lines behind it, or reads what was saved and answers the lines
-/// behind that. Nothing is read where nothing may follow the setup. A loop is spent only where 2^64 - 3
-/// bytes were at hand or were given.
+/// Goes on after a setup: starts the scheduler, which may take a saved state, and answers the lines for it.
+/// Nothing is read where nothing may follow the setup. A loop is spent only where 2^64 - 3 bytes were at
+/// hand or were given.
 fn go_on<R: Read, W: Write>(
     alloc: Global,
-    beginning: Beginning,
+    start: Start,
     setup: Setup,
     may_follow: bool,
     at_hand: InputBuffer,
     reader: &mut R,
     writer: &mut W,
 ) -> Result<Outcome, LiveError>
-    requires beginning { CanBegin beginning }
+    requires start { CanStart start }
     requires end { may_follow ≡ false → (at_hand ≡ []) × IsAtEnd (R.remaining reader.old) }
     requires few { length at_hand ≤ ASKED_BYTES }
-    ensures went_on { WentOn beginning setup may_follow at_hand result (R.remaining reader.old)
-        (R.remaining reader.new) (W.contents writer.old) (W.contents writer.new) }
+    ensures went_on { WentOn start setup may_follow at_hand result
+        (streams (R.remaining reader.old) (R.remaining reader.new)
+        (W.contents writer.old) (W.contents writer.new)) }
     ensures spent { IfErr result
         (AfterLater at_hand (R.remaining reader.old) (R.remaining reader.new)) }
 {
     let mut at_hand = at_hand;
-    match beginning {
-        Beginning::Opened(start) => {
-            let mut talk = Talk::new(alloc, open(alloc, setup, start)?, at_hand)?;
+    match start {
+        Start::Fresh(moment) => {
+            let mut talk = Talk::new(alloc, open(alloc, setup, moment)?, at_hand)?;
             talk.answer_all(alloc, 2, may_follow, reader, writer)
         }
-        Beginning::Saved(start) => {
+        Start::Resumed(moment) => {
             let (saved, follow) = take_saved(alloc, may_follow, &mut at_hand, reader)?;
             match saved {
                 Ok(saved) => {
-                    let sched = resume(alloc, setup, &saved, start)?;
+                    let sched = resume(alloc, setup, &saved, moment)?;
                     let mut talk = Talk::new(alloc, sched, at_hand)?;
                     talk.answer_all(alloc, 3, follow, reader, writer)
                 }
@@ -127,7 +130,7 @@ fn go_on<R: Read, W: Write>(
     }
 }
 
-/// Writes the line of the refusal of a setup, or of what was saved, and flushes the writer.
+/// Writes the line of the refusal of a setup or of a saved state, and flushes the writer.
 fn refuse<W: Write>(
     alloc: Global,
     refusal: InputRefusal,
@@ -157,9 +160,7 @@ fn read_first<R: Read>(
         × StopsSoon KEPT_SETUP_BYTES given
         × IfOk result (λ first.
         Gives (λ setup. setup) first.0 (in_setup (setup_of (first_line_of given)))
-        × (first.1 ≡ has_feed given) × (at_hand.new ≡ behind_line given)
-        × (first.1 ≡ false
-        → IsAtEnd (R.remaining reader.new) ⊎ (KEPT_SETUP_BYTES ≤ length given)))
+        × TookDocument KEPT_SETUP_BYTES given first.1 at_hand.new (R.remaining reader.new))
         × IfErr result (AfterReads given) }
 {
     let mut document = KeptLine::new(alloc, KEPT_SETUP_BYTES);
@@ -167,7 +168,7 @@ fn read_first<R: Read>(
     Ok((read_setup(alloc, document.bytes()), whole))
 }
 
-/// What was saved, by line 2, or its refusal, and whether lines may follow. Where nothing may follow the
+/// The saved state of line 2, or its refusal, and whether lines may follow. Where nothing may follow the
 /// setup, line 2 has no byte, and nothing is read. Where the whole line is at hand the reader isn't asked.
 /// Before this line nothing was written, so nothing is flushed.
 fn take_saved<R: Read>(
@@ -184,10 +185,8 @@ fn take_saved<R: Read>(
         × StopsSoon KEPT_SAVED_BYTES (at_hand.old ++ given)
         × IfOk result (λ second.
         Gives (λ saved. saved) second.0 (saved_in (at_hand.old ++ given))
-        × (second.1 ≡ has_feed (at_hand.old ++ given))
-        × (at_hand.new ≡ behind_line (at_hand.old ++ given))
-        × (second.1 ≡ false → IsAtEnd (R.remaining reader.new)
-        ⊎ (KEPT_SAVED_BYTES ≤ length (at_hand.old ++ given))))
+        × TookDocument KEPT_SAVED_BYTES (at_hand.old ++ given) second.1 at_hand.new
+        (R.remaining reader.new))
         × IfErr result (AfterReads given) }
     ensures unasked { has_feed at_hand.old ≡ true → reader.new ≡ reader.old }
 {
@@ -244,11 +243,11 @@ impl Talk {
             × (R.remaining reader.new ≡ R.remaining reader.old)
             × (W.contents writer.new ≡ W.contents writer.old) }
         ensures lines { may_follow ≡ true → TalkEnded begins self.old.sched self.old.at_hand
-            (R.remaining reader.old) (R.remaining reader.new)
-            (W.contents writer.old) (W.contents writer.new) result }
+            (streams (R.remaining reader.old) (R.remaining reader.new)
+            (W.contents writer.old) (W.contents writer.new)) result }
         ensures spent { IfErr result (AfterLines begins self.old.sched self.old.at_hand
-            (R.remaining reader.old) (R.remaining reader.new)
-            (W.contents writer.old) (W.contents writer.new)) }
+            (streams (R.remaining reader.old) (R.remaining reader.new)
+            (W.contents writer.old) (W.contents writer.new))) }
     {
         if may_follow {
             self.answer_lines(alloc, begins, reader, writer)?;
@@ -269,11 +268,11 @@ impl Talk {
             × (REPLY_BYTES ≤ string_capacity self.old.reply) }
         requires begins { begins ≤ 3 }
         ensures lines { TalkEnded begins self.old.sched self.old.at_hand
-            (R.remaining reader.old) (R.remaining reader.new)
-            (W.contents writer.old) (W.contents writer.new) result }
+            (streams (R.remaining reader.old) (R.remaining reader.new)
+            (W.contents writer.old) (W.contents writer.new)) result }
         ensures spent { IfErr result (AfterLines begins self.old.sched self.old.at_hand
-            (R.remaining reader.old) (R.remaining reader.new)
-            (W.contents writer.old) (W.contents writer.new)) }
+            (streams (R.remaining reader.old) (R.remaining reader.new)
+            (W.contents writer.old) (W.contents writer.new))) }
     {
         for number in begins..usize::MAX {
             if !self.answer_next(alloc, number, reader, writer)? {
@@ -297,21 +296,15 @@ impl Talk {
             × (REPLY_BYTES ≤ string_capacity self.old.reply) }
         ensures took { (given : List ℕ)
             × Consumes (R.remaining reader.old) (R.remaining reader.new) given
-            × IfOk result (λ more. (more ≡ has_feed (self.old.at_hand ++ given))
-            × (more ≡ false → IsAtEnd (R.remaining reader.new))
-            × (self.new.at_hand ≡ behind_line (self.old.at_hand ++ given))
-            × (self.new.sched ≡ state_after self.old.sched
-            (said self.old.sched number (first_line_of (self.old.at_hand ++ given))))
-            × Appends (W.contents writer.old) (W.contents writer.new) (answer_to self.old.sched
-            (said self.old.sched number (first_line_of (self.old.at_hand ++ given)))))
+            × IfOk result (λ more. AnsweredNext self.old.sched number (self.old.at_hand ++ given) more
+            (R.remaining reader.new) self.new.sched self.new.at_hand
+            (W.contents writer.old) (W.contents writer.new))
             × IfErr result (AfterLine given) }
         ensures unasked { has_feed self.old.at_hand ≡ true → reader.new ≡ reader.old }
         ensures line { OnOk result (self.new.line.most ≡ KEPT_LINE_BYTES) }
         ensures room { REPLY_BYTES ≤ string_capacity self.new.reply }
-        ensures fault { IfErr result (λ e. (coming : List ℕ)
-            × IsInput (R.remaining reader.old) coming
-            × LeavesText (told e) (W.contents writer.old) (W.contents writer.new)
-            (answers_from self.old.sched number (lines_of (self.old.at_hand ++ coming)))) }
+        ensures fault { IfErr result (λ e. LineFailed self.old.sched number self.old.at_hand
+            (R.remaining reader.old) (W.contents writer.old) (W.contents writer.new) (told e)) }
         ensures memory { IfErr result (λ e. e ≡ LiveError.Memory
             → (self.new.sched ≡ self.old.sched)
             × Keeps (W.contents writer.old) (W.contents writer.new)) }

@@ -5,3 +5,4 @@ pub mod ShownLemmas
 pub mod KeyLemmas
 pub mod LineLemmas
 pub mod NumberLemmas
+pub mod GrowthLemmas

@@ -1,5 +1,5 @@
 -- The explanation of a fault, over the tree of the document that has it.
-use Rattle.std.specs.Prelude.{◌≡◌, ℕ, true, false, Bool, List, ◌++◌, Option, Some, None, codes, decimal, if◌then◌else◌}
+use Rattle.std.specs.Prelude.{◌≡◌, ℕ, true, false, Bool, List, ◌++◌, Option, Some, None, codes, decimal}
 use Rattle.serde_json.specs.Data.{Data, null}
 use Rattle.check_drafts.specs.declared.fault.Fault as declared
 use Rattle.check_drafts.specs.declared.fault.Fault.TheVariants as faults

@@ -8,3 +8,4 @@ pub mod Counts
 pub mod Cycles
 pub mod Explanation
 pub mod Numbers
+pub mod Schema

@@ -1,5 +1,5 @@
 -- How faults of names are explained: a bad name, a repeated one, and the name of an object that isn't there.
-use Rattle.std.specs.Prelude.{ℕ, ◌==◌, List, ◌++◌, Option, Some, None, codes, decimal, option_and_then, if◌then◌else◌}
+use Rattle.std.specs.Prelude.{ℕ, ◌==◌, List, ◌++◌, Option, Some, codes, decimal, option_and_then, if◌then◌else◌}
 use Rattle.serde_json.specs.Data.{Data}
 use Rattle.serde_json.specs.Find.{as_str, at, get}
 use Rattle.check_drafts.specs.declared.fault.End.{End}

@@ -1,16 +1,31 @@
-//! JSON text that is laid out: a member a line, indented by two spaces for each object around it.
+//! JSON text that is laid out: one line per member, indented by two spaces for each object around it.
+ghost use Rattle.std.specs.Prelude.{◌≡◌, ◌++◌, IfOk, OnOk, string_bytes};
+ghost use Rattle.json.specs.Print.{quoted};
+ghost use Rattle.check_explain.specs.Schema.{Has};
+ghost use Rattle.check_explain.specs.Shapes.{Begins};
 
 use itoa::Buffer;
+use serde_json::Value;
 use std::alloc::{AllocError, Global};
+use std::marker::Model;
 
-/// A JSON object that is being written, member by member.
+/// A JSON object that is being written, member by member. Contracts see the bytes so far.
 #[derive(Drop)]
 pub(crate) struct Layout {
+    alloc: Global,
     text: String,
-    /// How many objects and lists are open.
+    /// How many objects are open.
     depth: usize,
     /// Whether the innermost one has a member already.
     has_member: bool,
+}
+
+impl Model for Layout {
+    ghost use Rattle.std.specs.Prelude.{List, ℕ, string_bytes};
+
+    ghost Value = { List ℕ };
+
+    ghost view = { λ layout. string_bytes layout.text };
 }
 
 impl Layout {
@@ -19,91 +34,110 @@ impl Layout {
         let mut text = String::new(alloc);
         text.push_str("{")?;
         Ok(Layout {
+            alloc,
             text,
             depth: 1,
             has_member: false,
         })
     }
 
-    /// The text, of which the outermost object is closed, with a line feed behind it.
-    pub(crate) fn into_text(self) -> Result<String, AllocError> {
+    /// The text, with the outermost object closed and a line feed at its end.
+    pub(crate) fn into_text(self) -> Result<String, AllocError>
+        ensures { IfOk result (λ text. Begins self (string_bytes text)) }
+    {
         let mut text = self.text;
         text.push_str("\n}\n")?;
         Ok(text)
     }
 
     /// Begins a line.
-    fn begin_line(&mut self) -> Result<(), AllocError> {
-        self.text.push_str("\n")?;
+    fn begin_line(&mut self) -> Result<(), AllocError>
+        ensures { OnOk result (Begins self.old self.new) }
+    {
+        self.push_json("\n")?;
         for _ in 0..self.depth {
-            self.text.push_str("  ")?;
+            self.push_json("  ")?;
         }
         Ok(())
     }
 
     /// Begins a member, by its name.
-    pub(crate) fn begin(&mut self, name: &str) -> Result<(), AllocError> {
+    pub(crate) fn begin(&mut self, name: &str) -> Result<(), AllocError>
+        ensures grows { OnOk result (Begins self.old self.new) }
+        ensures named { OnOk result (Has (quoted name.now) self.new) }
+    {
         if self.has_member {
-            self.text.push_str(",")?;
+            self.push_json(",")?;
         }
-        self.begin_line()?;
         self.has_member = true;
+        self.begin_line()?;
         self.push_quoted(name)?;
-        self.text.push_str(": ")
+        self.push_json(": ")
     }
 
     /// Appends JSON as it is.
-    pub(crate) fn push_json(&mut self, json: &str) -> Result<(), AllocError> {
+    pub(crate) fn push_json(&mut self, json: &str) -> Result<(), AllocError>
+        ensures { OnOk result (self.new ≡ self.old ++ json.now) }
+    {
         self.text.push_str(json)
     }
 
     /// Appends a number.
-    pub(crate) fn push_number(&mut self, number: u64) -> Result<(), AllocError> {
+    pub(crate) fn push_number(&mut self, number: u64) -> Result<(), AllocError>
+        ensures { OnOk result (Begins self.old self.new) }
+    {
         let mut buffer = Buffer::new();
-        self.text.push_str(buffer.format(number))
+        self.push_json(buffer.format(number))
     }
 
     /// Appends a text as a JSON string.
-    pub(crate) fn push_quoted(&mut self, text: &str) -> Result<(), AllocError> {
-        self.text.push_str("\"")?;
-        for character in text.chars() {
-            if character == '"' || character == '\\' {
-                self.text.push('\\')?;
-            }
-            self.text.push(character)?;
-        }
-        self.text.push_str("\"")
+    pub(crate) fn push_quoted(&mut self, text: &str) -> Result<(), AllocError>
+        ensures { OnOk result (self.new ≡ self.old ++ quoted text.now) }
+    {
+        let value = Value::String(String::from_str(self.alloc, text)?);
+        let json = value.to_string(self.alloc)?;
+        self.push_json(json.as_str())
     }
 
     /// A member whose value is JSON as it is.
-    pub(crate) fn json(&mut self, name: &str, json: &str) -> Result<(), AllocError> {
+    pub(crate) fn json(&mut self, name: &str, json: &str) -> Result<(), AllocError>
+        ensures { OnOk result (Begins self.old self.new) }
+    {
         self.begin(name)?;
         self.push_json(json)
     }
 
     /// A member whose value is a number.
-    pub(crate) fn number(&mut self, name: &str, number: u64) -> Result<(), AllocError> {
+    pub(crate) fn number(&mut self, name: &str, number: u64) -> Result<(), AllocError>
+        ensures { OnOk result (Begins self.old self.new) }
+    {
         self.begin(name)?;
         self.push_number(number)
     }
 
     /// A member whose value is a text.
-    pub(crate) fn text(&mut self, name: &str, text: &str) -> Result<(), AllocError> {
+    pub(crate) fn text(&mut self, name: &str, text: &str) -> Result<(), AllocError>
+        ensures { OnOk result (Begins self.old self.new) }
+    {
         self.begin(name)?;
         self.push_quoted(text)
     }
 
     /// Opens a member whose value is an object.
-    pub(crate) fn open(&mut self, name: &str) -> Result<(), AllocError> {
+    pub(crate) fn open(&mut self, name: &str) -> Result<(), AllocError>
+        ensures grows { OnOk result (Begins self.old self.new) }
+        ensures named { OnOk result (Has (quoted name.now) self.new) }
+    {
         self.begin(name)?;
-        self.push_json("{")?;
         self.depth = self.depth.saturating_add(1);
         self.has_member = false;
-        Ok(())
+        self.push_json("{")
     }
 
     /// Closes the innermost object.
-    pub(crate) fn close(&mut self) -> Result<(), AllocError> {
+    pub(crate) fn close(&mut self) -> Result<(), AllocError>
+        ensures { OnOk result (Begins self.old self.new) }
+    {
         self.depth = self.depth.saturating_sub(1);
         self.has_member = true;
         self.begin_line()?;

@@ -1,11 +1,19 @@
 //! The JSON schema of a setup document, from the table of its members.
+ghost use Rattle.std.specs.Prelude.{IfOk, OnOk, map, string_bytes, ◌≡◌};
+ghost use Rattle.check_drafts.specs.Member.{as_row};
+ghost use Rattle.check_drafts.specs.Members.{document_members};
+ghost use Rattle.check_explain.specs.Schema.{inner_members, NamesAll, NamesEach, NamesInner};
+ghost use Rattle.check_explain.specs.Shapes.{Begins};
 
 use crate::layout::Layout;
 use crate::names::name_member;
-use check_drafts::members::DOCUMENT_MEMBERS;
+use check_drafts::members::{
+    DOCUMENT_MEMBERS, HOST_DEPENDENCY_MEMBERS, HOST_MEMBERS, OPTION_MEMBERS,
+    SERVICE_DEPENDENCY_MEMBERS, SERVICE_MEMBERS,
+};
 use check_drafts::{
     DefaultValue, HOST_LETTERS, Kind, MAX_DEPENDENCIES, MAX_NAME_BYTES, MAX_OBJECTS, MAX_PARENTS,
-    Member, Part, Place, SERVICE_LETTERS, members_at,
+    Member, Part, SERVICE_LETTERS,
 };
 use std::alloc::{AllocError, Global};
 
@@ -19,38 +27,55 @@ together, and 16384 dependencies of both sorts together; a whole number is writt
 or sign (1.0, 1e2 and -0 pass here and are refused); a lone surrogate in a text is refused.";
 
 /// Writes the JSON schema, of draft 2020-12, of a setup document: the members that each object may
-/// have, with their kinds, limits and defaults, as the table of members has them. The one error is that
-/// memory ran out. (Our own profile.)
-pub fn write_schema(alloc: Global) -> Result<String, AllocError> {
+/// have, with their kinds, limits and defaults, from the table of members. It names each member of the
+/// table. The one error is that memory ran out. (Our own profile.)
+pub fn write_schema(alloc: Global) -> Result<String, AllocError>
+    ensures names { IfOk result (λ text. NamesAll document_members (string_bytes text)) }
+{
     let mut layout = Layout::new(alloc)?;
     layout.text("$schema", "https://json-schema.org/draft/2020-12/schema")?;
     layout.text("title", "Setup of nagsched")?;
     layout.text("description", DESCRIPTION)?;
-    push_document(&mut layout)?;
+    push_object(&mut layout, &[])?;
+    layout.open("properties")?;
+    push_parts(&mut layout, &DOCUMENT_MEMBERS)?;
+    layout.close()?;
     layout.into_text()
 }
 
-/// Writes what the document is.
-fn push_document(layout: &mut Layout) -> Result<(), AllocError> {
-    push_object(layout, &[])?;
-    layout.open("properties")?;
-    for member in &DOCUMENT_MEMBERS {
-        if let Kind::Part(part) = member.kind {
-            layout.open(member.name)?;
-            push_part(layout, part, member.purpose)?;
-            layout.close()?;
-        }
+/// Writes what each of these parts of the document is.
+fn push_parts(layout: &mut Layout, members: &[Member]) -> Result<(), AllocError>
+    ensures { OnOk result (NamesAll (map as_row members.now) layout.new) }
+{
+    for member in members {
+        layout.open(member.name)?;
+        push_part_kind(layout, *member)?;
+        layout.close()?;
     }
-    layout.close()
+    Ok(())
+}
+
+/// Writes what a part of the document is.
+fn push_part_kind(layout: &mut Layout, member: Member) -> Result<(), AllocError>
+    ensures grows { OnOk result (Begins layout.old layout.new) }
+    ensures names { OnOk result (NamesInner member.kind layout.new) }
+{
+    match member.kind {
+        Kind::Part(part) => push_part(layout, part, member.purpose),
+        _ => Ok(()),
+    }
 }
 
 /// Writes what a part of the document is: its options, or a list of objects.
-fn push_part(layout: &mut Layout, part: Part, purpose: &str) -> Result<(), AllocError> {
+fn push_part(layout: &mut Layout, part: Part, purpose: &str) -> Result<(), AllocError>
+    ensures grows { OnOk result (Begins layout.old layout.new) }
+    ensures names { OnOk result (NamesEach (inner_members part) layout.new) }
+{
     layout.text("description", purpose)?;
     match part {
         Part::Document | Part::Options => {
             layout.json("default", "{}")?;
-            push_members(layout, part, None)
+            push_members(layout, part, inner_members(part))
         }
         Part::Hosts | Part::Services => push_list(layout, part, MAX_OBJECTS),
         Part::ServiceDependencies | Part::HostDependencies => push_list(
@@ -61,34 +86,60 @@ fn push_part(layout: &mut Layout, part: Part, purpose: &str) -> Result<(), Alloc
     }
 }
 
+/// The members of the options, or of the objects in a list.
+fn inner_members(part: Part) -> &'static [Member]
+    ensures { map as_row result.now ≡ inner_members part }
+{
+    match part {
+        Part::Document => &[],
+        Part::Options => &OPTION_MEMBERS,
+        Part::Hosts => &HOST_MEMBERS,
+        Part::Services => &SERVICE_MEMBERS,
+        Part::ServiceDependencies => &SERVICE_DEPENDENCY_MEMBERS,
+        Part::HostDependencies => &HOST_DEPENDENCY_MEMBERS,
+    }
+}
+
 /// Writes what a list of the document is.
-fn push_list(layout: &mut Layout, part: Part, most: usize) -> Result<(), AllocError> {
+fn push_list(layout: &mut Layout, part: Part, most: usize) -> Result<(), AllocError>
+    ensures grows { OnOk result (Begins layout.old layout.new) }
+    ensures names { OnOk result (NamesEach (inner_members part) layout.new) }
+{
     layout.text("type", "array")?;
     layout.number("maxItems", most as u64)?;
     layout.json("default", "[]")?;
     layout.open("items")?;
-    push_members(layout, part, Some(0))?;
+    push_members(layout, part, inner_members(part))?;
     layout.close()
 }
 
 /// Writes what an object of this part is: its members.
-fn push_members(layout: &mut Layout, part: Part, index: Option<usize>) -> Result<(), AllocError> {
-    let members = match members_at(Place { part, index }) {
-        Some(members) => members,
-        None => &[],
-    };
+fn push_members(layout: &mut Layout, part: Part, members: &[Member]) -> Result<(), AllocError>
+    ensures grows { OnOk result (Begins layout.old layout.new) }
+    ensures names { OnOk result (NamesEach (map as_row members.now) layout.new) }
+{
     push_object(layout, members)?;
     layout.open("properties")?;
+    push_each(layout, part, members)?;
+    layout.close()
+}
+
+fn push_each(layout: &mut Layout, part: Part, members: &[Member]) -> Result<(), AllocError>
+    ensures grows { OnOk result (Begins layout.old layout.new) }
+    ensures names { OnOk result (NamesEach (map as_row members.now) layout.new) }
+{
     for member in members {
         layout.open(member.name)?;
         push_member(layout, part, *member)?;
         layout.close()?;
     }
-    layout.close()
+    Ok(())
 }
 
 /// Writes that something is an object, and which of these members it has to have.
-fn push_object(layout: &mut Layout, members: &[Member]) -> Result<(), AllocError> {
+fn push_object(layout: &mut Layout, members: &[Member]) -> Result<(), AllocError>
+    ensures { OnOk result (Begins layout.old layout.new) }
+{
     layout.text("type", "object")?;
     layout.json("additionalProperties", "false")?;
     if members.iter().any(|member| member.is_required()) {
@@ -97,21 +148,32 @@ fn push_object(layout: &mut Layout, members: &[Member]) -> Result<(), AllocError
     Ok(())
 }
 
-fn push_required(layout: &mut Layout, members: &[Member]) -> Result<(), AllocError> {
+fn push_required(layout: &mut Layout, members: &[Member]) -> Result<(), AllocError>
+    ensures { OnOk result (Begins layout.old layout.new) }
+{
     layout.begin("required")?;
-    let mut between = "[";
+    let mut is_first = true;
     for member in members {
         if member.is_required() {
-            layout.push_json(between)?;
-            layout.push_quoted(member.name)?;
-            between = ", ";
+            push_item(layout, is_first, member.name)?;
+            is_first = false;
         }
     }
     layout.push_json("]")
 }
 
+/// Writes a text of a list.
+fn push_item(layout: &mut Layout, is_first: bool, text: &str) -> Result<(), AllocError>
+    ensures { OnOk result (Begins layout.old layout.new) }
+{
+    layout.push_json(if is_first { "[" } else { ", " })?;
+    layout.push_quoted(text)
+}
+
 /// Writes what a member is: its kind with its limits, its default, and what it is for.
-fn push_member(layout: &mut Layout, part: Part, member: Member) -> Result<(), AllocError> {
+fn push_member(layout: &mut Layout, part: Part, member: Member) -> Result<(), AllocError>
+    ensures { OnOk result (Begins layout.old layout.new) }
+{
     push_kind(layout, member.kind, member.name == name_member(part))?;
     if let Some(default) = member.default {
         push_default(layout, default, member.kind)?;
@@ -119,7 +181,9 @@ fn push_member(layout: &mut Layout, part: Part, member: Member) -> Result<(), Al
     layout.text("description", member.purpose)
 }
 
-fn push_default(layout: &mut Layout, default: DefaultValue, kind: Kind) -> Result<(), AllocError> {
+fn push_default(layout: &mut Layout, default: DefaultValue, kind: Kind) -> Result<(), AllocError>
+    ensures { OnOk result (Begins layout.old layout.new) }
+{
     match (default, kind) {
         (DefaultValue::Number(number), _) => layout.number("default", number),
         (DefaultValue::Switch(true), _) => layout.json("default", "true"),
@@ -131,7 +195,9 @@ fn push_default(layout: &mut Layout, default: DefaultValue, kind: Kind) -> Resul
 }
 
 /// Writes which values are of a kind, and of a text whether it has to be a name.
-fn push_kind(layout: &mut Layout, kind: Kind, is_name: bool) -> Result<(), AllocError> {
+fn push_kind(layout: &mut Layout, kind: Kind, is_name: bool) -> Result<(), AllocError>
+    ensures { OnOk result (Begins layout.old layout.new) }
+{
     match kind {
         Kind::Part(_) => Ok(()),
         Kind::Text => push_text(layout, is_name),
@@ -145,7 +211,9 @@ fn push_kind(layout: &mut Layout, kind: Kind, is_name: bool) -> Result<(), Alloc
     }
 }
 
-fn push_text(layout: &mut Layout, is_name: bool) -> Result<(), AllocError> {
+fn push_text(layout: &mut Layout, is_name: bool) -> Result<(), AllocError>
+    ensures { OnOk result (Begins layout.old layout.new) }
+{
     layout.text("type", "string")?;
     if is_name {
         layout.number("minLength", 1)?;
@@ -155,49 +223,84 @@ fn push_text(layout: &mut Layout, is_name: bool) -> Result<(), AllocError> {
     Ok(())
 }
 
-fn push_texts(layout: &mut Layout) -> Result<(), AllocError> {
+fn push_texts(layout: &mut Layout) -> Result<(), AllocError>
+    ensures { OnOk result (Begins layout.old layout.new) }
+{
     layout.text("type", "array")?;
     layout.number("maxItems", MAX_PARENTS as u64)?;
     layout.json("items", "{\"type\": \"string\"}")
 }
 
-fn push_number(layout: &mut Layout, low: u64, high: u64) -> Result<(), AllocError> {
+fn push_number(layout: &mut Layout, low: u64, high: u64) -> Result<(), AllocError>
+    ensures { OnOk result (Begins layout.old layout.new) }
+{
     layout.text("type", "integer")?;
     layout.number("minimum", low)?;
     layout.number("maximum", high)
 }
 
 /// Writes that a value is one of these words or a number within the limits of its kind.
-fn push_word_or_number(layout: &mut Layout, words: &str, kind: Kind) -> Result<(), AllocError> {
+fn push_word_or_number(layout: &mut Layout, words: &str, kind: Kind) -> Result<(), AllocError>
+    ensures { OnOk result (Begins layout.old layout.new) }
+{
     layout.begin("anyOf")?;
     layout.push_json("[")?;
     layout.push_json(words)?;
-    if let Some((low, high)) = kind.limits() {
-        layout.push_json(", {\"type\": \"integer\", \"minimum\": ")?;
-        layout.push_number(low)?;
-        layout.push_json(", \"maximum\": ")?;
-        layout.push_number(high)?;
-        layout.push_json("}")?;
-    }
+    push_limits(layout, kind)?;
     layout.push_json("]")
 }
 
+fn push_limits(layout: &mut Layout, kind: Kind) -> Result<(), AllocError>
+    ensures { OnOk result (Begins layout.old layout.new) }
+{
+    match kind.limits() {
+        Some((low, high)) => push_between(layout, low, high),
+        None => Ok(()),
+    }
+}
+
+fn push_between(layout: &mut Layout, low: u64, high: u64) -> Result<(), AllocError>
+    ensures { OnOk result (Begins layout.old layout.new) }
+{
+    layout.push_json(", {\"type\": \"integer\", \"minimum\": ")?;
+    layout.push_number(low)?;
+    layout.push_json(", \"maximum\": ")?;
+    layout.push_number(high)?;
+    layout.push_json("}")
+}
+
 /// Writes that a text has these letters, with one comma between two.
-fn push_letters(layout: &mut Layout, letters: &[&str]) -> Result<(), AllocError> {
+fn push_letters(layout: &mut Layout, letters: &[&str]) -> Result<(), AllocError>
+    ensures { OnOk result (Begins layout.old layout.new) }
+{
     layout.text("type", "string")?;
+    push_pattern(layout, letters)?;
+    push_others(layout, letters)
+}
+
+fn push_pattern(layout: &mut Layout, letters: &[&str]) -> Result<(), AllocError>
+    ensures { OnOk result (Begins layout.old layout.new) }
+{
     layout.begin("pattern")?;
-    layout.push_json("\"^[")?;
-    push_all(layout, letters)?;
-    layout.push_json("](,[")?;
-    push_all(layout, letters)?;
-    layout.push_json("])*$\"")?;
+    push_all(layout, "\"^[", letters)?;
+    push_all(layout, "](,[", letters)?;
+    layout.push_json("])*$\"")
+}
+
+/// Writes that a text has nothing else.
+fn push_others(layout: &mut Layout, letters: &[&str]) -> Result<(), AllocError>
+    ensures { OnOk result (Begins layout.old layout.new) }
+{
     layout.begin("not")?;
-    layout.push_json("{\"pattern\": \"[^")?;
-    push_all(layout, letters)?;
+    push_all(layout, "{\"pattern\": \"[^", letters)?;
     layout.push_json(",]\"}")
 }
 
-fn push_all(layout: &mut Layout, letters: &[&str]) -> Result<(), AllocError> {
+/// Appends JSON as it is, and these letters.
+fn push_all(layout: &mut Layout, json: &str, letters: &[&str]) -> Result<(), AllocError>
+    ensures { OnOk result (Begins layout.old layout.new) }
+{
+    layout.push_json(json)?;
     for letter in letters {
         layout.push_json(letter)?;
     }

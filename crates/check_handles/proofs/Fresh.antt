@@ -1,20 +1,25 @@
 -- Passes that have made no call.
-use Rattle.std.proofs.Common.{◌≡◌, ℕ, ◌+◌, ◌<◌, ◌++◌, List, [], ◌∷◌, length, length-append, set, drop, get_or, refl, ap, ◌∙◌, subst, arith}
+use Rattle.std.proofs.Common.{◌≡◌, ℕ, ◌+◌, ◌<◌, ◌++◌, List, [], ◌∷◌, length, length-append, set, drop, get_or, Some, refl, sym, ap, suc, ◌∙◌, subst, arith}
 use Rattle.std.specs.List.{All}
 use Rattle.std.proofs.lemmas.List.{get_or_append_left, drop-set}
 use Rattle.std.proofs.Math.Seq.{get_or-append_seam}
 use Rattle.std.proofs.lemmas.List.Elements.{All-cons, All-nil}
+use Rattle.std_alloc.specs.Arc.{arc_value}
+use Rattle.check_book.specs.BookState.{BookState}
 use Rattle.ticket_lock.specs.Callers.{Caller, joined}
 use Rattle.check_sched.specs.declared.call.Call.{Call}
 use Rattle.check_sched.specs.declared.call.Reply.{Reply}
 use Rattle.check_desk.specs.declared.desk.Desk.{Desk}
 use Rattle.check_desk.specs.declared.passes.Pass.{Pass}
-use Rattle.check_desk.specs.Desks.{AreNewPassesWith, IsPassOf}
-use Rattle.check_desk.specs.Passes.{new_pass_with, pass_of}
+use Rattle.check_desk.specs.Desks.{opened_with, passes_of, AreNewPassesWith, IsPassOf}
 use Rattle.check_handles.specs.declared.handle.Handle.{Handle}
+use Rattle.check_handles.specs.declared.opening.Terms.{Terms}
 use Rattle.check_handles.specs.declared.shared.Shared.{Shared}
+use Rattle.check_handles.specs.declared.target.HandleTarget.{HandleTarget}
+use Rattle.check_handles.specs.declared.target.HandleTarget.TheVariants as target
 use Rattle.check_handles.specs.Handles.{contents_of}
-use Rattle.check_handles.specs.Opening.{ArePassesFrom, IsFreshPassOf, IsNewPass}
+use Rattle.check_handles.specs.Opening.{IsFreshPassOf, IsOpenedWith}
+use Rattle.check_handles.specs.Seats.{HasPass, HavePasses, IsSeatFor, IsSeatOf, IsTaken}
 
 -- ---- passes put together
 
@@ -41,19 +46,6 @@ last_too P old new x is all = subst P (ap (λ xs. get_or xs (length new) x) is �
 
 -- ---- new passes
 
--- the last of new passes has the last number
-new_last : (calls : ℕ) (desk : Desk) (n : ℕ) (ps : List Pass) (p : Pass) → AreNewPassesWith calls desk n (ps ++ p ∷ [])
-    → AreNewPassesWith calls desk n ps × IsPassOf desk p × (pass_of p ≡ new_pass_with calls (n + length ps))
-new_last calls desk n [] p new = (tt, new.0, new.1 ∙ ap (new_pass_with calls) (omega arith))
-new_last calls desk n (q ∷ ps) p new =
-    let rest = new_last calls desk (n + 1) ps p new.2 in ((new.0, new.1, rest.0), rest.1, rest.2 ∙ ap (new_pass_with calls) (omega arith))
-
-pub new_popped : (calls : ℕ) (desk : Desk) (old new : List Pass) (p : Pass) → old ≡ new ++ p ∷ [] → AreNewPassesWith calls desk 0 old
-    → AreNewPassesWith calls desk 0 new × IsPassOf desk p × (pass_of p ≡ new_pass_with calls (length new))
-new_popped calls desk old new p is all =
-    let last = new_last calls desk 0 new p (subst (AreNewPassesWith calls desk 0) is all) in
-    (last.0, last.1, last.2 ∙ ap (new_pass_with calls) (let s : 0 + length new ≡ length new = omega arith in s))
-
 pub fresh_all : (calls : ℕ) (desk : Desk) (n : ℕ) (ps : List Pass) → AreNewPassesWith calls desk n ps → All (IsFreshPassOf desk) ps
 fresh_all calls desk n [] new = All-nil (IsFreshPassOf desk)
 fresh_all calls desk n (p ∷ ps) new =
@@ -67,6 +59,46 @@ fresh_all calls desk n (p ∷ ps) new =
 
 -- ---- passes that are handed out one after another, from the last on
 
-pub seated : (calls : ℕ) (desk : Shared) (i : ℕ) (h : Handle) (hs : List Handle) → i < length hs → IsNewPass calls desk i (contents_of h)
-    → ArePassesFrom calls desk (i + 1) (drop (i + 1) hs) → ArePassesFrom calls desk i (drop i (set hs i h))
-seated calls desk i h hs less new rest = rw (drop-set hs i h less) (new, rest)
+-- a seat of this desk is one for the passes of the desk
+pub seat_for : (desk : Shared) (pass : Pass) (seat : HandleTarget) → IsSeatOf desk seat → IsPassOf desk.desk pass → IsSeatFor pass seat
+seat_for desk pass (target.Pass place) of own = subst (λ (d : Shared). IsPassOf d.desk pass) (sym of) own
+seat_for desk pass target.Nothing of own = absurd of
+seat_for desk pass (target.Setup named) of own = absurd of
+seat_for desk pass (target.Book named) of own = absurd of
+seat_for desk pass (target.History entries) of own = absurd of
+
+-- and with such a pass it has the pass
+pub seated : (desk : Shared) (pass : Pass) (seat taken : HandleTarget) → IsSeatOf desk seat → IsTaken pass seat taken → HasPass desk pass (Some taken)
+seated desk pass (target.Pass place) (target.Pass filled) of has = (ap arc_value has.0 ∙ of, has.1)
+seated desk pass (target.Pass place) target.Nothing of has = absurd has
+seated desk pass (target.Pass place) (target.Setup named) of has = absurd has
+seated desk pass (target.Pass place) (target.Book named) of has = absurd has
+seated desk pass (target.Pass place) (target.History entries) of has = absurd has
+seated desk pass target.Nothing taken of has = absurd of
+seated desk pass (target.Setup named) taken of has = absurd of
+seated desk pass (target.Book named) taken of has = absurd of
+seated desk pass (target.History entries) taken of has = absurd of
+
+-- one pass more, in the handle before the others
+pub handed : (desk : Shared) (i : ℕ) (p : Pass) (h : Handle) (ps : List Pass) (hs : List Handle) → i < length hs → HasPass desk p (contents_of h)
+    → HavePasses desk ps (drop (i + 1) hs) → HavePasses desk (p ∷ ps) (drop i (set hs i h))
+handed desk i p h ps hs less has rest = rw (drop-set hs i h less) (has, rest)
+
+same_length : (desk : Shared) (ps : List Pass) (hs : List Handle) → HavePasses desk ps hs → length ps ≡ length hs
+same_length desk [] [] has = refl
+same_length desk [] (h ∷ hs) has = absurd has
+same_length desk (p ∷ ps) [] has = absurd has
+same_length desk (p ∷ ps) (h ∷ hs) has = ap suc (same_length desk ps hs has.1)
+
+-- they are the passes of a desk that opened with this state on these terms
+pub opened : (terms : Terms) (opening : BookState) (desk : Shared) (ps : List Pass) (hs : List Handle) → desk.mark ≡ terms.mark
+    → opened_with desk.desk ≡ opening → passes_of desk.desk ≡ length ps → AreNewPassesWith terms.calls desk.desk 0 ps → HavePasses desk ps hs → IsOpenedWith terms opening hs
+opened terms opening desk ps hs marked with all new has = record {
+  shared = desk;
+  marked = marked;
+  opened = with;
+  all = all ∙ same_length desk ps hs has;
+  passes = ps;
+  new = new;
+  seated = has;
+}

@@ -7,14 +7,14 @@ use Rattle.check_desk.specs.declared.desk.Desk.{Desk}
 use Rattle.check_desk.specs.declared.passes.Pass.{Pass}
 use Rattle.check_desk.specs.declared.passes.Turn.{Turn}
 use Rattle.check_desk.specs.Passes.{pass_of, waiting_of}
-use Rattle.check_handles.specs.declared.stage.Stage.{Stage}
-use Rattle.check_handles.specs.declared.stage.Stage.TheVariants as stage
-use Rattle.check_handles.specs.declared.stage.Step.{Step}
-use Rattle.check_handles.specs.declared.stage.Step.TheVariants as tried
+use Rattle.check_handles.specs.declared.pass_state.PassState.{PassState}
+use Rattle.check_handles.specs.declared.pass_state.PassState.TheVariants as state
+use Rattle.check_handles.specs.declared.pass_state.Step.{Step}
+use Rattle.check_handles.specs.declared.pass_state.Step.TheVariants as tried
 use Rattle.check_handles.specs.Tries.{HasAdvanced, HasBegun, HasLooked, HasTurn, MayGoOn}
 
 -- one that has drawn a ticket looks, and isn't answered that its calls are spent
-pub begun : (desk : Desk) (call : Call) (pass : Pass) (turn : Turn) (made : Step) (after : Stage) → (pass_of pass).left ≢ 0
+pub begun : (desk : Desk) (call : Call) (pass : Pass) (turn : Turn) (made : Step) (after : PassState) → (pass_of pass).left ≢ 0
     → waiting_of turn ≡ drawn (pass_of pass) → HasLooked desk call turn made after → HasBegun desk call pass made after
 begun desk call pass turn (tried.Replied reply) after left is looked = (left, (turn, is, looked))
 begun desk call pass turn tried.NoMemory after left is looked = (left, (turn, is, looked))
@@ -23,15 +23,15 @@ begun desk call pass turn tried.NotYet after left is looked = (left, (turn, is, 
 begun desk call pass turn tried.OtherWaits after left is looked = (left, (turn, is, looked))
 
 -- one that can go on, and looks by its turn, has gone on
-pub advanced : (desk : Desk) (call : Call) (before : Stage) (turn : Turn) (made : Step) (after : Stage) → MayGoOn call before → HasTurn before turn
+pub advanced : (desk : Desk) (call : Call) (before : PassState) (turn : Turn) (made : Step) (after : PassState) → MayGoOn call before → HasTurn before turn
     → HasLooked desk call turn made after → HasAdvanced desk call before made after
-advanced desk call (stage.Resting pass) turn made after may has looked = begun desk call pass turn made after may has looked
-advanced desk call (stage.Waiting again asked) turn (tried.Replied reply) after may has looked =
+advanced desk call (state.Resting pass) turn made after may has looked = begun desk call pass turn made after may has looked
+advanced desk call (state.Waiting again asked) turn (tried.Replied reply) after may has looked =
     (may, subst (λ t. HasLooked desk call t (tried.Replied reply) after) has looked)
-advanced desk call (stage.Waiting again asked) turn tried.NoMemory after may has looked =
+advanced desk call (state.Waiting again asked) turn tried.NoMemory after may has looked =
     (may, subst (λ t. HasLooked desk call t tried.NoMemory after) has looked)
-advanced desk call (stage.Waiting again asked) turn tried.Spent after may has looked = absurd looked
-advanced desk call (stage.Waiting again asked) turn tried.NotYet after may has looked =
+advanced desk call (state.Waiting again asked) turn tried.Spent after may has looked = absurd looked
+advanced desk call (state.Waiting again asked) turn tried.NotYet after may has looked =
     (may, subst (λ t. HasLooked desk call t tried.NotYet after) has looked)
-advanced desk call (stage.Waiting again asked) turn tried.OtherWaits after may has looked = absurd looked
-advanced desk call stage.Gone turn made after may has looked = absurd may
+advanced desk call (state.Waiting again asked) turn tried.OtherWaits after may has looked = absurd looked
+advanced desk call state.Gone turn made after may has looked = absurd may

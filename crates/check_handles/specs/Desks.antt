@@ -1,21 +1,21 @@
--- What clauses see of a pass: its desk, what stands for it between two calls, and which of its parts stay from call to call.
+-- What clauses see of a pass: its desk, its state between two calls, and which of its parts stay from call to call.
 use Rattle.std.specs.Prelude.{◌≡◌, ℕ}
 use Rattle.std_alloc.specs.Arc.{arc_value}
 use Rattle.check_desk.specs.declared.desk.Desk.{Desk}
 use Rattle.check_handles.specs.declared.desk_pass.DeskPass.{DeskPass}
-use Rattle.check_handles.specs.declared.stage.Stage.{Stage}
+use Rattle.check_handles.specs.declared.pass_state.PassState.{PassState}
 
 -- the desk of a pass
 abbrev pub desk_of : DeskPass → Desk
 desk_of c = (arc_value c.shared).desk
 
--- the mark that its desk was opened with
+-- the mark with which its desk was opened
 abbrev pub mark_of : DeskPass → ℕ
 mark_of c = (arc_value c.shared).mark
 
 -- the pass at rest, or the turn of a call that waits
-abbrev pub stage_of : DeskPass → Stage
-stage_of c = c.stage
+abbrev pub pass_state_of : DeskPass → PassState
+pass_state_of c = c.state
 
 -- two passes of one desk
 abbrev pub AreOneDesk : DeskPass → DeskPass → Type 0
@@ -24,6 +24,4 @@ AreOneDesk a b = desk_of a ≡ desk_of b
 -- the same pass
 pub record IsSamePass (before after : DeskPass) : Type 0 where
   pub shared : after.shared ≡ before.shared
-  pub names : after.names ≡ before.names
-  pub stage : stage_of after ≡ stage_of before
-  pub all : after.all ≡ before.all
+  pub state : pass_state_of after ≡ pass_state_of before

@@ -7,11 +7,11 @@ use Rattle.check_desk.specs.declared.passes.Pass.{Pass}
 use Rattle.check_desk.specs.Desks.{objects_of, standing_after, IsHistoryOf}
 use Rattle.check_desk.specs.Passes.{pass_of}
 use Rattle.check_rules.specs.declared.standing.Standing.{Standing}
-use Rattle.check_handles.specs.declared.stage.Stage.{Stage}
-use Rattle.check_handles.specs.declared.stage.Stage.TheVariants as stage
+use Rattle.check_handles.specs.declared.pass_state.PassState.{PassState}
+use Rattle.check_handles.specs.declared.pass_state.PassState.TheVariants as state
 
--- The standing is the object's after a history of the desk that begins with all that the pass had seen, and has nothing new of the
--- numbers that it answers for. The pass has seen that history now.
+-- The standing is the object's after a history of the desk that begins with all that the pass had seen, and has nothing new of the numbers for which it
+-- answers. The pass has seen that history now.
 pub record HasGlimpsed (desk : Desk) (object : ℕ) (before after : Pass) (standing : Standing) : Type 0 where
   pub there : object < objects_of desk
   pub pass : pass_of after ≡ having_seen (pass_of after).seen (pass_of before)
@@ -19,9 +19,9 @@ pub record HasGlimpsed (desk : Desk) (object : ℕ) (before after : Pass) (stand
   pub legal : IsHistoryOf desk (pass_of after).seen
   pub standing_is : standing ≡ standing_after desk (pass_of after).seen object
 
--- a pass that rests, and has no standing exactly where there is no such object; one that waits sees nothing
-abbrev pub HasLookedAt : Desk → ℕ → Stage → Option Standing → Stage → Type 0
-HasLookedAt desk object (stage.Resting before) (Some standing) (stage.Resting after) = HasGlimpsed desk object before after standing
-HasLookedAt desk object (stage.Resting before) None after = (objects_of desk ≤ object) × (after ≡ stage.Resting before)
+-- a pass that rests gets no standing exactly if there is no such object; a pass that waits sees nothing
+abbrev pub HasLookedAt : Desk → ℕ → PassState → Option Standing → PassState → Type 0
+HasLookedAt desk object (state.Resting before) (Some standing) (state.Resting after) = HasGlimpsed desk object before after standing
+HasLookedAt desk object (state.Resting before) None after = (objects_of desk ≤ object) × (after ≡ state.Resting before)
 HasLookedAt desk object before None after = after ≡ before
 HasLookedAt desk object before seen after = ⊥

@@ -1,4 +1,4 @@
--- What a handle owns: nothing while it is empty, else a value at its address, with the right to free its block.
+-- What a handle owns: nothing if it is empty, otherwise a value at its address, with the right to free its block.
 use Rattle.std.specs.Prelude.{Option, Some, None}
 use base.Fml.{Fml, ftrue}
 use denote.RattleType.{RattleType}
@@ -7,7 +7,7 @@ use Rattle.std.specs.declared.alloc.Global.{Global}
 use Rattle.std.specs.contracts.impls.GlobalAllocator.TheImpl.{ghosts}
 use Rattle.std.specs.Box.Ownership.{box_owns}
 
--- the heap of the C library: there is one
+-- the only heap of the C library
 abbrev pub heap : Global
 heap = record { memory = record { seal = tt } }
 

@@ -1,5 +1,5 @@
 pub mod Held
-pub mod Stages
+pub mod PassStates
 pub mod Desks
 pub mod Handles
 pub mod Reading

@@ -1,23 +1,23 @@
--- What a document gives, and which handles can't be given up.
+-- The setup of a document, and the handles that can't be freed.
 use Rattle.std.specs.Prelude.{◌≡◌, ⊤, ℕ, List, Ok, Option, Some}
 use Rattle.check_objects.specs.Setup.{setup_of}
-use Rattle.check_handles.specs.declared.lodged.Lodged.{Lodged}
-use Rattle.check_handles.specs.declared.lodged.Lodged.TheVariants as lodged
-use Rattle.check_handles.specs.declared.stage.Stage.{Stage}
-use Rattle.check_handles.specs.declared.stage.Stage.TheVariants as stage
-use Rattle.check_handles.specs.Desks.{stage_of}
+use Rattle.check_handles.specs.declared.target.HandleTarget.{HandleTarget}
+use Rattle.check_handles.specs.declared.target.HandleTarget.TheVariants as target
+use Rattle.check_handles.specs.declared.pass_state.PassState.{PassState}
+use Rattle.check_handles.specs.declared.pass_state.PassState.TheVariants as state
+use Rattle.check_handles.specs.Desks.{pass_state_of}
 
--- a setup, and it is the document's
-abbrev pub IsSetupOf : List ℕ → Option Lodged → Type 0
-IsSetupOf document (Some (lodged.Setup prepared)) = setup_of document ≡ Ok prepared.setup
+-- the setup of the document
+abbrev pub IsSetupOf : List ℕ → Option HandleTarget → Type 0
+IsSetupOf document (Some (target.Setup named)) = setup_of document ≡ Ok named.setup
 IsSetupOf document contents = ⊥
 
--- it waits for its turn
-abbrev pub IsWaiting : Stage → Type 0
-IsWaiting (stage.Waiting turn asked) = ⊤
+-- the pass waits for its turn
+abbrev pub IsWaiting : PassState → Type 0
+IsWaiting (state.Waiting turn asked) = ⊤
 IsWaiting other = ⊥
 
 -- a pass that waits for its turn
-abbrev pub IsTurnWaitingIn : Option Lodged → Type 0
-IsTurnWaitingIn (Some (lodged.Pass pass)) = IsWaiting (stage_of pass)
+abbrev pub IsTurnWaitingIn : Option HandleTarget → Type 0
+IsTurnWaitingIn (Some (target.Pass pass)) = IsWaiting (pass_state_of pass)
 IsTurnWaitingIn contents = ⊥

@@ -1,24 +1,23 @@
-//! Passes put together, a desk ended, and its book gone on with.
+//! Passes joined, a desk ended, and its book renewed.
 
 ghost use Rattle.std.specs.Prelude.{◌≡◌, ◌↔◌, true, false, IfErr, IfOk, Some};
 ghost use Rattle.check_handles.specs.Closing.{AreOfOneDesk, HasEnded, HasGoneOn, HasStayed, IsBook, IsGathered, IsRenewed, IsResting, MayBeGathered};
 ghost use Rattle.check_handles.specs.Handles.{boxed};
 
-use crate::lodged::{Ledger, Lodged};
-use crate::stage::Stage;
+use crate::pass_state::PassState;
+use crate::target::{HandleTarget, NamedBook};
 use std::alloc::Global;
 
-/// Puts the second pass to the first, exactly where both are passes at rest, and their desks have one
-/// mark.
-pub fn put_together(first: &mut Lodged, second: &mut Lodged) -> bool
+/// Joins the second pass to the first, exactly if both are passes at rest and their desks have one mark.
+pub fn put_together(first: &mut HandleTarget, second: &mut HandleTarget) -> bool
     requires { AreOfOneDesk (Some first.old) (Some second.old) }
     ensures exactly { (result ≡ true) ↔ MayBeGathered (Some first.old) (Some second.old) }
     ensures gathered { result ≡ true → IsGathered first.old second.old first.new }
     ensures same { result ≡ false → (first.new ≡ first.old) × (second.new ≡ second.old) }
 {
     match first {
-        Lodged::Pass(first) => match second {
-            Lodged::Pass(second) => first.join(second),
+        HandleTarget::Pass(first) => match second {
+            HandleTarget::Pass(second) => first.join(second),
             _ => false,
         },
         _ => false,
@@ -26,65 +25,73 @@ pub fn put_together(first: &mut Lodged, second: &mut Lodged) -> bool
 }
 
 /// Whether it is a pass at rest.
-pub fn rests(lodged: &Lodged) -> bool
-    ensures { (result ≡ true) ↔ IsResting lodged.now }
+pub fn rests(target: &HandleTarget) -> bool
+    ensures { (result ≡ true) ↔ IsResting target.now }
 {
-    match lodged {
-        Lodged::Pass(pass) => matches!(pass.stage, Stage::Resting(_)),
+    match target {
+        HandleTarget::Pass(pass) => matches!(pass.state, PassState::Resting(_)),
         _ => false,
     }
 }
 
-/// The book of a pass's desk, where all passes were gathered into it. Else the pass.
-pub fn close(lodged: Lodged) -> Result<Lodged, Lodged>
-    requires { IsResting lodged }
-    ensures ended { IfOk result (λ book. HasEnded lodged book) }
-    ensures stayed { IfErr result (λ pass. HasStayed lodged pass) }
+/// The book of a pass's desk, if all passes were gathered into this one. Otherwise the pass.
+pub fn close(target: HandleTarget) -> Result<HandleTarget, HandleTarget>
+    requires { IsResting target }
+    ensures ended { IfOk result (λ book. HasEnded target book) }
+    ensures stayed { IfErr result (λ pass. HasStayed target pass) }
 {
-    match lodged {
-        Lodged::Pass(pass) => match pass.close() {
-            Ok(ledger) => Ok(Lodged::Book(ledger)),
-            Err(pass) => Err(Lodged::Pass(pass)),
+    match target {
+        HandleTarget::Pass(pass) => match pass.close() {
+            Ok(named) => Ok(HandleTarget::Book(named)),
+            Err(pass) => Err(HandleTarget::Pass(pass)),
         },
         _ => unreachable!(),
     }
 }
 
 /// Whether it is a book.
-pub fn is_book(lodged: &Lodged) -> bool
-    ensures { (result ≡ true) ↔ IsBook lodged.now }
+pub fn is_book(target: &HandleTarget) -> bool
+    ensures { (result ≡ true) ↔ IsBook target.now }
 {
-    matches!(lodged, Lodged::Book(_))
+    matches!(target, HandleTarget::Book(_))
 }
 
-/// The book that goes on, and the entries of the one before; without them, where memory was refused, the
-/// book as it was.
-pub fn go_on(alloc: Global, lodged: Lodged, room: usize) -> (Lodged, Option<Box<Lodged>>)
-    requires { IsBook lodged }
-    ensures { HasGoneOn room lodged result.0 (boxed result.1) }
+/// The renewed book, and the entries of the old one. If memory was refused, the book as it was, and no
+/// entries.
+pub fn renew(
+    alloc: Global,
+    target: HandleTarget,
+    room: usize,
+) -> (HandleTarget, Option<Box<HandleTarget>>)
+    requires { IsBook target }
+    ensures { HasGoneOn room target result.0 (boxed result.1) }
 {
-    match lodged {
-        Lodged::Book(ledger) => {
-            let (ledger, past) = renew(alloc, ledger, room);
-            (Lodged::Book(ledger), past)
+    match target {
+        HandleTarget::Book(named) => {
+            let (named, past) = renew_book(alloc, named, room);
+            (HandleTarget::Book(named), past)
         }
         other => (other, None),
     }
 }
 
-/// The same of a book.
-fn renew(alloc: Global, ledger: Ledger, room: usize) -> (Ledger, Option<Box<Lodged>>)
-    ensures { IsRenewed room ledger result.0 (boxed result.1) }
+/// The same for a book.
+fn renew_book(
+    alloc: Global,
+    named: NamedBook,
+    room: usize,
+) -> (NamedBook, Option<Box<HandleTarget>>)
+    ensures { IsRenewed room named result.0 (boxed result.1) }
 {
-    let Ok(mut place) = Box::new(alloc, Lodged::Nothing) else {
-        return (ledger, None);
+    let Ok(mut place) = Box::new(alloc, HandleTarget::Nothing) else {
+        return (named, None);
     };
-    let Ledger { book, names } = ledger;
+    let NamedBook { book, names } = named;
     match book.renew(alloc, room) {
         Ok((book, entries)) => {
-            *place = Lodged::History(entries);
-            (Ledger { book, names }, Some(place))
+            *place = HandleTarget::History(entries);
+            (NamedBook { book, names }, Some(place))
         }
-        Err(book) => (Ledger { book, names }, None),
+        Err(book) => (NamedBook { book, names }, None),
     }
 }

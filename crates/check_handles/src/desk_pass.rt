@@ -2,146 +2,143 @@
 
 ghost use Rattle.std.specs.Prelude.{◌≡◌};
 ghost use Rattle.std_alloc.specs.Arc.{arc_value};
-ghost use Rattle.check_desk.specs.Desks.{opened_with, passes_of};
-ghost use Rattle.check_handles.specs.Stages.{IsStageOf, IsStageOf-prop};
+ghost use Rattle.check_handles.specs.PassStates.{IsPassStateOf, IsPassStateOf-prop};
 
-use crate::lodged::Ledger;
+use crate::pass_state::{PassState, Step, advance};
 use crate::shared::Shared;
-use crate::stage::{Stage, Step, advance};
+use crate::target::NamedBook;
 use check_desk::Pass;
-use check_objects::Setup;
 use check_rules::Standing;
 use check_sched::Call;
 use std::alloc::Global;
 use std::mem::replace;
 use std::sync::Arc;
 
-/// A pass of a desk, with the desk: all passes of it keep it together.
+/// A pass of a desk, with the desk, which lives as long as one of its passes.
 #[derive(Drop)]
 pub struct DeskPass {
     /// The desk.
     pub(crate) shared: Arc<Shared, Global>,
-    /// The setup of the desk, for the names of its objects: the desk's own lies behind its lock.
-    pub(crate) names: Arc<Setup, Global>,
     /// The pass at rest, or the turn of a call that waits.
-    pub(crate) stage: Stage,
-    /// How many passes the desk has.
-    pub(crate) all: u32,
-    ghost all_are: { passes_of (arc_value shared).desk ≡ all },
-    ghost own: { IsStageOf (arc_value shared).desk stage } by { IsStageOf-prop (arc_value shared).desk stage },
-    ghost named: { arc_value names ≡ (opened_with (arc_value shared).desk).sched.setup },
+    pub(crate) state: PassState,
+    ghost own: { IsPassStateOf (arc_value shared).desk state } by { IsPassStateOf-prop (arc_value shared).desk state },
 }
 
 impl DeskPass {
     ghost use Rattle.std.specs.Prelude.{◌↔◌, true, false, IfOk, IfErr};
     ghost use Rattle.check_desk.specs.Desks.{IsPassOf};
     ghost use Rattle.check_handles.specs.Closing.{IsAtRest, IsBookAfter, MayJoin};
-    ghost use Rattle.check_handles.specs.Desks.{AreOneDesk, IsSamePass, desk_of, stage_of};
+    ghost use Rattle.check_handles.specs.Desks.{AreOneDesk, IsSamePass, desk_of, pass_state_of};
     ghost use Rattle.check_handles.specs.Glances.{HasLookedAt};
     ghost use Rattle.check_handles.specs.Joining.{HasJoined};
     ghost use Rattle.check_handles.specs.Tries.{HasAdvanced};
 
-    /// Tries to make the call. A pass that answers for all passes of its desk never has to wait.
+    /// Tries to make the call. A pass that answers for all passes of its desk never waits.
     pub fn step(&mut self, call: Call) -> Step
         ensures desk { AreOneDesk self.old self.new }
-        ensures advanced { HasAdvanced (desk_of self.old) call (stage_of self.old) result
-            (stage_of self.new) }
+        ensures advanced { HasAdvanced (desk_of self.old) call (pass_state_of self.old) result
+            (pass_state_of self.new) }
     {
-        advance(&self.shared.desk, &mut self.stage, call)
+        advance(&self.shared.desk, &mut self.state, call)
     }
 
-    /// What is known of an object. None where there is no such object, and where the pass waits.
+    /// What is known of an object. None if there is no such object, and if the pass waits.
     pub fn glance(&mut self, object: u32) -> Option<Standing>
         ensures desk { AreOneDesk self.old self.new }
-        ensures seen { HasLookedAt (desk_of self.old) object (stage_of self.old) result (stage_of self.new) }
+        ensures seen { HasLookedAt (desk_of self.old) object (pass_state_of self.old) result (pass_state_of self.new) }
     {
-        match replace(&mut self.stage, Stage::Gone) {
-            Stage::Resting(pass) => {
+        match replace(&mut self.state, PassState::Gone) {
+            PassState::Resting(pass) => {
                 let (pass, standing) = self.shared.desk.glance(pass, object);
-                self.stage = Stage::Resting(pass);
+                self.state = PassState::Resting(pass);
                 standing
             }
             other => {
-                self.stage = other;
+                self.state = other;
                 None
             }
         }
     }
 
-    /// Puts another pass of the same desk to this one. Nothing is done exactly where one of the two doesn't
-    /// rest, or where their desks have two marks.
+    /// Joins another pass of the same desk to this one. Does nothing, and returns false, exactly if one of
+    /// the two doesn't rest or their desks have two marks.
     pub(crate) fn join(&mut self, other: &mut DeskPass) -> bool
         requires { AreOneDesk self.old other.old }
         ensures desk { AreOneDesk self.old self.new }
         ensures exactly { (result ≡ true) ↔ MayJoin self.old other.old }
-        ensures joined { result ≡ true → HasJoined (stage_of self.old) (stage_of other.old) (stage_of self.new) }
+        ensures joined { result ≡ true → HasJoined (pass_state_of self.old) (pass_state_of other.old) (pass_state_of self.new) }
         ensures same { result ≡ false → (self.new ≡ self.old) × (other.new ≡ other.old) }
     {
         if !self.rests() || !other.rests() || !self.shared.has_mark_of(&other.shared) {
             return false;
         }
-        let Stage::Resting(own) = replace(&mut self.stage, Stage::Gone) else {
+        let PassState::Resting(own) = replace(&mut self.state, PassState::Gone) else {
             unreachable!()
         };
-        let Stage::Resting(others) = replace(&mut other.stage, Stage::Gone) else {
+        let PassState::Resting(others) = replace(&mut other.state, PassState::Gone) else {
             unreachable!()
         };
-        self.stage = Stage::Resting(self.shared.desk.gather(own, others));
+        self.state = PassState::Resting(self.shared.desk.gather(own, others));
         true
     }
 
     /// Whether it is at rest.
     pub(crate) fn rests(&self) -> bool
-        ensures { (result ≡ true) ↔ IsAtRest (stage_of self.now) }
+        ensures { (result ≡ true) ↔ IsAtRest (pass_state_of self.now) }
     {
-        matches!(self.stage, Stage::Resting(_))
+        matches!(self.state, PassState::Resting(_))
     }
 
-    /// Ends the desk, where all passes were gathered into this one and nobody else shares the desk.
-    pub(crate) fn close(self) -> Result<Ledger, DeskPass>
-        requires { IsAtRest (stage_of self) }
-        ensures closed { IfOk result (λ ledger. IsBookAfter (desk_of self) (stage_of self) ledger) }
+    /// Ends the desk if all its passes were gathered into this one and nothing else shares the desk.
+    pub(crate) fn close(self) -> Result<NamedBook, DeskPass>
+        requires { IsAtRest (pass_state_of self) }
+        ensures closed { IfOk result (λ named. IsBookAfter (desk_of self) (pass_state_of self) named) }
         ensures same { IfErr result (λ same. IsSamePass self same) }
     {
-        let DeskPass {
-            shared,
-            names,
-            stage,
-            all,
-        } = self;
-        let Stage::Resting(pass) = stage else {
+        let DeskPass { shared, state } = self;
+        let PassState::Resting(pass) = state else {
             unreachable!()
         };
-        if pass.gathered() < all {
-            return Err(DeskPass::resting(shared, names, pass, all));
+        if pass.gathered() < shared.passes {
+            return Err(DeskPass::resting(shared, pass));
         }
         match Arc::try_unwrap(shared) {
-            Ok(Shared { desk, mark: _ }) => match desk.close(pass) {
-                Ok(book) => Ok(Ledger { book, names }),
+            Ok(Shared { desk, names, .. }) => match desk.close(pass) {
+                Ok(book) => Ok(NamedBook { book, names }),
                 Err(_) => unreachable!(),
             },
-            Err(shared) => Err(DeskPass::resting(shared, names, pass, all)),
+            Err(shared) => Err(DeskPass::resting(shared, pass)),
         }
     }
 
-    /// A pass at rest.
-    pub(crate) fn resting(
-        shared: Arc<Shared, Global>,
-        names: Arc<Setup, Global>,
-        pass: Pass,
-        all: u32,
-    ) -> DeskPass
-        requires pass { IsPassOf (arc_value shared).desk pass }
-        requires all { passes_of (arc_value shared).desk ≡ all }
-        requires names { arc_value names ≡ (opened_with (arc_value shared).desk).sched.setup }
-        ensures shared { (result.shared ≡ shared) × (result.names ≡ names) × (result.all ≡ all) }
-        ensures stage { result.stage ≡ Stage.Resting pass }
+    /// A place for a pass of the desk, without the pass.
+    pub(crate) fn vacant(shared: Arc<Shared, Global>) -> DeskPass
+        ensures { result.shared ≡ shared }
     {
         DeskPass {
             shared,
-            names,
-            stage: Stage::Resting(pass),
-            all,
+            state: PassState::Gone,
+        }
+    }
+
+    /// Puts the pass into its place, where it rests.
+    pub(crate) fn sit(&mut self, pass: Pass)
+        requires { IsPassOf (desk_of self.old) pass }
+        ensures shared { self.new.shared ≡ self.old.shared }
+        ensures state { self.new.state ≡ PassState.Resting pass }
+    {
+        self.state = PassState::Resting(pass);
+    }
+
+    /// A pass at rest.
+    pub(crate) fn resting(shared: Arc<Shared, Global>, pass: Pass) -> DeskPass
+        requires { IsPassOf (arc_value shared).desk pass }
+        ensures shared { result.shared ≡ shared }
+        ensures state { result.state ≡ PassState.Resting pass }
+    {
+        DeskPass {
+            shared,
+            state: PassState::Resting(pass),
         }
     }
 }

@@ -1,17 +1,17 @@
 //! A handle: what C keeps of the library.
 //!
-//! A handle is zeroed before its first use, and then as the last call left it. A call that uses what the
-//! handle leads to takes it out and puts it back: that asks for no memory.
+//! A handle is zeroed before its first use, and after that it is as the last call left it. A call that uses
+//! the target of the handle takes it out and puts it back, which needs no memory.
 
 ghost use Rattle.std.specs.Prelude.{◌≡◌, ◌==◌, not, is_some, Some, None};
 
-use crate::lodged::Lodged;
 use crate::raw::Raw;
+use crate::target::HandleTarget;
 use crate::unboxed::Unboxed;
 use std::alloc::Global;
 use std::mem::replace;
 
-/// A setup, a pass, a book or a history; zeroed it is empty. It may go to another thread.
+/// Leads to a setup, a pass, a book or a history. All zeros means empty. It may go to another thread.
 #[repr(C)]
 #[derive(Drop)]
 pub struct Handle {
@@ -20,7 +20,7 @@ pub struct Handle {
     ghost told: { is_some raw.value ≡ not (full == 0) },
 }
 
-/// That a handle may go to another thread is proved where this is called.
+/// The value. Each call of this function proves that the value may go to another thread.
 fn sent<T: Send>(value: T) -> T
     ensures { result ≡ value }
 {
@@ -40,8 +40,8 @@ impl Handle {
         }
     }
 
-    /// A handle that leads to what the box has.
-    pub fn of(value: Box<Lodged>) -> Handle
+    /// A handle that leads to the value in the box.
+    pub fn of(value: Box<HandleTarget>) -> Handle
         ensures { contents_of result ≡ Some value.value }
     {
         sent(Handle {
@@ -50,15 +50,15 @@ impl Handle {
         })
     }
 
-    /// Whether it leads to nothing.
+    /// Whether the handle leads to nothing.
     pub fn is_empty(&self) -> bool
         ensures { result ≡ not (is_some (contents_of self.now)) }
     {
         self.full == 0
     }
 
-    /// What it leads to. It is empty then.
-    pub fn take(&mut self, alloc: Global) -> Option<Box<Lodged>>
+    /// The target of the handle, which is empty afterwards.
+    pub fn take(&mut self, alloc: Global) -> Option<Box<HandleTarget>>
         ensures value { boxed result ≡ contents_of self.old }
         ensures empty { contents_of self.new ≡ None }
     {
@@ -68,16 +68,5 @@ impl Handle {
         } else {
             Some(raw.into_unboxed(alloc).into_box())
         }
-    }
-
-    /// Puts back what was taken out.
-    pub fn put_back(&mut self, lodged: Option<Box<Lodged>>)
-        requires { contents_of self.old ≡ None }
-        ensures { contents_of self.new ≡ boxed lodged }
-    {
-        *self = match lodged {
-            Some(lodged) => Handle::of(lodged),
-            None => Handle::none(),
-        };
     }
 }

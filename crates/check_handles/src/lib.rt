@@ -1,28 +1,28 @@
 #![tactic(auto)]
-//! What C keeps of the library: a [`Handle`], which owns what lies on the heap and leads to it.
+//! What C keeps of the library: a [`Handle`], which owns a value on the heap and leads to it.
 //!
-//! A handle leads to a setup, a pass of a desk, a book or an old history. What is in it is taken out,
-//! gone on with, and put back. No status and no struct of C's is here: whoever exports a function says
-//! what C is handed.
+//! A handle leads to a setup, a pass of a desk, a book or an old history. A call takes this target out of
+//! the handle, uses it, and puts it back. This crate has no status and no struct of C's: the crate that
+//! exports a function says what C gets.
 //!
-//! The modules: `handle` has the handle, `raw` and `unboxed` the address in it, `lodged` what it leads to,
-//! `shared`, `desk_pass` and `stage` a pass of a desk. `reading` makes a setup, `opening` the passes of a
-//! desk; `closing` puts passes together, ends a desk, and goes on with a book; `resuming` makes the book
-//! that goes on from a saved state.
+//! The modules: `handle` has the handle, `raw` and `unboxed` the address in it, `target` what it leads to,
+//! `desk_pass`, `shared` and `pass_state` a pass of a desk. `reading` makes a setup, and `opening` the passes
+//! of a desk. `closing` joins passes, ends a desk, and renews a book. `resuming` makes the book that resumes
+//! a saved state.
 
 pub mod closing;
 mod desk_pass;
 mod handle;
-mod lodged;
 pub mod opening;
+mod pass_state;
 mod raw;
 pub mod reading;
 pub mod resuming;
 mod shared;
-mod stage;
+mod target;
 mod unboxed;
 
 pub use desk_pass::DeskPass;
 pub use handle::Handle;
-pub use lodged::{Ledger, Lodged, Prepared};
-pub use stage::Step;
+pub use pass_state::Step;
+pub use target::{HandleTarget, NamedBook, NamedSetup};

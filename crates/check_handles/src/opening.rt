@@ -1,25 +1,25 @@
-//! A desk opened, on a setup or on a book without entries.
+//! Desks opened on a setup, or on a book without entries.
 //!
-//! All that a desk needs beside it is asked for before it, so that where memory is refused the setup or
-//! the book can be handed back.
+//! A desk's seats are asked for before it opens. So if memory is refused for them, the setup or the book
+//! can be handed back.
 
-ghost use Rattle.std.specs.Prelude.{◌≡◌, ◌↔◌, ◌<◌, ◌≤◌, [], length, true, IfOk, IfErr, OnOk, vec_capacity};
+ghost use Rattle.std.specs.Prelude.{◌≡◌, ◌↔◌, ◌<◌, ◌≤◌, [], length, true, IfOk, IfErr, OnOk};
 ghost use Rattle.std.specs.List.{All};
 ghost use Rattle.std_alloc.specs.Arc.{arc_value};
 ghost use Rattle.check_desk.specs.Desks.{opened_with, passes_of, AreNewPassesWith, IsPassOf};
 ghost use Rattle.check_desk.specs.Passes.{pass_of};
 ghost use Rattle.check_book.specs.BookState.{book_opening};
 ghost use Rattle.check_book.specs.Books.{entries_of, opening_of, refused_of};
-ghost use Rattle.check_handles.specs.Seats.{AreSeats};
-ghost use Rattle.check_handles.specs.Opening.{ArePassesFrom, IsAsSetup, IsBack, IsBackOf, IsBookBack, IsEmptyBack, IsFreshPassOf, IsOpenedBy, IsOpenedWith, IsSetupBack, IsSource};
+ghost use Rattle.check_handles.specs.Seats.{HavePasses, IsSeatFor, IsSeatOf, IsTaken};
+ghost use Rattle.check_handles.specs.Opening.{IsAsSetup, IsBack, IsBackOf, IsBookBack, IsEmptyBack, IsSetupBack};
+ghost use Rattle.check_handles.specs.Opening.{IsFreshPassOf, IsOpenedBy, IsOpenedWith, IsSource};
 
 use crate::desk_pass::DeskPass;
 use crate::handle::Handle;
-use crate::lodged::{Ledger, Lodged, Prepared};
 use crate::shared::Shared;
+use crate::target::{HandleTarget, NamedBook, NamedSetup};
 use check_book::Book;
 use check_desk::{Desk, Pass};
-use check_objects::Setup;
 use check_sched::LAST_MOMENT;
 use std::alloc::{AllocError, Global};
 use std::sync::Arc;
@@ -30,39 +30,39 @@ use ticket_steps::Kept;
 pub struct Terms {
     /// The moment at which scheduling starts, in milliseconds, at most 2^60; 0 for a book, which has its own.
     pub start: u64,
-    /// For how many entries the history has memory at once; 0 for a book, which has its own.
+    /// The number of entries for which the history has memory at once; 0 for a book, which has its own.
     pub room: usize,
     /// The desk's mark: a number that no other desk of the process has.
     pub mark: u64,
-    /// How many calls each pass has, at least 1.
+    /// The number of calls that each pass has, at least 1.
     pub calls: u32,
 }
 
-/// Whether a desk can be opened on this, on these terms.
-pub fn is_source(lodged: &Lodged, terms: Terms) -> bool
-    ensures { (result ≡ true) ↔ IsSource terms lodged.now }
+/// Whether a desk can be opened on this target, on these terms.
+pub fn is_source(target: &HandleTarget, terms: Terms) -> bool
+    ensures { (result ≡ true) ↔ IsSource terms target.now }
 {
-    match lodged {
-        Lodged::Setup(_) => terms.start <= LAST_MOMENT,
-        Lodged::Book(ledger) => {
+    match target {
+        HandleTarget::Setup(_) => terms.start <= LAST_MOMENT,
+        HandleTarget::Book(named) => {
             terms.start == 0
                 && terms.room == 0
-                && ledger.book.entries().is_empty()
-                && ledger.book.refused() == 0
+                && named.book.entries().is_empty()
+                && named.book.refused() == 0
         }
         _ => false,
     }
 }
 
-/// Opens a desk on a setup or a book, with a pass for each handle. Where memory is refused it is handed
-/// back, or else the one pass of the desk, and the handles are as they were. The pass would come only where
-/// so many already share the desk that no one more can be counted (`IsBackOf`).
+/// Opens a desk on a setup or a book, with a pass for each handle. If memory is refused, it hands the setup
+/// or the book back, or else the only pass of the desk, and leaves the handles as they were. The pass would
+/// need a count of owners that is at its limit (`IsBackOf`).
 pub fn open_source(
     alloc: Global,
-    source: Lodged,
+    source: HandleTarget,
     terms: Terms,
     handles: &mut [Handle],
-) -> Result<(), Lodged>
+) -> Result<(), HandleTarget>
     requires source { IsSource terms source }
     requires calls { 0 < terms.calls }
     requires some { (0 < length handles.old) × (length handles.old ≤ 1024) }
@@ -70,44 +70,44 @@ pub fn open_source(
     ensures err { IfErr result (λ back. IsBack terms source back × (handles.new ≡ handles.old)) }
 {
     match source {
-        Lodged::Setup(prepared) => open_setup(alloc, prepared, terms, handles),
-        Lodged::Book(ledger) => open_ledger(alloc, ledger, terms, handles),
+        HandleTarget::Setup(named) => open_setup(alloc, named, terms, handles),
+        HandleTarget::Book(named) => open_book(alloc, named, terms, handles),
         other => Err(other),
     }
 }
 
-/// Opens a desk on a setup, or hands it back.
+/// Opens a desk on a setup, or hands the setup back.
 fn open_setup(
     alloc: Global,
-    prepared: Prepared,
+    named: NamedSetup,
     terms: Terms,
     handles: &mut [Handle],
-) -> Result<(), Lodged>
+) -> Result<(), HandleTarget>
     requires start { terms.start ≤ LAST_MOMENT }
     requires calls { 0 < terms.calls }
     requires some { (0 < length handles.old) × (length handles.old ≤ 1024) }
-    ensures ok { OnOk result (IsOpenedWith terms (book_opening prepared.setup terms.start terms.room) handles.new) }
-    ensures err { IfErr result (λ back. IsSetupBack terms prepared back × (handles.new ≡ handles.old)) }
+    ensures ok { OnOk result (IsOpenedWith terms (book_opening named.setup terms.start terms.room) handles.new) }
+    ensures err { IfErr result (λ back. IsSetupBack terms named back × (handles.new ≡ handles.old)) }
 {
-    let Prepared { setup, names } = prepared;
+    let NamedSetup { setup, names } = named;
     match Book::open(alloc, setup, terms.start, terms.room) {
-        Ok(book) => match open_ledger(alloc, Ledger { book, names }, terms, handles) {
+        Ok(book) => match open_book(alloc, NamedBook { book, names }, terms, handles) {
             Ok(()) => Ok(()),
             Err(back) => Err(as_setup(back)),
         },
-        Err(setup) => Err(Lodged::Setup(Prepared { setup, names })),
+        Err(setup) => Err(HandleTarget::Setup(NamedSetup { setup, names })),
     }
 }
 
-/// A book as the setup that it was opened on; a pass stays one.
-fn as_setup(back: Lodged) -> Lodged
+/// The setup on which a book was opened; a pass stays a pass.
+fn as_setup(back: HandleTarget) -> HandleTarget
     requires { IsEmptyBack back }
     ensures { IsAsSetup back result }
 {
     match back {
-        Lodged::Book(ledger) => {
-            let Ledger { book, names } = ledger;
-            Lodged::Setup(Prepared {
+        HandleTarget::Book(named) => {
+            let NamedBook { book, names } = named;
+            HandleTarget::Setup(NamedSetup {
                 setup: book.into_setup(),
                 names,
             })
@@ -116,151 +116,119 @@ fn as_setup(back: Lodged) -> Lodged
     }
 }
 
-/// Opens a desk on a book without entries, or hands it back.
-fn open_ledger(
+/// Opens a desk on a book without entries, or hands the book back.
+fn open_book(
     alloc: Global,
-    ledger: Ledger,
+    named: NamedBook,
     terms: Terms,
     handles: &mut [Handle],
-) -> Result<(), Lodged>
-    requires empty { (entries_of ledger.book ≡ []) × (refused_of ledger.book ≡ 0) }
+) -> Result<(), HandleTarget>
+    requires empty { (entries_of named.book ≡ []) × (refused_of named.book ≡ 0) }
     requires calls { 0 < terms.calls }
     requires some { (0 < length handles.old) × (length handles.old ≤ 1024) }
-    ensures ok { OnOk result (IsOpenedWith terms (opening_of ledger.book) handles.new) }
-    ensures err { IfErr result (λ back. IsBookBack ledger back × (handles.new ≡ handles.old)) }
+    ensures ok { OnOk result (IsOpenedWith terms (opening_of named.book) handles.new) }
+    ensures err { IfErr result (λ back. IsBookBack named back × (handles.new ≡ handles.old)) }
 {
     let count = handles.len();
-    let Ledger { book, names } = ledger;
-    let Ok(seats) = prepare_seats(alloc, &names, count) else {
-        return Err(Lodged::Book(Ledger { book, names }));
+    let Ok(seats) = prepare_seats(alloc, count) else {
+        return Err(HandleTarget::Book(named));
     };
+    let NamedBook { book, names } = named;
     match Desk::open_with(alloc, book, count as u32, terms.calls) {
-        Ok((desk, passes)) => seat_all(alloc, desk, terms, passes, names, seats, handles),
-        Err(book) => Err(Lodged::Book(Ledger { book, names })),
+        Ok((desk, passes)) => {
+            let shared = Shared {
+                desk,
+                names,
+                passes: count as u32,
+                mark: terms.mark,
+            };
+            seat_all(alloc, shared, passes, seats, handles)
+        }
+        Err(book) => Err(HandleTarget::Book(NamedBook { book, names })),
     }
 }
 
-/// What the handles need beside their passes.
-#[derive(Drop)]
-struct Seats {
-    /// A place on the heap for each.
-    places: Vec<Box<Lodged>>,
-    /// The names, for each.
-    names: Vec<Arc<Setup, Global>>,
-    /// Room for the desk, for each.
-    desks: Vec<Arc<Shared, Global>>,
-}
-
-/// Asks for the memory that so many passes need.
-fn prepare_seats(
-    alloc: Global,
-    names: &Arc<Setup, Global>,
-    count: usize,
-) -> Result<Seats, AllocError>
-    ensures { IfOk result (λ made. AreSeats (arc_value names.now) count made) }
+/// Asks for the seats of a desk: a place on the heap for each of its passes.
+fn prepare_seats(alloc: Global, count: usize) -> Result<Vec<Box<HandleTarget>>, AllocError>
+    ensures { IfOk result (λ seats. length seats.items ≡ count) }
 {
-    let mut places = Vec::with_capacity(alloc, count)?;
-    let mut all = Vec::with_capacity(alloc, count)?;
-    for _pass in 0..count {
-        let place = Box::new(alloc, Lodged::Nothing)?;
-        places.push_reserved(place);
-        all.push_reserved(Arc::try_clone(names)?);
+    let mut seats = Vec::with_capacity(alloc, count)?;
+    for _seat in 0..count {
+        seats.push_reserved(Box::new(alloc, HandleTarget::Nothing)?);
     }
-    Ok(Seats {
-        places,
-        names: all,
-        desks: Vec::with_capacity(alloc, count)?,
-    })
+    Ok(seats)
 }
 
 /// Gives each handle a pass of the desk, or hands the book back.
 fn seat_all(
     alloc: Global,
-    desk: Desk,
-    terms: Terms,
+    shared: Shared,
     passes: Vec<Pass>,
-    names: Arc<Setup, Global>,
-    seats: Seats,
+    seats: Vec<Box<HandleTarget>>,
     handles: &mut [Handle],
-) -> Result<(), Lodged>
-    requires names { arc_value names ≡ (opened_with desk).sched.setup }
-    requires new { AreNewPassesWith terms.calls desk 0 passes.items }
-    requires count { (length passes.items ≡ passes_of desk) × (length handles.old ≡ passes_of desk) × (0 < passes_of desk) × (length passes.items ≤ 1024) }
-    requires seats { AreSeats (arc_value names) (passes_of desk) seats }
-    ensures ok { OnOk result (IsOpenedWith terms (opened_with desk) handles.new) }
-    ensures err { IfErr result (λ back. IsBackOf (opened_with desk) back × (handles.new ≡ handles.old)) }
+) -> Result<(), HandleTarget>
+    requires fresh { All (IsFreshPassOf shared.desk) passes.items }
+    requires some { (0 < length passes.items) × (length passes.items ≤ 1024) }
+    requires passes { length passes.items ≡ passes_of shared.desk }
+    requires seats { length seats.items ≡ length passes.items }
+    requires handles { length handles.old ≡ length passes.items }
+    ensures ok { OnOk result (HavePasses shared passes.items handles.new) }
+    ensures err { IfErr result (λ back.
+        IsBackOf (opened_with shared.desk) back × (handles.new ≡ handles.old)) }
 {
-    let count = passes.len();
-    let Seats {
-        places,
-        names: all,
-        desks,
-    } = seats;
-    let shared = Shared {
-        desk,
-        mark: terms.mark,
-    };
     match Arc::new(alloc, shared) {
-        Ok(shared) => match share(&shared, desks, count) {
-            Ok(desks) => {
-                hand_out(&shared, terms.calls, passes, places, all, desks, handles);
-                Ok(())
+        Ok(shared) => {
+            let mut seats = seats;
+            if share(&shared, &mut seats).is_err() {
+                return Err(unshared(shared, passes));
             }
-            Err(_) => Err(unshared(shared, passes, names)),
-        },
-        Err(refused) => {
-            let Shared { desk, mark: _ } = refused.value;
-            Err(Lodged::Book(reclaim(desk, passes, names)))
+            hand_out(shared, passes, seats, handles);
+            Ok(())
         }
+        Err(refused) => Err(HandleTarget::Book(reclaim(refused.value, passes))),
     }
 }
 
-/// The desk for so many passes.
-fn share(
-    shared: &Arc<Shared, Global>,
-    desks: Vec<Arc<Shared, Global>>,
-    count: usize,
-) -> Result<Vec<Arc<Shared, Global>>, AllocError>
-    requires { (desks.items ≡ []) × (count ≤ vec_capacity desks) }
-    ensures { IfOk result (λ all. (length all.items ≡ count)
-        × All (λ one. arc_value one ≡ arc_value shared.now) all.items) }
+/// Makes each seat one of the desk.
+fn share(shared: &Arc<Shared, Global>, seats: &mut Vec<Box<HandleTarget>>) -> Result<(), AllocError>
+    ensures count { length seats.new.items ≡ length seats.old.items }
+    ensures shared { OnOk result (All (λ seat. IsSeatOf (arc_value shared.now) seat.value) seats.new.items) }
 {
-    let mut desks = desks;
-    for _pass in 0..count {
-        desks.push_reserved(Arc::try_clone(shared)?);
+    for at in 0..seats.len() {
+        *seats[at] = HandleTarget::Pass(DeskPass::vacant(Arc::try_clone(shared)?));
     }
-    Ok(desks)
+    Ok(())
 }
 
-/// The book of a desk that nobody shares. A desk that is shared all the same has one pass for all:
-/// that would come only where 2^63 share it already.
-fn unshared(shared: Arc<Shared, Global>, passes: Vec<Pass>, names: Arc<Setup, Global>) -> Lodged
-    requires names { arc_value names ≡ (opened_with (arc_value shared).desk).sched.setup }
+/// The book of a desk that nothing else shares. A desk that is shared all the same has one pass for all:
+/// that would need a count of 2^63 owners.
+fn unshared(shared: Arc<Shared, Global>, passes: Vec<Pass>) -> HandleTarget
     requires fresh { All (IsFreshPassOf (arc_value shared).desk) passes.items }
-    requires count { (length passes.items ≡ passes_of (arc_value shared).desk) × (0 < passes_of (arc_value shared).desk) × (length passes.items ≤ 1024) }
+    requires count { length passes.items ≡ passes_of (arc_value shared).desk }
+    requires some { (0 < length passes.items) × (length passes.items ≤ 1024) }
     ensures { IsBackOf (opened_with (arc_value shared).desk) result }
 {
     match Arc::try_unwrap(shared) {
-        Ok(Shared { desk, mark: _ }) => Lodged::Book(reclaim(desk, passes, names)),
+        Ok(shared) => HandleTarget::Book(reclaim(shared, passes)),
         Err(shared) => {
-            let all = passes.len() as u32;
             let pass = gather_all(&shared.desk, passes);
-            Lodged::Pass(DeskPass::resting(shared, names, pass, all))
+            HandleTarget::Pass(DeskPass::resting(shared, pass))
         }
     }
 }
 
 /// The book of a desk whose passes have made no call.
-fn reclaim(desk: Desk, passes: Vec<Pass>, names: Arc<Setup, Global>) -> Ledger
-    requires names { arc_value names ≡ (opened_with desk).sched.setup }
-    requires fresh { All (IsFreshPassOf desk) passes.items }
-    requires count { (length passes.items ≡ passes_of desk) × (0 < passes_of desk) }
-    ensures { (opening_of result.book ≡ opened_with desk) × (entries_of result.book ≡ [])
+fn reclaim(shared: Shared, passes: Vec<Pass>) -> NamedBook
+    requires fresh { All (IsFreshPassOf shared.desk) passes.items }
+    requires count { length passes.items ≡ passes_of shared.desk }
+    requires some { 0 < length passes.items }
+    ensures { (opening_of result.book ≡ opened_with shared.desk) × (entries_of result.book ≡ [])
         × (refused_of result.book ≡ 0) }
 {
+    let Shared { desk, names, .. } = shared;
     let pass = gather_all(&desk, passes);
     match desk.close(pass) {
-        Ok(book) => Ledger { book, names },
+        Ok(book) => NamedBook { book, names },
         Err(_) => unreachable!(),
     }
 }
@@ -284,46 +252,38 @@ fn gather_all(desk: &Desk, passes: Vec<Pass>) -> Pass
     whole
 }
 
-/// Gives each handle a pass: the first handle the first pass. Each has so many calls, which only the
-/// proof reads.
+/// Gives each handle a seat with its pass: the first handle the first pass. The passes are then the only
+/// owners of their desk.
 fn hand_out(
-    shared: &Arc<Shared, Global>,
-    calls: u32,
+    shared: Arc<Shared, Global>,
     passes: Vec<Pass>,
-    places: Vec<Box<Lodged>>,
-    names: Vec<Arc<Setup, Global>>,
-    desks: Vec<Arc<Shared, Global>>,
+    seats: Vec<Box<HandleTarget>>,
     handles: &mut [Handle],
 )
-    requires new { AreNewPassesWith calls (arc_value shared.now).desk 0 passes.items }
-    requires count { (length handles.old ≡ passes_of (arc_value shared.now).desk) × (length passes.items ≡ length handles.old)
-        × (length places.items ≡ length handles.old) × (length handles.old ≤ 1024) }
-    requires names { (length names.items ≡ length handles.old)
-        × All (λ one. arc_value one ≡ (opened_with (arc_value shared.now).desk).sched.setup) names.items }
-    requires desks { (length desks.items ≡ length handles.old)
-        × All (λ one. arc_value one ≡ arc_value shared.now) desks.items }
-    ensures { (length handles.new ≡ length handles.old)
-        × ArePassesFrom calls (arc_value shared.now) 0 handles.new }
+    requires fresh { All (IsFreshPassOf (arc_value shared).desk) passes.items }
+    requires seats { All (λ seat. IsSeatOf (arc_value shared) seat.value) seats.items }
+    requires count { length seats.items ≡ length passes.items }
+    requires handles { length handles.old ≡ length passes.items }
+    ensures { HavePasses (arc_value shared) passes.items handles.new }
 {
-    let count = handles.len();
     let mut passes = passes;
-    let mut places = places;
-    let mut names = names;
-    let mut desks = desks;
-    for done in 0..count {
-        let Some(pass) = passes.pop() else {
+    let mut seats = seats;
+    while let Some(pass) = passes.pop() {
+        let Some(mut seat) = seats.pop() else {
             unreachable!()
         };
-        let Some(mut place) = places.pop() else {
-            unreachable!()
-        };
-        let Some(names) = names.pop() else {
-            unreachable!()
-        };
-        let Some(shared) = desks.pop() else {
-            unreachable!()
-        };
-        *place = Lodged::Pass(DeskPass::resting(shared, names, pass, count as u32));
-        handles[count - 1 - done] = Handle::of(place);
+        take_seat(&mut *seat, pass);
+        handles[passes.len()] = Handle::of(seat);
+    }
+}
+
+/// Puts a pass into a vacant seat of its desk.
+fn take_seat(seat: &mut HandleTarget, pass: Pass)
+    requires { IsSeatFor pass seat.old }
+    ensures { IsTaken pass seat.old seat.new }
+{
+    match seat {
+        HandleTarget::Pass(place) => place.sit(pass),
+        _ => unreachable!(),
     }
 }

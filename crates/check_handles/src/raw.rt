@@ -2,32 +2,32 @@
 
 ghost use Rattle.std.specs.Prelude.{◌≡◌, Some, None, Option};
 ghost use Rattle.std.specs.Coded.{coded_option};
-ghost use Rattle.check_handles.specs.contracts.lodged.Lodged.{the_row as lodged_row};
-ghost use Rattle.check_handles.specs.declared.lodged.Lodged.{Lodged};
+ghost use Rattle.check_handles.specs.contracts.target.HandleTarget.{the_row as target_row};
+ghost use Rattle.check_handles.specs.declared.target.HandleTarget.{HandleTarget};
 ghost use Rattle.check_handles.specs.Held.{held};
 
-use crate::lodged::Lodged;
+use crate::target::HandleTarget;
 use crate::unboxed::Unboxed;
 use std::alloc::Global;
 use std::marker::Model;
 use std::ptr::null_mut;
 
-/// What C knows of a value that a handle leads to: that it lies somewhere.
+/// What C knows of the target of a handle: it has an address.
 #[repr(C)]
 pub struct Opaque {
     byte: u8,
 }
 
-/// An address that owns the value which lies there, or null.
+/// The address of a value that the address owns, or null.
 #[repr(C)]
 #[derive(Drop)]
 pub struct Raw {
     at: *mut Opaque,
-    pub ghost value: { Option Lodged } by { coded_option lodged_row.coded },
+    pub ghost value: { Option HandleTarget } by { coded_option target_row.coded },
 }
 
 impl Model for Raw {
-    ghost also_owns = { λ raw. held lodged_row raw.at raw.value };
+    ghost also_owns = { λ raw. held target_row raw.at raw.value };
 }
 
 unsafe impl Send for Raw {}
@@ -40,8 +40,8 @@ impl Raw {
         Raw { at: null_mut() }
     }
 
-    /// The address of what was boxed.
-    pub(crate) fn of(apart: Unboxed<Lodged, Global>) -> Raw
+    /// The address of the value that was boxed.
+    pub(crate) fn of(apart: Unboxed<HandleTarget, Global>) -> Raw
         ensures { result.value ≡ Some apart.value }
     {
         let Unboxed { at, alloc: _ } = apart;
@@ -50,14 +50,14 @@ impl Raw {
         }
     }
 
-    /// The parts of the box again.
-    pub(crate) fn into_unboxed(self, alloc: Global) -> Unboxed<Lodged, Global>
-        requires { (x : Lodged) × (self.value ≡ Some x) }
+    /// The parts of the box.
+    pub(crate) fn into_unboxed(self, alloc: Global) -> Unboxed<HandleTarget, Global>
+        requires { (x : HandleTarget) × (self.value ≡ Some x) }
         ensures { self.value ≡ Some result.value }
     {
         let Raw { at } = self;
         Unboxed {
-            at: at as *mut Lodged,
+            at: at as *mut HandleTarget,
             alloc,
         }
     }

@@ -1,47 +1,60 @@
-//! A book that goes on over a setup from what was saved.
+//! A book over a setup that resumes a saved state.
 
 ghost use Rattle.std.specs.Prelude.{◌≡◌, ◌↔◌, ◌≤◌, true, false};
 ghost use Rattle.check_handles.specs.Resuming.{IsResumed, IsSameSetup, IsSetup};
 
-use crate::lodged::{Ledger, Lodged, Prepared};
+use crate::target::{HandleTarget, NamedBook, NamedSetup};
 use check_book::Book;
 use check_sched::{LAST_MOMENT, Saved};
 use std::alloc::Global;
 use std::mem::replace;
 
 /// Whether it is a setup.
-pub fn is_setup(lodged: &Lodged) -> bool
-    ensures { (result ≡ true) ↔ IsSetup lodged.now }
+pub fn is_setup(target: &HandleTarget) -> bool
+    ensures { (result ≡ true) ↔ IsSetup target.now }
 {
-    matches!(lodged, Lodged::Setup(_))
+    matches!(target, HandleTarget::Setup(_))
 }
 
-/// Makes a setup the book that goes on over it from what was saved, from the moment `start` on, with room
-/// for so many entries. Where memory is refused it is false, and the setup is as it was.
-pub fn resume(alloc: Global, lodged: &mut Lodged, saved: &Saved, start: u64, room: usize) -> bool
-    requires setup { IsSetup lodged.old }
+/// Replaces a setup by a book over it that resumes what was saved, from the moment `start` on, in
+/// milliseconds, with room for `room` entries. If memory is refused, it returns false and leaves the setup
+/// as it was.
+pub fn resume(
+    alloc: Global,
+    target: &mut HandleTarget,
+    saved: &Saved,
+    start: u64,
+    room: usize,
+) -> bool
+    requires setup { IsSetup target.old }
     requires start { start ≤ LAST_MOMENT }
-    ensures resumed { result ≡ true → IsResumed start room saved.now lodged.old lodged.new }
-    ensures same { result ≡ false → IsSameSetup lodged.old lodged.new }
+    ensures resumed { result ≡ true → IsResumed start room saved.now target.old target.new }
+    ensures same { result ≡ false → IsSameSetup target.old target.new }
 {
-    let before = replace(lodged, Lodged::Nothing);
-    let (after, resumed) = go_on(alloc, before, saved, start, room);
-    *lodged = after;
+    let before = replace(target, HandleTarget::Nothing);
+    let (after, resumed) = resume_over(alloc, before, saved, start, room);
+    *target = after;
     resumed
 }
 
-/// The book that goes on over a setup, and true; where memory is refused the setup.
-fn go_on(alloc: Global, lodged: Lodged, saved: &Saved, start: u64, room: usize) -> (Lodged, bool)
-    requires setup { IsSetup lodged }
+/// The book over a setup that resumes what was saved, and true. If memory is refused, the setup and false.
+fn resume_over(
+    alloc: Global,
+    target: HandleTarget,
+    saved: &Saved,
+    start: u64,
+    room: usize,
+) -> (HandleTarget, bool)
+    requires setup { IsSetup target }
     requires start { start ≤ LAST_MOMENT }
-    ensures resumed { result.1 ≡ true → IsResumed start room saved.now lodged result.0 }
-    ensures same { result.1 ≡ false → IsSameSetup lodged result.0 }
+    ensures resumed { result.1 ≡ true → IsResumed start room saved.now target result.0 }
+    ensures same { result.1 ≡ false → IsSameSetup target result.0 }
 {
-    match lodged {
-        Lodged::Setup(Prepared { setup, names }) => {
+    match target {
+        HandleTarget::Setup(NamedSetup { setup, names }) => {
             match Book::resume(alloc, setup, saved, start, room) {
-                Ok(book) => (Lodged::Book(Ledger { book, names }), true),
-                Err(setup) => (Lodged::Setup(Prepared { setup, names }), false),
+                Ok(book) => (HandleTarget::Book(NamedBook { book, names }), true),
+                Err(setup) => (HandleTarget::Setup(NamedSetup { setup, names }), false),
             }
         }
         other => (other, false),

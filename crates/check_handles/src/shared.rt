@@ -1,21 +1,29 @@
 //! What the passes of a desk share.
 
 ghost use Rattle.std.specs.Prelude.{◌≡◌, ◌↔◌, true};
+ghost use Rattle.check_desk.specs.Desks.{opened_with, passes_of};
 
 use check_desk::Desk;
+use check_objects::Setup;
 
-/// A desk, and a mark by which two passes are seen to share it.
+/// A desk, the names of its objects, and a mark that shows whether two passes share a desk.
 #[derive(Drop)]
 pub struct Shared {
     /// The desk.
     pub(crate) desk: Desk,
-    /// A number that no other desk of the process has: whoever opens desks sees to that.
+    /// The setup of the desk, for the names of its objects. The desk's own copy is behind its lock.
+    pub(crate) names: Setup,
+    /// How many passes the desk has.
+    pub(crate) passes: u32,
+    /// A number that no other desk of the process has. The program that opens desks chooses it.
     pub(crate) mark: u64,
+    ghost named: { names ≡ (opened_with desk).sched.setup },
+    ghost passes_are: { passes_of desk ≡ passes },
 }
 
 impl Shared {
-    /// Whether this and the other have one mark. Addresses can't be compared, so that is how passes of two
-    /// desks are kept apart.
+    /// Whether the two have one mark. Addresses can't be compared, so marks keep the passes of two desks
+    /// apart.
     pub(crate) fn has_mark_of(&self, other: &Shared) -> bool
         ensures { (result ≡ true) ↔ (self.now.mark ≡ other.now.mark) }
     {

@@ -1,4 +1,4 @@
-//! A box apart: its address, and the allocator that frees it.
+//! The parts of a box: its address, and the allocator that frees it.
 
 ghost use Rattle.std.specs.Prelude.{◌≡◌};
 ghost use Rattle.std.specs.Box.Ownership.{box_owns};
@@ -6,7 +6,7 @@ ghost use Rattle.std.specs.Box.Ownership.{box_owns};
 use std::alloc::Allocator;
 use std::marker::Model;
 
-/// What a box owns, by its address.
+/// The parts of a box, which own the value as the box does.
 pub(crate) struct Unboxed<T, A: Allocator> {
     pub(crate) at: *mut T,
     pub(crate) alloc: A,

@@ -6,6 +6,7 @@ use Rattle.check_drafts.specs.declared.error.LoadError.{LoadError}
 use Rattle.check_drafts.specs.declared.error.LoadError.TheVariants as load
 use Rattle.check_saved.specs.declared.fault.SavedFault.{SavedFault}
 use Rattle.check_saved.specs.declared.fault.SavedFault.TheVariants as fault
+use Rattle.check_records.specs.declared.kinds.TheConstants.{REFUSAL_SAVED_MEMORY, REFUSAL_SAVED_TOO_LONG}
 use Rattle.check_records.specs.declared.plain.PlainRefusal.{PlainRefusal}
 use Rattle.check_records.specs.Plain.{plain_refusal}
 use Rattle.check_records.specs.SavedFaults.{fault_back, plain_fault, IsNoFault}
@@ -32,7 +33,7 @@ no_fault plain other e memory = none_has fault_back plain_fault fault_is plain o
 -- ---- apart from a document's
 
 abbrev is_saved : PlainRefusal → Bool
-is_saved p = nat_le 11 p.kind && nat_le p.kind 20
+is_saved p = nat_le REFUSAL_SAVED_TOO_LONG p.kind && nat_le p.kind REFUSAL_SAVED_MEMORY
 
 of_document : (e : LoadError) → is_saved (plain_refusal e) ≡ false
 of_document load.TooLong = refl

@@ -20,6 +20,8 @@ use Rattle.check_sched.specs.declared.call.Call.TheVariants as call
 use Rattle.check_sched.specs.declared.call.Reply.{Reply}
 use Rattle.check_sched.specs.declared.call.Reply.TheVariants as reply
 use Rattle.check_sched.specs.declared.call.Refusal.TheVariants as refused
+use Rattle.check_records.specs.declared.kinds.TheConstants.{REFUSAL_SHAPE, REFUSAL_BAD_NAME, REFUSAL_DUPLICATE, REFUSAL_UNKNOWN_HOST, REFUSAL_UNKNOWN_MASTER}
+use Rattle.check_records.specs.declared.kinds.TheConstants.{REFUSAL_RANGE}
 use Rattle.check_records.specs.declared.plain.PlainReply.{PlainReply}
 use Rattle.check_records.specs.declared.plain.PlainEntry.{PlainEntry}
 use Rattle.check_records.specs.declared.plain.PlainRefusal.{PlainRefusal}
@@ -115,13 +117,13 @@ place_is kind p = λ i. record { part = part_is p.part i; index = number_is p.in
 refusal_is : (e : LoadError) → refusal_back (plain_refusal e) ≡ e
 refusal_is load.TooLong = refl
 refusal_is load.NotJson = refl
-refusal_is (load.Shape p) = ap load.Shape (place_is 2 p)
+refusal_is (load.Shape p) = ap load.Shape (place_is REFUSAL_SHAPE p)
 refusal_is load.TooMany = refl
-refusal_is (load.BadName p) = ap load.BadName (place_is 4 p)
-refusal_is (load.Duplicate p) = ap load.Duplicate (place_is 5 p)
-refusal_is (load.UnknownHost p) = ap load.UnknownHost (place_is 6 p)
-refusal_is (load.UnknownMaster p) = ap load.UnknownMaster (place_is 7 p)
-refusal_is (load.Range p) = ap load.Range (place_is 8 p)
+refusal_is (load.BadName p) = ap load.BadName (place_is REFUSAL_BAD_NAME p)
+refusal_is (load.Duplicate p) = ap load.Duplicate (place_is REFUSAL_DUPLICATE p)
+refusal_is (load.UnknownHost p) = ap load.UnknownHost (place_is REFUSAL_UNKNOWN_HOST p)
+refusal_is (load.UnknownMaster p) = ap load.UnknownMaster (place_is REFUSAL_UNKNOWN_MASTER p)
+refusal_is (load.Range p) = ap load.Range (place_is REFUSAL_RANGE p)
 refusal_is load.DependencyCycle = refl
 refusal_is load.ParentCycle = refl
 refusal_is load.Memory = refl

@@ -1,13 +1,15 @@
 #![tactic(auto)]
-//! What crosses to C by value: structs of numbers, one for each sort of value, and what each stands for.
+//! What crosses to C by value: structs of numbers, one for each type of value.
 //!
 //! A standing, a call, a reply, an entry and the refusal of a document or of a saved state become structs
-//! here, and are read back from them. Nothing in them is a handle, a text or a status.
+//! here, and are read back from them. The structs have no handle, no text and no status.
 //!
-//! The modules: `plain` has the structs and which of them stands for a value, `numbers` the numbers of
-//! switches, and what has a number; `reading` reads structs back; `saved_faults` does both for the refusals
-//! of a saved state; `laws` says that nothing is lost on the way.
+//! The modules: `kinds` has the numbers of calls, replies and refusals, `numbers` those of switches.
+//! `plain` has the structs, and makes each from its value. `reading` reads structs back. `saved_faults`
+//! does both for the refusals of a saved state. `laws` has the law that nothing is lost on the way, and the
+//! number of each kind.
 
+mod kinds;
 pub mod laws;
 mod numbers;
 mod plain;

@@ -1,5 +1,5 @@
-//! The numbers of switches, and what has each number. Parts have theirs in check_drafts; codes, states and
-//! kinds in check_rules.
+//! The numbers of switches, and the values with given numbers. Parts have theirs in check_drafts; codes,
+//! states and kinds in check_rules.
 
 ghost use Rattle.std.specs.Prelude.{◌≡◌};
 ghost use Rattle.check_records.specs.Plain.{flag, flag_of};
@@ -15,7 +15,7 @@ pub(crate) fn flag(yes: bool) -> u32
     if yes { 1 } else { 0 }
 }
 
-/// Yes or no, where the number is 1 or 0.
+/// Yes or no, if the number is 1 or 0.
 pub fn flag_of(number: u32) -> Option<bool>
     ensures { result ≡ flag_of number }
 {
@@ -26,7 +26,7 @@ pub fn flag_of(number: u32) -> Option<bool>
     }
 }
 
-/// What a check returned, by its number; `Unknown` of a number that no code has.
+/// The return code of this number; `Unknown` if no code has it.
 pub(crate) fn code_back(number: u32) -> Code
     ensures { result ≡ code_back number }
 {
@@ -36,7 +36,7 @@ pub(crate) fn code_back(number: u32) -> Code
     }
 }
 
-/// The state of this number; `Unreachable` of a number that no state has.
+/// The state of this number; `Unreachable` if no state has it.
 pub(crate) fn state_back(number: u32) -> State
     ensures { result ≡ state_back number }
 {
@@ -46,7 +46,7 @@ pub(crate) fn state_back(number: u32) -> State
     }
 }
 
-/// The kind of a state by its number: `Soft` of 0, `Hard` of any other number.
+/// The kind of a state by its number: `Soft` for 0, `Hard` for any other number.
 pub(crate) fn kind_back(number: u32) -> Kind
     ensures { result ≡ kind_back number }
 {
@@ -56,7 +56,7 @@ pub(crate) fn kind_back(number: u32) -> Kind
     }
 }
 
-/// The part of a document of this number; `HostDependencies` of a number that no part has.
+/// The part of a document of this number; `HostDependencies` if no part has it.
 pub(crate) fn part_back(number: u32) -> Part
     ensures { result ≡ part_back number }
 {

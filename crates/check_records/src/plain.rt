@@ -1,13 +1,14 @@
-//! What crosses to C by value: structs of numbers, and what each stands for.
+//! What crosses to C by value: structs of numbers, each made from its value.
 //!
-//! Each has the layout that `nagsched.h` gives it: no hole and no `bool`. A field for which a kind has
-//! no use is 0. Two values with the same struct are the same ([`crate::laws`]).
+//! Each has the layout that `nagsched.h` gives it: no padding and no `bool`. A field that a kind doesn't
+//! use is 0. Two values with the same struct are the same ([`crate::laws`]).
 
 ghost use Rattle.std.specs.Prelude.{◌≡◌, None};
 ghost use Rattle.check_sched.specs.declared.call.Reply.TheVariants as reply;
 ghost use Rattle.check_records.specs.Plain.{is_there, number_or_0};
 ghost use Rattle.check_records.specs.Plain.{plain_call, plain_entry, plain_refusal, plain_reply, plain_standing, refusal_at, refusal_nowhere, reply_struct, with_time};
 
+use crate::kinds;
 use crate::numbers::flag;
 use check_drafts::{LoadError, Place};
 use check_rules::Standing;
@@ -18,7 +19,7 @@ use ticket_steps::Entry;
 #[repr(C)]
 #[derive(Clone, Copy, PartialEq)]
 pub struct PlainStanding {
-    /// 1 where a result has come in, else 0.
+    /// 1 if a result has come in, otherwise 0.
     pub checked: u32,
     /// A state: OK, WARNING, CRITICAL, UNKNOWN are 0 to 3, UP, DOWN, UNREACHABLE 4 to 6.
     pub state: u32,
@@ -28,49 +29,49 @@ pub struct PlainStanding {
     pub attempt: u32,
     /// The state of the last result whose state was hard.
     pub last_hard: u32,
-    /// 1 where the state keeps changing, else 0.
+    /// 1 if the state keeps changing, otherwise 0.
     pub flapping: u32,
 }
 
-/// A call, as a history keeps it.
+/// A call, as a history stores it.
 #[repr(C)]
 #[derive(Clone, Copy, PartialEq)]
 pub struct PlainCall {
     /// Take, report, abandon, reschedule, enable and status are 0 to 5.
     pub kind: u32,
-    /// The number of the object: of all but take.
+    /// The number of the object, for all calls except take.
     pub object: u32,
-    /// The number of the run: of report and abandon.
+    /// The number of the run, for report and abandon.
     pub run: u64,
-    /// A moment in milliseconds: of take, abandon and reschedule.
+    /// A moment in milliseconds, for take, abandon and reschedule.
     pub moment: u64,
-    /// What the check returned, 0 to 3: of report.
+    /// The return code of the check, 0 to 3, for report.
     pub code: u32,
-    /// Forced, of reschedule, or on, of enable: 0 or 1.
+    /// Forced, for reschedule, or on, for enable: 0 or 1.
     pub flag: u32,
 }
 
-/// What a call is answered.
+/// The reply to a call.
 #[repr(C)]
 #[derive(Clone, Copy, PartialEq)]
 pub struct PlainReply {
     /// Taken, put off, idle, at limit, standing, freed and done are 0 to 6; 7 to 11 are refusals.
     pub kind: u32,
-    /// The number of the object: of taken and put off.
+    /// The number of the object, for taken and put off.
     pub object: u32,
-    /// The number of the run: of taken.
+    /// The number of the run, for taken.
     pub run: u64,
-    /// A time in milliseconds, where there is one.
+    /// A time in milliseconds, if there is one.
     pub time: u64,
-    /// 1 where there is a time, else 0.
+    /// 1 if there is a time, otherwise 0.
     pub has_time: u32,
-    /// 1 where the state differs from the one before, else 0: of standing.
+    /// 1 if the state differs from the one before, otherwise 0, for standing.
     pub changed: u32,
-    /// What is known of the object: of standing.
+    /// The object's standing, for standing.
     pub standing: PlainStanding,
 }
 
-/// An entry of a history: the pass that called, the call, the reply.
+/// An entry of a history: the pass that made the call, the call, the reply.
 #[repr(C)]
 #[derive(Clone, Copy, PartialEq)]
 pub struct PlainEntry {
@@ -78,7 +79,7 @@ pub struct PlainEntry {
     pub pass: u64,
     /// The call.
     pub call: PlainCall,
-    /// What it was answered.
+    /// The reply.
     pub reply: PlainReply,
 }
 
@@ -86,19 +87,19 @@ pub struct PlainEntry {
 #[repr(C)]
 #[derive(Clone, Copy, PartialEq)]
 pub struct PlainRefusal {
-    /// The reason: 0 to 10 of a document, 11 to 19 of a saved state.
+    /// The reason: 0 to 10 for a document, 11 to 19 for a saved state.
     pub kind: u32,
-    /// The part of the document, 1 to 6, or 0 where the kind has no place, and of a saved state.
+    /// The part of the document, 1 to 6, or 0 if the kind has no place, and for a saved state.
     pub part: u32,
-    /// 1 where there is an index, else 0.
+    /// 1 if there is an index, otherwise 0.
     pub has_index: u64,
-    /// The index in the part's list, or in the list of saved objects, from 0, where there is one.
+    /// The index in the part's list, or in the list of saved objects, from 0, if there is one.
     pub index: u64,
 }
 
-/// A take at the moment 0: what the struct of every call is made from.
+/// A take at the moment 0. The struct of every call is made from it.
 const FIRST_TAKE: PlainCall = PlainCall {
-    kind: 0,
+    kind: kinds::CALL_TAKE,
     object: 0,
     run: 0,
     moment: 0,
@@ -116,9 +117,9 @@ const NO_STANDING: PlainStanding = PlainStanding {
     flapping: 0,
 };
 
-/// A reply of which nothing is written yet.
+/// A reply with nothing written yet.
 const NO_REPLY: PlainReply = PlainReply {
-    kind: 0,
+    kind: kinds::REPLY_TAKEN,
     object: 0,
     run: 0,
     time: 0,
@@ -151,14 +152,14 @@ pub fn plain_call(call: Call) -> PlainCall
             ..FIRST_TAKE
         },
         Call::Report { object, run, code } => PlainCall {
-            kind: 1,
+            kind: kinds::CALL_REPORT,
             object,
             run,
             code: code.number(),
             ..FIRST_TAKE
         },
         Call::Abandon { object, run, now } => PlainCall {
-            kind: 2,
+            kind: kinds::CALL_ABANDON,
             object,
             run,
             moment: now,
@@ -169,20 +170,20 @@ pub fn plain_call(call: Call) -> PlainCall
             time,
             forced,
         } => PlainCall {
-            kind: 3,
+            kind: kinds::CALL_RESCHEDULE,
             object,
             moment: time,
             flag: flag(forced),
             ..FIRST_TAKE
         },
         Call::Enable { object, on } => PlainCall {
-            kind: 4,
+            kind: kinds::CALL_ENABLE,
             object,
             flag: flag(on),
             ..FIRST_TAKE
         },
         Call::Status { object } => PlainCall {
-            kind: 5,
+            kind: kinds::CALL_STATUS,
             object,
             ..FIRST_TAKE
         },
@@ -209,7 +210,7 @@ fn is_there(number: Option<u64>) -> u32
     }
 }
 
-/// Writes a time: none is written as 0, and that there is none.
+/// Writes a time. No time is written as 0, with `has_time` 0.
 fn tell_time(time: Option<u64>, told: &mut PlainReply)
     ensures { told.new ≡ with_time time told.old }
 {
@@ -217,7 +218,7 @@ fn tell_time(time: Option<u64>, told: &mut PlainReply)
     told.has_time = is_there(time);
 }
 
-/// A reply of this kind, of which there is no more to say.
+/// A reply of this kind without other fields.
 fn bare_reply(kind: u32) -> PlainReply
     ensures { result ≡ reply_struct kind 0 0 None }
 {
@@ -229,54 +230,55 @@ fn plain_refused(refusal: Refusal) -> PlainReply
     ensures { result ≡ plain_reply (reply.Refused refusal) }
 {
     match refusal {
-        Refusal::UnknownObject => bare_reply(7),
-        Refusal::TimeRange => bare_reply(8),
-        Refusal::NotRunning => bare_reply(9),
-        Refusal::WrongRun => bare_reply(10),
-        Refusal::RunsSpent => bare_reply(11),
+        Refusal::UnknownObject => bare_reply(kinds::REPLY_UNKNOWN_OBJECT),
+        Refusal::TimeRange => bare_reply(kinds::REPLY_TIME_RANGE),
+        Refusal::NotRunning => bare_reply(kinds::REPLY_NOT_RUNNING),
+        Refusal::WrongRun => bare_reply(kinds::REPLY_WRONG_RUN),
+        Refusal::RunsSpent => bare_reply(kinds::REPLY_RUNS_SPENT),
     }
 }
 
-/// Writes what a call is answered, for C: first that there is nothing, and then what the reply says.
+/// Writes the reply to a call, for C: first an empty struct, and then the fields of the reply.
 pub fn tell_reply(reply: Reply, told: &mut PlainReply)
     ensures { told.new ≡ plain_reply reply }
 {
     *told = NO_REPLY;
     match reply {
         Reply::Taken { object, run } => {
+            told.kind = kinds::REPLY_TAKEN;
             told.object = object;
             told.run = run;
         }
         Reply::PutOff { object, until } => {
-            told.kind = 1;
+            told.kind = kinds::REPLY_PUT_OFF;
             told.object = object;
             tell_time(until, told);
         }
         Reply::Idle { next } => {
-            told.kind = 2;
+            told.kind = kinds::REPLY_IDLE;
             tell_time(next, told);
         }
-        Reply::AtLimit => told.kind = 3,
+        Reply::AtLimit => told.kind = kinds::REPLY_AT_LIMIT,
         Reply::Standing {
             standing,
             changed,
             next,
         } => {
-            told.kind = 4;
+            told.kind = kinds::REPLY_STANDING;
             told.changed = flag(changed);
             told.standing = plain_standing(standing);
             tell_time(next, told);
         }
         Reply::Freed { next } => {
-            told.kind = 5;
+            told.kind = kinds::REPLY_FREED;
             tell_time(Some(next), told);
         }
-        Reply::Done => told.kind = 6,
+        Reply::Done => told.kind = kinds::REPLY_DONE,
         Reply::Refused(refusal) => *told = plain_refused(refusal),
     }
 }
 
-/// What a call is answered, for C.
+/// The reply to a call, for C.
 pub fn plain_reply(reply: Reply) -> PlainReply
     ensures { result ≡ plain_reply reply }
 {
@@ -309,7 +311,7 @@ fn refusal_nowhere(kind: u32) -> PlainRefusal
     }
 }
 
-/// An index as the two fields that a struct has for it: whether there is one, 1 or 0, and the index, or 0.
+/// An index as two fields of a struct: whether there is one, 1 or 0, and the index, or 0.
 pub(crate) fn index_parts(index: Option<usize>) -> (u64, u64)
     ensures there { result.0 ≡ is_there index }
     ensures number { result.1 ≡ number_or_0 index }
@@ -333,23 +335,22 @@ fn refusal_at(kind: u32, place: Place) -> PlainRefusal
     }
 }
 
-/// Why a document is no setup, for C. Want of memory has a status of its own: its struct is said to
-/// nobody.
+/// Why a document is no setup, for C. Out of memory is a status, so C never gets its struct.
 pub fn plain_refusal(error: LoadError) -> PlainRefusal
     ensures { result ≡ plain_refusal error }
 {
     match error {
-        LoadError::TooLong => refusal_nowhere(0),
-        LoadError::NotJson => refusal_nowhere(1),
-        LoadError::Shape(place) => refusal_at(2, place),
-        LoadError::TooMany => refusal_nowhere(3),
-        LoadError::BadName(place) => refusal_at(4, place),
-        LoadError::Duplicate(place) => refusal_at(5, place),
-        LoadError::UnknownHost(place) => refusal_at(6, place),
-        LoadError::UnknownMaster(place) => refusal_at(7, place),
-        LoadError::Range(place) => refusal_at(8, place),
-        LoadError::DependencyCycle => refusal_nowhere(9),
-        LoadError::ParentCycle => refusal_nowhere(10),
-        LoadError::Memory => refusal_nowhere(21),
+        LoadError::TooLong => refusal_nowhere(kinds::REFUSAL_TOO_LONG),
+        LoadError::NotJson => refusal_nowhere(kinds::REFUSAL_NOT_JSON),
+        LoadError::Shape(place) => refusal_at(kinds::REFUSAL_SHAPE, place),
+        LoadError::TooMany => refusal_nowhere(kinds::REFUSAL_TOO_MANY),
+        LoadError::BadName(place) => refusal_at(kinds::REFUSAL_BAD_NAME, place),
+        LoadError::Duplicate(place) => refusal_at(kinds::REFUSAL_DUPLICATE, place),
+        LoadError::UnknownHost(place) => refusal_at(kinds::REFUSAL_UNKNOWN_HOST, place),
+        LoadError::UnknownMaster(place) => refusal_at(kinds::REFUSAL_UNKNOWN_MASTER, place),
+        LoadError::Range(place) => refusal_at(kinds::REFUSAL_RANGE, place),
+        LoadError::DependencyCycle => refusal_nowhere(kinds::REFUSAL_DEPENDENCY_CYCLE),
+        LoadError::ParentCycle => refusal_nowhere(kinds::REFUSAL_PARENT_CYCLE),
+        LoadError::Memory => refusal_nowhere(kinds::REFUSAL_MEMORY),
     }
 }

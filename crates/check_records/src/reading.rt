@@ -1,4 +1,4 @@
-//! Structs read back: the call, the reply, the entry or the refusal that has a struct, where one has it.
+//! Structs read back: the call, the reply, the entry or the refusal with a struct, if there is one.
 
 ghost use Rattle.std.specs.Prelude.{◌≡◌, ◌≢◌, ◌↔◌, ◌≤◌, ◌^◌, true, IfNone, IfSome};
 ghost use Rattle.check_drafts.specs.declared.error.LoadError.TheVariants.{Memory};
@@ -6,6 +6,7 @@ ghost use Rattle.check_records.specs.Plain.{call_back, number_back, place_back, 
 ghost use Rattle.check_records.specs.Plain.{IsNoCall, IsNoEntry, IsNoRefusal, IsNoReply};
 ghost use Rattle.check_records.specs.Plain.{plain_call, plain_entry, plain_refusal, plain_reply};
 
+use crate::kinds;
 use crate::numbers::{code_back, kind_back, part_back, state_back};
 use crate::plain::{
     PlainCall, PlainEntry, PlainRefusal, PlainReply, PlainStanding, plain_call, plain_refusal,
@@ -16,7 +17,7 @@ use check_rules::Standing;
 use check_sched::{Call, Refusal, Reply};
 use ticket_steps::Entry;
 
-/// The call with this struct, where a call has it.
+/// The call with this struct, if there is one.
 pub fn call_of(plain: PlainCall) -> Option<Call>
     ensures some { IfSome result (λ call. plain_call call ≡ plain) }
     ensures none { IfNone result (IsNoCall plain) }
@@ -29,29 +30,29 @@ pub fn call_of(plain: PlainCall) -> Option<Call>
     }
 }
 
-/// The call that the fields of a struct name, where they are those of a call.
+/// The call that the fields of a struct name, if they are those of a call.
 fn call_back(plain: PlainCall) -> Call
     ensures { result ≡ call_back plain }
 {
     let object = plain.object;
     match plain.kind {
-        0 => Call::Take { now: plain.moment },
-        1 => Call::Report {
+        kinds::CALL_TAKE => Call::Take { now: plain.moment },
+        kinds::CALL_REPORT => Call::Report {
             object,
             run: plain.run,
             code: code_back(plain.code),
         },
-        2 => Call::Abandon {
+        kinds::CALL_ABANDON => Call::Abandon {
             object,
             run: plain.run,
             now: plain.moment,
         },
-        3 => Call::Reschedule {
+        kinds::CALL_RESCHEDULE => Call::Reschedule {
             object,
             time: plain.moment,
             forced: plain.flag == 1,
         },
-        4 => Call::Enable {
+        kinds::CALL_ENABLE => Call::Enable {
             object,
             on: plain.flag == 1,
         },
@@ -59,7 +60,7 @@ fn call_back(plain: PlainCall) -> Call
     }
 }
 
-/// The reply with this struct, where a reply has it.
+/// The reply with this struct, if there is one.
 pub fn reply_of(plain: PlainReply) -> Option<Reply>
     ensures some { IfSome result (λ reply. plain_reply reply ≡ plain) }
     ensures none { IfNone result (IsNoReply plain) }
@@ -79,8 +80,8 @@ fn has_struct(reply: Reply, plain: PlainReply) -> bool
     plain_reply(reply) == plain
 }
 
-/// The reply that the fields of a struct name, where they are those of a reply. None where the attempt of
-/// a standing is past a byte.
+/// The reply that the fields of a struct name, if they are those of a reply. None if the attempt of a
+/// standing is more than a byte.
 fn read_reply(plain: PlainReply) -> Option<Reply>
     ensures some { IfSome result (λ reply. reply ≡ reply_back plain) }
     ensures none { IfNone result (2 ^ 8 ≤ plain.standing.attempt) }
@@ -88,41 +89,41 @@ fn read_reply(plain: PlainReply) -> Option<Reply>
     let object = plain.object;
     let time = time_back(plain.has_time, plain.time);
     let reply = match plain.kind {
-        0 => Reply::Taken {
+        kinds::REPLY_TAKEN => Reply::Taken {
             object,
             run: plain.run,
         },
-        1 => Reply::PutOff {
+        kinds::REPLY_PUT_OFF => Reply::PutOff {
             object,
             until: time,
         },
-        2 => Reply::Idle { next: time },
-        3 => Reply::AtLimit,
-        4 => Reply::Standing {
+        kinds::REPLY_IDLE => Reply::Idle { next: time },
+        kinds::REPLY_AT_LIMIT => Reply::AtLimit,
+        kinds::REPLY_STANDING => Reply::Standing {
             standing: read_standing(plain.standing)?,
             changed: plain.changed == 1,
             next: time,
         },
-        5 => Reply::Freed { next: plain.time },
-        6 => Reply::Done,
-        7 => Reply::Refused(Refusal::UnknownObject),
-        8 => Reply::Refused(Refusal::TimeRange),
-        9 => Reply::Refused(Refusal::NotRunning),
-        10 => Reply::Refused(Refusal::WrongRun),
+        kinds::REPLY_FREED => Reply::Freed { next: plain.time },
+        kinds::REPLY_DONE => Reply::Done,
+        kinds::REPLY_UNKNOWN_OBJECT => Reply::Refused(Refusal::UnknownObject),
+        kinds::REPLY_TIME_RANGE => Reply::Refused(Refusal::TimeRange),
+        kinds::REPLY_NOT_RUNNING => Reply::Refused(Refusal::NotRunning),
+        kinds::REPLY_WRONG_RUN => Reply::Refused(Refusal::WrongRun),
         _ => Reply::Refused(Refusal::RunsSpent),
     };
     Some(reply)
 }
 
-/// The time, where the first number isn't 0.
+/// The time, if the first number isn't 0.
 fn time_back(has_time: u32, time: u64) -> Option<u64>
     ensures { result ≡ number_back has_time time }
 {
     if has_time == 0 { None } else { Some(time) }
 }
 
-/// The standing that the fields of a struct name, where they are those of a standing. None where the
-/// attempt is past a byte.
+/// The standing that the fields of a struct name, if they are those of a standing. None if the attempt is
+/// more than a byte.
 fn read_standing(plain: PlainStanding) -> Option<Standing>
     ensures some { IfSome result (λ standing. standing ≡ standing_back plain) }
     ensures none { IfNone result (2 ^ 8 ≤ plain.attempt) }
@@ -140,7 +141,7 @@ fn read_standing(plain: PlainStanding) -> Option<Standing>
     })
 }
 
-/// The entry with this struct, where an entry has it.
+/// The entry with this struct, if there is one.
 pub fn entry_of(plain: PlainEntry) -> Option<Entry<Call, Reply>>
     ensures some { IfSome result (λ entry. plain_entry entry ≡ plain) }
     ensures none { IfNone result (IsNoEntry plain) }
@@ -153,7 +154,7 @@ pub fn entry_of(plain: PlainEntry) -> Option<Entry<Call, Reply>>
     Some(Entry { pass, call, reply })
 }
 
-/// The refusal of a document with this struct, where a document can be refused so: want of memory is none.
+/// The refusal of a document with this struct, if there is one. Out of memory doesn't count.
 pub fn refusal_of(plain: PlainRefusal) -> Option<LoadError>
     ensures some { IfSome result (λ error. plain_refusal error ≡ plain) }
     ensures told { IfSome result (λ error. error ≢ Memory) }
@@ -171,28 +172,28 @@ pub fn refusal_of(plain: PlainRefusal) -> Option<LoadError>
     }
 }
 
-/// The refusal that the fields of a struct name, where they are those of a refusal; of others want of
-/// memory, which no struct says.
+/// The refusal that the fields of a struct name, if they are those of a refusal. For others it is out of
+/// memory, which no function writes.
 fn refusal_back(plain: PlainRefusal) -> LoadError
     ensures { result ≡ refusal_back plain }
 {
     match plain.kind {
-        0 => LoadError::TooLong,
-        1 => LoadError::NotJson,
-        2 => LoadError::Shape(place_back(plain)),
-        3 => LoadError::TooMany,
-        4 => LoadError::BadName(place_back(plain)),
-        5 => LoadError::Duplicate(place_back(plain)),
-        6 => LoadError::UnknownHost(place_back(plain)),
-        7 => LoadError::UnknownMaster(place_back(plain)),
-        8 => LoadError::Range(place_back(plain)),
-        9 => LoadError::DependencyCycle,
-        10 => LoadError::ParentCycle,
+        kinds::REFUSAL_TOO_LONG => LoadError::TooLong,
+        kinds::REFUSAL_NOT_JSON => LoadError::NotJson,
+        kinds::REFUSAL_SHAPE => LoadError::Shape(place_back(plain)),
+        kinds::REFUSAL_TOO_MANY => LoadError::TooMany,
+        kinds::REFUSAL_BAD_NAME => LoadError::BadName(place_back(plain)),
+        kinds::REFUSAL_DUPLICATE => LoadError::Duplicate(place_back(plain)),
+        kinds::REFUSAL_UNKNOWN_HOST => LoadError::UnknownHost(place_back(plain)),
+        kinds::REFUSAL_UNKNOWN_MASTER => LoadError::UnknownMaster(place_back(plain)),
+        kinds::REFUSAL_RANGE => LoadError::Range(place_back(plain)),
+        kinds::REFUSAL_DEPENDENCY_CYCLE => LoadError::DependencyCycle,
+        kinds::REFUSAL_PARENT_CYCLE => LoadError::ParentCycle,
         _ => LoadError::Memory,
     }
 }
 
-/// The place that the fields of a struct name, where they name one.
+/// The place that the fields of a struct name, if they name one.
 fn place_back(plain: PlainRefusal) -> Place
     ensures { result ≡ place_back plain }
 {
@@ -202,7 +203,7 @@ fn place_back(plain: PlainRefusal) -> Place
     }
 }
 
-/// The index, where the first number isn't 0.
+/// The index, if the first number isn't 0.
 pub(crate) fn index_back(has_index: u64, index: u64) -> Option<usize>
     ensures { result ≡ number_back has_index index }
 {

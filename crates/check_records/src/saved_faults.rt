@@ -1,9 +1,10 @@
-//! Why a saved state is refused, as a struct, and back.
+//! Why a saved state is refused, as a struct, and read back.
 
 ghost use Rattle.std.specs.Prelude.{◌≡◌, ◌≢◌, IfNone, IfSome};
 ghost use Rattle.check_saved.specs.declared.fault.SavedFault.TheVariants.{Memory};
 ghost use Rattle.check_records.specs.SavedFaults.{fault_back, fault_struct, plain_fault, IsNoFault};
 
+use crate::kinds;
 use crate::plain::{PlainRefusal, index_parts};
 use crate::reading::index_back;
 use check_saved::SavedFault;
@@ -21,26 +22,25 @@ fn fault_struct(kind: u32, index: Option<usize>) -> PlainRefusal
     }
 }
 
-/// Why a saved state is refused, for C. Want of memory has a status of its own: its struct is said to
-/// nobody.
+/// Why a saved state is refused, for C. Out of memory is a status, so C never gets its struct.
 pub fn plain_fault(fault: SavedFault) -> PlainRefusal
     ensures { result ≡ plain_fault fault }
 {
     match fault {
-        SavedFault::TooLong => fault_struct(11, None),
-        SavedFault::NotJson => fault_struct(12, None),
-        SavedFault::Version => fault_struct(13, None),
-        SavedFault::Shape(index) => fault_struct(14, index),
-        SavedFault::TooMany => fault_struct(15, None),
-        SavedFault::BadName(index) => fault_struct(16, Some(index)),
-        SavedFault::Duplicate(index) => fault_struct(17, Some(index)),
-        SavedFault::Range(index) => fault_struct(18, index),
-        SavedFault::Unlawful(index) => fault_struct(19, Some(index)),
-        SavedFault::Memory => fault_struct(20, None),
+        SavedFault::TooLong => fault_struct(kinds::REFUSAL_SAVED_TOO_LONG, None),
+        SavedFault::NotJson => fault_struct(kinds::REFUSAL_SAVED_NOT_JSON, None),
+        SavedFault::Version => fault_struct(kinds::REFUSAL_SAVED_VERSION, None),
+        SavedFault::Shape(index) => fault_struct(kinds::REFUSAL_SAVED_SHAPE, index),
+        SavedFault::TooMany => fault_struct(kinds::REFUSAL_SAVED_TOO_MANY, None),
+        SavedFault::BadName(index) => fault_struct(kinds::REFUSAL_SAVED_BAD_NAME, Some(index)),
+        SavedFault::Duplicate(index) => fault_struct(kinds::REFUSAL_SAVED_DUPLICATE, Some(index)),
+        SavedFault::Range(index) => fault_struct(kinds::REFUSAL_SAVED_RANGE, index),
+        SavedFault::Unlawful(index) => fault_struct(kinds::REFUSAL_SAVED_UNLAWFUL, Some(index)),
+        SavedFault::Memory => fault_struct(kinds::REFUSAL_SAVED_MEMORY, None),
     }
 }
 
-/// The refusal of a saved state with this struct, where one can be refused so: want of memory is none.
+/// The refusal of a saved state with this struct, if there is one. Out of memory doesn't count.
 pub fn fault_of(plain: PlainRefusal) -> Option<SavedFault>
     ensures some { IfSome result (λ fault. plain_fault fault ≡ plain) }
     ensures told { IfSome result (λ fault. fault ≢ Memory) }
@@ -58,21 +58,21 @@ pub fn fault_of(plain: PlainRefusal) -> Option<SavedFault>
     }
 }
 
-/// The refusal that the fields of a struct name, where they are those of a refusal; of others want of
-/// memory, which no struct says.
+/// The refusal that the fields of a struct name, if they are those of a refusal. For others it is out of
+/// memory, which no function writes.
 fn fault_back(plain: PlainRefusal) -> SavedFault
     ensures { result ≡ fault_back plain }
 {
     match plain.kind {
-        11 => SavedFault::TooLong,
-        12 => SavedFault::NotJson,
-        13 => SavedFault::Version,
-        14 => SavedFault::Shape(index_back(plain.has_index, plain.index)),
-        15 => SavedFault::TooMany,
-        16 => SavedFault::BadName(plain.index as usize),
-        17 => SavedFault::Duplicate(plain.index as usize),
-        18 => SavedFault::Range(index_back(plain.has_index, plain.index)),
-        19 => SavedFault::Unlawful(plain.index as usize),
+        kinds::REFUSAL_SAVED_TOO_LONG => SavedFault::TooLong,
+        kinds::REFUSAL_SAVED_NOT_JSON => SavedFault::NotJson,
+        kinds::REFUSAL_SAVED_VERSION => SavedFault::Version,
+        kinds::REFUSAL_SAVED_SHAPE => SavedFault::Shape(index_back(plain.has_index, plain.index)),
+        kinds::REFUSAL_SAVED_TOO_MANY => SavedFault::TooMany,
+        kinds::REFUSAL_SAVED_BAD_NAME => SavedFault::BadName(plain.index as usize),
+        kinds::REFUSAL_SAVED_DUPLICATE => SavedFault::Duplicate(plain.index as usize),
+        kinds::REFUSAL_SAVED_RANGE => SavedFault::Range(index_back(plain.has_index, plain.index)),
+        kinds::REFUSAL_SAVED_UNLAWFUL => SavedFault::Unlawful(plain.index as usize),
         _ => SavedFault::Memory,
     }
 }

@@ -1,4 +1,4 @@
--- A standing as one word, as it stands on a board that is read without the lock. (Our own profile.)
+-- A standing as one word, for a board that is read without the lock. (Our own profile.)
 use Rattle.std.specs.Prelude.{ℕ, ◌+◌, ◌*◌, ◌/◌, ◌%◌, ◌==◌, Bool, nat_lt, if◌then◌else◌}
 use Rattle.std.specs.Prelude.{Option, None, option_map, option_and_then}
 use Rattle.check_rules.specs.declared.state.State.{State}

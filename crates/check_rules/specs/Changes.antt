@@ -1,12 +1,12 @@
--- The changes among results, one result after another. What is promised of the percent is the sum over pairs, `changes_weight`; this is for the
--- code that adds the changes up, and for what is kept of them.
+-- The changes among results, one result after another. Contracts define the percent by the sum over pairs, `changes_weight`. These definitions
+-- are for the code that adds the changes up, and for the changes that it stores.
 use Rattle.std.specs.Prelude.{ℕ, ◌+◌, List, [], ◌∷◌, if◌then◌else◌}
 use Rattle.check_rules.specs.declared.state.State.{State}
 use Rattle.check_rules.specs.Board.{flag}
 use Rattle.check_rules.specs.State.{is_another_state}
 
--- The weight of the changes from one result through those that come after it, where the first of them
--- weighs this much.
+-- The weight of the changes from one result to the last of those after it. A change to the first of those
+-- has this weight.
 abbrev pub weight_after : State → List State → ℕ → ℕ
 weight_after before [] weight = 0
 weight_after before (found ∷ rest) weight = (if is_another_state found before then weight else 0) + weight_after found rest (weight + 2)

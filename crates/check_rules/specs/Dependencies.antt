@@ -23,8 +23,8 @@ is_criterion c state.Unreachable = c.unknown
 abbrev pub state_read : Bool → Standing → State
 state_read reads_soft s = if reads_soft then s.state else s.last_hard
 
--- Whether what is known of a master is among the criteria; one that was never checked meets
--- only `pending`. (Our own profile.)
+-- Whether the standing of a master is among the criteria; one that was never checked meets only
+-- `pending`. (Our own profile.)
 abbrev pub meets : Bool → Criteria → Standing → Bool
 meets reads_soft c s = if s.checked then is_criterion c (state_read reads_soft s) else c.pending
 
@@ -37,9 +37,9 @@ is_met setup standings d = option_map_or (meets setup.options.soft_state_depende
 abbrev pub fails : (ℕ → Bool) → Configuration → List Standing → Dependency → Bool
 fails blocked setup standings d = is_met setup standings d || (d.inherits && blocked d.master)
 
--- Whether some dependency of the object fails, where inherited ones are followed through so many
--- masters: a dependency fails where its master is in one of its criteria, or where it inherits and
--- some dependency of its master fails.
+-- Whether some dependency of the object fails, if inherited ones are followed through this number of
+-- masters. A dependency fails if its master is in one of its criteria, or if it inherits and some
+-- dependency of its master fails.
 abbrev pub is_blocked_within : ℕ → Configuration → List Standing → ℕ → Bool
 is_blocked_within zero setup standings n = false
 is_blocked_within (suc k) setup standings n =

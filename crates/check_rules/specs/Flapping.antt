@@ -1,34 +1,33 @@
--- Flapping: an object whose state keeps changing. ("Detection and Handling of State Flapping"; how many
--- results count, what a change weighs, and that a percent at the high threshold starts it are our own
--- profile.)
+-- Flapping: an object whose state keeps changing. ("Detection and Handling of State Flapping"; the number
+-- of results that count, the weight of a change, and a start at the high threshold are our own profile.)
 use Rattle.std.specs.Prelude.{ℕ, ◌≡◌, ◌≤◌, ◌+◌, ◌*◌, ◌==◌, Bool, true, not, List, [], ◌∷◌, ◌++◌, length, zip, drop, nat_lt, nat_le, if◌then◌else◌, ◌/◌}
 use Rattle.std.specs.List.{enumerate_from, list_all, sum_by}
 use Rattle.circular_buffer.specs.Buffer.{keep_last}
 use Rattle.check_rules.specs.declared.state.State.{State}
 use Rattle.check_rules.specs.State.{is_another_state, is_of_sort}
 
--- ---- the results that are kept
+-- ---- the stored results
 
--- the results that are kept after one more: the last 21, the oldest first
+-- the stored results after one more: the last 21, the oldest first
 abbrev pub kept_after : List State → State → List State
 kept_after results found = keep_last 21 (results ++ found ∷ [])
 
--- An object, a host or a service, can have these results: as many as are kept at most, each a state of its sort.
+-- An object, a host or a service, can have these results: at most 21, each a state of its sort.
 pub record AreResultsFor (host : Bool) (results : List State) : Type 0 where
   pub few : length results ≤ 21
   pub sort : list_all (is_of_sort host) results ≡ true
 
 -- ---- the percent
 
--- what change i weighs, counted from the oldest, which is change 0: newer changes weigh more
+-- the weight of change i, counted from the oldest, which is change 0: newer changes weigh more
 abbrev pub weight_of_change : ℕ → ℕ
 weight_of_change i = 57 + 2 * i
 
--- what all changes among 21 results weigh together
+-- the total weight of all changes among 21 results
 abbrev pub weight_of_all : ℕ
 weight_of_all = 1520
 
--- what there is between a result and the one after it: nothing, where the two are the same state
+-- the change between a result and the one after it: none if the two are the same state
 abbrev pub weight_between : ℕ × (State × State) → ℕ
 weight_between pair = if is_another_state pair.1.1 pair.1.0 then weight_of_change pair.0 else 0
 

@@ -1,4 +1,4 @@
--- The numbers of return codes, states and kinds, and what has each number.
+-- The numbers of return codes, states and kinds, in both directions.
 use Rattle.std.specs.Prelude.{ℕ, ◌==◌, List, [], ◌∷◌, Option, Some, None, find, if◌then◌else◌}
 use Rattle.check_rules.specs.declared.standing.Kind.{Kind}
 use Rattle.check_rules.specs.declared.standing.Kind.TheVariants as kind

@@ -10,8 +10,8 @@ use Rattle.check_rules.specs.declared.state.State.TheVariants as state
 use Rattle.check_rules.specs.declared.standing.Standing.{Standing}
 use Rattle.check_rules.specs.Standing.{is_down}
 
--- Whether a return code is a problem of a host: 2 and 3 are, and 1 where hosts are checked
--- aggressively. ("Host Checks".)
+-- Whether a return code is a problem of a host: 2 and 3 are, and 1 if hosts are checked aggressively.
+-- ("Host Checks".)
 abbrev pub is_problem_of_host : Bool → Code → Bool
 is_problem_of_host is_aggressive code.Ok = false
 is_problem_of_host is_aggressive code.Warning = is_aggressive
@@ -22,13 +22,13 @@ is_problem_of_host is_aggressive code.Unknown = true
 abbrev pub is_down_at : List Standing → ℕ → Bool
 is_down_at standings number = option_map_or is_down (slice_get standings number) false
 
--- A host is cut off where it has parents and each of them is DOWN or UNREACHABLE. ("Determining
--- Status and Reachability of Network Hosts".)
+-- A host is cut off if it has parents and each of them is DOWN or UNREACHABLE. ("Determining Status and
+-- Reachability of Network Hosts".)
 abbrev pub is_cut_off : List Standing → List ℕ → Bool
 is_cut_off standings parents = not (length parents == 0) && list_all (is_down_at standings) parents
 
--- The state of a host: UP without a problem; else UNREACHABLE where it is cut off, and DOWN where
--- it isn't. ("Determining Status and Reachability of Network Hosts".)
+-- The state of a host: UP without a problem, else UNREACHABLE if it is cut off, else DOWN. ("Determining
+-- Status and Reachability of Network Hosts".)
 abbrev pub host_state_of : Configuration → List Standing → ℕ → Code → State
 host_state_of setup standings number code =
     if is_problem_of_host setup.options.use_aggressive_host_checking code

@@ -1,4 +1,4 @@
--- What is known of an object.
+-- The standing of an object.
 use Rattle.std.specs.Prelude.{ℕ, ◌≡◌, Bool, true, false, not, ◌&&◌, ◌==◌, nat_lt, nat_le, if◌then◌else◌}
 use Rattle.check_rules.specs.declared.state.State.{State}
 use Rattle.check_rules.specs.declared.standing.Kind.{Kind}
@@ -19,12 +19,12 @@ pending_standing is_host = record {
   flapping = false;
 }
 
--- an object that was never checked stands as pending
+-- an object that was never checked is pending
 abbrev pub as_checked : Standing → Standing
 as_checked s = if s.checked then s else pending_standing (is_host_state s.state)
 
--- Whether a host is down: it was checked, and its state is DOWN or UNREACHABLE; whatever else is known
--- of an object, it isn't. (That one never checked counts as up is our own profile.)
+-- Whether a host is down: it was checked, and its state is DOWN or UNREACHABLE. (In our own profile a
+-- host that was never checked counts as up.)
 abbrev pub is_down : Standing → Bool
 is_down s = s.checked && is_down_state s.state
 
@@ -63,8 +63,8 @@ is_last_hard_of phase.HardProblem last_hard = true
 abbrev pub is_lawful : Standing → ℕ → Bool
 is_lawful s max = is_attempt_of (phase_of s) s.attempt max && is_last_hard_of (phase_of s) s.last_hard
 
--- An object, a host or a service, with this maximum of attempts can have this standing: it is lawful for that
--- maximum, its states are ones of hosts where the object is a host, and until it is checked it is pending.
+-- An object, a host or a service, with this maximum of attempts can have this standing. It is lawful for that
+-- maximum, its states are of the object's sort, and until the object is checked it is pending.
 pub record IsStandingFor (host : Bool) (max : ℕ) (standing : Standing) : Type 0 where
   pub lawful : is_lawful standing max ≡ true
   pub sort : is_host_state standing.state ≡ host

@@ -1,5 +1,5 @@
--- The verdict on a result, as a table of which the first row that fits decides. (Our own profile,
--- drawn after the manual's "State Types".)
+-- The verdict on a result, as a table. The first row that fits decides. (Our own profile, drawn after the
+-- manual's "State Types".)
 use Rattle.std.specs.Prelude.{ℕ, ◌+◌, Bool, true, false, not, ◌&&◌, ◌==◌, List, [], ◌∷◌, find, Option, Some, None, if◌then◌else◌}
 use Rattle.check_rules.specs.declared.state.State.{State}
 use Rattle.check_rules.specs.declared.standing.Kind.{Kind}
@@ -10,15 +10,15 @@ use Rattle.check_rules.specs.declared.standing.Standing.{Standing}
 use Rattle.check_rules.specs.State.{is_problem, is_host_state}
 use Rattle.check_rules.specs.Standing.{phase_of, as_checked}
 
--- ---- what stands in the columns
+-- ---- the values in the columns
 
--- what the result is
+-- the result
 pub data Result : Type 0 where
   OkOrUp : Result
   Problem : Result
   ProblemOfServiceWhoseHostIsNotUp : Result
 
--- what was before
+-- the phase before
 pub data Before : Type 0 where
   WasOkOrUp : Before
   WasSoftProblem : Before
@@ -59,15 +59,15 @@ table =
     ∷ row Problem WasHardProblem Hard Last
     ∷ []
 
--- ---- what the columns mean
+-- ---- the meaning of the columns
 
--- whether a result is what the column says
+-- whether a result fits the column
 abbrev pub is_result : Result → State → Bool → Bool
 is_result OkOrUp found host_up = not (is_problem found)
 is_result Problem found host_up = is_problem found
 is_result ProblemOfServiceWhoseHostIsNotUp found host_up = is_problem found && (not (is_host_state found) && not host_up)
 
--- whether a phase is what the column says
+-- whether a phase fits the column
 abbrev pub is_before : Before → Phase → Bool
 is_before WasOkOrUp phase.Fine = true
 is_before WasSoftProblem phase.SoftProblem = true
@@ -106,7 +106,7 @@ given_by (Some r) before max = (kind_of r.kind_after (attempt_of r.attempt_after
 abbrev pub kind_and_attempt : Standing → State → ℕ → Bool → Kind × ℕ
 kind_and_attempt before found max host_up = given_by (find (fits (phase_of before) found host_up) table) before max
 
--- the last hard state after: the result where the kind is hard, else what it was
+-- the last hard state after: the result if the kind is hard, else the last hard state before
 abbrev pub last_hard_after : Kind → State → State → State
 last_hard_after kind.Hard found before = found
 last_hard_after kind.Soft found before = before

@@ -1,4 +1,4 @@
-//! A standing as one word, as it stands on a board that is read without the lock. (Our own profile.)
+//! A standing as one word, for a board that is read without the lock. (Our own profile.)
 
 ghost use Rattle.std.specs.Prelude.{◌≡◌, ◌<◌, ◌^◌, Some, IfSome};
 ghost use Rattle.check_rules.specs.Board.{decoded, encoded, flag, has_bit};
@@ -6,10 +6,10 @@ ghost use Rattle.check_rules.specs.Board.{decoded, encoded, flag, has_bit};
 use crate::standing::{Kind, Standing};
 use crate::state::State;
 
-/// The word of a standing: bit 0 whether the object is checked, bits 1 to 3 its state, bit 4 whether
-/// that is hard, bits 5 to 12 the attempt, bits 13 to 15 the last hard state, bit 16 whether it flaps.
-/// OK, WARNING, CRITICAL, UNKNOWN, UP, DOWN, UNREACHABLE are 0 to 6. [`decode`] reads it. (Our own
-/// profile.)
+/// The word of a standing. Bit 0 says whether the object was checked. Bits 1 to 3 are its state, and bit 4
+/// says whether that is hard. Bits 5 to 12 are the attempt, bits 13 to 15 the last hard state, and bit 16
+/// says whether the object flaps. OK, WARNING, CRITICAL, UNKNOWN, UP, DOWN, UNREACHABLE are 0 to 6.
+/// [`decode`] reads the word. (Our own profile.)
 pub fn code(standing: Standing) -> u64
     ensures value { result ≡ encoded standing }
     ensures read { decoded result ≡ Some standing }
@@ -23,8 +23,8 @@ pub fn code(standing: Standing) -> u64
         + 65536 * flag(standing.flapping)
 }
 
-/// The standing whose word this is. None where it is no standing's: where one of the two states has
-/// the number 7, or a bit above bit 16 is set. (Our own profile.)
+/// The standing with this word. None if no standing has it: one of the two states has the number 7, or
+/// a bit above bit 16 is set. (Our own profile.)
 pub fn decode(word: u64) -> Option<Standing>
     ensures { result ≡ decoded word }
 {

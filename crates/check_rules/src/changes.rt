@@ -1,4 +1,4 @@
-//! The changes among the last results of an object: how many there are, and what they weigh together.
+//! The changes among the last results of an object: their number, and their total weight.
 //! (Our own profile, after the manual's "Detection and Handling of State Flapping".)
 
 ghost use Rattle.std.specs.Prelude.{◌≡◌, ◌+◌, ◌-◌, ◌*◌, ◌/◌, ◌≤◌, length};
@@ -10,29 +10,29 @@ use crate::flapping::KEPT_RESULTS;
 use crate::state::State;
 use circular_buffer::HeapCircularBuffer;
 
-/// What the oldest of 20 changes weighs; each newer one weighs `WEIGHT_STEP` more.
+/// The weight of the oldest of 20 changes. Each newer change weighs `WEIGHT_STEP` more.
 const OLDEST_WEIGHT: u16 = 57;
 
 const WEIGHT_STEP: u16 = 2;
 
-/// What the newest of 20 changes weighs.
+/// The weight of the newest of 20 changes.
 const NEWEST_WEIGHT: u16 = 95;
 
-/// What 20 changes weigh together.
+/// The total weight of 20 changes.
 const WEIGHT_OF_ALL: u16 = 1520;
 
 /// The changes among some results.
 #[derive(Clone, Copy)]
 pub(crate) struct Changes {
-    /// What they weigh together.
+    /// Their total weight.
     pub(crate) weight: u16,
-    /// How many there are.
+    /// Their number.
     pub(crate) count: u16,
 }
 
 impl Changes {
-    /// The changes among these results. The two parts of the ring are gone through one after the other,
-    /// each from the result before it; before the oldest stands the oldest itself.
+    /// The changes among these results. The two parts of the ring are scanned one after the other, each
+    /// from the result before it. The oldest result counts as its own predecessor.
     pub(crate) fn among(results: &HeapCircularBuffer<State>) -> Changes
         requires { length results.now.items ≤ KEPT_RESULTS }
         ensures weight { result.weight ≡ changes_weight results.now.items }
@@ -55,8 +55,9 @@ impl Changes {
         }
     }
 
-    /// The changes among 21 results with one more, where the oldest result goes: `goes` says whether a
-    /// change goes with it, and `comes` whether the new result is one. Those that stay weigh 2 less each.
+    /// The changes after one more result, which pushes out the oldest of 21. `goes` says whether a change
+    /// goes with the oldest, and `comes` whether the new result is a change. Each change that stays weighs
+    /// 2 less.
     pub(crate) fn after(self, goes: bool, comes: bool) -> Changes
         requires there { flag goes ≤ self.count }
         requires few { self.count ≤ 20 }
@@ -74,7 +75,7 @@ impl Changes {
         }
     }
 
-    /// What they weigh of all that could be among 21 results, in whole percents, rounded down.
+    /// Their weight as a share of the weight of all 20 changes, in whole percents, rounded down.
     pub(crate) fn percent(self) -> u8
         requires { self.weight ≤ 1520 }
         ensures value { result ≡ 100 * self.weight / 1520 }
@@ -84,8 +85,8 @@ impl Changes {
     }
 }
 
-/// The changes from the result `before` through those that come after it, the first of which weighs
-/// `weight`.
+/// The changes from the result `before` to the last of `results`. A change to the first of `results`
+/// weighs `weight`.
 fn changes_after(before: State, results: &[State], weight: u16) -> Changes
     requires few { length results.now ≤ KEPT_RESULTS }
     requires light { weight ≤ 100 }

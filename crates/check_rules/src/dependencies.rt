@@ -1,4 +1,4 @@
-//! Whether an execution dependency holds the check of an object back.
+//! Execution dependencies, which can hold back the check of an object.
 
 ghost use Rattle.std.specs.Prelude.{◌≡◌, ◌<◌, [], false, length, All};
 ghost use Rattle.std.specs.List.{list_any};
@@ -11,18 +11,17 @@ use crate::standing::Standing;
 use crate::state::State;
 use check_objects::{Criteria, Dependency, Setup};
 
-/// Whether some execution dependency of the object with this number fails, beside the standings of
-/// all objects, by number.
+/// Whether some execution dependency of the object with this number fails, given the standings of all
+/// objects, by number.
 ///
-/// A dependency fails where its master's state is among its criteria: the last hard state, or with
-/// the option `soft_state_dependencies` the current one. A dependency that inherits fails too where
-/// some dependency of its master does. (Manual: "Host and Service Dependencies".) A master that was
-/// never checked meets only the criterion `p`. (Our own profile.)
+/// A dependency fails if its master's state is among its criteria: the last hard state, or with the
+/// option `soft_state_dependencies` the current one. A dependency that inherits also fails if some
+/// dependency of its master does. (Manual: "Host and Service Dependencies".) A master that was never
+/// checked meets only the criterion `p`. (Our own profile.)
 ///
-/// `marks` is scratch with a place for each object, and may hold anything. Where a master that the
-/// object depends on is in one of the criteria, or none of its dependencies inherits, it is left
-/// alone; else it is cleared, and each master that is reached through dependencies that inherit is
-/// asked once at most.
+/// `marks` is scratch space with a place for each object, and may hold anything. It isn't used if a master
+/// of the object meets a criterion, or if no dependency of the object inherits. Else it is cleared, and
+/// each master that is reached through inheriting dependencies is examined at most once.
 pub fn blocked(setup: &Setup, standings: &[Standing], marks: &mut [bool], n: u32) -> bool
     requires there { n < object_count setup.now }
     requires one_each { length standings.now ≡ object_count setup.now }
@@ -71,7 +70,7 @@ fn is_any_master_blocked(
     false
 }
 
-/// Whether a master is blocked. A marked one was asked before, and isn't. No chain of masters that
+/// Whether a master is blocked. A marked master was examined before, and isn't. No chain of masters that
 /// begins here has `depth` members.
 #[cycle(masters)]
 fn is_master_blocked(

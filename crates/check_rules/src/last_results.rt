@@ -1,5 +1,5 @@
-//! The last results of an object, with what the changes among them weigh, so that one more result costs
-//! no walk over all.
+//! The last results of an object, with the weight of the changes among them, so that one more result
+//! needs no scan of all results.
 
 ghost use Rattle.std.specs.Prelude.{◌≡◌, ◌≤◌, [], IfOk, IsTrue, length};
 ghost use Rattle.check_rules.specs.Flapping.{is_flapping, kept_after, percent_of};
@@ -11,17 +11,17 @@ use circular_buffer::HeapCircularBuffer;
 use std::alloc::{AllocError, Global};
 use std::marker::Model;
 
-/// The last results of an object, as many as are kept. Contracts see them as a list, the oldest first.
+/// The last results of an object, at most 21. Contracts see them as a list, the oldest first.
 ///
-/// With one result more, the change between the two oldest of 21 goes with its weight of 57, each other
-/// change weighs 2 less, and the new one, where there is one, weighs 95.
+/// With one more result, the change between the two oldest of 21 goes with its weight of 57, each other
+/// change weighs 2 less, and the new change, if there is one, weighs 95.
 #[derive(Drop)]
 pub struct LastResults {
-    /// The results, with room for as many as are kept.
+    /// The results, with room for 21.
     kept: HeapCircularBuffer<State>,
     /// The changes among 21 results. While there are fewer, nothing reads it.
     changes: Changes,
-    /// The newest result, where there is one.
+    /// The newest result, if there is one.
     newest: State,
 }
 
@@ -39,14 +39,14 @@ impl Model for LastResults {
 }
 
 impl LastResults {
-    /// No results, with room for all that will be kept. An Err means out of memory.
+    /// No results, with room for all that will be stored. An Err means out of memory.
     pub fn none(alloc: Global) -> Result<LastResults, AllocError>
         ensures { IfOk result (λ results. results ≡ []) }
     {
         LastResults::of(alloc, &[])
     }
 
-    /// These results, the oldest first, with room for all that will be kept. An Err means out of memory.
+    /// These results, the oldest first, with room for all that will be stored. An Err means out of memory.
     pub fn of(alloc: Global, results: &[State]) -> Result<LastResults, AllocError>
         requires { length results.now ≤ KEPT_RESULTS }
         ensures { IfOk result (λ kept. kept ≡ results.now) }
@@ -68,8 +68,8 @@ impl LastResults {
         self.kept.to_vec(alloc)
     }
 
-    /// Keeps one more result; of 21, the oldest goes. Returns whether the object flaps with those that are
-    /// kept then, as [`flaps`](crate::flaps) says it: `was` says whether it did before, and `low` and
+    /// Stores one more result. It pushes out the oldest of 21. Returns whether the object flaps with the
+    /// stored results, as [`flaps`](crate::flaps) does: `was` says whether it flapped before, and `low` and
     /// `high` are the thresholds in percents. It needs no memory.
     pub fn push(&mut self, found: State, was: bool, low: u8, high: u8) -> bool
         ensures kept { self.new ≡ kept_after self.old found }
@@ -82,7 +82,7 @@ impl LastResults {
         }
     }
 
-    /// Keeps one more result, as [`LastResults::push`] does, whatever the results are. It stands apart, so
+    /// Stores one more result, as [`LastResults::push`] does, for any results. It is a separate function, so
     /// that a result that changes nothing costs no more than the test.
     #[inline(never)]
     fn keep(&mut self, found: State, was: bool, low: u8, high: u8) -> bool
@@ -104,8 +104,8 @@ impl LastResults {
         flaps_at(self.changes.percent(), was, low, high)
     }
 
-    /// Whether there are as many results as are kept, and all are this state, so that one more of it
-    /// leaves them as they are.
+    /// Whether there are 21 results, and all are this state, so that one more of it leaves them as they
+    /// are.
     pub fn are_all(&self, found: State) -> bool
         ensures kept { IsTrue result → kept_after self.now found ≡ self.now }
         ensures percent { IsTrue result → percent_of self.now ≡ 0 }

@@ -8,11 +8,11 @@ ghost use Rattle.check_rules.specs.Dependencies.{fails, is_blocked};
 ghost use Rattle.check_rules.specs.declared.flapping.TheConstants.{KEPT_RESULTS};
 ghost use Rattle.check_rules.specs.declared.standing.Standing.{Standing};
 
-/// Which objects are blocked, in a setup whose dependencies have no cycle: exactly those of which some
-/// dependency fails, because its master is in one of its criteria, or because it inherits and its
-/// master is blocked (`blocked`). No other answer fits those words: whatever says of each object
-/// whether some dependency of it fails, by what it says itself of the masters, says the same
-/// (`alone`). (Manual: "Host and Service Dependencies".)
+/// In a setup whose dependencies have no cycle, an object is blocked if and only if some dependency of it
+/// fails. A dependency fails because its master meets one of its criteria, or because it inherits and its
+/// master is blocked (`blocked`). This rule has one solution: every test of objects that follows it, with
+/// its own answers for the masters, gives the same answers (`alone`). (Manual: "Host and Service
+/// Dependencies".)
 pub fn blocked_where_a_dependency_fails()
     ensures blocked { (setup : Configuration) → (standings : List Standing)
         → has_cycle (masters_of setup) ≡ false → length setup.dependencies ≡ object_count setup
@@ -25,8 +25,7 @@ pub fn blocked_where_a_dependency_fails()
         → (object : ℕ) → answer object ≡ is_blocked setup standings object }
 {}
 
-/// How many of an object's results are kept, as a number: 21, between which there are 20 changes. (Our
-/// own profile.)
+/// The number of an object's stored results: 21, between which there are 20 changes. (Our own profile.)
 pub fn results_that_are_kept()
     ensures { KEPT_RESULTS ≡ 21 }
 {}

@@ -1,4 +1,4 @@
-//! The numbers of return codes, states and kinds, and what has each number.
+//! The numbers of return codes, states and kinds, in both directions.
 
 use crate::standing::Kind;
 use crate::state::{Code, State};

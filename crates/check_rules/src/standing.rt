@@ -1,4 +1,4 @@
-//! What is known of an object: its state, the kind of that state, the attempt.
+//! The standing of an object: its state, the kind of that state, the attempt.
 
 ghost use Rattle.std.specs.Prelude.{◌≡◌};
 ghost use Rattle.check_rules.specs.Standing.{as_checked, is_down, is_lawful, is_soft_problem, pending_standing, phase_of};
@@ -13,7 +13,7 @@ pub enum Kind {
     Hard,
 }
 
-/// What is known of an object.
+/// The standing of an object: the results of its checks so far.
 #[derive(Clone, Copy, Debug, PartialEq, Eq)]
 pub struct Standing {
     /// Whether a result has ever come in.

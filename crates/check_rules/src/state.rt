@@ -1,4 +1,4 @@
-//! What a check returns, and the states of services and hosts.
+//! The return codes of checks, and the states of services and hosts.
 
 /// The return code of a check, 0 to 3. (Manual: "Plugin API", return code.)
 #[derive(Clone, Copy, Debug, PartialEq, Eq)]

@@ -1,4 +1,4 @@
-//! The verdict: what a result makes of what was known of an object.
+//! The verdict: the standing of an object after a result.
 
 ghost use Rattle.std.specs.Prelude.{◌≡◌, ◌≤◌, IsTrue};
 ghost use Rattle.check_rules.specs.State.{is_host_state};
@@ -25,9 +25,9 @@ use crate::state::State;
 /// | a problem | a soft problem | hard if the attempt is `max`, else soft | one more |
 /// | a problem | a hard problem | hard | `max` |
 ///
-/// The state after is the result; the last hard state becomes the result where the kind after is
-/// hard, and stays otherwise. An object that was never checked stands as [`pending`] before. (Our
-/// own profile, drawn after the manual's "State Types".)
+/// The state after is the result. The last hard state becomes the result if the kind after is hard, and
+/// stays otherwise. The standing before is [`pending`] for an object that was never checked. (Our own
+/// profile, drawn after the manual's "State Types".)
 pub fn verdict(before: Standing, found: State, max: u8, host_up: bool, flapping: bool) -> Standing
     requires attempts { 1 ≤ max }
     requires lawful { IsTrue (is_lawful before max) }
@@ -84,7 +84,7 @@ fn kind_at(attempt: u8, max: u8) -> Kind
     }
 }
 
-/// The last hard state after a result: the result where the kind is hard, else what it was.
+/// The last hard state after a result: the result if the kind is hard, else the last hard state before.
 fn last_hard_after(kind: Kind, found: State, last_hard: State) -> State
     ensures { result ≡ last_hard_after kind found last_hard }
 {

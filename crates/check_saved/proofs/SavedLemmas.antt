@@ -1,5 +1,6 @@
 -- What passes the tests is something that a scheduler can go on from.
-use Rattle.std.proofs.Common.{◌≡◌, inl, inr, ℕ, zero, suc, ◌+◌, ◌^◌, ◌<◌, ◌≤◌, ◌==◌, ◌&&◌, ◌||◌, bytes_eq, not, Bool, true, false, cond, List, [], ◌∷◌, ◌++◌, map, length, get_or}
+use Rattle.std.proofs.Common.{◌≡◌, inl, inr, ℕ, zero, suc, ◌+◌, ◌^◌, ◌<◌, ◌≤◌, ◌==◌, ◌&&◌, ◌||◌, bytes_eq, not, Bool, true, false, cond, List, [], ◌∷◌, ◌++◌}
+use Rattle.std.proofs.Common.{map, length, get_or}
 use Rattle.std.proofs.Common.{eq-eqb, Option, Some, None, option_map, subst, Result, Ok, Err, refl, sym, ap, ◌∙◌, arith}
 use Rattle.std.specs.Prelude.{nat_lt, nat_le, ok_or, slice_get}
 use Rattle.serde_json.specs.Data.{Data}
@@ -29,7 +30,10 @@ use Rattle.check_saved.specs.declared.fault.SavedFault.{SavedFault}
 use Rattle.check_saved.specs.declared.fault.SavedFault.TheVariants as faults
 use Rattle.check_saved.specs.Saved.{IsFullName, IsSaved, IsSavedObject, Saved, SavedObject}
 use Rattle.check_saved.specs.Scheduling.{OpenRun, is_in_time, is_timed_if_forced}
-use Rattle.check_saved.specs.Verification.{can_be, can_have_results, can_stand, distinct_names, earlier_place, few_objects, good_names, is_as_pending, is_attempt, is_full_name, is_hard, is_in_range, is_numbered, is_same_run, is_semicolon, lawful_objects, run_number, tests_of_draft, verified}
+use Rattle.check_spread.specs.Spread.{earlier}
+use Rattle.check_saved.specs.Verification.{can_be, can_have_results, can_stand, distinct_names, few_objects, good_names, is_as_pending, is_attempt}
+use Rattle.check_saved.specs.Verification.{is_full_name, is_hard, is_in_range, is_numbered, is_same_run, is_semicolon, lawful_objects, run_number}
+use Rattle.check_saved.specs.Verification.{tests_of_draft, verified}
 use Rattle.check_saved.proofs.NameLemmas.{all_by_prefix}
 
 -- ---- nothing was refused
@@ -44,7 +48,7 @@ ranged_by true b o e = cc
 ranged_by false true o e = cc
 ranged_by false false o e = (refl, refl, nowhere (λ i. faults.Range (Some i)) o e)
 
-neither : (one other : Option ℕ) → earlier_place one other ≡ None → (one ≡ None) × (other ≡ None)
+neither : (one other : Option ℕ) → earlier one other ≡ None → (one ≡ None) × (other ≡ None)
 neither None other e = (refl, e)
 neither (Some i) None e = cc
 neither (Some i) (Some j) e = cc

@@ -123,7 +123,7 @@ is_full name (inr (host, description, same, e, f)) = full_by name host descripti
 
 -- ---- standings and results
 
-of_sort : (host : Bool) (s : rules.State) → is_host_state s ≡ host → is_of_sort host s ≡ true
+pub of_sort : (host : Bool) (s : rules.State) → is_host_state s ≡ host → is_of_sort host s ≡ true
 of_sort true s e = e
 of_sort false s e = rw e refl
 

@@ -1,4 +1,4 @@
--- What a saved state says, as contracts see it: a record of the same, of which nothing needs to hold.
+-- A draft, as contracts see it: a record like a saved state, which may be any.
 use Rattle.check_drafts.specs.Name.{is_host_name}
 use Rattle.check_saved.specs.declared.draft.ObjectDraft.TheInside as one
 use Rattle.check_saved.specs.Saved.{SavedObject}

@@ -1,4 +1,4 @@
--- What the tree of a saved state says, before its names and numbers are verified. A tree that is not of this shape is refused.
+-- The draft in the tree of a saved state, before its names and numbers are verified. A tree that isn't of this shape is refused.
 use Rattle.std.specs.Prelude.{ℕ, ◌+◌, ◌==◌, Bool, false, not, List, [], ◌∷◌, Option}
 use Rattle.std.specs.Prelude.{Some, None, is_some, option_and_then, Result, Ok, Err, ok_or, codes, if◌then◌else◌}
 use Rattle.serde_json.specs.Data.{Data, Items, no_items, item}
@@ -50,7 +50,7 @@ run_of d = if is_some (as_null d) then Some None else (open_run_of d >=> λ run.
 
 -- ---- an object
 
--- a standing of which this is said
+-- the standing with these values
 abbrev pub standing_with : Bool → rules.State → Kind → ℕ → rules.State → Bool → Standing
 standing_with checked state kind attempt last_hard flapping =
     record { checked = checked; state = state; kind = kind; attempt = attempt; last_hard = last_hard; flapping = flapping }
@@ -79,11 +79,11 @@ object_members =
     ∷ codes "next_check" ∷ codes "run" ∷ codes "enabled" ∷ codes "forced" ∷ codes "check_interval" ∷ codes "max_check_attempts"
     ∷ codes "enabled_in_setup" ∷ []
 
--- the letters of results, which has no other bytes
+-- the letters of results, if the text has no other bytes
 abbrev pub letters_in : Data → Option (List ℕ)
 letters_in d = text_in (codes "results") d >=> λ letters. (if are_letters letters then Some letters else None)
 
--- what is saved of an object of which this is said, with the letters of its results
+-- the object with these values, and with the letters of its results
 abbrev pub lettered_object : List ℕ → Standing → List ℕ → Scheduling → ℕ → ℕ → Bool → SavedObject
 lettered_object name standing letters scheduling interval max_attempts setup_enabled = record {
   name = name;
@@ -121,7 +121,7 @@ abbrev pub is_other_format : Option ℕ → Bool
 is_other_format None = false
 is_other_format (Some format) = not (format == 1)
 
--- A number other than 1 is another format. Where there is no number, that is a fault of shape.
+-- A number other than 1 is another format. No number is a fault of shape.
 abbrev pub in_this_format : Data → Result (Unit {0}) SavedFault
 in_this_format d = if is_other_format (number_in (codes "format") d) then Err faults.Version else Ok tt
 

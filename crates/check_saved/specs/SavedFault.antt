@@ -9,6 +9,6 @@ abbrev pub refusal : SavedFault → Option SavedFault
 refusal faults.Memory = None
 refusal e = Some e
 
--- what the code returned, seen by view, is what is defined, unless memory ran out
+-- the result of the code, seen by view, is the defined one, unless memory ran out
 abbrev pub Gives : {X Y : Type 0} → (X → Y) → Result X SavedFault → Result Y SavedFault → Type 0
 Gives view result expected = agreement.Gives refusal view result expected

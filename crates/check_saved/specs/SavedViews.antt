@@ -1,4 +1,4 @@
--- What is saved, as contracts see it.
+-- A saved state, as contracts see it.
 use Rattle.std.specs.Prelude.{string_bytes}
 use Rattle.check_saved.specs.declared.saved.Saved.TheInside as all
 use Rattle.check_saved.specs.declared.saved.SavedObject.TheInside as one
@@ -18,6 +18,6 @@ object_view o = record {
 abbrev pub saved_view : all.Inside → Saved
 saved_view s = record { start = s.start; runs = s.runs; objects = s.objects.items }
 
--- what is true of the fields of everything that is saved
+-- the facts that hold of the fields of every saved state
 pub record IsKept (s : all.Inside) : Type 0 where
   pub saved : IsSaved (saved_view s)

@@ -1,4 +1,4 @@
--- The scheduling of one object, and what is true of it whoever keeps it.
+-- The scheduling of one object, and the facts that hold of it in schedulers and in saved states.
 use Rattle.std.specs.Prelude.{ℕ, ◌^◌, ◌&&◌, Bool, true, not, Option, Some, None, nat_le}
 
 -- A check that was handed out and hasn't come back: its number, and the moment at which it was handed
@@ -35,11 +35,11 @@ is_in_time o = is_time o.next && is_moment o.run
 
 -- ---- forced marks
 
--- whether a forced mark, if there is one, stands beside a next time
+-- whether there is a next time if there is a forced mark
 abbrev pub is_timed : Option ℕ → Bool → Bool
 is_timed (Some time) forced = true
 is_timed None forced = not forced
 
--- whether the next check of an object has a time where it is forced
+-- whether the next check of an object has a time if it is forced
 abbrev pub is_timed_if_forced : Scheduling → Bool
 is_timed_if_forced o = is_timed o.next o.forced

@@ -1,4 +1,4 @@
--- The tree of a saved state, which is one object of JSON. The members of an object stand in the order of their names' bytes.
+-- The tree of a saved state, which is one object of JSON. The members of an object are in the order of their names' bytes.
 use Rattle.std.specs.Prelude.{ℕ, List, map, Option, Some, None, codes}
 use Rattle.serde_json.specs.Data.{unsigned, Data, null, boolean, number, string, array, object, Items, no_members, member}
 use Rattle.serde_json.specs.View.{items_of}
@@ -10,12 +10,12 @@ use Rattle.check_saved.specs.Words.{flapping_word, letters_of}
 abbrev pub number_tree : ℕ → Data
 number_tree n = number (unsigned n)
 
--- a time, or null where none is set
+-- a time, or null if no time is set
 abbrev pub time_tree : Option ℕ → Data
 time_tree None = null
 time_tree (Some time) = number_tree time
 
--- a run that is out, or null where none is
+-- a run that is out, or null
 abbrev pub run_tree : Option OpenRun → Data
 run_tree None = null
 run_tree (Some run) = object (member (codes "number") (number_tree run.number) (member (codes "start") (number_tree run.start) no_members))

@@ -1,5 +1,5 @@
--- Verifying what a saved state says, once it is in the right shape: one test after another, each over the whole of it.
-use Rattle.std.specs.Prelude.{ℕ, ◌^◌, ◌<◌, ◌==◌, ◌&&◌, ◌||◌, Bool, true, false, not, List, length, map, position, min, Option, Some, None, option_map}
+-- Verifying a draft, which has the right shape: one test after another, each over the whole draft.
+use Rattle.std.specs.Prelude.{ℕ, ◌^◌, ◌<◌, ◌==◌, ◌&&◌, ◌||◌, Bool, true, false, not, List, length, map, position, Option, Some, None, option_map}
 use Rattle.std.specs.Prelude.{Result, Ok, Err, bytes_eq, nat_le, nat_lt, if◌then◌else◌}
 use Rattle.std.specs.List.{after_first, before_first, list_all}
 use Rattle.check_drafts.specs.Agreement.{◌>>=◌, refused_at}
@@ -15,6 +15,7 @@ use Rattle.check_saved.specs.declared.fault.SavedFault.{SavedFault}
 use Rattle.check_saved.specs.declared.fault.SavedFault.TheVariants as faults
 use Rattle.check_saved.specs.Saved.{Saved, SavedObject}
 use Rattle.check_saved.specs.Scheduling.{OpenRun, is_in_time, is_timed_if_forced}
+use Rattle.check_spread.specs.Spread.{earlier}
 
 -- ---- how many
 
@@ -24,7 +25,7 @@ few_objects objects = if nat_lt 4096 (length objects) then Err faults.TooMany el
 
 -- ---- names
 
--- the semicolon that parts a host's name from a description
+-- the semicolon between a host's name and a description
 abbrev pub is_semicolon : ℕ → Bool
 is_semicolon b = b == 59
 
@@ -37,13 +38,13 @@ is_full_name name =
 abbrev pub good_names : List SavedObject → Result (Unit {0}) SavedFault
 good_names objects = refused_at faults.BadName (position (λ o. not (is_full_name o.name)) objects)
 
--- every name stands once; else the first object whose name stood before
+-- every name appears once; else the first object with the name of an earlier one
 abbrev pub distinct_names : List SavedObject → Result (Unit {0}) SavedFault
 distinct_names objects = refused_at faults.Duplicate (first_repeat bytes_eq (map (λ o. o.name) objects))
 
 -- ---- limits of numbers
 
--- the number of an attempt, or of the most of them, is 1 to 255
+-- the number of an attempt, or the maximum of attempts, is 1 to 255
 abbrev pub is_attempt : ℕ → Bool
 is_attempt n = nat_le 1 n && nat_le n 255
 
@@ -56,8 +57,8 @@ pub record HasFewAttempts (o : SavedObject) : Type 0 where
   pub attempt : o.standing.attempt < 256
   pub max_attempts : o.max_attempts < 256
 
--- The start, and how many runs were handed out, are at most 2^60, and the numbers of every object are within their limits; else the first
--- object of which one isn't.
+-- The start and the number of runs handed out are at most 2^60, and the numbers of every object are within their limits; else the first
+-- object with a number that isn't.
 abbrev pub good_ranges : Saved → Result (Unit {0}) SavedFault
 good_ranges saved =
     if nat_lt (2 ^ 60) saved.start || nat_lt (2 ^ 60) saved.runs then Err (faults.Range None)
@@ -73,8 +74,8 @@ is_hard kind.Hard = true
 abbrev pub is_as_pending : Standing → Bool
 is_as_pending s = not (is_problem s.state) && is_hard s.kind && s.attempt == 1 && not (is_problem s.last_hard) && not s.flapping
 
--- An object, a host or a service, with this maximum of attempts can have this standing: it is lawful for that maximum, its states are of
--- its sort, and until it is checked it is pending.
+-- An object, a host or a service, with this maximum of attempts can have this standing. It is lawful for that maximum, its states are of
+-- the object's sort, and until the object is checked it is pending.
 abbrev pub can_stand : Bool → ℕ → Standing → Bool
 can_stand host max s = is_lawful s max && is_of_sort host s.state && is_of_sort host s.last_hard && (s.checked || is_as_pending s)
 
@@ -82,12 +83,12 @@ can_stand host max s = is_lawful s max && is_of_sort host s.state && is_of_sort 
 abbrev pub can_have_results : Bool → List rules.State → Bool
 can_have_results host results = nat_le (length results) 21 && list_all (is_of_sort host) results
 
--- a run that is out, if one is, is one of so many that were handed out
+-- a run that is out, if there is one, is one of those that were handed out
 abbrev pub is_numbered : ℕ → Option OpenRun → Bool
 is_numbered runs None = true
 is_numbered runs (Some run) = nat_le 1 run.number && nat_le run.number runs
 
--- whether an object can be as it is, of a scheduler that handed out so many runs
+-- whether an object is possible in a scheduler that handed out this number of runs
 abbrev pub can_be : ℕ → SavedObject → Bool
 can_be runs o =
     can_stand (is_host_name o.name) o.max_attempts o.standing && can_have_results (is_host_name o.name) o.results
@@ -103,16 +104,11 @@ is_same_run (Some one) (Some other) = one == other
 is_same_run (Some one) None = false
 is_same_run None other = false
 
--- the earlier of two places; either by itself where the other is none
-abbrev pub earlier_place : Option ℕ → Option ℕ → Option ℕ
-earlier_place None other = other
-earlier_place (Some place) None = Some place
-earlier_place (Some place) (Some other) = Some (min place other)
-
--- every object can be as it is, and no two are out under one number; else the first that can't be, or that is out under the number of an earlier one
+-- every object is possible, and no two are out under one number; else the first that isn't possible, or that is out under the number of an
+-- earlier one
 abbrev pub lawful_objects : ℕ → List SavedObject → Result (Unit {0}) SavedFault
 lawful_objects runs objects =
-    refused_at faults.Unlawful (earlier_place (position (λ o. not (can_be runs o)) objects) (first_repeat is_same_run (map run_number objects)))
+    refused_at faults.Unlawful (earlier (position (λ o. not (can_be runs o)) objects) (first_repeat is_same_run (map run_number objects)))
 
 -- ---- all of it
 

@@ -10,14 +10,14 @@ abbrev pub flapping_word : Bool → List ℕ
 flapping_word true = codes "FLAPPING"
 flapping_word false = codes "STEADY"
 
--- whether an object flaps that has this word
+-- whether this word means flapping
 abbrev pub flapping_of_word : List ℕ → Option Bool
 flapping_of_word word =
     if bytes_eq word (codes "FLAPPING") then Some true
     else if bytes_eq word (codes "STEADY") then Some false
     else None
 
--- ---- results, a letter each
+-- ---- results, one letter for each
 
 -- the letters of some results, in their order
 abbrev pub letters_of : List State → List ℕ
@@ -27,6 +27,6 @@ letters_of results = map state_letter results
 abbrev pub are_letters : List ℕ → Bool
 are_letters text = list_all is_letter text
 
--- the results of a host, or of a service, that have these letters
+-- the results of a host, or of a service, with these letters
 abbrev pub results_of_letters : Bool → List ℕ → List State
 results_of_letters host text = map (lettered_state host) text

@@ -1,4 +1,4 @@
--- What is true of the names and check intervals of everything that is saved, beside what a scheduler needs.
+-- The facts that hold of the names and check intervals of every saved state, besides those that a scheduler needs.
 use Rattle.std.specs.Prelude.{◌≡◌, ◌^◌, ◌<◌, ℕ, IsUtf8, Some, slice_get}
 use Rattle.check_saved.specs.Saved.{Saved, SavedObject}
 

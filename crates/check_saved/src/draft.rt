@@ -1,5 +1,5 @@
-//! What a saved state says, once its members have the right names and kinds. Nothing in it is
-//! verified.
+//! The contents of a saved state whose members have the right names and kinds. Its values aren't verified
+//! yet.
 ghost use Rattle.std.specs.Prelude.{◌≡◌, ◌≤◌, IfOk};
 
 use crate::letters::results_of;
@@ -9,8 +9,7 @@ use check_rules::{Kind, Standing, State};
 use std::alloc::{AllocError, Global};
 use std::marker::Model;
 
-/// What is said of an object's standing. Contracts see it as a standing, whose attempt may be any
-/// number.
+/// An object's standing in a text. Contracts see it as a standing, whose attempt may be any number.
 #[derive(Clone, Copy)]
 pub(crate) struct StandingDraft {
     pub(crate) checked: bool,
@@ -39,7 +38,7 @@ impl Model for StandingDraft {
     } };
 }
 
-/// What is said of an object's scheduling.
+/// An object's scheduling in a text.
 #[derive(Clone, Copy)]
 pub(crate) struct SchedulingDraft {
     pub(crate) next: Option<u64>,
@@ -58,8 +57,7 @@ impl Model for SchedulingDraft {
     ghost inverse = { λ s. record { next = s.next; run = s.run; enabled = s.enabled; forced = s.forced } };
 }
 
-/// What is said of one object. Contracts see it as what is saved of an object, whose numbers may be
-/// any.
+/// One object in a text. Contracts see it as a saved object, whose numbers may be any.
 #[derive(Drop)]
 pub(crate) struct ObjectDraft<'v> {
     pub(crate) name: &'v str,
@@ -81,7 +79,7 @@ impl<'v> Model for ObjectDraft<'v> {
     ghost view = { object_draft };
 }
 
-/// All that is said. Contracts see it as what is saved, of which nothing needs to hold.
+/// The whole text. Contracts see it as a saved state, which may be any.
 #[derive(Drop)]
 pub(crate) struct SavedDraft<'v> {
     pub(crate) start: u64,
@@ -100,7 +98,7 @@ impl<'v> Model for SavedDraft<'v> {
 impl<'v> ObjectDraft<'v> {
     ghost use Rattle.check_saved.specs.Verification.{HasFewAttempts};
 
-    /// What is saved of the object, whose attempts are within their limits.
+    /// The saved object. Its attempts are within their limits.
     pub(crate) fn kept(&self, alloc: Global) -> Result<SavedObject, AllocError>
         requires { HasFewAttempts self.now }
         ensures { IfOk result (λ object. object ≡ self.now) }

@@ -1,11 +1,12 @@
-//! Whether what is saved of objects is something that a scheduler can have.
+//! Tests whether saved objects are possible in a scheduler.
 ghost use Rattle.std.specs.Prelude.{◌≡◌, IfOk, IsOkUnless, map, not, position};
 ghost use Rattle.std.specs.List.{list_all};
 ghost use Rattle.check_drafts.specs.Keys.{first_repeat};
 ghost use Rattle.check_rules.specs.State.{is_of_sort};
 ghost use Rattle.check_saved.specs.SavedFault.{Gives};
 ghost use Rattle.check_saved.specs.Scheduling.{is_timed};
-ghost use Rattle.check_saved.specs.Verification.{can_be, can_have_results, can_stand, earlier_place, is_as_pending};
+ghost use Rattle.check_saved.specs.Verification.{can_be, can_have_results, can_stand, is_as_pending};
+ghost use Rattle.check_spread.specs.Spread.{earlier};
 ghost use Rattle.check_saved.specs.Verification.{is_numbered, is_same_run, lawful_objects, run_number};
 
 use crate::fault::SavedFault;
@@ -15,8 +16,8 @@ use check_rules::{KEPT_RESULTS, Kind, Standing, State, lawful};
 use indexmap::IndexSet;
 use std::alloc::Global;
 
-/// Whether each of these objects, of a scheduler that handed out so many runs, can be as it is, and
-/// no two are out under one number, or the first that can't be.
+/// Tests that each of these objects is possible in a scheduler that handed out `runs` runs, and that no two
+/// are out under one number. An error names the first object that fails.
 pub(crate) fn verify_lawful(
     alloc: Global,
     runs: u64,
@@ -30,9 +31,9 @@ pub(crate) fn verify_lawful(
     }
 }
 
-/// The earlier of two places; either by itself where the other is none.
+/// The earlier of two places. If only one is given, it is that one; without a place it is None.
 fn earlier(one: Option<usize>, other: Option<usize>) -> Option<usize>
-    ensures { result ≡ earlier_place one other }
+    ensures { result ≡ earlier one other }
 {
     match (one, other) {
         (Some(one), Some(other)) => Some(one.min(other)),
@@ -64,7 +65,7 @@ fn repeated_run(alloc: Global, objects: &[SavedObject]) -> Result<Option<usize>,
     Ok(None)
 }
 
-/// The number under which an object is out, if it is.
+/// The number of the object's run, if its check is out.
 fn run_number(object: &SavedObject) -> Option<u64>
     ensures { result ≡ run_number object.now }
 {
@@ -132,7 +133,7 @@ fn is_numbered(runs: u64, run: Option<SavedRun>) -> bool
     }
 }
 
-/// Whether a forced mark, if there is one, stands beside a next time.
+/// Whether an object that is forced has a next time.
 fn is_timed(next: Option<u64>, forced: bool) -> bool
     ensures { result ≡ is_timed next forced }
 {

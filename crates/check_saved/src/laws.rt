@@ -7,22 +7,22 @@ ghost use Rattle.check_saved.specs.Text.{saved_of_text, saved_text};
 ghost use Rattle.check_saved.specs.Verification.{verified};
 ghost use Rattle.check_saved.specs.Written.{IsWritable};
 
-/// The most bytes that the text of a saved state has, as a number. (Our own profile.)
+/// The greatest length of the text of a saved state in bytes, as a number. (Our own profile.)
 pub fn limit_of_a_text()
     ensures { MAX_SAVED_BYTES ≡ 16777216 }
 {}
 
-/// Whatever a text is read as is something that a scheduler can go on from (`lawful`), and nothing
-/// that a scheduler can go on from fails a test (`tests`).
+/// A scheduler can be resumed from every saved state that is read from a text (`lawful`). Every saved state
+/// that a scheduler can be resumed from passes the tests (`tests`).
 pub fn what_is_read_is_what_can_be_saved()
     ensures lawful { (text : List ℕ) → (saved : Saved) → saved_of_text text ≡ Ok saved → IsSaved saved }
     ensures tests { (saved : Saved) → IsSaved saved → verified saved ≡ Ok saved }
 {}
 
-/// The text of what is saved is within the limit of a text (`fits`) and is read as the same
-/// (`inverse`), where each name is UTF-8 and each interval a number of 64 bits, as in every
-/// [`Saved`](crate::Saved). Whatever a text is read as is so (`writable`); so what is written of it says
-/// what the text said (`again`).
+/// The text of a saved state is within the limit of a text (`fits`), and is read as the same saved state
+/// (`inverse`). The premise is that each name is UTF-8 and each interval a number of 64 bits, as in every
+/// [`Saved`](crate::Saved). A saved state that is read from a text meets the premise (`writable`). So its
+/// text is read as the same saved state (`again`).
 pub fn what_is_written_is_read()
     ensures fits { (saved : Saved) → IsSaved saved → IsWritable saved
         → length (saved_text saved) ≤ 16777216 }

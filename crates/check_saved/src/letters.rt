@@ -1,5 +1,5 @@
-//! Results as a text, a letter each, the oldest first: `o`, `w`, `u` and `c` of a service, `o`, `d`
-//! and `u` of a host.
+//! Results as a text, one letter for each, the oldest first: `o`, `w`, `u` and `c` for a service, `o`, `d`
+//! and `u` for a host.
 ghost use Rattle.std.specs.Prelude.{◌≡◌, IfOk, string_bytes};
 ghost use Rattle.check_saved.specs.Words.{are_letters, letters_of, results_of_letters};
 
@@ -17,14 +17,14 @@ pub(crate) fn letters_of(alloc: Global, results: &[State]) -> Result<String, All
     Ok(text)
 }
 
-/// Whether each byte of a text is a letter of a result, whatever the sort of the object.
+/// Whether each byte of a text is a letter of a result, of either sort of object.
 pub(crate) fn are_letters(text: &str) -> bool
     ensures { result ≡ are_letters text.now }
 {
     text.as_bytes().iter().all(|byte| State::is_letter(*byte))
 }
 
-/// The results of a host, or of a service, that have these letters.
+/// The results of a host, or of a service, with these letters.
 pub(crate) fn results_of(alloc: Global, host: bool, letters: &str) -> Result<Vec<State>, AllocError>
     ensures { IfOk result (λ results. results.items ≡ results_of_letters host letters.now) }
 {

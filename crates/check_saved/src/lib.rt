@@ -1,16 +1,21 @@
 #![tactic(auto)]
-//! What is saved of a scheduler that is put down, so that another can go on from it.
+//! The saved state of a scheduler, from which a scheduler can be resumed.
 //!
-//! A [`Saved`] has everything of a scheduler that isn't its setup, object by object and by full name.
-//! Whatever it was made of, it is something that a scheduler can go on from.
+//! A [`Saved`] contains all of a scheduler except its setup, object by object and by full name. A
+//! scheduler can be resumed from every value of this type.
 //!
-//! As a text it is one line of JSON: [`Saved::write`] writes it and [`Saved::read`] reads it, or
-//! reports the first [`SavedFault`].
+//! As a text it is one line of JSON: [`Saved::write`] writes it, and [`Saved::read`] reads it or reports
+//! the first [`SavedFault`].
 //!
-//! The modules: `saved` has what is saved of a scheduler and of each object; `words`, `letters` and
-//! `tree` make its tree; `members` and `reading` read a `draft` from a tree, by its shape; `name`,
-//! `verification` and `lawful` test what it says; `text` joins them; `fault` and `limits` have the
-//! refusals and the limits of numbers, and `laws` what is so of every text.
+//! The modules:
+//!
+//! - `saved`: the saved state of a scheduler and of each object.
+//! - `words`, `letters` and `tree`: the JSON tree of a saved state.
+//! - `members` and `reading`: reading a `draft` from a tree, by its shape.
+//! - `name`, `verification` and `lawful`: the tests of a draft.
+//! - `text`: reading and writing as a whole.
+//! - `fault` and `limits`: the refusals, and the limits of numbers.
+//! - `laws`: facts about all texts and saved states.
 
 mod draft;
 mod fault;
@@ -28,5 +33,5 @@ mod verification;
 mod words;
 
 pub use fault::SavedFault;
-pub use limits::MAX_SAVED_BYTES;
+pub use limits::{MAX_RUNS, MAX_SAVED_BYTES};
 pub use saved::{Saved, SavedObject, SavedRun};

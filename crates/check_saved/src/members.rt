@@ -33,28 +33,28 @@ fn is_known(key: &str, names: &[&str]) -> bool
     names.iter().any(|name| *name == key)
 }
 
-/// The text that a member is, if it is there and is one.
+/// The member of this name, if there is one and it is a text.
 pub(crate) fn text_in<'v>(value: &'v Value, name: &str) -> Option<&'v str>
     ensures { option_map (λ text. text.now) result ≡ text_in name.now (view value.now) }
 {
     value.get(name).and_then(Value::as_str)
 }
 
-/// The whole number that a member is, if it is there and is one.
+/// The member of this name, if there is one and it is a whole number.
 pub(crate) fn number_in(value: &Value, name: &str) -> Option<u64>
     ensures { result ≡ number_in name.now (view value.now) }
 {
     value.get(name).and_then(Value::as_u64)
 }
 
-/// The truth value that a member is, if it is there and is one.
+/// The member of this name, if there is one and it is a truth value.
 pub(crate) fn switch_in(value: &Value, name: &str) -> Option<bool>
     ensures { result ≡ switch_in name.now (view value.now) }
 {
     value.get(name).and_then(Value::as_bool)
 }
 
-/// The state whose word a member is, if it is there and is one.
+/// The state whose word is the member of this name, if there is one.
 pub(crate) fn state_in(value: &Value, name: &str) -> Option<State>
     ensures { result ≡ state_in name.now (view value.now) }
 {

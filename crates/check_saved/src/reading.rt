@@ -1,4 +1,4 @@
-//! Reading what a saved state says from its tree. Here every fault of shape is found, and no other.
+//! Reading the draft of a saved state from its tree. This module finds every fault of shape, and no other.
 ghost use Rattle.std.specs.Prelude.{◌≡◌, option_map};
 ghost use Rattle.serde_json.specs.View.{items_view, view};
 ghost use Rattle.check_saved.specs.Reading.{draft_of, in_this_format, letters_in, object_of, objects_from};
@@ -40,7 +40,7 @@ const OBJECT_MEMBERS: [&str; 15] = [
 /// The members of a run that is out.
 const RUN_MEMBERS: [&str; 2] = ["number", "start"];
 
-/// Whether the format is this one, as far as there is a number of it.
+/// Tests that the format is this one, if there is a number for it.
 pub(crate) fn verify_format(tree: &Value) -> Result<(), SavedFault>
     ensures { result ≡ in_this_format (view tree.now) }
 {
@@ -50,7 +50,8 @@ pub(crate) fn verify_format(tree: &Value) -> Result<(), SavedFault>
     }
 }
 
-/// What a tree says, or its first fault of shape: one of the document itself, then of its objects.
+/// The draft in a tree, or its first fault of shape: those of the document itself come before those of its
+/// objects.
 #[tactic(auto, unfolding(crate::specs::Reading::draft_of))]
 pub(crate) fn read_draft<'v>(alloc: Global, tree: &'v Value) -> Result<SavedDraft<'v>, SavedFault>
     ensures { Gives (λ draft. draft) result (draft_of (view tree.now)) }
@@ -120,7 +121,7 @@ fn read_standing(value: &Value) -> Option<StandingDraft>
     })
 }
 
-/// The letters of results, if a text has no others.
+/// The letters of results, if the text has no other bytes.
 fn read_letters<'v>(value: &'v Value) -> Option<&'v str>
     ensures { option_map (λ letters. letters.now) result ≡ letters_in (view value.now) }
 {

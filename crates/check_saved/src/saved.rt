@@ -1,11 +1,12 @@
-//! What is saved of a scheduler, and of each of its objects.
+//! The saved state of a scheduler, and of each of its objects.
 
 ghost use Rattle.std.specs.Prelude.{◌≡◌};
 
 use check_rules::{Standing, State};
+use check_spread::LAST_MOMENT;
 use std::marker::Model;
 
-/// A check that was out when its scheduler was put down. Contracts see it as a record `OpenRun`.
+/// A check that was handed out and hasn't come back. Contracts see it as a record `OpenRun`.
 #[derive(Clone, Copy)]
 pub struct SavedRun {
     /// The number under which it was handed out.
@@ -24,14 +25,14 @@ impl Model for SavedRun {
     ghost inverse = { λ run. record { number = run.number; start = run.start } };
 }
 
-/// What is saved of one object: what is known of it, its last results, its scheduling, and what its
-/// setup says of it. Contracts see it as a record `SavedObject` of the same.
+/// One saved object: its standing, its last results, its scheduling, and three values of its setup.
+/// Contracts see it as a record `SavedObject` of the same.
 #[derive(Drop)]
 pub struct SavedObject {
-    /// Its full name: a host's, or host and description around a semicolon.
+    /// Its full name: a host's name, or a host's name and a description around a semicolon.
     pub name: String,
     pub standing: Standing,
-    /// The results that are kept of it, the oldest first.
+    /// Its stored results, the oldest first.
     pub results: Vec<State>,
     /// The time of its next check in milliseconds, if one is set.
     pub next: Option<u64>,
@@ -59,13 +60,12 @@ impl Model for SavedObject {
     ghost view = { object_view };
 }
 
-/// Everything of a scheduler that isn't its setup: how many runs were handed out, the moment at which
-/// scheduling started, and what is saved of each object. (Our own profile; Nagios keeps its own by
-/// retention files.)
+/// All of a scheduler except its setup: the number of runs handed out, the moment at which scheduling
+/// started, and each object. (Our own profile; Nagios uses retention files.)
 ///
-/// Whatever it was made of, a scheduler can go on from it: no two objects have one name, each has a
-/// standing, results and times that an object of its sort can have, and each run that is out is one of
-/// those that were handed out. Contracts see it as a record `Saved`, of which `IsSaved` holds.
+/// A scheduler can be resumed from every value of this type. No two objects have one name. Each has a
+/// standing, results and times that are possible for its sort. Each run that is out is one of those that
+/// were handed out. Contracts see it as a record `Saved`, and `IsSaved` holds of it.
 #[derive(Drop)]
 pub struct Saved {
     start: u64,
@@ -86,10 +86,11 @@ impl Model for Saved {
 }
 
 impl Saved {
+    ghost use Rattle.std.specs.Prelude.{◌≤◌};
     ghost use Rattle.check_saved.specs.Saved.{IsSaved};
 
-    /// What was saved of these objects, of a scheduler that started at `start`, in milliseconds, and
-    /// handed out so many runs. The order of the objects says nothing.
+    /// The saved state with these objects, of a scheduler that started at `start`, in milliseconds, and
+    /// handed out `runs` runs. The order of the objects has no meaning.
     pub fn of(start: u64, runs: u64, objects: Vec<SavedObject>) -> Saved
         requires { IsSaved (record { start = start; runs = runs; objects = objects.items }) }
         ensures { result ≡ record { start = start; runs = runs; objects = objects.items } }
@@ -103,29 +104,24 @@ impl Saved {
 
     /// The moment at which scheduling started, in milliseconds: at most 2^60.
     pub fn start(&self) -> u64
-        ensures { result ≡ self.now.start }
+        ensures value { result ≡ self.now.start }
+        ensures moment { result ≤ LAST_MOMENT }
     {
         self.start
     }
 
-    /// How many runs were handed out: at most 2^60.
+    /// The number of runs that were handed out: at most 2^60.
     pub fn runs(&self) -> u64
         ensures { result ≡ self.now.runs }
     {
         self.runs
     }
 
-    /// What is saved of each object: at most 4,096.
+    /// The saved objects: at most 4,096.
     pub fn objects(&self) -> &[SavedObject]
-        ensures { result.now ≡ self.now.objects }
+        ensures value { result.now ≡ self.now.objects }
+        ensures saved { IsSaved self.now }
     {
         &self.objects
-    }
-
-    /// A law without code: what `IsSaved` says is true of everything that is saved.
-    pub fn is_saved(&self)
-        ensures { IsSaved self.now }
-    {
-        let _ = &self.objects;
     }
 }

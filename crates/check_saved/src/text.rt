@@ -1,4 +1,4 @@
-//! What is saved as one line of JSON, and back.
+//! Writing a saved state as one line of JSON, and reading it.
 use crate::draft::{ObjectDraft, SavedDraft};
 use crate::fault::SavedFault;
 use crate::lawful::verify_lawful;
@@ -18,24 +18,22 @@ impl Saved {
     ghost use Rattle.check_saved.specs.SavedFault.{Gives};
     ghost use Rattle.check_saved.specs.Text.{saved_of_text, saved_text};
 
-    /// Writes what is saved in JSON's compact form, without a line feed in it or at its end. What is
-    /// written is read to the same.
+    /// Writes the saved state in JSON's compact form, without a line feed in it or at its end. The text is
+    /// read as the same saved state.
     ///
-    /// An error where memory can't be had; nothing else is wrong with what is saved.
+    /// An error means out of memory. There is no other error.
     pub fn write(&self, alloc: Global) -> Result<Vec<u8>, AllocError>
         ensures text { IfOk result (λ text. text.items ≡ saved_text self.now) }
         ensures one_line { IfOk result (λ text. HasNoFeed text.items) }
         ensures fits { IfOk result (λ text. length text.items ≤ 16777216) }
         ensures reads_back { IfOk result (λ text. saved_of_text text.items ≡ Ok self.now) }
     {
-        // By what is true of it, its text is short enough to be read.
-        self.is_saved();
         let tree = saved_value(alloc, self)?;
         let text = tree.to_vec(alloc)?;
         Ok(text)
     }
 
-    /// Reads what is saved from a text, whose members may stand in any order, or its first refusal.
+    /// Reads a saved state from a text, whose members may be in any order. An error is the first refusal.
     ///
     /// `Memory` may come in place of any other answer but `TooLong`.
     pub fn read(alloc: Global, text: &[u8]) -> Result<Saved, SavedFault>
@@ -68,7 +66,7 @@ fn tree_of(alloc: Global, text: &[u8]) -> Result<Value, SavedFault>
     }
 }
 
-/// What is saved by a tree.
+/// The saved state in a tree.
 fn read_saved(alloc: Global, tree: &Value) -> Result<Saved, SavedFault>
     ensures { Gives (λ saved. saved) result (saved_of_tree (view tree.now)) }
 {
@@ -86,7 +84,7 @@ fn saved_of_draft(alloc: Global, draft: &SavedDraft<'_>) -> Result<Saved, SavedF
     Ok(Saved::of(draft.start, draft.runs, objects))
 }
 
-/// What is saved of each object.
+/// The saved objects of these drafts.
 fn objects_of(alloc: Global, drafts: &[ObjectDraft<'_>]) -> Result<Vec<SavedObject>, AllocError>
     requires { All HasFewAttempts drafts.now }
     ensures { IfOk result (λ objects. objects.items ≡ drafts.now) }

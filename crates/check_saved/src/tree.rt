@@ -3,6 +3,7 @@ ghost use Rattle.std.specs.Prelude.{◌≡◌, IfOk, OnOk, map, true};
 ghost use Rattle.std.specs.List.{list_all};
 ghost use Rattle.serde_json.specs.View.{members_view, view};
 ghost use Rattle.check_saved.specs.Members.{is_narrow, scheduling_members, setup_members, standing_members, state_members};
+ghost use Rattle.check_saved.specs.Saved.{IsSaved};
 ghost use Rattle.check_saved.specs.Tree.{object_tree, run_tree, saved_tree};
 
 use crate::letters::letters_of;
@@ -12,9 +13,10 @@ use check_rules::Standing;
 use serde_json::{Map, Value, json, put};
 use std::alloc::{AllocError, Global};
 
-/// The tree of all that is saved.
+/// The tree of a saved state.
 pub(crate) fn saved_value(alloc: Global, saved: &Saved) -> Result<Value, AllocError>
     ensures tree { IfOk result (λ tree. view tree ≡ saved_tree saved.now) }
+    ensures saved { OnOk result (IsSaved saved.now) }
     ensures narrow { OnOk result (list_all is_narrow saved.now.objects ≡ true) }
 {
     let objects = object_values(alloc, saved.objects())?;
@@ -56,7 +58,7 @@ fn object_value(alloc: Global, object: &SavedObject) -> Result<Value, AllocError
     Ok(Value::Object(members))
 }
 
-/// Puts the members that say how an object stands.
+/// Puts the members for the standing of an object.
 #[tactic(auto, unfolding(crate::specs::Members::standing_members))]
 fn put_standing(
     members: &mut Map<String, Value>,
@@ -77,7 +79,7 @@ fn put_standing(
     )
 }
 
-/// Puts the members that name an object's states.
+/// Puts the members for an object's states.
 #[tactic(auto, unfolding(crate::specs::Members::state_members))]
 fn put_states(
     members: &mut Map<String, Value>,
@@ -107,7 +109,7 @@ fn put_states(
     )
 }
 
-/// Puts the members that say when an object is checked.
+/// Puts the members for the scheduling of an object.
 #[tactic(auto, unfolding(crate::specs::Members::scheduling_members))]
 fn put_scheduling(
     members: &mut Map<String, Value>,
@@ -123,7 +125,7 @@ fn put_scheduling(
     put(members, alloc, "forced", Value::Bool(object.forced))
 }
 
-/// Puts the members that say what its setup says of an object.
+/// Puts the members for an object's values in its setup.
 #[tactic(auto, unfolding(crate::specs::Members::setup_members))]
 fn put_setup(
     members: &mut Map<String, Value>,

@@ -1,5 +1,5 @@
-//! Verifying what a saved state says: counts, names, repeats, limits. Each test covers all of it
-//! before the next begins, and reports the first object with a fault.
+//! Verifying a draft: counts, names, repeats, limits. Each test covers the whole draft before the next
+//! begins, and reports the first object with a fault.
 ghost use Rattle.std.specs.Prelude.{◌≡◌, ◌≤◌, All, IfNone, IsTrue, OnOk, bytes_eq, length, map, not, position};
 ghost use Rattle.check_saved.specs.SavedFault.{Gives};
 ghost use Rattle.check_saved.specs.Scheduling.{is_in_time, is_moment, is_time};
@@ -8,15 +8,16 @@ ghost use Rattle.check_saved.specs.Verification.{is_attempt, is_full_name, is_in
 
 use crate::draft::{ObjectDraft, SavedDraft, SchedulingDraft};
 use crate::fault::SavedFault;
-use crate::limits::{LAST_MOMENT, LAST_TIME, MAX_RUNS};
+use crate::limits::MAX_RUNS;
 use crate::name::is_full_name;
 use crate::saved::SavedRun;
 use check_drafts::{MAX_ATTEMPTS, MAX_OBJECTS};
+use check_spread::{LAST_MOMENT, LAST_TIME};
 use indexmap::IndexSet;
 use std::alloc::Global;
 
-/// Whether what is said has few objects, each with a name of its own, and numbers within their
-/// limits, or the first fault.
+/// Tests that a draft has at most 4,096 objects, each with a name of its own, and numbers within their
+/// limits. An error is the first fault.
 pub(crate) fn verify_draft(alloc: Global, draft: &SavedDraft<'_>) -> Result<(), SavedFault>
     ensures exact { Gives (λ u. u) result (tests_of_draft draft.now) }
     ensures few { OnOk result (All HasFewAttempts draft.now.objects) }

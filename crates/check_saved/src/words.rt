@@ -8,7 +8,7 @@ pub(crate) fn flapping_word(flapping: bool) -> &'static str
     if flapping { "FLAPPING" } else { "STEADY" }
 }
 
-/// Whether an object flaps that has this word, if it is one of the two.
+/// Whether this word means flapping, if it is one of the two words.
 pub(crate) fn flapping_of_word(word: &str) -> Option<bool>
     ensures { result ≡ flapping_of_word word.now }
 {

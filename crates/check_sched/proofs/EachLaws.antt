@@ -10,7 +10,7 @@ use Rattle.check_rules.specs.declared.standing.Standing.{Standing}
 use Rattle.check_rules.specs.declared.state.State as rules
 use Rattle.check_saved.specs.Saved.{Saved, SavedObject, saved_named}
 use Rattle.check_saved.specs.Scheduling.{Scheduling}
-use Rattle.check_sched.specs.Report.{milliseconds}
+use Rattle.check_spread.specs.Spread.{milliseconds}
 use Rattle.check_sched.specs.Saved.{each_object, results_of, saved_object, scheduling_of, standing_of, time_among}
 use Rattle.check_sched.specs.Scheduling.{opening_object}
 use Rattle.check_sched.specs.State.{State, is_host, results_at, standing_at}

@@ -13,7 +13,8 @@ use Rattle.check_rules.specs.declared.standing.Standing.{Standing}
 use Rattle.check_rules.specs.Standing.{is_soft_problem}
 use Rattle.check_sched.specs.declared.intervals.Intervals.{Intervals}
 use Rattle.check_sched.specs.Intervals.{AreFew, intervals_for, intervals_of, next_by, time_past}
-use Rattle.check_sched.specs.Report.{interval_after, milliseconds, next_after, time_after}
+use Rattle.check_sched.specs.Report.{interval_after, next_after, time_after}
+use Rattle.check_spread.specs.Spread.{milliseconds}
 use Rattle.check_sched.proofs.EachLaws.{object_is}
 use Rattle.check_sched.proofs.ReportLaws.{check_in_range, object_in_range, read_at, retry_in_range}
 

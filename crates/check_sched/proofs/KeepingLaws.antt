@@ -25,18 +25,19 @@ use Rattle.check_sched.proofs.OpeningLaws.{count_is}
 use Rattle.check_sched.proofs.ReportLaws.{check_in_range, object_in_range, standing_of_state}
 use Rattle.check_sched.proofs.ResumedLaws.{length-made, made_at, name_sort, named_by_pair}
 use Rattle.check_sched.proofs.SavedLaws.{alone, attempts_at}
-use Rattle.check_sched.proofs.UpdateLaws.{all_at_place, none_there}
+use Rattle.check_sched.proofs.UpdateLaws.{none_there}
+use Rattle.check_saved.proofs.SavedLemmas.{all_at}
 
 -- ---- names
 
 host_named : (c : Configuration) (n : ℕ) (h : Host) → IsSetup c → slice_get c.hosts n ≡ Some h → is_name h.name ≡ true
-host_named c n h valid e = all_at_place (λ x. is_name x.name) c.hosts n h valid.host_names e
+host_named c n h valid e = all_at (λ x. is_name x.name) c.hosts n h valid.host_names e
 
 -- the host of a service is there
 host_by : (c : Configuration) (j : ℕ) (t : Service) (found : Option Host) → IsSetup c → slice_get c.services j ≡ Some t → slice_get c.hosts t.host ≡ found
     → is_name (name_of c t.host) ≡ true
 host_by c j t None valid e f =
-    let hosted : nat_lt t.host (length c.hosts) ≡ true = all_at_place (λ x. nat_lt x.host (length c.hosts)) c.services j t valid.hosted e in
+    let hosted : nat_lt t.host (length c.hosts) ≡ true = all_at (λ x. nat_lt x.host (length c.hosts)) c.services j t valid.hosted e in
     let less : t.host < length c.hosts = grind (arith, nat_tests, hosted) in
     let past = none_there c.hosts t.host f in
     absurd (omega (arith, less, past))
@@ -49,7 +50,7 @@ service_named c j t valid e =
       t.description,
       named_by_pair c j t valid e,
       host_by c j t (slice_get c.hosts t.host) valid e refl,
-      all_at_place (λ x. is_name x.description) c.services j t valid.descriptions e,
+      all_at (λ x. is_name x.description) c.services j t valid.descriptions e,
     )
 
 full_by : (hs : List Host) (ts : List Service) (n : ℕ) (o : Named) → list_all (λ h. is_name h.name) hs ≡ true
@@ -97,10 +98,10 @@ kept_object s n o is e =
           (there (AreResultsFor (is_host s.setup n)) s.results n [] (slice_get s.results n) in_results refl (λ x f. is.results n x f));
       in_time =
           there (λ x. is_in_time x ≡ true) s.objects n (opening_object None false) (slice_get s.objects n) in_objects refl
-          (λ x f. all_at_place is_in_time s.objects n x is.times f);
+          (λ x f. all_at is_in_time s.objects n x is.times f);
       timed =
           there (λ x. is_timed_if_forced x ≡ true) s.objects n (opening_object None false) (slice_get s.objects n) in_objects refl
-          (λ x f. all_at_place is_timed_if_forced s.objects n x is.forced f);
+          (λ x f. all_at is_timed_if_forced s.objects n x is.forced f);
       numbered = λ run f. is.numbered n run (run_there (slice_get s.objects n) run f);
       some_attempts = grind (arith, nat_tests, range);
       few_attempts = grind (arith, nat_tests, range);

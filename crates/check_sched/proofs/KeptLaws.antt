@@ -1,5 +1,5 @@
 -- Laws of the results that are kept of an object: as many as are kept at most, each a state of its sort.
-use Rattle.std.proofs.Common.{◌≡◌, ℕ, zero, suc, ◌-◌, Bool, true, false, List, [], ◌∷◌, ◌++◌, length, drop, refl, arith}
+use Rattle.std.proofs.Common.{◌≡◌, ℕ, zero, suc, ◌-◌, Bool, true, List, [], ◌∷◌, ◌++◌, length, drop, refl, arith}
 use Rattle.std.specs.List.{list_all}
 use Rattle.std.proofs.lemmas.Bool.{and_from, and_parts}
 use Rattle.std.proofs.lemmas.List.{length-drop}
@@ -8,17 +8,13 @@ use Rattle.check_objects.specs.Configuration.{Configuration}
 use Rattle.check_rules.specs.declared.state.State as rules
 use Rattle.check_rules.specs.Flapping.{kept_after}
 use Rattle.check_rules.specs.State.{is_host_state, is_of_sort}
+use Rattle.check_saved.proofs.VerifiedLemmas.{of_sort}
 use Rattle.check_sched.specs.State.{AreResultsOf, is_host}
 
 pub all_dropped : {X : Type 0} (p : X → Bool) (n : ℕ) (xs : List X) → list_all p xs ≡ true → list_all p (drop n xs) ≡ true
 all_dropped p zero xs e = e
 all_dropped p (suc n) [] e = refl
 all_dropped p (suc n) (x ∷ xs) e = all_dropped p n xs (and_parts (p x) (list_all p xs) e).1
-
--- a state of the object's sort
-of_sort : (host : Bool) (state : rules.State) → is_host_state state ≡ host → is_of_sort host state ≡ true
-of_sort true state e = e
-of_sort false state e = grind (arith, e)
 
 -- one result more of the object's sort
 pub kept_are_results : (setup : Configuration) (n : ℕ) (found : rules.State) → is_host_state found ≡ is_host setup n → (results : List rules.State)

@@ -25,7 +25,7 @@ use Rattle.check_sched.proofs.ReportLaws.{some_attempts}
 
 -- ---- within the limits
 
-first_in_time : (first : Option ℕ) → IfSome first (λ time. time < 2 ^ 61) → is_time first ≡ true
+pub first_in_time : (first : Option ℕ) → IfSome first (λ time. time < 2 ^ 61) → is_time first ≡ true
 first_in_time None h = refl
 first_in_time (Some time) h = grind (arith, nat_tests, h)
 

@@ -33,7 +33,8 @@ use Rattle.check_sched.proofs.AnswerLaws.{by_test, known_is, under_is}
 use Rattle.check_sched.proofs.LimitLaws.{limit_kept}
 use Rattle.check_sched.proofs.OutLaws.{numbered_kept, once_kept, timed_if, timed_then}
 use Rattle.check_sched.proofs.KeptLaws.{kept_are_results}
-use Rattle.check_sched.proofs.UpdateLaws.{length-update_at, all-update_at, all-update_at_place, each-changed_at, each-update_at, all_at_place, none_there}
+use Rattle.check_sched.proofs.UpdateLaws.{length-update_at, all-update_at, all-update_at_place, each-changed_at, each-update_at, none_there}
+use Rattle.check_saved.proofs.SavedLemmas.{all_at}
 use Rattle.check_sched.specs.Report.{interval_after, is_host_up, judged, next_after}
 
 -- an object that is scheduled is one of the setup's
@@ -44,7 +45,7 @@ is_an_object s n o each e = let there = slice_get_within s.objects n o e in omeg
 
 -- the limits of an object's numbers
 pub object_in_range : (setup : Configuration) (n : ℕ) (o : Named) → IsSetup setup → slice_get (objects_of setup) n ≡ Some o → is_object_in_range o.object ≡ true
-object_in_range setup n o h e = all_at_place (λ x. is_object_in_range x.object) (objects_of setup) n o h.ranges e
+object_in_range setup n o h e = all_at (λ x. is_object_in_range x.object) (objects_of setup) n o h.ranges e
 
 pub one_attempt : (o : Object) → is_object_in_range o ≡ true → 1 ≤ o.max_check_attempts
 one_attempt o e = grind (arith, nat_tests, e)
@@ -147,7 +148,7 @@ standing_of_state s n is_state h = standing_by s n (slice_get s.standings n) is_
 
 -- a run began at 2^60 at the latest
 pub run_of_state : (s : State) (n : ℕ) (o : Scheduling) → IsState s → slice_get s.objects n ≡ Some o → is_moment o.run ≡ true
-run_of_state s n o is_state e = (and_parts (is_time o.next) (is_moment o.run) (all_at_place is_in_time s.objects n o is_state.times e)).1
+run_of_state s n o is_state e = (and_parts (is_time o.next) (is_moment o.run) (all_at is_in_time s.objects n o is_state.times e)).1
 
 pub start_in_time : (run : Option OpenRun) (r : OpenRun) → is_moment run ≡ true → run ≡ Some r → r.start ≤ 2 ^ 60
 start_in_time run r e f = let moment : is_moment (Some r) ≡ true = ap is_moment (sym f) ∙ e in grind (arith, nat_tests, moment)
@@ -157,7 +158,7 @@ start_of_state s n o r is_state e f = start_in_time o.run r (run_of_state s n o 
 
 -- a next time is at most 2^61
 pub next_of_state : (s : State) (n : ℕ) (o : Scheduling) → IsState s → slice_get s.objects n ≡ Some o → is_time o.next ≡ true
-next_of_state s n o is_state e = (and_parts (is_time o.next) (is_moment o.run) (all_at_place is_in_time s.objects n o is_state.times e)).0
+next_of_state s n o is_state e = (and_parts (is_time o.next) (is_moment o.run) (all_at is_in_time s.objects n o is_state.times e)).0
 
 -- the next time after a report is there where one was set already
 pub next_already : (setup : Configuration) (n : ℕ) (standing : Standing) (start : ℕ) (already : Option ℕ) → is_some already ≡ true

@@ -20,7 +20,7 @@ use Rattle.check_rules.specs.Standing.{is_lawful, is_soft_problem, pending_stand
 use Rattle.check_rules.specs.State.{fine_state, is_problem}
 use Rattle.check_rules.proofs.VerdictLaws.{pending_is_lawful, pending_sort}
 use Rattle.check_sched.specs.Roster.{running_among}
-use Rattle.check_sched.specs.Saved.{each_object, earlier_time, first_time, given_up, keeps_time, objects_resumed, results_of, resumed}
+use Rattle.check_sched.specs.Saved.{each_object, first_time, given_up, keeps_time, objects_resumed, results_of, resumed}
 use Rattle.check_saved.specs.Saved.{IsSaved, IsSavedObject, Saved, SavedObject, saved_named}
 use Rattle.check_sched.specs.Saved.{scheduling_of, standing_kept, standing_of, within_limit}
 use Rattle.check_sched.specs.Scheduling.{freed_time}
@@ -30,10 +30,11 @@ use Rattle.check_rules.specs.Flapping.{AreResultsFor}
 use Rattle.check_sched.specs.State.{limit_of}
 use Rattle.check_sched.proofs.KeptLaws.{all_dropped}
 use Rattle.check_sched.proofs.LimitLaws.{busy_none}
+use Rattle.check_sched.proofs.OpeningLaws.{first_in_time}
 use Rattle.check_sched.proofs.OutLaws.{none_out, run_in, timed_unforced}
 use Rattle.check_sched.proofs.ReportLaws.{some_attempts}
 use Rattle.check_sched.proofs.SavedLaws.{alone, attempts_at, text_is}
-use Rattle.check_spread.specs.Spread.{initial_times}
+use Rattle.check_spread.specs.Spread.{earlier, initial_times}
 
 -- ---- the sort of a name
 
@@ -120,7 +121,7 @@ timed_by true forced next other h t = t
 timed_by false true next other h t = let clash : false ≡ true = h refl in cc
 timed_by false false next other h t = timed_unforced other
 
-earlier_in_time : (one other : Option ℕ) → is_time one ≡ true → is_time other ≡ true → is_time (earlier_time one other) ≡ true
+earlier_in_time : (one other : Option ℕ) → is_time one ≡ true → is_time other ≡ true → is_time (earlier one other) ≡ true
 earlier_in_time None other h i = i
 earlier_in_time (Some a) None h i = h
 earlier_in_time (Some a) (Some b) h i = grind (arith, nat_tests, h, i)
@@ -136,7 +137,7 @@ made_in_time setup first o None f h = and_from (is_time first) true f refl
 made_in_time setup first o (Some saved) f h =
     let both = and_parts (is_time saved.scheduling.next) (is_moment saved.scheduling.run) h in
     and_from _ (is_moment saved.scheduling.run)
-    (either_in_time (keeps_time setup o saved) saved.scheduling.next (earlier_time saved.scheduling.next first) both.0
+    (either_in_time (keeps_time setup o saved) saved.scheduling.next (earlier saved.scheduling.next first) both.0
     (earlier_in_time saved.scheduling.next first both.0 f)) both.1
 
 -- and a next time where it is forced
@@ -144,7 +145,7 @@ made_timed : (setup : Configuration) (first : Option ℕ) (o : Object) (found : 
     → IfSome found (λ saved. is_timed_if_forced saved.scheduling ≡ true) → is_timed_if_forced (scheduling_of setup first o found) ≡ true
 made_timed setup first o None h = timed_unforced first
 made_timed setup first o (Some saved) h =
-    timed_by (keeps_time setup o saved) saved.scheduling.forced saved.scheduling.next (earlier_time saved.scheduling.next first)
+    timed_by (keeps_time setup o saved) saved.scheduling.forced saved.scheduling.next (earlier saved.scheduling.next first)
     (λ forced. or_right _ saved.scheduling.forced forced) h
 
 -- ---- runs that are given up
@@ -364,13 +365,9 @@ first_by : (found : Option (Option ℕ)) → IfSome found (λ first. is_time fir
 first_by None h = refl
 first_by (Some first) h = h
 
-time_of : (first : Option ℕ) → IfSome first (λ time. time < 2 ^ 61) → is_time first ≡ true
-time_of None h = refl
-time_of (Some time) h = grind (arith, nat_tests, h)
-
 all_times : (times : List (Option ℕ)) (n : ℕ) → All (λ first. IfSome first (λ time. time < 2 ^ 61)) times → is_time (unwrap_or (slice_get times n) None) ≡ true
 all_times [] n h = refl
-all_times (first ∷ times) zero h = time_of first (h 0 None (omega arith))
+all_times (first ∷ times) zero h = first_in_time first (h 0 None (omega arith))
 all_times (first ∷ times) (suc n) h = all_times times n (λ k d l. h (suc k) d (omega arith))
 
 -- what is true of everything that was saved is true of what is found

@@ -15,7 +15,8 @@ use Rattle.check_sched.specs.declared.call.Call.{Call}
 use Rattle.check_sched.specs.declared.call.Call.TheVariants as call
 use Rattle.check_sched.specs.declared.call.Reply.{Reply}
 use Rattle.check_sched.specs.declared.call.Reply.TheVariants as reply
-use Rattle.check_sched.specs.Report.{flaps_with, interval_after, milliseconds, next_after, put_off_until, time_after}
+use Rattle.check_sched.specs.Report.{flaps_with, interval_after, next_after, put_off_until, time_after}
+use Rattle.check_spread.specs.Spread.{milliseconds}
 use Rattle.check_sched.specs.Saved.{resumed, saved_of}
 use Rattle.check_sched.specs.Scheduling.{ended, enabled_as, freed_time, put_off_to, rescheduled}
 use Rattle.check_saved.specs.Scheduling.{Scheduling, is_moment, is_time}

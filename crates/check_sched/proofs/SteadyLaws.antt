@@ -1,5 +1,5 @@
 -- Laws of objects that an OK leaves as they stand: what such a report answers, and which objects are such ones after one.
-use Rattle.std.proofs.Common.{◌≡◌, ℕ, zero, suc, ◌<◌, ◌==◌, Bool, true, false, cond, List, [], replicate, length, Option, Some, None, refl, sym, ap, subst, ◌∙◌}
+use Rattle.std.proofs.Common.{◌≡◌, ℕ, zero, suc, ◌<◌, ◌==◌, Bool, true, false, cond, List, [], replicate, length, Option, Some, None, refl, sym, ap, subst, ◌∙◌, arith}
 use Rattle.std.specs.Prelude.{is_some, option_and_then, slice_get, unwrap_or}
 use Rattle.std.specs.Option.{option_map_or, option_or}
 use Rattle.std.proofs.lemmas.Bool.{eqb-true, eqb-false}
@@ -27,7 +27,10 @@ use Rattle.check_sched.proofs.FlappingLaws.{results_here, standing_here}
 use Rattle.check_sched.proofs.OutLaws.{timed_if, timed_then}
 use Rattle.check_sched.proofs.ReportLaws.{next_already, verdict_by_host}
 use Rattle.check_sched.proofs.StandingLaws.{found_sort}
-use Rattle.check_sched.proofs.UpdateLaws.{all_at_place, update_at_apart, update_at_read, update_at_still}
+use Rattle.check_sched.specs.declared.sched.Sched.TheInside.{Inside}
+use Rattle.check_sched.specs.Sched.{state_of}
+use Rattle.check_sched.proofs.UpdateLaws.{update_at_apart, update_at_read, update_at_still}
+use Rattle.check_saved.proofs.SavedLemmas.{all_at}
 
 -- ---- what an OK means
 
@@ -108,7 +111,7 @@ timed_by : (s : State) (n : ℕ) (next : Option ℕ) (found : Option Scheduling)
     → (is_some (option_and_then (λ o. o.next) found) ≡ true → is_some next ≡ true) → is_timed next (option_map_or (λ o. o.forced) found false) ≡ true
 timed_by s n next None is e h = timed_if next false (λ forced. cc)
 timed_by s n next (Some o) is e h =
-    timed_if next o.forced (λ forced. h (timed_then o.next o.forced (all_at_place is_timed_if_forced s.objects n o is.forced e) forced))
+    timed_if next o.forced (λ forced. h (timed_then o.next o.forced (all_at is_timed_if_forced s.objects n o is.forced e) forced))
 
 -- an object that is forced has a next time after a report
 pub report_timed : (s : State) (n start : ℕ) (standing : Standing) (already : Option ℕ) → IsState s → next_of n s ≡ already
@@ -190,3 +193,7 @@ pub none_marked : (count k : ℕ) → slice_get (replicate count false) k ≡ So
 none_marked zero k e = cc
 none_marked (suc count) zero e = cc
 none_marked (suc count) (suc k) e = none_marked count k e
+
+-- an object of the state is one of the fields' setup
+pub count_there : (inside : Inside) (n : ℕ) (old : State) → state_of inside ≡ old → n < object_count old.setup → n < object_count inside.setup
+count_there inside n old e l = let count = ap (λ (s : State). object_count s.setup) e in omega (arith, l, count)

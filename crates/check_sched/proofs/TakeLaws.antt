@@ -1,14 +1,14 @@
 -- Laws of Take: its answers, and the state that it leaves.
-use Rattle.std.proofs.Common.{◌≡◌, ℕ, zero, suc, ◌+◌, ◌<◌, ◌≤◌, ◌^◌, Bool, true, false, cond, List, [], length, Option, Some, None, option_map}
-use Rattle.std.proofs.Common.{refl, sym, ap, ◌∙◌}
+use Rattle.std.proofs.Common.{◌≡◌, ℕ, ◌+◌, ◌<◌, ◌≤◌, ◌^◌, Bool, true, false, cond, List, length, Option, Some, None, option_map}
+use Rattle.std.proofs.Common.{refl, sym, ◌∙◌}
 use Rattle.std.proofs.Common.{arith, IfSome}
 use Rattle.std.specs.Prelude.{nat_lt, nat_le}
 use Rattle.std.proofs.lemmas.Bool.Decides.{nat_tests}
 use Rattle.std.proofs.lemmas.List.{nil_from_length}
-use Rattle.std.specs.List.{list_any}
 use Rattle.check_objects.specs.Configuration.{Configuration, dependencies_of, object_count}
 use Rattle.check_rules.specs.declared.standing.Standing.{Standing}
-use Rattle.check_rules.specs.Dependencies.{fails, is_blocked, is_blocked_within}
+use Rattle.check_rules.specs.Dependencies.{is_blocked}
+use Rattle.check_rules.proofs.BlockedLaws as rules
 use Rattle.check_sched.specs.Scheduling.{running_from}
 use Rattle.check_sched.specs.Candidate.{Candidate}
 use Rattle.check_queue.specs.Order.{least}
@@ -30,15 +30,10 @@ use Rattle.check_sched.proofs.UpdateLaws.{length-update_at, all-update_at}
 
 -- ---- what isn't held back
 
-unblocked_within : (k : ℕ) (setup : Configuration) (standings : List Standing) (n : ℕ) → dependencies_of setup n ≡ []
-    → is_blocked_within k setup standings n ≡ false
-unblocked_within zero setup standings n none = refl
-unblocked_within (suc k) setup standings n none = ap (list_any (fails (is_blocked_within k setup standings) setup standings)) none
-
 -- an object that depends on nothing isn't blocked
 pub unblocked : (setup : Configuration) (standings : List Standing) (n : ℕ) → length (dependencies_of setup n) ≡ 0
     → is_blocked setup standings n ≡ false
-unblocked setup standings n none = unblocked_within (object_count setup) setup standings n (nil_from_length (dependencies_of setup n) none)
+unblocked setup standings n none = sym (rules.unblocked setup standings n (nil_from_length (dependencies_of setup n) none))
 
 -- ---- Take, by its answers
 

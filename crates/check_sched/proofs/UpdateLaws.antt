@@ -71,12 +71,6 @@ each-update_at P (suc n) y (z ∷ xs) each new (suc k) x e = each-update_at (λ 
 
 -- ---- places
 
--- what each passes, the one at a place passes
-pub all_at_place : {X : Type 0} (p : X → Bool) (xs : List X) (n : ℕ) (x : X) → list_all p xs ≡ true → slice_get xs n ≡ Some x → p x ≡ true
-all_at_place p [] n x h e = cc
-all_at_place p (y ∷ xs) zero x h e = let same : y ≡ x = cc in subst (λ z. p z ≡ true) same (and_parts (p y) (list_all p xs) h).0
-all_at_place p (y ∷ xs) (suc n) x h e = all_at_place p xs n x (and_parts (p y) (list_all p xs) h).1 e
-
 -- a place with nothing at it is past the end
 pub none_there : {X : Type 0} (xs : List X) (n : ℕ) → slice_get xs n ≡ None → length xs ≤ n
 none_there [] n e = omega arith

@@ -1,4 +1,4 @@
--- The board: what a state shows to those who read it without the lock, a word for each object.
+-- The board: a word for each object of a state, for readers that don't hold the lock.
 use Rattle.std.specs.Prelude.{ℕ, List, length, map, Option, Some, None}
 use Rattle.std.specs.List.{range_with_len}
 use Rattle.check_rules.specs.Board.{encoded}
@@ -19,6 +19,6 @@ abbrev pub place_by : Call → Reply → Option ℕ
 place_by (call.Report object run code) (reply.Standing standing changed next) = Some object
 place_by c r = None
 
--- the place at which a call is posted that is made now
+-- the place at which a call is posted if it is made now
 abbrev pub place_of : State → Call → Option ℕ
 place_of s c = place_by c (step s c).1

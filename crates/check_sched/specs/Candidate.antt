@@ -8,11 +8,11 @@ use Rattle.check_saved.specs.Scheduling.{Scheduling}
 abbrev pub Candidate : Type 0
 Candidate = ℕ × ℕ
 
--- an object, by its number, as a candidate, where it waits for a check
+-- an object, by its number, as a candidate, if it waits for a check
 abbrev pub candidate : ℕ → Scheduling → Option Candidate
 candidate number o = option_map (λ time. (time, number)) (candidate_time o)
 
--- the candidates among some objects, which stand by number
+-- the candidates among some objects, which are in the order of their numbers
 abbrev pub candidates_among : List Scheduling → List Candidate
 candidates_among objects = filter_map (λ p. candidate p.0 p.1) (enumerate_from 0 objects)
 
@@ -20,12 +20,12 @@ candidates_among objects = filter_map (λ p. candidate p.0 p.1) (enumerate_from 
 abbrev pub due_among : ℕ → List Candidate → List Candidate
 due_among now candidates = filter (λ c. nat_le c.0 now) candidates
 
--- a candidate, where its time has come
+-- a candidate, if its time has come
 abbrev pub if_due : ℕ → Option Candidate → Option Candidate
 if_due now None = None
 if_due now (Some c) = if nat_le c.0 now then Some c else None
 
--- the earlier of two candidates, if there are any; of equal times the first
+-- the earlier of two candidates, or the only one; at equal times the first
 abbrev pub earlier_of : Option Candidate → Option Candidate → Option Candidate
 earlier_of None second = second
 earlier_of (Some c) None = Some c

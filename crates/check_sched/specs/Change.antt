@@ -1,4 +1,4 @@
--- What is done to one object.
+-- The changes of one object.
 use Rattle.std.specs.Prelude.{Bool, true, false, Some}
 use Rattle.check_sched.specs.declared.object_state.Change.{Change}
 use Rattle.check_sched.specs.declared.object_state.Change.TheVariants as change

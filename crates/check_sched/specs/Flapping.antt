@@ -1,4 +1,4 @@
--- The results that are kept of an object, and whether it flaps, read off a history.
+-- The stored results of an object, and whether it flaps, by a history.
 use Rattle.std.specs.Prelude.{ℕ, ◌==◌, Bool, false, List, [], ◌∷◌, Option, Some, None, if◌then◌else◌}
 use Rattle.std.specs.List.{filter_map}
 use Rattle.ticket_steps.specs.declared.kept.Entry.{Entry}
@@ -11,29 +11,29 @@ use Rattle.check_sched.specs.declared.call.Reply.TheVariants as reply
 use Rattle.check_sched.specs.State as sched
 use Rattle.check_sched.specs.State.{results_at, standing_at}
 
--- ---- what a history says
+-- ---- the states of a history
 
--- the state in an answer, where it is the standing that a report of the object was answered with
+-- the state in an answer, if it is the standing in the answer to a report of the object
 abbrev pub told_by : ℕ → Call → Reply → Option State
 told_by object (call.Report o run code) (reply.Standing standing changed next) = if o == object then Some standing.state else None
 told_by object c r = None
 
--- the states that the reports of an object were answered with, in their order
+-- the states in the answers to the reports of an object, in their order
 abbrev pub states_told : ℕ → List (Entry Call Reply) → List State
 states_told object history = filter_map (λ e. told_by object e.call e.reply) history
 
--- ---- what comes of it, one result after another
+-- ---- the effect of these states, one result after another
 
--- the results that are kept of an object, and whether it flaps
+-- the stored results of an object, and whether it flaps
 pub record Flapping : Type 0 where
   pub results : List State
   pub flapping : Bool
 
--- what a state has of the object with this number
+-- both, for the object with this number in a state
 abbrev pub flapping_in : sched.State → ℕ → Flapping
 flapping_in s object = record { results = results_at s.results object; flapping = (standing_at s.standings object).flapping }
 
--- of an object that was never checked: none, and it doesn't
+-- both, for an object that was never checked: no results, and not flapping
 abbrev pub never_checked : Flapping
 never_checked = record { results = []; flapping = false }
 

@@ -1,9 +1,9 @@
--- What is kept of one object, as contracts see it.
+-- The scheduling of one object, as contracts see it.
 use Rattle.std.specs.Prelude.{Some, None, if◌then◌else◌}
 use Rattle.check_sched.specs.declared.object_state.ObjectState.TheInside.{Inside}
 use Rattle.check_saved.specs.Scheduling.{Scheduling}
 
--- a next time and a run are what the fields hold, where they are there
+-- the next time and the run are the values of the fields, if there are any
 abbrev pub scheduling_of : Inside → Scheduling
 scheduling_of o = record {
   next = if o.has_time then Some o.time else None;

@@ -1,10 +1,10 @@
--- Where in what was saved each object of a setup is.
+-- The place of each object of a setup in a saved state.
 use Rattle.std.specs.Prelude.{ℕ, ◌≡◌, ◌<◌, List, length, find, bytes_eq, Option, None, option_and_then, slice_get}
 use Rattle.std.specs.List.{slice_index_or}
 use Rattle.check_objects.specs.Configuration.{Configuration, name_of, object_count}
 use Rattle.check_saved.specs.Saved.{SavedObject}
 
--- Of each object of the setup by number, the place of what is found under its name among some of what was saved.
+-- For each object of the setup by number, the place of the saved object with its name among some of the saved objects.
 pub record ArePlaces (setup : Configuration) (objects some : List SavedObject) (places : List (Option ℕ)) : Type 0 where
   pub one_each : length places ≡ object_count setup
   pub found : (number : ℕ) → number < object_count setup

@@ -1,4 +1,4 @@
--- What is said of a reply, whatever it answers.
+-- Facts about the replies to all calls.
 use Rattle.std.specs.Prelude.{ℕ, ◌<◌, ◌≤◌, ⊤, IfSome, Result, Ok, Err}
 use Rattle.check_objects.specs.Configuration.{Configuration, object_count}
 use Rattle.check_sched.specs.declared.call.Refusal.{Refusal}
@@ -11,7 +11,7 @@ abbrev pub reply_of : Result Reply Refusal → Reply
 reply_of (Ok answer) = answer
 reply_of (Err why) = reply.Refused why
 
--- a fact, where the reply is a refusal
+-- a fact, if the reply is a refusal
 abbrev pub OnRefused : Reply → Type 0 → Type 0
 OnRefused (reply.Taken object run) P = ⊤
 OnRefused (reply.PutOff object until) P = ⊤

@@ -1,5 +1,5 @@
--- What the result of a check makes of an object, and to when one is put off.
-use Rattle.std.specs.Prelude.{ℕ, ◌+◌, ◌*◌, ◌==◌, Bool, true, not, List, Option, Some, None, option_and_then, slice_get, if◌then◌else◌}
+-- The effect of a check's result on an object, and the time to which an object is put off.
+use Rattle.std.specs.Prelude.{ℕ, ◌+◌, ◌==◌, Bool, true, not, List, Option, Some, None, option_and_then, slice_get, if◌then◌else◌}
 use Rattle.std.specs.Option.{option_or}
 use Rattle.check_drafts.specs.declared.object.Object.{Object}
 use Rattle.check_objects.specs.Configuration.{Configuration, objects_of, host_of}
@@ -11,10 +11,11 @@ use Rattle.check_rules.specs.Flapping.{is_flapping, kept_after}
 use Rattle.check_rules.specs.Standing.{is_down, is_soft_problem}
 use Rattle.check_rules.specs.Reachability.{host_state_of}
 use Rattle.check_rules.specs.Verdict.{verdict_on}
+use Rattle.check_spread.specs.Spread.{milliseconds}
 use Rattle.check_sched.specs.State.{flap_thresholds_of, max_attempts_of, results_at, standing_at}
 
--- The state that the code of an object's check means, by its host, if it is a service: that of a host
--- goes by its parents. ("Host Checks", "Plugin API".)
+-- The state that the code of an object's check means. A service has a host; the state of a host
+-- depends on its parents. ("Host Checks", "Plugin API".)
 abbrev pub state_found_by : Option ℕ → Configuration → List Standing → ℕ → Code → State
 state_found_by None setup standings number code = host_state_of setup standings number code
 state_found_by (Some host) setup standings number code = service_state_of code
@@ -22,21 +23,21 @@ state_found_by (Some host) setup standings number code = service_state_of code
 abbrev pub state_found : Configuration → List Standing → ℕ → Code → State
 state_found setup standings number code = state_found_by (host_of setup number) setup standings number code
 
--- Whether the host, if there is one, isn't down now. ("State Types"; that the host's current state
--- counts is our own profile.)
+-- Whether the host, if there is one, isn't down now. ("State Types"; our own profile uses the host's
+-- current state.)
 abbrev pub is_host_up : Option ℕ → List Standing → Bool
 is_host_up None standings = true
 is_host_up (Some host) standings = not (is_down (standing_at standings host))
 
--- The standing of an object after a check that found this state, flapping or not: the verdict on a
--- service goes by whether its host isn't down.
+-- The standing of an object after a check that found this state, flapping or not. The verdict on a
+-- service depends on whether its host is down.
 abbrev pub judged : Configuration → List Standing → ℕ → State → Bool → Standing
 judged setup standings number found flapping =
     verdict_on (standing_at standings number) found (max_attempts_of setup number) (is_host_up (host_of setup number) standings) flapping
 
--- Whether an object flaps after a check that found this state: by the results that are kept with this
--- one, by whether it flapped before, and by the thresholds of hosts or of services. ("Detection and
--- Handling of State Flapping".)
+-- Whether an object flaps after a check that found this state. It depends on the stored results with
+-- this one, on whether the object flapped before, and on the thresholds of hosts or of services.
+-- ("Detection and Handling of State Flapping".)
 abbrev pub flaps_with : Configuration → List Standing → List (List State) → ℕ → State → Bool
 flaps_with setup standings results number found =
     is_flapping (kept_after (results_at results number) found) (standing_at standings number).flapping
@@ -47,22 +48,18 @@ flaps_with setup standings results number found =
 abbrev pub interval_after : Object → Standing → ℕ
 interval_after o standing = if is_soft_problem standing then o.retry_interval else o.check_interval
 
--- an interval in milliseconds: interval_length is in seconds
-abbrev pub milliseconds : Configuration → ℕ → ℕ
-milliseconds setup interval = interval * setup.options.interval_length * 1000
-
 -- The time of the next check is the interval after the start of this one; an interval of 0 gives
 -- none. (Our own profile.)
 abbrev pub time_after : Configuration → ℕ → ℕ → Option ℕ
 time_after setup start interval = if interval == 0 then None else Some (start + milliseconds setup interval)
 
--- The next time after a report: one that was set while the check ran stays; else it goes by the
--- interval. (Our own profile.)
+-- The next time after a report: a time that was set while the check ran stays; else it follows from
+-- the interval. (Our own profile.)
 abbrev pub next_after : Configuration → ℕ → Standing → ℕ → Option ℕ → Option ℕ
 next_after setup number standing start already =
     option_or already (option_and_then (λ o. time_after setup start (interval_after o.object standing)) (slice_get (objects_of setup) number))
 
--- The time to which an object is put off whose dependency fails: the check interval after the moment
+-- The time to which an object is put off if its dependency fails: the check interval after the moment
 -- of the call; an interval of 0 gives none. (Our own profile.)
 abbrev pub put_off_until : Configuration → ℕ → ℕ → Option ℕ
 put_off_until setup number now = option_and_then (λ o. time_after setup now o.object.check_interval) (slice_get (objects_of setup) number)

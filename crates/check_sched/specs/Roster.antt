@@ -12,11 +12,11 @@ pub record RosterState : Type 0 where
   -- the scheduling of each object, by number
   pub objects : List Scheduling
 
--- how many of some objects are being checked
+-- the number of these objects that are being checked
 abbrev pub running_among : List Scheduling → ℕ
 running_among objects = count_by (λ o. is_some o.run) objects
 
--- the times for which those of some objects wait that a test of their numbers picks, where the objects stand by number from k on
+-- the waiting times of the objects whose numbers pass the test; the numbers of the objects begin at k
 abbrev pub waiting_from : ℕ → (ℕ → Bool) → List Scheduling → List (Option ℕ)
 waiting_from k picked objects = map (λ p. if picked p.0 then candidate_time p.1 else None) (enumerate_from k objects)
 
@@ -27,7 +27,7 @@ waiting_times picked objects = waiting_from 0 picked objects
 abbrev pub roster_of : Inside → RosterState
 roster_of r = record { hosts = r.hosts; objects = r.objects.items }
 
--- what is true of the fields of every roster
+-- the facts that hold of the fields of every roster
 pub record IsKept (r : Inside) : Type 0 where
   -- each queue has the objects of its sort that wait, each with its time, and no other
   pub waiting_hosts : r.waiting_hosts ≡ waiting_times (λ number. nat_lt number r.hosts) r.objects.items

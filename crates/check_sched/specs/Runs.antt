@@ -1,4 +1,4 @@
--- Which object is being checked, and under which run, read off a history.
+-- The objects that are being checked, and their runs, by a history.
 use Rattle.std.specs.Prelude.{ℕ, ◌==◌, ◌&&◌, ◌||◌, Bool, true, false, not, List, [], ◌∷◌, count_by}
 use Rattle.std.specs.List.{list_any}
 use Rattle.ticket_steps.specs.declared.kept.Entry.{Entry}
@@ -12,7 +12,7 @@ abbrev pub begins_by : ℕ → ℕ → Reply → Bool
 begins_by object run (reply.Taken o r) = o == object && (r == run)
 begins_by object run other = false
 
--- whether the answer ends this run of the object: its result was taken, or it was given up
+-- whether the answer ends this run of the object: its result was taken, or it was abandoned
 abbrev pub ends_by : ℕ → ℕ → Call → Reply → Bool
 ends_by object run (call.Report o r code) (reply.Standing standing changed next) = o == object && (r == run)
 ends_by object run (call.Abandon o r now) (reply.Freed next) = o == object && (r == run)
@@ -34,6 +34,6 @@ abbrev pub runs_under : ℕ → ℕ → List (Entry Call Reply) → Bool
 runs_under object run [] = false
 runs_under object run (e ∷ es) = (begins object run e && not (list_any (ends object run) es)) || runs_under object run es
 
--- how many runs were begun
+-- the number of runs that were begun
 abbrev pub runs_begun : List (Entry Call Reply) → ℕ
 runs_begun history = count_by (λ e. takes_by e.reply) history

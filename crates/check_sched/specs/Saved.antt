@@ -1,5 +1,5 @@
--- What is saved of a scheduler that is put down, and the state in which one goes on from it: over the same setup, or over another.
--- (Our own profile; Nagios keeps its own by retention files, and reads them again at a restart and a reload.)
+-- The saved state of a scheduler, and the state of a scheduler that is resumed from it, over the same setup or over another.
+-- (Our own profile; Nagios uses retention files, and reads them again at a restart and a reload.)
 use Rattle.std.specs.Prelude.{ℕ, ◌-◌, ◌==◌, ◌&&◌, ◌||◌, Bool, true, false, not, List, [], ◌++◌, map, take, drop, min}
 use Rattle.std.specs.Prelude.{Option, Some, None, is_some, option_and_then, option_map, slice_get, nat_lt, unwrap_or, if◌then◌else◌}
 use Rattle.std.specs.List.{enumerate_from}
@@ -10,17 +10,16 @@ use Rattle.check_rules.specs.declared.standing.Kind.TheVariants as kind
 use Rattle.check_rules.specs.declared.standing.Standing.{Standing}
 use Rattle.check_rules.specs.Standing.{is_soft_problem, pending_standing}
 use Rattle.check_rules.specs.State.{is_problem}
-use Rattle.check_sched.specs.Report.{milliseconds}
 use Rattle.check_sched.specs.Roster.{running_among}
 use Rattle.check_sched.specs.Scheduling.{ended, freed_time, opening_object}
 use Rattle.check_saved.specs.Saved.{Saved, SavedObject, saved_named}
 use Rattle.check_saved.specs.Scheduling.{Scheduling}
 use Rattle.check_sched.specs.State.{State, is_host, limit_of, results_at, scheduling_at, standing_at}
-use Rattle.check_spread.specs.Spread.{initial_times}
+use Rattle.check_spread.specs.Spread.{earlier, initial_times, milliseconds}
 
--- ---- what is saved
+-- ---- the saved state
 
--- what is saved of the object with this number
+-- the saved object for the object with this number
 abbrev pub saved_object : State → ℕ × Named → SavedObject
 saved_object s p = record {
   name = p.1.name;
@@ -32,51 +31,46 @@ saved_object s p = record {
   setup_enabled = p.1.object.enabled;
 }
 
--- what is saved of a scheduler in this state
+-- the saved state of a scheduler in this state
 abbrev pub saved_of : State → Saved
 saved_of s = record { start = s.start; runs = s.runs; objects = map (saved_object s) (enumerate_from 0 (objects_of s.setup)) }
 
 -- ---- one object that is kept
 
--- A soft problem with this maximum of attempts: it stays soft below the maximum, and is hard where that is 1.
+-- A soft problem with this new maximum of attempts: it stays soft, with an attempt below the maximum, and becomes hard if the maximum is 1.
 abbrev pub soft_kept : ℕ → Standing → Standing
 soft_kept max was =
     if max == 1 then record was { kind = kind.Hard; attempt = 1; last_hard = was.state } else record was { attempt = min was.attempt (max - 1) }
 
--- The standing of an object that now has this maximum of attempts: a hard problem stands at the maximum, and OK and UP keep their attempt up to it.
+-- The standing of an object with this new maximum of attempts: a hard problem gets the maximum as its attempt, and OK and UP keep their
+-- attempt, up to the maximum.
 abbrev pub standing_kept : ℕ → Standing → Standing
 standing_kept max was =
     if is_soft_problem was then soft_kept max was else if is_problem was.state then record was { attempt = max } else record was { attempt = min was.attempt max }
 
--- whether two switches stand alike
+-- whether two switches are equal
 abbrev pub is_same_switch : Bool → Bool → Bool
 is_same_switch true other = other
 is_same_switch false other = not other
 
--- the earlier of two times; either by itself where the other is none
-abbrev pub earlier_time : Option ℕ → Option ℕ → Option ℕ
-earlier_time None other = other
-earlier_time (Some time) None = Some time
-earlier_time (Some time) (Some other) = Some (min time other)
-
--- Whether the next time stays as it was saved: the check interval and the setup's switch are the same, or the object is out, or its next check
--- is forced.
+-- Whether the saved next time stays: the check interval and the setup's switch are the same, or the object is out, or its next check is
+-- forced.
 abbrev pub keeps_time : Configuration → Object → SavedObject → Bool
 keeps_time setup object saved =
     (milliseconds setup object.check_interval == saved.interval && is_same_switch object.enabled saved.setup_enabled)
     || is_some saved.scheduling.run || saved.scheduling.forced
 
--- The scheduling of an object over a setup whose spread gives it this first time: a switch that an operator set stays where both setups say the
--- same of the object.
+-- The scheduling of an object with this first time by the setup's spread. A switch that an operator set stays if both setups have the same
+-- switch for the object.
 abbrev pub scheduling_kept : Configuration → Option ℕ → Object → SavedObject → Scheduling
 scheduling_kept setup first object saved = record {
-  next = if keeps_time setup object saved then saved.scheduling.next else earlier_time saved.scheduling.next first;
+  next = if keeps_time setup object saved then saved.scheduling.next else earlier saved.scheduling.next first;
   run = saved.scheduling.run;
   enabled = if is_same_switch object.enabled saved.setup_enabled then saved.scheduling.enabled else object.enabled;
   forced = saved.scheduling.forced;
 }
 
--- ---- every object of a setup: kept, where its name was saved, else new
+-- ---- every object of a setup: kept if its name was saved, else new
 
 abbrev pub scheduling_of : Configuration → Option ℕ → Object → Option SavedObject → Scheduling
 scheduling_of setup first object None = opening_object first object.enabled
@@ -92,35 +86,35 @@ results_of (Some saved) = saved.results
 
 -- ---- the limit of services that are checked at once
 
--- the run of an object, given up at this moment
+-- an object whose run, if it has one, is abandoned at this moment
 abbrev pub given_up : ℕ → Scheduling → Scheduling
 given_up now o = if is_some o.run then ended (Some (freed_time now o)) o else o
 
--- whether no more services are out than the limit, where it isn't 0, allows
+-- whether no more services are out than the limit allows; a limit of 0 allows any number
 abbrev pub keeps_limit : Configuration → List Scheduling → Bool
 keeps_limit setup objects = limit_of setup == 0 || not (nat_lt (limit_of setup) (running_among (drop (host_count setup) objects)))
 
--- Where more services are out than the limit allows, the runs of all services are given up.
+-- If more services are out than the limit allows, the runs of all services are abandoned.
 abbrev pub within_limit : Configuration → ℕ → List Scheduling → List Scheduling
 within_limit setup now objects =
     let hosts = host_count setup in
     if keeps_limit setup objects then objects else take hosts objects ++ map (given_up now) (drop hosts objects)
 
--- ---- the state in which a scheduler goes on
+-- ---- the state of a resumed scheduler
 
--- the first time that the spread gives the object with this number
+-- the first time of the object with this number, among these
 abbrev pub time_among : List (Option ℕ) → ℕ → Option ℕ
 time_among times number = unwrap_or (slice_get times number) None
 
--- the same from this moment on
+-- its first time by the spread from this moment on
 abbrev pub first_time : Configuration → ℕ → ℕ → Option ℕ
 first_time setup start number = time_among (initial_times setup start) number
 
--- what becomes of each object of a setup, by its number
+-- a value for each object of a setup, by its number
 abbrev pub each_object : {X : Type 0} → Configuration → (ℕ × Named → X) → List X
 each_object setup made = map made (enumerate_from 0 (objects_of setup))
 
--- the scheduling of each object, where the spread gives these first times
+-- the scheduling of each object, given these first times
 abbrev pub objects_kept : Configuration → Saved → List (Option ℕ) → List Scheduling
 objects_kept setup saved times =
     each_object setup (λ p. scheduling_of setup (time_among times p.0) p.1.object (saved_named saved p.1.name))
@@ -152,7 +146,7 @@ abbrev pub run_saved_of : Configuration → Saved → ℕ → Option ℕ
 run_saved_of setup saved number =
     option_map (λ r. r.number) (option_and_then (λ o. o.scheduling.run) (saved_named saved (name_of setup number)))
 
--- Whether the check of the object with this number stays out, where one was: a host's always, a service's where no more are out than the limit
--- allows.
+-- Whether the check of the object with this number stays out, if one was: a host's check always does, a service's if no more services are out
+-- than the limit allows.
 abbrev pub stays_out : Configuration → Saved → ℕ → ℕ → Bool
 stays_out setup saved start number = is_host setup number || keeps_limit setup (objects_kept setup saved (initial_times setup start))

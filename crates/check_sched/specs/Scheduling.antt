@@ -1,4 +1,4 @@
--- How the scheduling of one object begins, and what is done to it.
+-- The scheduling of one object at the start, and its changes.
 use Rattle.std.specs.Prelude.{ℕ, Bool, false, ◌&&◌, ◌||◌, ◌==◌, Option, Some, None, Result, Ok, Err, is_none, unwrap_or, if◌then◌else◌}
 use Rattle.check_saved.specs.Scheduling.{OpenRun, Scheduling}
 use Rattle.check_sched.specs.declared.call.Refusal.{Refusal}
@@ -9,9 +9,9 @@ use Rattle.check_sched.specs.declared.call.Refusal.TheVariants as refusal
 abbrev pub opening_object : Option ℕ → Bool → Scheduling
 opening_object first enabled = record { next = first; run = None; enabled = enabled; forced = false }
 
--- The time for which an object waits: its next time, where it has one, isn't being checked, and its
--- active checks are enabled or its next check is forced. ("Service and Host Check Scheduling"; that
--- a forced check ignores a disabled object is our own profile.)
+-- The time for which an object waits: its next time, if it has one, isn't being checked, and its
+-- active checks are enabled or its next check is forced. ("Service and Host Check Scheduling"; in our
+-- own profile a forced check ignores that the object is disabled.)
 abbrev pub candidate_time : Scheduling → Option ℕ
 candidate_time o = if is_none o.run && (o.enabled || o.forced) then o.next else None
 
@@ -23,13 +23,13 @@ running_from run o = record { next = None; run = Some run; enabled = o.enabled; 
 abbrev pub ended : Option ℕ → Scheduling → Scheduling
 ended next o = record { next = next; run = None; enabled = o.enabled; forced = o.forced }
 
--- The run of this number: an object that isn't being checked is refused, and then one that is under
--- another number.
+-- The run of this number. An object that isn't being checked is refused, and so is one that is being
+-- checked under another number.
 abbrev pub run_under : ℕ → Option OpenRun → Result OpenRun Refusal
 run_under number None = Err refusal.NotRunning
 run_under number (Some r) = if r.number == number then Ok r else Err refusal.WrongRun
 
--- The time of the next check of an object whose run is given up at this moment: one that was set
+-- The time of the next check of an object whose run is abandoned at this moment: a time that was set
 -- while it ran stays, and without one the object is due at once. (Our own profile.)
 abbrev pub freed_time : ℕ → Scheduling → ℕ
 freed_time now o = unwrap_or o.next now

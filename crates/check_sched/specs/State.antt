@@ -18,11 +18,11 @@ pub record State : Type 0 where
   pub start : ℕ
   -- the scheduling of each object, by number
   pub objects : List Scheduling
-  -- what is known of each object, by number
+  -- the standing of each object, by number
   pub standings : List Standing
-  -- the results that are kept of each object, by number: the states that its last checks found, the oldest first
+  -- the stored results of each object, by number: the states that its last checks found, the oldest first
   pub results : List (List rules.State)
-  -- how many runs were handed out
+  -- the number of runs that were handed out
   pub runs : ℕ
 
 -- the time of the next check of the object with this number, if one is set
@@ -33,11 +33,11 @@ next_of number s = option_and_then (λ o. o.next) (slice_get s.objects number)
 abbrev pub run_number_of : ℕ → State → Option ℕ
 run_number_of number s = option_map (λ r. r.number) (option_and_then (λ o. o.run) (slice_get s.objects number))
 
--- what is known of the object with this number
+-- the standing of the object with this number
 abbrev pub standing_at : List Standing → ℕ → Standing
 standing_at standings number = unwrap_or (slice_get standings number) (pending_standing true)
 
--- the results that are kept of the object with this number
+-- the stored results of the object with this number
 abbrev pub results_at : List (List rules.State) → ℕ → List rules.State
 results_at results number = unwrap_or (slice_get results number) []
 
@@ -53,8 +53,8 @@ is_host setup number = nat_lt number (host_count setup)
 abbrev pub max_attempts_of : Configuration → ℕ → ℕ
 max_attempts_of setup number = option_map_or (λ o. o.object.max_check_attempts) (slice_get (objects_of setup) number) 1
 
--- The percents between which it is decided whether the object with this number flaps, the low one and the high one: those of hosts for a
--- host, those of services for a service. ("Detection and Handling of State Flapping".)
+-- The low and the high flap threshold of the object with this number, in percent: those of hosts for a host, those of services for a
+-- service. ("Detection and Handling of State Flapping".)
 abbrev pub flap_thresholds_of : Configuration → ℕ → ℕ × ℕ
 flap_thresholds_of setup number =
     if is_host setup number
@@ -63,7 +63,7 @@ flap_thresholds_of setup number =
 
 -- ---- the limit of checks that run
 
--- how many checks of services may run at a time; 0 is no limit ("Main Configuration File Options",
+-- the number of checks of services that may run at a time; 0 is no limit ("Main Configuration File Options",
 -- max_concurrent_checks)
 abbrev pub limit_of : Configuration → ℕ
 limit_of setup = setup.options.max_concurrent_checks
@@ -72,15 +72,15 @@ limit_of setup = setup.options.max_concurrent_checks
 abbrev pub services_of : State → List Scheduling
 services_of s = drop (host_count s.setup) s.objects
 
--- how many services are being checked, forced checks among them
+-- the number of services that are being checked, forced checks included
 abbrev pub running_services : State → ℕ
 running_services s = count_by (λ o. is_some o.run) (services_of s)
 
--- whether one service more may be checked
+-- whether one more service may be checked
 abbrev pub has_room : State → Bool
 has_room s = limit_of s.setup == 0 || nat_lt (running_services s) (limit_of s.setup)
 
--- no more services are being checked than the limit, where it isn't 0, allows
+-- no more services are being checked than the limit allows; a limit of 0 allows any number
 abbrev pub IsWithinLimit : State → Type 0
 IsWithinLimit s = 0 < limit_of s.setup → running_services s ≤ limit_of s.setup
 
@@ -98,7 +98,7 @@ opening_objects setup start = objects_at setup (initial_times setup start)
 abbrev pub opening_standings : Configuration → List Standing
 opening_standings setup = map (λ p. pending_standing (is_host setup p.0)) (enumerate_from 0 (objects_of setup))
 
--- no result of any object is kept
+-- no object has a stored result
 abbrev pub opening_results : Configuration → List (List rules.State)
 opening_results setup = replicate (object_count setup) []
 
@@ -113,9 +113,9 @@ opening setup start = record {
   runs = 0;
 }
 
--- ---- what is true of every scheduler
+-- ---- the facts that hold of every scheduler
 
--- the object with this number, where it was never checked, stands as pending
+-- the object with this number is pending if it was never checked
 abbrev pub IsPendingUntilChecked : Configuration → ℕ → Standing → Type 0
 IsPendingUntilChecked setup number standing = standing.checked ≡ false → standing ≡ pending_standing (is_host setup number)
 
@@ -127,7 +127,7 @@ IsStandingOf setup number standing = IsStandingFor (is_host setup number) (max_a
 abbrev pub AreResultsOf : Configuration → ℕ → List rules.State → Type 0
 AreResultsOf setup number results = AreResultsFor (is_host setup number) results
 
--- what is true of every state that a scheduler can be in
+-- the facts that hold of every state that a scheduler can be in
 pub record IsState (s : State) : Type 0 where
   pub valid_setup : IsSetup s.setup
   pub start : s.start ≤ 2 ^ 60

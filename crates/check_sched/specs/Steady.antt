@@ -1,4 +1,4 @@
--- An object that an OK leaves as it stands.
+-- An object that an OK leaves unchanged.
 use Rattle.std.specs.Prelude.{ℕ, ◌≡◌, true, List}
 use Rattle.check_objects.specs.Configuration.{Configuration}
 use Rattle.check_rules.specs.declared.standing.Standing.{Standing}
@@ -8,8 +8,8 @@ use Rattle.check_rules.specs.State.{fine_state}
 use Rattle.check_rules.specs.Verdict.{verdict_on}
 use Rattle.check_sched.specs.State.{State, flap_thresholds_of, is_host, max_attempts_of, results_at, standing_at}
 
--- An OK leaves an object with this standing and these results as it stands: all results that are kept are OK, or UP of a host, and the
--- verdict on one more makes the standing that there is.
+-- An OK leaves an object with this standing and these results unchanged: all stored results are OK, or UP for a host, and the verdict on
+-- one more is the present standing.
 pub record IsSteady (setup : Configuration) (number : ℕ) (standing : Standing) (results : List rules.State) : Type 0 where
   pub kept : kept_after results (fine_state (is_host setup number)) ≡ results
   pub stands : verdict_on standing (fine_state (is_host setup number)) (max_attempts_of setup number) true

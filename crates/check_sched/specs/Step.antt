@@ -1,4 +1,4 @@
--- The sequential step: what a call answers in a state, and the state that it leaves.
+-- The sequential step: the answer to a call in a state, and the state after it.
 use Rattle.std.specs.Prelude.{ℕ, zero, suc, ◌+◌, ◌^◌, Bool, false, not, ◌&&◌, ◌||◌, List, [], ◌∷◌, filter, Option, Some, None, Result, Ok, Err, ok_or}
 use Rattle.std.specs.Prelude.{option_map, slice_get, nat_lt, if◌then◌else◌}
 use Rattle.std.specs.List.{list_any}
@@ -22,7 +22,7 @@ use Rattle.check_sched.specs.State.{State, has_room, is_host, standing_at}
 use Rattle.check_sched.specs.Report.{flaps_with, judged, next_after, put_off_until, state_found}
 use Rattle.check_rules.specs.Dependencies.{is_blocked}
 
--- what is kept of each object, with that of this number changed by f and every other as it was
+-- a list with one item for each object, in which f changes the item of this number
 abbrev pub update_at : {X : Type 0} → ℕ → (X → X) → List X → List X
 update_at number f [] = []
 update_at zero f (x ∷ xs) = f x ∷ xs
@@ -70,13 +70,13 @@ candidates s = candidates_among s.objects
 abbrev pub due : ℕ → State → List Candidate
 due now s = due_among now (candidates s)
 
--- whether the check of the object with this number may begin beside those that run: a host's always,
--- a service's where there is room for one more ("Main Configuration File Options",
--- max_concurrent_checks; that a forced check keeps to the limit is our own profile)
+-- whether the check of the object with this number may begin while others run: a host's always may, a
+-- service's if there is room for one more ("Main Configuration File Options", max_concurrent_checks; in
+-- our own profile a forced check keeps to the limit)
 abbrev pub is_open : State → ℕ → Bool
 is_open s number = is_host s.setup number || has_room s
 
--- those of the due whose check may begin
+-- the candidates that are due and whose check may begin
 abbrev pub eligible : ℕ → State → List Candidate
 eligible now s = filter (λ c. is_open s c.1) (due now s)
 
@@ -91,8 +91,8 @@ taken now number s = record {
   runs = s.runs + 1;
 }
 
--- The reply where none may be checked: the limit, where some service is due, else the least time of
--- all that wait.
+-- The reply if no object may be checked: the limit if some service is due, else the least time of all
+-- that wait.
 abbrev pub waiting_reply : ℕ → State → Reply
 waiting_reply now s = if list_any (λ c. not (is_host s.setup c.1)) (due now s) then reply.AtLimit else reply.Idle (option_map (λ c. c.0) (least (candidates s)))
 
@@ -101,8 +101,8 @@ abbrev pub is_forced : State → ℕ → Bool
 is_forced s number = option_map_or (λ o. o.forced) (slice_get s.objects number) false
 
 -- Whether the object with this number isn't to be checked now that its turn has come: some dependency
--- of it fails, and its check isn't forced. ("Host and Service Dependencies"; that a forced check
--- ignores dependencies is our own profile.)
+-- of it fails, and its check isn't forced. ("Host and Service Dependencies"; in our own profile a
+-- forced check ignores dependencies.)
 abbrev pub is_held_back : State → ℕ → Bool
 is_held_back s number = not (is_forced s number) && is_blocked s.setup s.standings number
 
@@ -139,8 +139,8 @@ reported number found standing next s = record {
   runs = s.runs;
 }
 
--- The reply to a report: the new standing, whether its state differs from the one before (an object
--- that was never checked stands at OK or UP: our own profile), and the next time.
+-- The reply to a report: the new standing, whether its state differs from the one before (the state of
+-- an object that was never checked is OK or UP: our own profile), and the next time.
 abbrev pub standing_reply : ℕ → Standing → Option ℕ → State → Reply
 standing_reply number standing next s = reply.Standing standing (is_another_state standing.state (standing_at s.standings number).state) next
 
@@ -152,7 +152,7 @@ found_in s number code = state_found s.setup s.standings number code
 abbrev pub judged_in : State → ℕ → rules.State → Standing
 judged_in s number found = judged s.setup s.standings number found (flaps_with s.setup s.standings s.results number found)
 
--- the answer to the result of a run that began at start, where the next time was set already or not
+-- the answer to the result of a run that began at start; the next time may be set already
 abbrev pub report_told : ℕ → ℕ → Code → Option ℕ → State → State × Reply
 report_told number start code already s =
     let found = found_in s number code in
@@ -168,7 +168,7 @@ report_answer number run code s = known number s >>= λ o. (run_under run o.run 
 
 -- ---- the operators' calls
 
--- Abandon: the run ends without a result, and the caller is answered the time of the next check.
+-- Abandon: the run ends without a result, and the reply is the time of the next check.
 abbrev pub abandon_answer : ℕ → ℕ → ℕ → State → Result (State × Reply) Refusal
 abandon_answer number run now s =
     known number s >>= λ o. (within_range now >>= λ _. (run_under run o.run >>= λ _.
@@ -188,7 +188,7 @@ status_answer number s = known number s >>= λ o. Ok (s, reply.Standing (standin
 
 -- ---- every call
 
--- what a call leaves and answers, or why it is refused
+-- the state after a call and its reply, or why the call is refused
 abbrev pub answer_to : State → Call → Result (State × Reply) Refusal
 answer_to s (call.Take now) = take_answer now s
 answer_to s (call.Report object run code) = report_answer object run code s
@@ -205,12 +205,12 @@ settled s (Err why) = (s, reply.Refused why)
 abbrev pub step : State → Call → State × Reply
 step s c = settled s (answer_to s c)
 
--- the replies to calls that are made one after another
+-- the replies to a sequence of calls
 abbrev pub replies : State → List Call → List Reply
 replies s [] = []
 replies s (c ∷ calls) = (step s c).1 ∷ replies (step s c).0 calls
 
--- the state that calls leave that are made one after another
+-- the state after a sequence of calls
 abbrev pub after : State → List Call → State
 after s [] = s
 after s (c ∷ calls) = after (step s c).0 calls

@@ -1,72 +1,74 @@
-//! What a caller asks of the scheduler, and what it is answered.
+//! The calls of the scheduler, and its replies.
 
 use check_rules::{Code, Standing};
 
 /// A call of the scheduler.
 ///
 /// A moment is a number of milliseconds from 0 to 2^60 of a clock that the caller chooses. The
-/// moments of later calls needn't be later: each call is answered by its own. (Our own profile.)
+/// moments of later calls needn't be later: each call is answered by its own moment. (Our own
+/// profile.)
 #[derive(Clone, Copy, Debug, PartialEq, Eq)]
 pub enum Call {
     /// Asks which object is to be checked at the moment `now`, and begins its check.
     Take {
         now: u64,
     },
-    /// Tells what the check of an object returned that was handed out under the number `run`, and
-    /// ends that run.
+    /// Reports the return code of the check that was handed out under the number `run`, and ends
+    /// that run.
     Report {
         object: u32,
         run: u64,
         code: Code,
     },
-    /// Gives up, at the moment `now`, the check of an object that was handed out under the number
-    /// `run`, and ends that run without a result. The object's standing stays. A next check that
-    /// was set while it ran stays too; without one the object is due at `now`. (Our own profile.)
+    /// Abandons, at the moment `now`, the check that was handed out under the number `run`, and ends
+    /// that run without a result. The object's standing stays. A next check that was set while it ran
+    /// stays too. Without one the object is due at `now`. (Our own profile.)
     Abandon {
         object: u32,
         run: u64,
         now: u64,
     },
-    /// Sets the next check of an object to the moment `time`, whether it runs or not. Where
-    /// `forced` is true, that check ignores that the object is disabled, and its dependencies;
-    /// where it is false, a forced check that was set before is forced no more. (Manual: "Service
-    /// and Host Check Scheduling"; what a forced check ignores is our own profile.)
+    /// Sets the next check of an object to the moment `time`, whether it runs or not. If `forced` is
+    /// true, that check ignores that the object is disabled, and its dependencies. If it is false, a
+    /// forced check that was set before is no longer forced. (Manual: "Service and Host Check
+    /// Scheduling"; our own profile defines the effect of a forced check.)
     Reschedule {
         object: u32,
         time: u64,
         forced: bool,
     },
-    /// Turns the active checks of an object on or off. Its next time stays as it is: where it has
-    /// none, it gets none. (Our own profile.)
+    /// Turns the active checks of an object on or off. Its next time stays as it is: an object
+    /// without one doesn't get one. (Our own profile.)
     Enable {
         object: u32,
         on: bool,
     },
-    /// Asks what is known of an object, and changes nothing.
+    /// Asks for the standing of an object, and changes nothing.
     Status {
         object: u32,
     },
 }
 
-/// What the scheduler answers.
+/// A reply of the scheduler.
 #[derive(Clone, Copy, Debug, PartialEq, Eq)]
 pub enum Reply {
     /// The object with this number is to be checked now, and runs under the number `run` from the
-    /// moment of the call on. Run numbers are 1, 2, 3 and so on, and none is given twice.
+    /// moment of the call on. Run numbers go up by 1, from 1 in a new scheduler, and from the saved
+    /// number of runs in a resumed one. No number is given twice.
     Taken {
         object: u32,
         run: u64,
     },
     /// The object with this number was due, but a dependency of it fails, so that it isn't checked
     /// now. It was put off: `until` is the time of its next check in milliseconds, its check
-    /// interval after the moment of the call, or None where that interval is 0. (Manual: "Host and
+    /// interval after the moment of the call, or None if that interval is 0. (Manual: "Host and
     /// Service Dependencies"; the time is our own profile.)
     PutOff {
         object: u32,
         until: Option<u64>,
     },
     /// No check is due. `next` is the earliest time at which one will be, in milliseconds, or None
-    /// where no object waits for a check.
+    /// if no object waits for a check.
     Idle {
         next: Option<u64>,
     },
@@ -74,8 +76,8 @@ pub enum Reply {
     /// allows. (Manual: "Main Configuration File Options".)
     AtLimit,
     /// The result was taken: the object's new standing, whether its state differs from the one
-    /// before, and the time of its next check in milliseconds, or None where there is none. To a
-    /// question for the status the object's standing as it is, with `changed` false.
+    /// before, and the time of its next check in milliseconds, or None if no check is set. A status
+    /// call gets the object's present standing, with `changed` false.
     Standing {
         standing: Standing,
         changed: bool,
@@ -92,8 +94,8 @@ pub enum Reply {
     Refused(Refusal),
 }
 
-/// Why a call was refused. A refused call changes nothing. The reasons are tested in the order in
-/// which they stand here, each only where the call has what it is about. (Our own profile.)
+/// Why a call was refused. A refused call changes nothing. The reasons are tested in the order of
+/// these variants, each only if it applies to the call. (Our own profile.)
 #[derive(Clone, Copy, Debug, PartialEq, Eq)]
 pub enum Refusal {
     /// The setup has no object of that number.
@@ -104,7 +106,6 @@ pub enum Refusal {
     RunsSpent,
     /// The object isn't being checked, so that no result of it is awaited.
     NotRunning,
-    /// The object is being checked under another run number: the call speaks of a check that has
-    /// ended.
+    /// The object is being checked under another run number: the call names a check that has ended.
     WrongRun,
 }

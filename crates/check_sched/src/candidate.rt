@@ -6,7 +6,7 @@ ghost use Rattle.check_sched.specs.Candidate.{earlier_of, if_due};
 /// An object that waits for its check: the time for which it waits, and its number.
 pub(crate) type Candidate = (u64, u32);
 
-/// The earlier of two candidates, if there are any; of equal times the first.
+/// The earlier of two candidates, or the only one. If the times are equal, it is the first.
 pub(crate) fn earlier(first: Option<Candidate>, second: Option<Candidate>) -> Option<Candidate>
     ensures { result ≡ earlier_of first second }
 {
@@ -17,7 +17,7 @@ pub(crate) fn earlier(first: Option<Candidate>, second: Option<Candidate>) -> Op
     }
 }
 
-/// A candidate, where its time has come by now.
+/// The candidate, if it is due at the moment `now`.
 pub(crate) fn if_due(candidate: Option<Candidate>, now: u64) -> Option<Candidate>
     ensures { result ≡ if_due now candidate }
 {

@@ -10,7 +10,7 @@ ghost use Rattle.check_objects.specs.Configuration.{Configuration, IsSetup, name
 ghost use Rattle.check_spread.specs.declared.limits.TheConstants.{LAST_MOMENT, LAST_TIME};
 ghost use Rattle.check_rules.specs.declared.standing.Standing.{Standing};
 ghost use Rattle.check_rules.specs.Standing.{is_soft_problem, pending_standing};
-ghost use Rattle.check_sched.specs.declared.sched.TheConstants.{MAX_RUNS};
+ghost use Rattle.check_saved.specs.declared.limits.TheConstants.{MAX_RUNS};
 ghost use Rattle.check_sched.specs.declared.call.Call.{Call};
 ghost use Rattle.check_saved.specs.Saved.{IsSaved, Saved, SavedObject, saved_named};
 ghost use Rattle.check_saved.specs.Written.{IsWritable};
@@ -21,15 +21,15 @@ ghost use Rattle.check_sched.specs.Runs.{begins, ends, runs_begun, runs_under};
 ghost use Rattle.check_sched.specs.Flapping.{flapping_in, never_checked, states_told, with_results};
 ghost use Rattle.check_sched.specs.declared.call.Reply.{Reply};
 
-/// Whatever calls are made, one after another, of a scheduler that was opened: no more services are
-/// being checked than the option `max_concurrent_checks` allows, where it isn't 0.
+/// After every sequence of calls of a newly opened scheduler, no more services are being checked than
+/// the option `max_concurrent_checks` allows. An option of 0 is no limit.
 pub fn limit()
     ensures { (setup : Configuration) → (start : ℕ) → (calls : List Call)
         → IsWithinLimit (after (opening setup start) calls) }
 {}
 
-/// Whatever calls are made, one after another, of a scheduler that was opened: an object that was never
-/// checked stands as [`pending`](check_rules::pending).
+/// After every sequence of calls of a newly opened scheduler, an object that was never checked has the
+/// standing [`pending`](check_rules::pending).
 pub fn never_checked()
     ensures { (setup : Configuration) → (start : ℕ) → (calls : List Call) → (object : ℕ)
         → (standing : Standing)
@@ -37,10 +37,10 @@ pub fn never_checked()
         → standing.checked ≡ false → standing ≡ pending_standing (is_host setup object) }
 {}
 
-/// After every history of a scheduler that was opened over a setup, as it is when the setup is one that
-/// [`Setup`](check_objects::Setup) has, each object has a standing that it can have: lawful for the
-/// object's maximum of attempts, in a state of its sort, and pending until the object is checked. So it
-/// is whatever the history says of replies, and after every legal one.
+/// After every history of a scheduler that was opened over a setup of
+/// [`Setup`](check_objects::Setup), each object has a standing that it can have. It is lawful for the
+/// object's maximum of attempts, its states are of the object's sort, and it is pending until the object
+/// is checked. The replies in the history may be any, so this holds of every legal history.
 pub fn standings_are_lawful()
     ensures { (setup : Configuration) → (start : ℕ) → (history : List (Entry Call Reply))
         → (object : ℕ) → IsSetup setup → object < object_count setup
@@ -48,17 +48,17 @@ pub fn standings_are_lawful()
         (standing_at (replay step (opening setup start) history).standings object) }
 {}
 
-/// The limits of moments, of times and of runs, as numbers: definitions say these.
+/// The limits of moments, of times and of runs, as numbers: definitions contain these numbers.
 pub fn constants()
     ensures last_moment { LAST_MOMENT ≡ 2 ^ 60 }
     ensures last_time { LAST_TIME ≡ 2 ^ 61 }
     ensures max_runs { MAX_RUNS ≡ 2 ^ 60 }
 {}
 
-/// In every legal history of a scheduler that was opened no object is taken while it runs (`once`):
-/// where it is taken, each run of it that the history shows begun before has ended, by its result or
-/// by being given up. The numbers of runs are 1, 2, 3 and so on (`numbers`). The history
-/// of a book of check_book is such a history.
+/// In every legal history of a newly opened scheduler, no object is taken while it runs (`once`): when
+/// it is taken, each earlier run of it in the history has ended, by its result or by an abandon. The
+/// numbers of runs are 1, 2, 3 and so on (`numbers`). The history of a book of check_book is such a
+/// history.
 pub fn runs_once()
     ensures once { (setup : Configuration) → (start : ℕ) → (front back : List (Entry Call Reply))
         → (e : Entry Call Reply) → (object run other : ℕ)
@@ -70,12 +70,12 @@ pub fn runs_once()
         → run ≡ runs_begun front + 1 }
 {}
 
-/// In every legal history of a scheduler that was opened, whatever it has of an object's results is
-/// what the history says: of the states that the object's reports were answered with, in their order.
-/// The results that are kept, and whether the object flaps, are what comes of these states one after
-/// another, under the object's thresholds (`fold`): each pushes the oldest out where there are 21
-/// already, and the object begins to flap or stops by the results with it. So the results that are kept
-/// are the last 21 of all (`last`). The history of a book of check_book is such a history.
+/// In every legal history of a newly opened scheduler, an object's stored results are determined by the
+/// history: by the states in the answers to the object's reports, in their order. Folding these states
+/// one after another, under the object's thresholds, gives the stored results and whether the object
+/// flaps (`fold`). Each state pushes the oldest one out if there are 21 already, and the results that
+/// include it decide whether the object begins to flap or stops. So the stored results are the last 21 of
+/// all (`last`). The history of a book of check_book is such a history.
 pub fn flaps_by_history()
     ensures fold { (setup : Configuration) → (start : ℕ) → (history : List (Entry Call Reply))
         → (object : ℕ) → IsLegal step (opening setup start) history
@@ -87,17 +87,17 @@ pub fn flaps_by_history()
         ≡ keep_last 21 (states_told object history) }
 {}
 
-/// What is saved of a scheduler is all of it: over the same setup another goes on from there in the state
-/// in which the first was put down, except for the start, by which no call goes.
+/// A saved state is complete: over the same setup it is resumed as the state that was saved, except for
+/// the start, which no call reads.
 pub fn resumed_over_the_same()
     ensures { (s : State) → (start : ℕ) → IsState s
         → resumed s.setup (saved_of s) start ≡ record s { start = start } }
 {}
 
-/// Whatever was saved, and whatever setup a scheduler goes on over from whatever moment, it goes on in a
-/// state that one can be in (`resumed`). What is saved of a scheduler, in whatever state it can be, is
-/// well formed (`saved`), and it can be written where the names of its objects are UTF-8, as in every
-/// setup that was read (`writable`).
+/// A scheduler that is resumed from any saved state, over any setup and from any moment, is in a state
+/// that a scheduler can be in (`resumed`). The saved state of a scheduler, in any state that it can be in,
+/// is well formed (`saved`). It can be written if the names of its objects are UTF-8, as in every setup
+/// that was read (`writable`).
 pub fn resumed_states()
     ensures resumed { (setup : Configuration) → (saved : Saved) → (start : ℕ) → IsSetup setup
         → IsSaved saved → start ≤ LAST_MOMENT → IsState (resumed setup saved start) }
@@ -112,9 +112,9 @@ pub fn opening_states()
         → IsState (opening setup start) }
 {}
 
-/// Where no object was saved and no run was handed out, a scheduler goes on in the state that one opens
-/// with (`nothing`). An object whose full name wasn't saved has the scheduling, the standing and the
-/// results that it has at an opening from the same moment, whatever was saved of others (`scheduling`,
+/// If no object was saved and no run was handed out, a scheduler resumes in the state that one opens with
+/// (`nothing`). An object whose full name wasn't saved has the scheduling, the standing and the results
+/// that it has at an opening from the same moment, for every saved state of the others (`scheduling`,
 /// `standing`, `results`).
 pub fn new_objects()
     ensures nothing { (setup : Configuration) → (before start : ℕ)
@@ -133,9 +133,9 @@ pub fn new_objects()
         ≡ results_at (opening setup start).results object }
 {}
 
-/// Every call leaves a state that a scheduler can be in (`states`). So histories join: what is legal up to
-/// where a scheduler was put down, and from where one goes on over the same setup, from whatever moment,
-/// is legal together (`joined`).
+/// Every call leaves a state that a scheduler can be in (`states`). So histories join: a history that is
+/// legal up to the moment of a save, followed by one that is legal after a resume over the same setup, from
+/// any moment, is legal as a whole (`joined`).
 pub fn resumed_histories_join()
     ensures states { (s : State) → (call : Call) → IsState s → IsState (step s call).0 }
     ensures joined { (s : State) → (before later : List (Entry Call Reply)) → (start : ℕ) → IsState s
@@ -144,11 +144,11 @@ pub fn resumed_histories_join()
         → IsLegal step s (before ++ later) }
 {}
 
-/// Over whatever setup a scheduler goes on, and from whatever was saved: each run that is handed out later
-/// has a greater number than those that were handed out before (`greater`), of which none is above the
-/// count that is saved (`counted`). So no run number comes twice. An object whose check was out isn't taken
-/// until that run was reported or given up, except for a service where the limit gave all of them up
-/// (`out`).
+/// This holds of a scheduler that is resumed over any setup, from any saved state. Each run that is handed
+/// out later has a greater number than those handed out before (`greater`), and no number of those is above
+/// the saved number of runs (`counted`). So no run number comes twice. An object whose check was out isn't
+/// taken until that run is reported or abandoned. The exception is a service if the limit ended the runs of
+/// all services (`out`).
 pub fn resumed_runs()
     ensures greater { (setup : Configuration) → (saved : Saved) → (start : ℕ)
         → (front back : List (Entry Call Reply)) → (e : Entry Call Reply) → (object run : ℕ)
@@ -165,7 +165,7 @@ pub fn resumed_runs()
         → list_any (ends object other) front ≡ true }
 {}
 
-/// Going on over whatever setup makes no soft problem hard, except where the maximum of attempts is 1.
+/// A resume over any setup makes no soft problem hard, unless the object's maximum of attempts is 1.
 pub fn resumed_problems_stay_soft()
     ensures { (setup : Configuration) → (saved : Saved) → (start object : ℕ) → (o : SavedObject)
         → object < object_count setup → saved_named saved (name_of setup object) ≡ Some o
@@ -173,7 +173,7 @@ pub fn resumed_problems_stay_soft()
         → is_soft_problem (standing_at (resumed setup saved start).standings object) ≡ true }
 {}
 
-/// The order of what was saved says nothing: in any other order a scheduler goes on from it in the same
+/// The order of the objects in a saved state has no effect: in any other order it is resumed as the same
 /// state.
 pub fn resumed_in_any_order()
     ensures { (setup : Configuration) → (saved : Saved) → (others : List SavedObject) → (start : ℕ)
@@ -181,10 +181,10 @@ pub fn resumed_in_any_order()
         → resumed setup (record saved { objects = others }) start ≡ resumed setup saved start }
 {}
 
-/// What is said of a scheduler that was opened is so from every state on that one can be in, as a
-/// scheduler is that goes on from what was saved: whatever calls are made, no more services are being
-/// checked than the limit allows (`limit`), an object that was never checked stands as pending
-/// (`never_checked`), and each object has a standing that it can have (`standings`).
+/// The laws of a newly opened scheduler hold from every state that a scheduler can be in, for example after
+/// a resume. After every sequence of calls, no more services are being checked than the limit allows
+/// (`limit`), an object that was never checked has a pending standing (`never_checked`), and each object has
+/// a standing that it can have (`standings`).
 pub fn from_any_state()
     ensures limit { (s : State) → (calls : List Call) → IsState s → IsWithinLimit (after s calls) }
     ensures never_checked { (s : State) → (calls : List Call) → (object : ℕ) → (standing : Standing)
@@ -195,9 +195,9 @@ pub fn from_any_state()
         → IsStandingOf s.setup object (standing_at (replay step s history).standings object) }
 {}
 
-/// In every legal history from such a state on: no object is taken while it runs by the history
-/// (`once`), nor while it runs from before, until that run has ended (`out`); and the numbers of runs
-/// go on from those that were handed out before (`numbers`), so that no number comes twice.
+/// In every legal history from such a state, no object is taken while it runs by the history (`once`).
+/// An object that was running before isn't taken until that run has ended (`out`). The numbers of runs
+/// continue those that were handed out before (`numbers`), so that no number comes twice.
 pub fn runs_from_any_state()
     ensures once { (s : State) → (front back : List (Entry Call Reply)) → (e : Entry Call Reply)
         → (object run other : ℕ) → IsLegal step s (front ++ e ∷ back) → begins object run e ≡ true
@@ -210,8 +210,8 @@ pub fn runs_from_any_state()
         → run ≡ s.runs + runs_begun front + 1 }
 {}
 
-/// In every legal history from such a state on, what it has of an object's results is what the history
-/// says, behind the results that were kept before (`fold`, `last`).
+/// In every legal history from such a state, an object's stored results are those of the history, after
+/// the results that were stored before (`fold`, `last`).
 pub fn flaps_from_any_state()
     ensures fold { (s : State) → (history : List (Entry Call Reply)) → (object : ℕ) → IsState s
         → IsLegal step s history → flapping_in (replay step s history) object

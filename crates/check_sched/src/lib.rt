@@ -1,21 +1,28 @@
 #![tactic(auto)]
-//! The sequential scheduler of active checks: which object is checked next, and what each call
-//! answers and leaves.
+//! The sequential scheduler of active checks: it decides which object is checked next, and answers
+//! one call at a time.
 //!
-//! A [`Sched`] is made from a setup and the moment at which scheduling starts, and moves by
-//! [`Sched::apply`], one [`Call`] at a time. From what [`Sched::save`] saves of it another goes on, by
-//! [`Sched::resume`], over the same setup or another. Moments, times and intervals are in milliseconds.
-//! The rules are those of the Nagios Core 4 manual, chapter "Service and Host Check Scheduling";
-//! where the manual leaves a choice, the profile of this project makes it, and the item says so.
+//! A [`Sched`] is made from a setup and the moment at which scheduling starts. It changes by
+//! [`Sched::apply`], one [`Call`] at a time. [`Sched::save`] saves its state, and [`Sched::resume`]
+//! makes a scheduler from a saved state, over the same setup or another one. Moments, times and
+//! intervals are in milliseconds. The rules are those of the Nagios Core 4 manual, chapter "Service and
+//! Host Check Scheduling". If the manual leaves a choice, the profile of this project makes it, and the
+//! item says so.
 //!
-//! The modules, from what a caller says to how it is answered: `call` has the calls and their
-//! replies, `object_state` what is kept of one object, `candidate` an object that waits for its
-//! check, `roster` the objects with the queues of those that wait, `results` the last results of
-//! each object, `intervals` their intervals in milliseconds, `report` what the result of a check makes of an object, `places` where in what was saved
-//! each object is, `resumed` what becomes of an object that is kept, `sched` the scheduler (in it
-//! `checks` has what workers call, `operators` what operators call, `saving` what is saved of it and
-//! `resuming` how another goes on from that), `laws` what follows for all calls that are made one after
-//! another.
+//! The modules:
+//!
+//! - `call`: the calls and their replies.
+//! - `object_state`: the scheduling of one object.
+//! - `candidate`: an object that waits for its check.
+//! - `roster`: the objects, and the queues of those that wait.
+//! - `results`: the last results of each object.
+//! - `intervals`: the intervals of each object in milliseconds.
+//! - `report`: the effect of a check's result on an object.
+//! - `places`: the place of each object in a saved state.
+//! - `resumed`: an object of a saved state after a resume.
+//! - `sched`: the scheduler. In it, `checks` has the calls of workers, `operators` those of operators,
+//!   `saving` saves its state, and `resuming` makes a scheduler from a saved state.
+//! - `laws`: facts about all sequences of calls.
 
 mod call;
 mod candidate;
@@ -30,6 +37,6 @@ mod roster;
 mod sched;
 
 pub use call::{Call, Refusal, Reply};
-pub use check_saved::{Saved, SavedRun};
+pub use check_saved::{MAX_RUNS, Saved, SavedRun};
 pub use check_spread::{LAST_MOMENT, LAST_TIME};
-pub use sched::{MAX_RUNS, Sched};
+pub use sched::Sched;

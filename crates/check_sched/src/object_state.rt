@@ -1,55 +1,25 @@
-//! What the scheduler keeps of one object between calls.
+//! The scheduling of one object, which the scheduler stores between calls.
 
 use crate::call::Refusal;
 use check_saved::SavedRun;
 use std::marker::Model;
 
-/// A check that was handed out and hasn't come back: its number, and the moment at which it was
-/// handed out, in milliseconds.
-#[derive(Clone, Copy)]
-pub(crate) struct Run {
-    pub(crate) number: u64,
-    pub(crate) start: u64,
-}
-
-impl Model for Run {
-    ghost use Rattle.check_saved.specs.Scheduling.{OpenRun};
-
-    ghost Value = { OpenRun };
-
-    ghost view = { λ run. record { number = run.number; start = run.start } };
-
-    ghost inverse = { λ run. record { number = run.number; start = run.start } };
-}
-
-impl Run {
-    ghost use Rattle.std.specs.Prelude.{◌≡◌};
-
-    /// The number under which the check was handed out.
-    pub(crate) fn number(&self) -> u64
-        ensures { result ≡ self.now.number }
-    {
-        self.number
-    }
-
-    /// The moment at which it was handed out.
-    pub(crate) fn start(&self) -> u64
-        ensures { result ≡ self.now.start }
-    {
-        self.start
-    }
-}
+/// The run in the field of an object that isn't being checked.
+const NO_RUN: SavedRun = SavedRun {
+    number: 0,
+    start: 0,
+};
 
 /// The scheduling of one object: the time of its next check in milliseconds, the run of the check
 /// that is out, whether its active checks are enabled, and whether its next check is forced.
 /// Contracts see it as a record `Scheduling` of the same.
 ///
-/// It takes half a line of the cache, 32 bytes, where two options would take 48: a byte says whether
-/// there is a next time, and one whether there is a run. What a field holds that isn't there says nothing.
+/// It takes half a cache line, 32 bytes, instead of the 48 of two options: one byte says whether there is
+/// a next time, and another whether there is a run. If there is none, its field has no meaning.
 #[derive(Drop)]
 pub(crate) struct ObjectState {
     time: u64,
-    run: Run,
+    run: SavedRun,
     has_time: bool,
     has_run: bool,
     enabled: bool,
@@ -66,11 +36,11 @@ impl Model for ObjectState {
     ghost view = { scheduling_of };
 }
 
-/// What is done to one object: all but `Begin` leave the number of runs as it was, or end one.
+/// A change of one object. All but `Begin` leave the number of runs as it was, or end one.
 #[derive(Clone, Copy)]
 pub(crate) enum Change {
     /// Begin this run: the object loses its next time and its forced mark.
-    Begin(Run),
+    Begin(SavedRun),
     /// End the run: the object has its next check at this time, if at all.
     End(Option<u64>),
     /// Put the next check off to this time, if there is to be one.
@@ -94,10 +64,7 @@ impl ObjectState {
     {
         ObjectState {
             time: first.unwrap_or(0),
-            run: Run {
-                number: 0,
-                start: 0,
-            },
+            run: NO_RUN,
             has_time: first.is_some(),
             has_run: false,
             enabled,
@@ -114,19 +81,9 @@ impl ObjectState {
     ) -> ObjectState
         ensures { result ≡ record { next = next; run = run; enabled = enabled; forced = forced } }
     {
-        let out = match run {
-            Some(run) => Run {
-                number: run.number,
-                start: run.start,
-            },
-            None => Run {
-                number: 0,
-                start: 0,
-            },
-        };
         ObjectState {
             time: next.unwrap_or(0),
-            run: out,
+            run: run.unwrap_or(NO_RUN),
             has_time: next.is_some(),
             has_run: run.is_some(),
             enabled,
@@ -141,22 +98,11 @@ impl ObjectState {
         if self.has_time { Some(self.time) } else { None }
     }
 
-    /// The run of the check that is out, if one is.
-    fn run(&self) -> Option<Run>
+    /// The run of the check that was handed out and hasn't come back, if there is one.
+    pub(crate) fn run(&self) -> Option<SavedRun>
         ensures { result ≡ self.now.run }
     {
         if self.has_run { Some(self.run) } else { None }
-    }
-
-    /// The run of the check that is out, if one is, as it is saved.
-    pub(crate) fn saved_run(&self) -> Option<SavedRun>
-        ensures { result ≡ self.now.run }
-    {
-        let run = self.run()?;
-        Some(SavedRun {
-            number: run.number(),
-            start: run.start(),
-        })
     }
 
     /// Whether the object is being checked.
@@ -171,7 +117,7 @@ impl ObjectState {
         ensures { result ≡ option_map (λ run. run.number) self.now.run }
     {
         match self.run() {
-            Some(run) => Some(run.number()),
+            Some(run) => Some(run.number),
             None => None,
         }
     }
@@ -190,7 +136,7 @@ impl ObjectState {
         self.forced
     }
 
-    /// The time for which the object waits: its next time, where it doesn't run and is enabled or
+    /// The time for which the object waits: its next time, if it doesn't run and is enabled or
     /// forced.
     pub(crate) fn candidate_time(&self) -> Option<u64>
         ensures { result ≡ candidate_time self.now }
@@ -202,7 +148,7 @@ impl ObjectState {
         }
     }
 
-    /// Does this to the object.
+    /// Makes this change.
     pub(crate) fn change(&mut self, change: Change)
         ensures { self.new ≡ changed change self.old }
     {
@@ -226,7 +172,7 @@ impl ObjectState {
         }
     }
 
-    /// Gives up the run of the check that is out, if one is, at this moment.
+    /// Abandons the run of the check that is out, if there is one, at this moment.
     pub(crate) fn give_up(&mut self, now: u64)
         ensures { self.new ≡ given_up now self.old }
     {
@@ -244,13 +190,13 @@ impl ObjectState {
         self.time = next.unwrap_or(0);
     }
 
-    /// The run of this number, or why there is none.
-    pub(crate) fn run_under(&self, number: u64) -> Result<Run, Refusal>
+    /// The run of this number, or why the object has no such run.
+    pub(crate) fn run_under(&self, number: u64) -> Result<SavedRun, Refusal>
         ensures { result ≡ run_under number self.now.run }
     {
         match self.run() {
             None => Err(Refusal::NotRunning),
-            Some(run) if run.number() == number => Ok(run),
+            Some(run) if run.number == number => Ok(run),
             Some(_) => Err(Refusal::WrongRun),
         }
     }

@@ -1,24 +1,26 @@
-//! Where in what was saved each object of a setup is.
+//! The place of each object of a setup in a saved state.
 
-ghost use Rattle.std.specs.Prelude.{◌≡◌, ◌<◌, IfOk, None, length, option_map, replicate};
+ghost use Rattle.std.specs.Prelude.{◌≡◌, ◌<◌, IfOk, OnOk, length, option_map};
 ghost use Rattle.check_objects.specs.Configuration.{Configuration, name_of, object_count};
-ghost use Rattle.check_saved.specs.Saved.{saved_named};
+ghost use Rattle.check_saved.specs.Saved.{IsSaved, saved_named};
 ghost use Rattle.check_sched.specs.Places.{ArePlaces};
 
 use check_objects::Setup;
 use check_saved::{Saved, SavedObject};
 use std::alloc::{AllocError, Global};
 
-/// Of each object of the setup by number, the place of what was saved under its name, if anything was.
+/// For each object of the setup by number, the place of the saved object with its name, if there is one.
+/// An Err means out of memory.
 pub(crate) fn places(
     alloc: Global,
     setup: &Setup,
     saved: &Saved,
 ) -> Result<Vec<Option<usize>>, AllocError>
-    ensures { IfOk result (λ places. ArePlaces setup.now saved.now.objects saved.now.objects places.items) }
+    ensures places { IfOk result (λ places. ArePlaces setup.now saved.now.objects saved.now.objects places.items) }
+    ensures saved { OnOk result (IsSaved saved.now) }
 {
     let objects = saved.objects();
-    let mut places = no_places(alloc, setup.len())?;
+    let mut places = vec![in alloc; None; setup.len()]?;
     for place in (0..objects.len()).rev() {
         let object = &objects[place];
         if let Some(number) = setup.number(&object.name) {
@@ -28,18 +30,7 @@ pub(crate) fn places(
     Ok(places)
 }
 
-/// No place of any of so many objects.
-fn no_places(alloc: Global, count: usize) -> Result<Vec<Option<usize>>, AllocError>
-    ensures { IfOk result (λ places. places.items ≡ replicate count None) }
-{
-    let mut places = Vec::with_capacity(alloc, count)?;
-    for _number in 0..count {
-        places.push(None)?;
-    }
-    Ok(places)
-}
-
-/// What was saved of the object with this number, if anything was.
+/// The saved object for the object with this number, if there is one.
 pub(crate) fn kept<'a>(
     saved: &'a Saved,
     places: &[Option<usize>],

@@ -1,17 +1,17 @@
-//! What the result of a check makes of an object's standing, and to when an object is put off.
+//! The standing of an object after the result of a check, and the time to which an object is put off.
 
-ghost use Rattle.std.specs.Prelude.{◌≡◌, ◌<◌, ◌≤◌, ◌*◌, IfSome, length, Some, true};
+ghost use Rattle.std.specs.Prelude.{◌≡◌, ◌<◌, ◌≤◌, IfSome, length, Some, true};
 ghost use Rattle.check_objects.specs.Configuration.{IsSetup, host_of, object_count};
 ghost use Rattle.check_rules.specs.State.{is_another_state, is_host_state, is_problem};
 ghost use Rattle.check_sched.specs.State.{IsStandingOf, flap_thresholds_of, is_host, max_attempts_of, standing_at};
 ghost use Rattle.check_sched.specs.Report.{is_host_up, judged};
-ghost use Rattle.check_sched.specs.Report.{milliseconds, put_off_until, state_found, time_after};
+ghost use Rattle.check_sched.specs.Report.{put_off_until, state_found, time_after};
 
-use check_objects::{MAX_INTERVAL, MAX_INTERVAL_LENGTH, Setup};
+use check_objects::{MAX_INTERVAL, Setup};
 use check_rules::{Code, Standing, State, host_state, service_state, verdict};
-use check_spread::{LAST_MOMENT, LAST_TIME};
+use check_spread::{LAST_MOMENT, LAST_TIME, milliseconds};
 
-/// The state of the object with this number after its check returned this code, beside the standings
+/// The state of the object with this number after its check returned this code, given the standings
 /// of all objects, by number.
 pub(crate) fn state_found(setup: &Setup, standings: &[Standing], number: u32, code: Code) -> State
     requires there { number < object_count setup.now }
@@ -47,8 +47,8 @@ pub(crate) fn flap_thresholds(setup: &Setup, number: u32) -> (u8, u8)
     (low as u8, high as u8)
 }
 
-/// The standing of the object with this number after a check that found this state, beside the
-/// standings of all objects, by number; `flapping` says whether it flaps with it.
+/// The standing of the object with this number after a check that found this state, given the
+/// standings of all objects, by number. `flapping` says whether the object flaps with it.
 pub(crate) fn judged(
     setup: &Setup,
     standings: &[Standing],
@@ -69,8 +69,8 @@ pub(crate) fn judged(
     verdict(before, found, max, host_up, flapping)
 }
 
-/// Whether the host of the object with this number isn't down; true of an object without one. A verdict
-/// goes by it where a problem was found: elsewhere this says true, and no host's standing is read.
+/// Whether the host of the object with this number isn't down. It is true of an object without a host.
+/// Only a verdict on a problem uses it: for another state it is true, and no host's standing is read.
 fn is_host_up(setup: &Setup, standings: &[Standing], number: u32, found: State) -> bool
     requires there { number < object_count setup.now }
     requires one_each { length standings.now ≡ object_count setup.now }
@@ -86,7 +86,7 @@ fn is_host_up(setup: &Setup, standings: &[Standing], number: u32, found: State) 
     }
 }
 
-/// What is known of the object with this number.
+/// The standing of the object with this number.
 fn standing_at(standings: &[Standing], number: u32) -> Standing
     requires { number < length standings.now }
     ensures { result ≡ standing_at standings.now number }
@@ -111,8 +111,8 @@ pub(crate) fn is_changed(before: Standing, after: Standing) -> bool
     after.state != before.state
 }
 
-/// The time to which an object is put off at the moment `now`: its check interval later; None where
-/// that is 0.
+/// The time to which an object is put off at the moment `now`: its check interval later, or None if
+/// the interval is 0.
 pub(crate) fn put_off_until(setup: &Setup, number: u32, now: u64) -> Option<u64>
     requires there { number < object_count setup.now }
     requires valid_setup { IsSetup setup.now }
@@ -123,7 +123,7 @@ pub(crate) fn put_off_until(setup: &Setup, number: u32, now: u64) -> Option<u64>
     time_after(setup, now, setup.object(number).check_interval)
 }
 
-/// The time that is an interval of units of `interval_length` after `start`; None where the interval
+/// The time that is an interval of units of `interval_length` after `start`, or None if the interval
 /// is 0.
 fn time_after(setup: &Setup, start: u64, interval: u64) -> Option<u64>
     requires valid_setup { IsSetup setup.now }
@@ -136,14 +136,4 @@ fn time_after(setup: &Setup, start: u64, interval: u64) -> Option<u64>
         return None;
     }
     Some(start + milliseconds(setup, interval))
-}
-
-/// An interval of units of `interval_length`, in milliseconds.
-pub(crate) fn milliseconds(setup: &Setup, interval: u64) -> u64
-    requires valid_setup { IsSetup setup.now }
-    requires interval { interval ≤ MAX_INTERVAL }
-    ensures value { result ≡ milliseconds setup.now interval }
-    ensures within { result ≤ MAX_INTERVAL * MAX_INTERVAL_LENGTH * 1000 }
-{
-    interval * setup.options().interval_length * 1000
 }

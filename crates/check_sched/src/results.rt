@@ -1,4 +1,4 @@
-//! The last results of each object, by which it is known whether it flaps.
+//! The last results of each object, which decide whether it flaps.
 
 ghost use Rattle.std.specs.Prelude.{◌≡◌, ◌<◌, List, [], IfOk, length, replicate, true};
 ghost use Rattle.check_rules.specs.declared.state.State.{State};
@@ -10,7 +10,7 @@ use check_rules::{LastResults, State};
 use std::alloc::{AllocError, Global};
 use std::marker::Model;
 
-/// The last results of each object, as many as flapping goes by. Contracts see them as a list of
+/// The last results of each object, as many as flapping depends on. Contracts see them as a list of
 /// results for each object by number, the oldest first.
 #[derive(Drop)]
 pub(crate) struct Results {
@@ -25,9 +25,9 @@ impl Model for Results {
 }
 
 impl Results {
-    /// No results of so many objects, with room for all that will be kept.
+    /// An empty list of results for each of `count` objects, with room for all that will be stored.
     ///
-    /// An Err means out of memory. What is added later needs none.
+    /// An Err means out of memory. Adding results later needs no memory.
     pub(crate) fn none(alloc: Global, count: usize) -> Result<Results, AllocError>
         ensures { IfOk result (λ results. results ≡ replicate count []) }
     {
@@ -39,7 +39,7 @@ impl Results {
         Ok(Results { by_number })
     }
 
-    /// Results that were kept before: of each object by number a list, the oldest first.
+    /// The results in these lists, one for each object by number, the oldest first.
     pub(crate) fn of(by_number: Vec<LastResults>) -> Results
         ensures { result ≡ by_number.items }
     {
@@ -55,9 +55,9 @@ impl Results {
         self.by_number[number as usize].to_vec(alloc)
     }
 
-    /// Keeps one more result of the object with this number, and returns whether the object flaps with
-    /// it: `was` says whether it did before, and `thresholds` are the low and the high one in
-    /// percents. (Manual: "Detection and Handling of State Flapping".)
+    /// Stores one more result of the object with this number, and returns whether the object flaps with
+    /// it. `was` says whether it did before, and `thresholds` are the low and the high one in percents.
+    /// (Manual: "Detection and Handling of State Flapping".)
     pub(crate) fn add(&mut self, number: u32, found: State, was: bool, thresholds: (u8, u8)) -> bool
         requires { number < length self.old }
         ensures kept { self.new ≡ update_at number (λ results. kept_after results found) self.old }
@@ -67,7 +67,7 @@ impl Results {
         self.by_number[number as usize].push(found, was, low, high)
     }
 
-    /// Whether the object with this number has as many results as are kept, and all are this state, so
+    /// Whether the object with this number has as many results as are stored, and all are this state, so
     /// that one more of it leaves them as they are.
     pub(crate) fn are_all(&self, number: u32, state: State) -> bool
         requires { number < length self.now }

@@ -1,17 +1,16 @@
-//! What becomes of each object of a setup when a scheduler goes on from what was saved: kept, where its
-//! name was saved, else new.
+//! Each object of a setup after a resume: it is kept if its name was saved, and new otherwise.
 
 ghost use Rattle.std.specs.Prelude.{◌≡◌, ◌≤◌, option_map};
 ghost use Rattle.check_objects.specs.Configuration.{IsSetup};
-ghost use Rattle.check_sched.specs.Saved.{earlier_time, is_same_switch, keeps_time, scheduling_kept, scheduling_of, soft_kept, standing_kept, standing_of};
+ghost use Rattle.check_sched.specs.Saved.{is_same_switch, keeps_time, scheduling_kept, scheduling_of, soft_kept, standing_kept, standing_of};
 
 use crate::object_state::ObjectState;
-use crate::report::milliseconds;
 use check_objects::{MAX_INTERVAL, Object, Setup};
 use check_rules::{Kind, Standing, pending};
 use check_saved::SavedObject;
+use check_spread::{earlier, milliseconds};
 
-/// The scheduling of an object to which the spread gives this first time. A new one begins as at an
+/// The scheduling of an object whose first time by the spread is `first`. A new object begins as at an
 /// opening.
 pub(crate) fn scheduling(
     setup: &Setup,
@@ -29,8 +28,8 @@ pub(crate) fn scheduling(
     }
 }
 
-/// The scheduling of an object that is kept. Its switch stays as an operator set it where both setups
-/// say the same of the object, and is as the setup says where they differ.
+/// The scheduling of an object that is kept. Its switch stays as an operator set it if both setups have
+/// the same switch for the object. If they differ, this setup's switch applies.
 fn scheduling_kept(
     setup: &Setup,
     object: &Object,
@@ -44,7 +43,7 @@ fn scheduling_kept(
     let next = if keeps_time(setup, object, saved) {
         saved.next
     } else {
-        earlier_time(saved.next, first)
+        earlier(saved.next, first)
     };
     let enabled = if is_same_switch(object.enabled, saved.setup_enabled) {
         saved.enabled
@@ -54,8 +53,8 @@ fn scheduling_kept(
     ObjectState::saved(next, saved.run, enabled, saved.forced)
 }
 
-/// Whether the next time stays as it was saved: the check interval and the setup's switch are as they
-/// were, or a check is out, or the next one is forced.
+/// Whether the saved next time stays. It does if the check interval and the setup's switch are unchanged,
+/// or a check is out, or the next check is forced.
 fn keeps_time(setup: &Setup, object: &Object, saved: &SavedObject) -> bool
     requires valid_setup { IsSetup setup.now }
     requires interval { object.now.check_interval ≤ MAX_INTERVAL }
@@ -68,25 +67,14 @@ fn keeps_time(setup: &Setup, object: &Object, saved: &SavedObject) -> bool
         && is_same_switch(object.enabled, saved.setup_enabled)
 }
 
-/// Whether two switches stand alike.
+/// Whether two switches are equal.
 fn is_same_switch(one: bool, other: bool) -> bool
     ensures { result ≡ is_same_switch one other }
 {
     one == other
 }
 
-/// The earlier of two times; either by itself where the other is none.
-fn earlier_time(one: Option<u64>, other: Option<u64>) -> Option<u64>
-    ensures { result ≡ earlier_time one other }
-{
-    match (one, other) {
-        (Some(time), Some(later)) => Some(time.min(later)),
-        (Some(time), None) => Some(time),
-        (None, _) => other,
-    }
-}
-
-/// The standing of an object, a host or a service: that of a new one is pending.
+/// The standing of an object, a host or a service. The standing of a new object is pending.
 pub(crate) fn standing(host: bool, object: &Object, kept: Option<&SavedObject>) -> Standing
     requires { 1 ≤ object.now.max_check_attempts }
     ensures { result ≡ standing_of host object.now (option_map (λ o. o.now) kept.entry) }
@@ -97,8 +85,8 @@ pub(crate) fn standing(host: bool, object: &Object, kept: Option<&SavedObject>) 
     }
 }
 
-/// The standing of an object that is kept and has this maximum of attempts now: a hard problem stands at
-/// the maximum, and OK and UP keep their attempt up to it.
+/// The standing of an object that is kept, with its new maximum of attempts. A hard problem gets the
+/// maximum as its attempt. OK and UP keep their attempt, up to the maximum.
 fn standing_kept(was: Standing, max: u8) -> Standing
     requires { 1 ≤ max }
     ensures { result ≡ standing_kept max was }
@@ -114,8 +102,8 @@ fn standing_kept(was: Standing, max: u8) -> Standing
     Standing { attempt, ..was }
 }
 
-/// A soft problem that is kept and has this maximum of attempts now: it stays soft below the maximum,
-/// and is hard where that is 1.
+/// The standing of a soft problem that is kept, with its new maximum of attempts. It stays soft, with an
+/// attempt below the maximum. If the maximum is 1, it becomes hard.
 fn soft_kept(was: Standing, max: u8) -> Standing
     requires { 1 ≤ max }
     ensures { result ≡ soft_kept max was }

@@ -1,4 +1,4 @@
-//! The scheduling of all objects: who waits, in two queues, and how many services run.
+//! The scheduling of all objects: those that wait, in two queues, and the number of services that run.
 
 ghost use Rattle.std.specs.Prelude.{◌≡◌, ◌<◌, ◌≤◌, ◌&&◌, IfOk, Some, drop, length, nat_le, nat_lt, option_map, slice_get, slice_set, take};
 ghost use Rattle.check_queue.specs.Order.{least};
@@ -14,14 +14,14 @@ use check_queue::Queue;
 use std::alloc::{AllocError, Global};
 use std::marker::Model;
 
-/// What is kept of each object between calls, with a queue of the hosts and one of the services that
-/// wait for a check, and the number of services that run. An object is changed by [`Roster::change`]
-/// alone, so that its place in its queue is always what its state says. Contracts see how many hosts
-/// there are, and the state of each object by number.
+/// The scheduling of each object, a queue of the hosts and one of the services that wait for a check,
+/// and the number of services that run. Only [`Roster::change`] changes an object, so that its place in
+/// its queue always agrees with its state. Contracts see the number of hosts, and the state of each
+/// object by number.
 #[derive(Drop)]
 pub(crate) struct Roster {
     waiting_hosts: Queue,
-    // What a call for a service reads and writes stands from here on, side by side.
+    // A call for a service reads and writes the fields from here on, which are adjacent.
     hosts: usize,
     objects: Vec<ObjectState>,
     waiting_services: Queue,
@@ -39,9 +39,9 @@ impl Model for Roster {
 }
 
 impl Roster {
-    /// The roster of these objects, the first of which are hosts.
+    /// The roster of these objects. The first `hosts` objects are the hosts.
     ///
-    /// An Err means out of memory. This is the one call that needs memory.
+    /// An Err means out of memory. This is the only call that needs memory.
     pub(crate) fn new(
         alloc: Global,
         hosts: usize,
@@ -78,8 +78,8 @@ impl Roster {
         &self.objects[number as usize]
     }
 
-    /// Does this to the object with this number, in its place.
-    // In each caller the compiler knows what is done, and keeps only that part.
+    /// Makes this change of the object with this number, and moves it in its queue.
+    // Each caller makes a known change, so the compiler keeps only that part.
     #[inline(always)]
     pub(crate) fn change(&mut self, number: u32, change: Change)
         requires { number < length self.old.objects }
@@ -111,7 +111,7 @@ impl Roster {
     }
 
     /// The object whose check comes first: the one with the least time, and of those with equal
-    /// times the one with the least number. None where no object waits for a check.
+    /// times the one with the least number. None if no object waits for a check.
     #[inline(always)]
     pub(crate) fn first(&self) -> Option<Candidate>
         ensures { result ≡ least (candidates_among self.now.objects) }
@@ -127,7 +127,7 @@ impl Roster {
     }
 }
 
-/// Gives an object its place in its queue: at the time for which it waits, or none.
+/// Puts an object into its queue at the time for which it waits, or removes it if there is no time.
 // In each caller the compiler knows whether there is a time.
 #[inline(always)]
 fn place(queue: &mut Queue, number: u32, time: Option<u64>)

@@ -1,4 +1,4 @@
-//! The scheduler: how it is made, its one call, and what can be read of it between calls.
+//! The scheduler: its constructor, its one call, and the functions that read it between calls.
 
 ghost use Rattle.std.specs.Prelude.{◌≡◌, ◌<◌, ◌≤◌, IfSome, IfOk, IfErr, IsTrue, Ok, OnOk, length, option_and_then, slice_get, slice_index};
 ghost use Rattle.std.specs.List.{All};
@@ -6,6 +6,7 @@ ghost use Rattle.check_objects.specs.Configuration.{IsSetup, object_count};
 ghost use Rattle.check_spread.specs.Spread.{initial_times};
 ghost use Rattle.check_sched.specs.State.{IsStandingOf, IsState, next_of, objects_at, opening_objects, opening, opening_standings, run_number_of, standing_at};
 ghost use Rattle.check_saved.specs.Scheduling.{is_moment, is_time};
+ghost use Rattle.check_sched.specs.Sched.{AreParts, state_with};
 ghost use Rattle.check_sched.specs.Step.{is_forced, known, step, with_object};
 ghost use Rattle.check_sched.specs.Change.{changed, is_quiet, keeps_timed};
 ghost use Rattle.check_sched.specs.Board.{board_of, place_of};
@@ -28,21 +29,18 @@ mod operators;
 mod resuming;
 mod saving;
 
-/// How many runs are handed out at most.
-pub const MAX_RUNS: u64 = 1 << 60;
-
-/// A scheduler over a setup. Contracts see it as a record `State`: the setup, the start, the state,
-/// the standing and the last results of each object by number, and how many runs were handed out.
+/// A scheduler over a setup. Contracts see it as a record `State`: the setup, the start, the scheduling,
+/// the standing and the last results of each object by number, and the number of runs handed out.
 #[derive(Drop)]
 pub struct Sched {
     start: u64,
     /// Scratch of the search through dependencies: a mark for each object.
     marks: Vec<bool>,
-    // What only a report reads is beside the count of hosts, with which a setup begins; what each
-    // call reads and writes stands behind what a setup says of services, with which it ends.
+    // The fields that only a report reads are next to the number of hosts, the first field of a setup.
+    // The fields that each call reads and writes follow the setup's services, its last field.
     results: Results,
     standings: Vec<Standing>,
-    /// Which objects an OK leaves as they stand, as far as reports found it.
+    /// The objects that an OK leaves unchanged, as far as reports have found it.
     steady: Vec<bool>,
     /// The intervals of each object.
     intervals: Vec<Intervals>,
@@ -62,6 +60,17 @@ impl Model for Sched {
     ghost invariant = { IsKept };
 }
 
+/// The fields of a scheduler, without its setup, its start and its number of runs.
+#[derive(Drop)]
+struct Parts {
+    marks: Vec<bool>,
+    steady: Vec<bool>,
+    intervals: Vec<Intervals>,
+    results: Results,
+    standings: Vec<Standing>,
+    roster: Roster,
+}
+
 impl Sched {
     /// A scheduler for the objects of `setup`, with `start`, in milliseconds, as the moment at
     /// which scheduling starts. The first checks are spread over time from `start` on, as the
@@ -73,31 +82,31 @@ impl Sched {
     pub fn new(alloc: Global, setup: Setup, start: u64) -> Result<Sched, Setup>
         requires { start ≤ LAST_MOMENT }
         ensures ok { IfOk result (λ scheduler. scheduler ≡ opening setup start) }
+        ensures state { IfOk result IsState }
         ensures valid_setup { OnOk result (IsSetup setup) }
         ensures err { IfErr result (λ handed_back. handed_back ≡ setup) }
     {
-        let Ok(objects) = opening_objects(alloc, &setup, start) else {
-            return Err(setup);
-        };
-        let Ok(roster) = Roster::new(alloc, setup.hosts(), objects) else {
-            return Err(setup);
-        };
-        let Ok(standings) = opening_standings(alloc, &setup) else {
-            return Err(setup);
-        };
-        let Ok(results) = Results::none(alloc, setup.len()) else {
-            return Err(setup);
-        };
-        let Ok(marks) = vec![in alloc; false; setup.len()] else {
-            return Err(setup);
-        };
-        let Ok(intervals) = intervals_by_number(alloc, &setup) else {
-            return Err(setup);
-        };
-        let Ok(steady) = vec![in alloc; false; setup.len()] else {
-            return Err(setup);
-        };
-        Ok(Sched {
+        match opening_parts(alloc, &setup, start) {
+            Ok(parts) => Ok(Sched::of(setup, start, 0, parts)),
+            Err(_refused) => Err(setup),
+        }
+    }
+
+    /// The scheduler with these parts, which were made for this setup.
+    fn of(setup: Setup, start: u64, runs: u64, parts: Parts) -> Sched
+        requires state { IsState (state_with setup start runs parts) }
+        requires parts { AreParts setup parts }
+        ensures { result ≡ state_with setup start runs parts }
+    {
+        let Parts {
+            marks,
+            steady,
+            intervals,
+            results,
+            standings,
+            roster,
+        } = parts;
+        Sched {
             setup,
             start,
             roster,
@@ -105,9 +114,9 @@ impl Sched {
             results,
             steady,
             intervals,
-            runs: 0,
+            runs,
             marks,
-        })
+        }
     }
 
     /// Answers one call and moves the scheduler on, as `step` says. It needs no memory.
@@ -115,15 +124,15 @@ impl Sched {
     /// A refused call leaves the scheduler as it was. No call changes the setup or the start. The
     /// objects that a reply names are those of the setup, and each time in it is at most
     /// 2^61 milliseconds. No more services are being checked than the option
-    /// `max_concurrent_checks` allows, where it isn't 0 ([`limit`](crate::laws::limit)).
-    // Where a caller knows which call it makes, the compiler keeps only that part.
+    /// `max_concurrent_checks` allows, if it isn't 0 ([`limit`](crate::laws::limit)).
+    // If a caller makes a known call, the compiler keeps only that part.
     #[inline(always)]
     pub fn apply(&mut self, call: Call) -> Reply
         ensures state { self.new ≡ (step self.old call).0 }
         ensures reply { result ≡ (step self.old call).1 }
 
-        // What a caller needs beside the step; all of it follows from the two clauses above and
-        // from what is true of every scheduler.
+        // Other facts for callers. All follow from the two clauses above and from the facts that hold of
+        // every scheduler.
         ensures refused { OnRefused result (self.new ≡ self.old) }
         ensures setup { self.new.setup ≡ self.old.setup }
         ensures start { self.new.start ≡ self.old.start }
@@ -144,8 +153,8 @@ impl Sched {
         }
     }
 
-    /// Does this to the scheduling of an object; all else stays as it was.
-    // In each caller the compiler knows what is done, and keeps only that part.
+    /// Makes this change of the scheduling of an object. The rest stays as it was.
+    // Each caller makes a known change, so the compiler keeps only that part.
     #[inline(always)]
     fn change(&mut self, object: u32, change: Change)
         requires there { object < object_count self.old.setup }
@@ -156,7 +165,7 @@ impl Sched {
         self.roster.change(object, change);
     }
 
-    /// What is kept of the object with this number.
+    /// The scheduling of the object with this number.
     fn object(&self, number: u32) -> Result<&ObjectState, Refusal>
         ensures value { IfOk result (λ object. known number self.now ≡ Ok object.now) }
         ensures refused { IfErr result (λ why. known number self.now ≡ Err why) }
@@ -170,16 +179,8 @@ impl Sched {
         }
     }
 
-    /// A law without code: each scheduler is in a state that one can be in. For the proofs of what
-    /// stands on it.
-    pub fn is_state(&self)
-        ensures { IsState self.now }
-    {
-        let _ = &self.setup;
-    }
-
-    /// How many words its board has: one for each object, and so at most 4,096. The board is what a
-    /// lock shows of the scheduler to those who don't hold it.
+    /// The number of words of its board: one for each object, and so at most 4,096. A lock shows the board
+    /// to callers that don't hold it.
     pub fn words(&self) -> u32
         ensures { result ≡ length (board_of self.now) }
     {
@@ -195,8 +196,8 @@ impl Sched {
         code(self.standings[number as usize])
     }
 
-    /// At which place of the board the call is posted, if it is made now: a report that will be
-    /// answered by a standing at its object's number, and no other call at any.
+    /// The place of the board at which the call is posted, if it is made now. A report that will be
+    /// answered by a standing is posted at its object's number, and no other call is posted.
     pub fn place_of(&self, call: Call) -> Option<u32>
         ensures { result ≡ place_of self.now call }
     {
@@ -230,8 +231,8 @@ impl Sched {
         self.start
     }
 
-    /// What is known of the object with this number: its state, kind and attempt. One that was never
-    /// checked stands as [`pending`].
+    /// The standing of the object with this number: its state, kind and attempt. An object that was
+    /// never checked is [`pending`].
     pub fn standing(&self, number: u32) -> Standing
         requires { number < object_count self.now.setup }
         ensures value { result ≡ standing_at self.now.standings number }
@@ -240,8 +241,8 @@ impl Sched {
         self.standings[number as usize]
     }
 
-    /// The time of the next check of the object with this number, in milliseconds, or None where
-    /// none is set. It is at most 2^61.
+    /// The time of the next check of the object with this number, in milliseconds, or None if no time
+    /// is set. It is at most 2^61.
     pub fn next_of(&self, number: u32) -> Option<u64>
         requires { number < object_count self.now.setup }
         ensures value { result ≡ next_of number self.now }
@@ -250,8 +251,8 @@ impl Sched {
         self.roster.at(number).next()
     }
 
-    /// The number of the run under which the object with this number is being checked, or None
-    /// where it isn't being checked.
+    /// The number of the run under which the object with this number is being checked, or None if it
+    /// isn't being checked.
     pub fn running(&self, number: u32) -> Option<u64>
         requires { number < object_count self.now.setup }
         ensures { result ≡ run_number_of number self.now }
@@ -259,13 +260,13 @@ impl Sched {
         self.roster.at(number).run_number()
     }
 
-    /// The check of the object with this number that is out: the number of its run, and the moment at
-    /// which it was handed out, in milliseconds. None where the object isn't being checked.
+    /// The run of the object with this number: its number, and the moment at which it was handed out, in
+    /// milliseconds. None if the object isn't being checked.
     pub fn open_run(&self, number: u32) -> Option<SavedRun>
         requires { number < object_count self.now.setup }
         ensures { result ≡ option_and_then (λ o. o.run) (slice_get self.now.objects number) }
     {
-        self.roster.at(number).saved_run()
+        self.roster.at(number).run()
     }
 }
 
@@ -279,7 +280,25 @@ fn reply_of(answer: Result<Reply, Refusal>) -> Reply
     }
 }
 
-/// The state of each object of the setup when scheduling starts, by number.
+/// The parts of a scheduler that is opened. An Err means out of memory.
+fn opening_parts(alloc: Global, setup: &Setup, start: u64) -> Result<Parts, AllocError>
+    requires { start ≤ LAST_MOMENT }
+    ensures valid_setup { OnOk result (IsSetup setup.now) }
+    ensures parts { IfOk result (AreParts setup.now) }
+    ensures opening { IfOk result (λ parts. state_with setup.now start 0 parts ≡ opening setup.now start) }
+{
+    let objects = opening_objects(alloc, setup, start)?;
+    Ok(Parts {
+        marks: vec![in alloc; false; setup.len()]?,
+        steady: vec![in alloc; false; setup.len()]?,
+        intervals: intervals_by_number(alloc, setup)?,
+        results: Results::none(alloc, setup.len())?,
+        standings: opening_standings(alloc, setup)?,
+        roster: Roster::new(alloc, setup.hosts(), objects)?,
+    })
+}
+
+/// The scheduling of each object of the setup when scheduling starts, by number.
 fn opening_objects(alloc: Global, setup: &Setup, start: u64) -> Result<Vec<ObjectState>, AllocError>
     requires { start ≤ LAST_MOMENT }
     ensures items { IfOk result (λ objects. objects.items ≡ opening_objects setup.now start) }
@@ -292,7 +311,7 @@ fn opening_objects(alloc: Global, setup: &Setup, start: u64) -> Result<Vec<Objec
     objects_at(alloc, setup, &times)
 }
 
-/// The state of each object whose first checks have these times.
+/// The scheduling of each object, given the times of the first checks.
 fn objects_at(
     alloc: Global,
     setup: &Setup,
@@ -310,7 +329,7 @@ fn objects_at(
     Ok(objects)
 }
 
-/// What is known of each object when scheduling starts, by number: none was ever checked.
+/// The standing of each object when scheduling starts, by number: no object was ever checked.
 fn opening_standings(alloc: Global, setup: &Setup) -> Result<Vec<Standing>, AllocError>
     ensures { IfOk result (λ standings. standings.items ≡ opening_standings setup.now) }
 {

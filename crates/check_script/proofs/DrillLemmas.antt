@@ -1,8 +1,8 @@
 -- The members of a drill's commands, and what the commands say together.
-use Rattle.std.proofs.Common.{◌≡◌, ℕ, suc, zero, ◌+◌, ◌≤◌, ◌<◌, ◌==◌, true, false, cond, ◌&&◌}
+use Rattle.std.proofs.Common.{◌≡◌, ℕ, suc, zero, ◌+◌, ◌≤◌, ◌<◌, ◌==◌, Bool, true, false, cond, ◌&&◌}
 use Rattle.std.proofs.Common.{List, [], ◌∷◌, ◌++◌, length, map, replicate, Option, Some, None, get_or, append-nil}
 use Rattle.std.proofs.Common.{refl, sym, ◌∙◌, ap, inl, inr, arith, Result, Ok, Err}
-use Rattle.std.specs.Prelude.{is_some, unwrap_or, filter_map, IfOk}
+use Rattle.std.specs.Prelude.{nat_lt, is_some, unwrap_or, filter_map}
 use Rattle.std.specs.List.{list_all, last_or, range_with_len, cons_option}
 use Rattle.std.proofs.Math.ListN.{set}
 use Rattle.std.proofs.lemmas.List.{ext_get_or, get_or-set_same, get_or-set_other, length-set}
@@ -19,11 +19,18 @@ use Rattle.check_script.specs.DrillCommanded.{drill_command}
 use Rattle.check_script.specs.DrillScript.{DrillScript, drill_over, drill_script_of, given_by, moment_of, moments_in}
 use Rattle.check_script.specs.DrillScript.{returns_below, returns_by, returns_of}
 use Rattle.check_drafts.specs.Agreement.{◌>>=◌}
-use Rattle.check_script.specs.Script.{Script, script_by}
+use Rattle.check_script.specs.Input.{first_line_of, lines_of}
+use Rattle.check_script.specs.LiveInput.{behind_line}
+use Rattle.check_script.specs.Script.{commands_behind, in_setup}
+use Rattle.check_script.specs.declared.refusal.InputRefusal.TheVariants as refusal
+use Rattle.check_script.specs.declared.refusal.LineFault.TheVariants as fault
+use borrow.Author.Tests.{ltb-false}
+use Rattle.check_objects.specs.Setup.{setup_of}
+use Rattle.check_script.proofs.InputLemmas.{behind_fewer}
 use Rattle.check_script.specs.declared.drill_command.DrillCommand.{DrillCommand}
 use Rattle.check_script.specs.declared.script.TheConstants.{MAX_INPUT_BYTES}
 use Rattle.check_script.specs.declared.refusal.InputRefusal.{InputRefusal}
-use Rattle.check_script.proofs.ScriptLemmas.{few_script}
+use Rattle.check_script.proofs.ScriptLemmas.{few_behind}
 
 -- ---- members
 
@@ -58,19 +65,30 @@ length-moments_in : (commands : List Command) → length (moments_in commands) �
 length-moments_in [] = omega arith
 length-moments_in (c ∷ commands) = length-cons_moment (moment_of c) (moments_in commands) (length commands) (length-moments_in commands)
 
-few_over_by : (r : Result (Script Command) InputRefusal) (s : DrillScript) (n : ℕ) → IfOk r (λ read. length read.commands ≤ n)
-    → (r >>= λ read. Ok (drill_over read)) ≡ Ok s
-    → length s.moments ≤ n
-few_over_by (Ok read) s n h e = let k : drill_over read ≡ s = cc in rw (← k) (omega (arith, length-moments_in read.commands, h))
-few_over_by (Err r) s n h e =
-    let k : Err r ≡ Ok s = e in
-    let f : ⊥ = cc in
-    absurd f
+few_over_by : (c : Configuration) (all : Result (List Command) InputRefusal) (s : DrillScript) (n : ℕ) → ((l : List Command) → all ≡ Ok l → length l ≤ n)
+    → (all >>= λ l. Ok (drill_over c l)) ≡ Ok s → length s.moments ≤ n
+few_over_by c (Ok l) s n h e = let k : drill_over c l ≡ s = cc in rw (← k) (omega (arith, length-moments_in l, h l refl))
+few_over_by c (Err r) s n h e = cc
+
+few_by_setup : (setup : Result Configuration InputRefusal) (bytes : List ℕ) (s : DrillScript)
+    → (setup >>= λ c. (commands_behind 2 (drill_command_by c) (lines_of bytes) >>= λ all. Ok (drill_over c all))) ≡ Ok s
+    → length s.moments ≤ length bytes
+few_by_setup (Ok c) bytes s e =
+    few_over_by c (commands_behind 2 (drill_command_by c) (lines_of bytes)) s (length bytes) (few_behind (drill_command_by c) 2 bytes) e
+few_by_setup (Err r) bytes s e = cc
+
+few_by_length : (long : Bool) (input : List ℕ) (r : Result DrillScript InputRefusal) (s : DrillScript)
+    → nat_lt MAX_INPUT_BYTES (length input) ≡ long → (r ≡ Ok s → length s.moments ≤ length input)
+    → cond long (Err (refusal.Line fault.TooLong 0)) r ≡ Ok s → length s.moments ≤ MAX_INPUT_BYTES
+few_by_length true input r s l h e = cc
+few_by_length false input r s l h e = let few : length input ≤ MAX_INPUT_BYTES = ltb-false _ _ l in omega (arith, few, h e)
 
 -- a script has no more moments than an input may have bytes
 pub few_moments : (input : List ℕ) (s : DrillScript) → drill_script_of input ≡ Ok s → length s.moments ≤ MAX_INPUT_BYTES
 unfolding drill_script_of
-few_moments input s e = few_over_by (script_by drill_command_by input) s MAX_INPUT_BYTES (few_script drill_command_by input) e
+few_moments input s e =
+    few_by_length (nat_lt MAX_INPUT_BYTES (length input)) input _ s refl
+    (λ h. let few = few_by_setup (in_setup (setup_of (first_line_of input))) (behind_line input) s h in omega (arith, few, behind_fewer input)) e
 
 -- ---- return codes
 
@@ -139,5 +157,5 @@ drill_with setup lists moments = record { setup = setup; returns = lists; moment
 pub drill_is : (setup : Configuration) (commands : List DrillCommand) (lists : List (List Code)) (moments : List ℕ)
     → lists ≡ returns_below (object_count setup) (map drill_command commands)
     → moments ≡ filter_map (λ c. moment_of (drill_command c)) commands
-    → drill_with setup lists moments ≡ drill_over (record { setup = setup; commands = map drill_command commands })
+    → drill_with setup lists moments ≡ drill_over setup (map drill_command commands)
 drill_is setup commands lists moments r m = rw (r, m, moments_seen commands) refl

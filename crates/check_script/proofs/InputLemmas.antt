@@ -3,42 +3,20 @@ use Rattle.std.proofs.Common.{◌≡◌, ℕ, zero, suc, ◌+◌, ◌-◌, min, 
 use Rattle.std.proofs.Common.{refl, sym, ◌∙◌, ap, arith, ◌<◌, ◌≤◌, get_or, length-append, length-take}
 use Rattle.std.specs.List.{position_or_len, position}
 use Rattle.std.proofs.lemmas.Bool.Decides.{nat_tests}
-use Rattle.std.proofs.lemmas.List.{take_rest, take_all, drop_min}
+use Rattle.std.proofs.lemmas.List.{take_rest, take_all}
 use Rattle.std.proofs.lemmas.List.Sums.{position_or_len_is}
 use Rattle.std.proofs.Math.Seq.{take-append_seam}
 use Rattle.std.specs.Prelude.{IfSome, nat_lt}
 use borrow.Author.Tests.{ltb-false}
-use Rattle.check_script.specs.Input.{HasBegun, lines_of, first_line_of, onto_first}
+use Rattle.check_script.specs.Input.{HasBegun, lines_of, first_line_of}
+use Rattle.check_script.specs.LiveInput.{behind_line}
 use Rattle.std.specs.Io.KnownBytes.{Consumes, IsAtEnd}
 use Rattle.memchr.specs.Find.{IsFirstByte}
-use Rattle.check_script.proofs.LiveInputLemmas.{Consumes-then}
+use Rattle.check_script.proofs.LiveInputLemmas.{Consumes-then, behind_at, lines_apart}
 use Rattle.std.proofs.lemmas.Grind.{common_steps}
-
-suc_first : (n : ℕ) → suc (n + 1) ≡ suc n + 1
-suc_first n = omega arith
 
 one_first : (n : ℕ) → suc n ≡ 1 + n
 one_first n = omega arith
-
-drop_least : (n : ℕ) (bs : List ℕ) → drop (min (length bs) n) bs ≡ drop n bs
-drop_least n bs = ap (λ k. drop k bs) (let e : min (length bs) n ≡ min n (length bs) = omega arith in e) ∙ drop_min n bs
-
-pub lines_first : (b : ℕ) (bs : List ℕ)
-    → lines_of (b ∷ bs) ≡ first_line_of (b ∷ bs) ∷ lines_of (drop (length (first_line_of (b ∷ bs)) + 1) (b ∷ bs))
-lines_first b [] =
-    elim (b == 10) as (λ v. (cond v ([] ∷ []) ((b ∷ []) ∷ [])) ≡ (cond v [] (b ∷ [])) ∷ lines_of (drop (length (cond v [] (b ∷ [])) + 1) (b ∷ []))) [
-      | true ↦ refl
-      | false ↦ refl
-    ]
-lines_first b (c ∷ cs) =
-    let again = lines_first c cs in
-    elim (b == 10) as (λ v. (cond v ([] ∷ lines_of (c ∷ cs)) (onto_first b (lines_of (c ∷ cs))))
-    ≡ (cond v [] (b ∷ first_line_of (c ∷ cs)))
-    ∷ lines_of (drop (length (cond v [] (b ∷ first_line_of (c ∷ cs))) + 1) (b ∷ c ∷ cs))) [
-      | true ↦ refl
-      | false ↦ ap (onto_first b) again
-          ∙ ap (λ k. (b ∷ first_line_of (c ∷ cs)) ∷ lines_of (drop k (b ∷ c ∷ cs))) (suc_first (length (first_line_of (c ∷ cs))))
-    ]
 
 pub first_line_of-take : (bs : List ℕ) → first_line_of bs ≡ take (position_or_len (λ b. b == 10) bs) bs
 first_line_of-take [] = refl
@@ -48,9 +26,6 @@ first_line_of-take (b ∷ bs) =
       | true ↦ refl
       | false ↦ ap (λ l. b ∷ l) again ∙ ap (λ k. take k (b ∷ bs)) (one_first _)
     ]
-
-pub drop_next : (bs : List ℕ) (n : ℕ) → take (length bs - min (length bs) n) (drop (min (length bs) n) bs) ≡ drop n bs
-drop_next bs n = take_rest bs (min (length bs) n) ∙ drop_least n bs
 
 pub read_limit : (old new : Option (List ℕ)) (input : List ℕ) (limit : ℕ) → Consumes old new input → length input ≡ limit
     → IfSome old (λ bytes. input ≡ take limit bytes)
@@ -136,7 +111,21 @@ line_end_none bs e =
     let past : length bs ≤ position_or_len (λ b. b == 10) bs = ltb-false _ _ n in
     sym (first_line_of-take bs ∙ take_all _ bs past)
 
-pub lines_next : (bs line : List ℕ) (n : ℕ) → (length bs == 0) ≡ false → line ≡ first_line_of bs → n ≡ min (length bs) (length line + 1)
-    → lines_of bs ≡ line ∷ lines_of (take (length bs - n) (drop n bs))
-lines_next [] line n e h k = cc
-lines_next (b ∷ bs) line n e h k = rw (h, k, h, drop_next (b ∷ bs) (length (first_line_of (b ∷ bs)) + 1)) (lines_first b bs)
+-- the bytes after the first line feed
+pub behind_some : (bs : List ℕ) (i : ℕ) → Some i ≡ position (λ b. b == 10) bs → take (length bs - (i + 1)) (drop (i + 1) bs) ≡ behind_line bs
+behind_some bs i e = take_rest bs (i + 1) ∙ sym (behind_at bs i e)
+
+pub behind_fewer : (bs : List ℕ) → length (behind_line bs) ≤ length bs
+behind_fewer [] = omega arith
+behind_fewer (b ∷ bs) =
+    let again = behind_fewer bs in
+    elim (b == 10) as (λ v. length (cond v bs (behind_line bs)) ≤ suc (length bs)) [
+      | true ↦ omega arith
+      | false ↦ omega (arith, again)
+    ]
+
+-- bytes that are split are their first line and those after it
+pub lines_next : (bs line rest : List ℕ) → (length bs == 0) ≡ false → line ≡ first_line_of bs → rest ≡ behind_line bs
+    → lines_of bs ≡ line ∷ lines_of rest
+lines_next [] line rest e h k = cc
+lines_next (b ∷ bs) line rest e h k = rw (h, k) (lines_apart b bs)

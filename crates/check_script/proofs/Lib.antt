@@ -5,4 +5,3 @@ pub mod KeptLemmas
 pub mod CommandLemmas
 pub mod ScriptLemmas
 pub mod DrillLemmas
-pub mod ResumedScriptLemmas

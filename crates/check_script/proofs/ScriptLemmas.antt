@@ -1,19 +1,13 @@
 -- The lines of a script.
-use Rattle.std.proofs.Common.{ℕ, suc, ◌≡◌, ◌==◌, ◌+◌, ◌≤◌, Bool, true, false, not, if◌then◌else◌, cond, List, [], ◌∷◌, length, map, Option, Some, None}
-use Rattle.std.proofs.Common.{Result, Ok, Err, ◌<◌, ◌++◌, refl, sym, ◌∙◌, ap, append_assoc, arith, Bor, inl, inr, ◌⊎◌}
-use Rattle.std.specs.Prelude.{nat_lt, IfOk}
-use Rattle.std.proofs.lemmas.Bool.{cases_lt}
-use Rattle.std.proofs.lemmas.Bool.Decides.{nat_tests}
-use Rattle.std.specs.Iterator.{YieldsFirstRef}
-use Rattle.check_objects.specs.Configuration.{Configuration}
-use Rattle.check_objects.specs.Setup.{setup_of}
+use Rattle.std.proofs.Common.{ℕ, suc, ◌≡◌, ◌==◌, ◌+◌, ◌≤◌, Bool, true, false, not, if◌then◌else◌, cond, List, [], ◌∷◌, length, map}
+use Rattle.std.proofs.Common.{Result, Ok, Err, ◌++◌, refl, sym, ◌∙◌, ap, append_assoc, arith}
+use Rattle.std.specs.Prelude.{IfOk}
 use Rattle.serde_json.specs.Data.{Items}
 use Rattle.check_drafts.specs.Agreement.{◌>>=◌, with_front, Fails}
 use Rattle.check_script.specs.Agreement.{refusal}
 use Rattle.check_script.specs.Line.{command_of, is_blank}
 use Rattle.check_script.specs.Input.{lines_of, onto_first}
-use Rattle.check_script.specs.Script.{Script, all_or_first, commands_behind, commands_of, in_setup, numbered_from, script_by, script_in, script_over}
-use Rattle.check_script.specs.declared.input.Lines.{Lines}
+use Rattle.check_script.specs.Script.{all_or_first, commands_behind, numbered_from}
 use Rattle.check_script.specs.declared.script.TheConstants.{MAX_INPUT_BYTES}
 use Rattle.check_script.specs.declared.refusal.InputRefusal.{InputRefusal}
 use Rattle.check_script.specs.declared.refusal.LineFault.{LineFault}
@@ -92,38 +86,21 @@ length-lines_of (b ∷ bs) = let h = length_by b (lines_of bs) (length bs) (b ==
 pub few_lines : (bs : List ℕ) → length bs ≤ MAX_INPUT_BYTES → length (lines_of bs) ≤ MAX_INPUT_BYTES
 few_lines bs h = omega (arith, length-lines_of bs, h)
 
-pub few_left : (s t : Lines) (r : Option (Bor (List ℕ))) (n : ℕ) → YieldsFirstRef (λ l. lines_of l.rest.now) s r t
-    → length (lines_of s.rest.now) ≤ n → length (lines_of t.rest.now) ≤ n
-few_left s t None n h b = omega (arith, ap length h.1)
-few_left s t (Some x) n h b = omega (arith, ap length h)
+-- ---- where the reading fails or comes to its end
 
--- ---- a document and the lines after it
+-- a part that is refused refuses the whole
+pub part_fails : {X Y : Type 0} (e : ScriptError) (part : Result X InputRefusal) (next : X → Result Y InputRefusal)
+    → Fails (refusal e) part → Fails (refusal e) (part >>= next)
+part_fails errors.Memory part next f = tt
+part_fails (errors.Refused r) part next f = rw f refl
 
--- the document is refused
-pub over_setup_fails : {K : Type 0} (meaning : Configuration → List ℕ → Items → Result K LineFault) (e : ScriptError)
-    (document : List ℕ) (ls : List (List ℕ))
-    → Fails (refusal e) (in_setup (setup_of document)) → Fails (refusal e) (script_over meaning document ls)
-over_setup_fails meaning errors.Memory document ls f = tt
-over_setup_fails meaning (errors.Refused r) document ls f = rw f refl
-
--- a line is refused
-pub over_commands_fail : {K : Type 0} (meaning : Configuration → List ℕ → Items → Result K LineFault) (e : ScriptError) (c : Configuration)
-    (document : List ℕ) (ls : List (List ℕ))
-    → in_setup (setup_of document) ≡ Ok c → Fails (refusal e) (commands_of (meaning c) ls) → Fails (refusal e) (script_over meaning document ls)
-over_commands_fail meaning errors.Memory c document ls s f = tt
-over_commands_fail meaning (errors.Refused r) c document ls s f = rw (s, f) refl
-
--- nothing is refused
-pub over_reads : {K : Type 0} (meaning : Configuration → List ℕ → Items → Result K LineFault) (c : Configuration) (all : List K) (document : List ℕ)
-    (ls : List (List ℕ))
-    → in_setup (setup_of document) ≡ Ok c → commands_of (meaning c) ls ≡ Ok all
-    → script_over meaning document ls ≡ Ok (record { setup = c; commands = all })
-over_reads meaning c all document ls s f = rw (s, f) refl
+-- so does a part that follows one that was read
+pub part_stops : {X Y : Type 0} (e : ScriptError) (part : Result X InputRefusal) (next : X → Result Y InputRefusal) (x : X)
+    → part ≡ Ok x → Fails (refusal e) (next x) → Fails (refusal e) (part >>= next)
+part_stops errors.Memory part next x s f = tt
+part_stops (errors.Refused r) part next x s f = rw (s, f) refl
 
 -- ---- how many commands there are
-
-abbrev pub script_with : {K : Type 0} → Configuration → List K → Script K
-script_with c all = record { setup = c; commands = all }
 
 few_more : {K : Type 0} (first : Result K InputRefusal) (more : Result (List K) InputRefusal) (n : ℕ) → IfOk more (λ all. length all ≤ n)
     → IfOk (first >>= λ x. (more >>= λ all. Ok (x ∷ all))) (λ all. length all ≤ suc n)
@@ -144,34 +121,11 @@ few_commands meaning n [] = omega arith
 few_commands meaning n (l ∷ ls) =
     few_by (is_blank l) (command_of meaning n l) (commands_from meaning (n + 1) ls) (length ls) (few_commands meaning (n + 1) ls)
 
-few_with : {K : Type 0} (c : Configuration) (all : Result (List K) InputRefusal) (n m : ℕ) → n ≤ m → IfOk all (λ l. length l ≤ n)
-    → IfOk (all >>= λ l. Ok (script_with c l)) (λ s. length s.commands ≤ m)
-few_with c (Ok l) n m b h = omega (arith, b, h)
-few_with c (Err e) n m b h = tt
-
-few_over : {K : Type 0} (meaning : Configuration → List ℕ → Items → Result K LineFault)
-    (setup : Result Configuration InputRefusal) (ls : List (List ℕ)) (m : ℕ)
-    → length ls ≤ m
-    → IfOk (setup >>= λ c. (commands_of (meaning c) ls >>= λ all. Ok (script_with c all))) (λ s. length s.commands ≤ m)
-few_over meaning (Err e) ls m b = tt
-few_over meaning (Ok c) ls m b =
-    few_with c (commands_of (meaning c) ls) (length ls) m b (rw (commands_by_number (meaning c) 2 ls) (few_commands (meaning c) 2 ls))
-
-few_in : {K : Type 0} (meaning : Configuration → List ℕ → Items → Result K LineFault) (ls : List (List ℕ)) (m : ℕ) → length ls ≤ m
-    → IfOk (script_in meaning ls) (λ s. length s.commands ≤ m)
-few_in meaning [] m b = few_over meaning (in_setup (setup_of [])) [] m b
-few_in meaning (l ∷ ls) m b = few_over meaning (in_setup (setup_of l)) ls m (omega (arith, b))
-
-few_script_by : {K : Type 0} (meaning : Configuration → List ℕ → Items → Result K LineFault) (input : List ℕ)
-    → (MAX_INPUT_BYTES < length input) ⊎ (length input ≤ MAX_INPUT_BYTES)
-    → IfOk (script_by meaning input) (λ s. length s.commands ≤ MAX_INPUT_BYTES)
-unfolding script_by
-few_script_by meaning input (inl h) = let a : nat_lt MAX_INPUT_BYTES (length input) ≡ true = grind (arith, nat_tests, h) in rw a tt
-few_script_by meaning input (inr h) =
-    let a : nat_lt MAX_INPUT_BYTES (length input) ≡ false = grind (arith, nat_tests, h) in
-    rw a (few_in meaning (lines_of input) MAX_INPUT_BYTES (few_lines input h))
-
--- the script of an input has no more commands than an input may have bytes
-pub few_script : {K : Type 0} (meaning : Configuration → List ℕ → Items → Result K LineFault) (input : List ℕ)
-    → IfOk (script_by meaning input) (λ s. length s.commands ≤ MAX_INPUT_BYTES)
-few_script meaning input = few_script_by meaning input (cases_lt MAX_INPUT_BYTES (length input))
+-- no more commands behind line 1 than bytes
+pub few_behind : {K : Type 0} (meaning : List ℕ → Items → Result K LineFault) (n : ℕ) (bytes : List ℕ) (all : List K)
+    → commands_behind n meaning (lines_of bytes) ≡ Ok all → length all ≤ length bytes
+few_behind meaning n bytes all e =
+    let few = few_commands meaning n (lines_of bytes) in
+    let read : commands_from meaning n (lines_of bytes) ≡ Ok all = sym (commands_by_number meaning n (lines_of bytes)) ∙ e in
+    let most : length all ≤ length (lines_of bytes) = rw read at few in
+    omega (arith, most, length-lines_of bytes)

@@ -2,11 +2,14 @@
 use Rattle.std.specs.Prelude.{ℕ, ◌==◌, List, [], Option, Some, None, Result, Ok, if◌then◌else◌, map, filter_map, unwrap_or, slice_set}
 use Rattle.std.specs.List.{last_or, range_with_len}
 use Rattle.check_objects.specs.Configuration.{Configuration, object_count}
+use Rattle.check_objects.specs.Setup.{setup_of}
+use Rattle.check_drafts.specs.Agreement.{◌>>=◌}
 use Rattle.check_rules.specs.declared.state.Code.{Code}
 use Rattle.check_script.specs.declared.refusal.InputRefusal.{InputRefusal}
-use Rattle.check_drafts.specs.Agreement.{◌>>=◌}
 use Rattle.check_script.specs.DrillCommand.{Command, PluginOf, MomentAt, drill_command_by}
-use Rattle.check_script.specs.Script.{Script, script_by}
+use Rattle.check_script.specs.Input.{first_line_of, lines_of}
+use Rattle.check_script.specs.LiveInput.{behind_line}
+use Rattle.check_script.specs.Script.{commands_behind, in_setup, within_limit}
 
 pub record DrillScript : Type 0 where
   pub setup : Configuration
@@ -41,10 +44,11 @@ abbrev pub given_by : Command → List (List Code) → List (List Code)
 given_by (PluginOf object returned) lists = slice_set lists object returned
 given_by (MomentAt now) lists = lists
 
--- what a script's commands say together
-abbrev pub drill_over : Script Command → DrillScript
-drill_over s = record { setup = s.setup; returns = returns_below (object_count s.setup) s.commands; moments = moments_in s.commands }
+-- what commands say together over a setup
+abbrev pub drill_over : Configuration → List Command → DrillScript
+drill_over c commands = record { setup = c; returns = returns_below (object_count c) commands; moments = moments_in commands }
 
--- the script of an input of `drill`, or its first refusal
+-- The script of an input of `drill`, or its first refusal: line 1 is the setup document, and every later line a command.
 unfoldable pub drill_script_of : List ℕ → Result DrillScript InputRefusal
-drill_script_of input = script_by drill_command_by input >>= λ s. Ok (drill_over s)
+drill_script_of input = within_limit input (in_setup (setup_of (first_line_of input)) >>= λ c.
+    (commands_behind 2 (drill_command_by c) (lines_of (behind_line input)) >>= λ all. Ok (drill_over c all)))

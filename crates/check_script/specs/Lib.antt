@@ -10,5 +10,4 @@ pub mod DrillScript
 pub mod DrillScripted
 pub mod Scripted
 pub mod Agreement
-pub mod ResumedScript
-pub mod ResumedScripted
+pub mod Start

@@ -1,26 +1,30 @@
--- The script that an input is: a setup and the commands over it, or the first refusal. What a word of a command means is a
--- matter of the vocabulary.
-use Rattle.std.specs.Prelude.{ℕ, List, [], ◌∷◌, filter, length, map, not, Result, Ok, Err, nat_lt, if◌then◌else◌}
+-- The script that an input is: a scheduler's first state and the commands for it, or the first refusal.
+use Rattle.std.specs.Prelude.{ℕ, List, [], ◌∷◌, Option, filter, length, map, not, unwrap_or, Result, Ok, Err, nat_lt, if◌then◌else◌}
 use Rattle.std.specs.List.{enumerate_from}
 use Rattle.serde_json.specs.Data.{Items}
 use Rattle.check_objects.specs.Configuration.{Configuration}
 use Rattle.check_objects.specs.Setup.{setup_of}
 use Rattle.check_drafts.specs.declared.error.LoadError.{LoadError}
+use Rattle.check_drafts.specs.Agreement.{◌>>=◌}
+use Rattle.check_saved.specs.Saved.{Saved}
+use Rattle.check_saved.specs.Text.{saved_of_text}
+use Rattle.check_saved.specs.declared.fault.SavedFault.{SavedFault}
+use Rattle.check_sched.specs.Saved.{resumed}
+use Rattle.check_sched.specs.State.{State, opening}
+use Rattle.check_script.specs.declared.command.RunCommand.{RunCommand}
 use Rattle.check_script.specs.declared.script.TheConstants.{MAX_INPUT_BYTES}
 use Rattle.check_script.specs.declared.refusal.LineFault.{LineFault}
 use Rattle.check_script.specs.declared.refusal.LineFault.TheVariants as fault
 use Rattle.check_script.specs.declared.refusal.InputRefusal.{InputRefusal}
 use Rattle.check_script.specs.declared.refusal.InputRefusal.TheVariants as refusal
+use Rattle.check_script.specs.declared.start.Start.{Start}
+use Rattle.check_script.specs.declared.start.Start.TheVariants as start
 use Rattle.check_script.specs.Command.{command_by}
-use Rattle.check_script.specs.declared.command.RunCommand.{RunCommand}
-use Rattle.check_script.specs.Input.{lines_of}
-use Rattle.check_drafts.specs.Agreement.{◌>>=◌}
+use Rattle.check_script.specs.Input.{first_line_of, lines_of}
 use Rattle.check_script.specs.Line.{is_blank, command_of}
+use Rattle.check_script.specs.LiveInput.{behind_line}
 
--- a setup, and commands in their order
-pub record Script (K : Type 0) : Type 0 where
-  pub setup : Configuration
-  pub commands : List K
+-- ---- commands
 
 -- the lines that aren't blank, each with its number, where the first of the lines has the number n
 abbrev pub numbered_from : ℕ → List (List ℕ) → List (ℕ × List ℕ)
@@ -31,35 +35,64 @@ abbrev pub all_or_first : {A E : Type 0} → List (Result A E) → Result (List 
 all_or_first [] = Ok []
 all_or_first (r ∷ rs) = r >>= λ x. (all_or_first rs >>= λ xs. Ok (x ∷ xs))
 
--- the commands of the lines that aren't blank, up to the first fault, where the first of the lines has the number n
+-- The commands of the lines that aren't blank, up to the first fault, where the first of the lines has the number n. What a word means is a
+-- matter of the vocabulary.
 abbrev pub commands_behind : {K : Type 0} → ℕ → (List ℕ → Items → Result K LineFault) → List (List ℕ) → Result (List K) InputRefusal
 commands_behind n meaning lines = all_or_first (map (λ p. command_of meaning p.0 p.1) (numbered_from n lines))
 
--- The commands of the lines that aren't blank, up to the first fault. Line 1 is the setup, so these count from 2.
-abbrev pub commands_of : {K : Type 0} → (List ℕ → Items → Result K LineFault) → List (List ℕ) → Result (List K) InputRefusal
-commands_of meaning lines = commands_behind 2 meaning lines
+-- ---- what a scheduler starts with
 
 -- a refusal of the setup document as a refusal of the input
 abbrev pub in_setup : Result Configuration LoadError → Result Configuration InputRefusal
 in_setup (Ok c) = Ok c
 in_setup (Err e) = Err (refusal.Setup e)
 
--- the script of a setup document and the lines after it
-abbrev pub script_over : {K : Type 0} → (Configuration → List ℕ → Items → Result K LineFault) → List ℕ → List (List ℕ)
-    → Result (Script K) InputRefusal
-script_over meaning document lines = in_setup (setup_of document) >>= λ c.
-    (commands_of (meaning c) lines >>= λ all. Ok (record { setup = c; commands = all }))
+-- a refusal of the saved state as a refusal of the input
+abbrev pub in_saved : Result Saved SavedFault → Result Saved InputRefusal
+in_saved (Ok saved) = Ok saved
+in_saved (Err e) = Err (refusal.Saved e)
 
--- Line 1 is the setup document, whole, and every later line a command.
-abbrev pub script_in : {K : Type 0} → (Configuration → List ℕ → Items → Result K LineFault) → List (List ℕ) → Result (Script K) InputRefusal
-script_in meaning [] = script_over meaning [] []
-script_in meaning (line ∷ lines) = script_over meaning line lines
+-- the state of a scheduler that continues over a setup from a saved state, at this moment or at the saved start
+abbrev pub resumed_from : Configuration → Saved → Option ℕ → State
+resumed_from c saved start = resumed c saved (unwrap_or start saved.start)
 
--- the script of an input by what its words mean over a setup; the input's length is tested before all else
-unfoldable pub script_by : {K : Type 0} → (Configuration → List ℕ → Items → Result K LineFault) → List ℕ → Result (Script K) InputRefusal
-script_by meaning input =
-    if nat_lt MAX_INPUT_BYTES (length input) then Err (refusal.Line fault.TooLong 0) else script_in meaning (lines_of input)
+-- a scheduler's first state, the number of the first line that is for it, and the bytes of the lines from that one on
+pub record Beginning : Type 0 where
+  pub state : State
+  pub number : ℕ
+  pub rest : List ℕ
 
--- the script of an input of `run`
-abbrev pub script_of : List ℕ → Result (Script RunCommand) InputRefusal
-script_of input = script_by command_by input
+-- Over a setup, by the bytes after the setup document. A fresh scheduler has all their lines. For one that continues the first of
+-- them is the saved state, whatever its length.
+abbrev pub beginning_over : Start → Configuration → List ℕ → Result Beginning InputRefusal
+beginning_over (start.Fresh moment) c bytes = Ok (record { state = opening c moment; number = 2; rest = bytes })
+beginning_over (start.Resumed moment) c bytes = in_saved (saved_of_text (first_line_of bytes)) >>= λ saved.
+    Ok (record { state = resumed_from c saved moment; number = 3; rest = behind_line bytes })
+
+-- By an input, whose line 1 is the setup document, whatever its length. The setup is tested before the saved state. A line that is missing is
+-- one without a byte.
+abbrev pub beginning_of : Start → List ℕ → Result Beginning InputRefusal
+beginning_of how input = in_setup (setup_of (first_line_of input)) >>= λ c. beginning_over how c (behind_line input)
+
+-- ---- the script
+
+-- a scheduler's first state, and the commands for it in their order
+pub record Script : Type 0 where
+  pub state : State
+  pub commands : List RunCommand
+
+-- the script of a beginning: every line from its number on is a command
+abbrev pub script_behind : Beginning → Result Script InputRefusal
+script_behind b = commands_behind b.number (command_by b.state.setup) (lines_of b.rest) >>= λ all. Ok (record { state = b.state; commands = all })
+
+-- the script over a setup, by the bytes after the setup document
+abbrev pub script_over : Start → Configuration → List ℕ → Result Script InputRefusal
+script_over how c bytes = beginning_over how c bytes >>= script_behind
+
+-- what an input says; its length is tested before all else
+abbrev pub within_limit : {A : Type 0} → List ℕ → Result A InputRefusal → Result A InputRefusal
+within_limit input says = if nat_lt MAX_INPUT_BYTES (length input) then Err (refusal.Line fault.TooLong 0) else says
+
+-- the script of an input of `run`, by how the scheduler starts
+unfoldable pub script_of : Start → List ℕ → Result Script InputRefusal
+script_of how input = within_limit input (beginning_of how input >>= script_behind)

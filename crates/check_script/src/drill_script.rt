@@ -6,8 +6,10 @@ ghost use Rattle.check_script.specs.DrillScript.{moment_of, returns_below, given
 ghost use Rattle.check_script.specs.Agreement.{Gives};
 
 use crate::drill_command::DrillCommand;
-use crate::refusal::ScriptError;
-use crate::script::Script;
+use crate::input::split_line;
+use crate::line::refused;
+use crate::refusal::{LineFault, ScriptError};
+use crate::script::{MAX_INPUT_BYTES, read_commands, read_setup};
 use check_objects::Setup;
 use check_rules::Code;
 use std::alloc::{AllocError, Global};
@@ -25,7 +27,6 @@ pub struct DrillScript {
 
 impl DrillScript {
     ghost use Rattle.check_script.specs.DrillScripted.{drill_script};
-    ghost use Rattle.check_script.specs.Scripted.{script};
 
     /// Reads an input, every line of it, or gives its first refusal, in the order in which a script
     /// is tested. Of several commands for the plugin of one object the last counts. Out of memory is
@@ -34,16 +35,24 @@ impl DrillScript {
     pub fn read(alloc: Global, input: &[u8]) -> Result<DrillScript, ScriptError>
         ensures { Gives drill_script result (drill_script_of input.now) }
     {
-        let read = Script::read(alloc, input)?;
-        Ok(DrillScript::over(alloc, read)?)
+        if input.len() > MAX_INPUT_BYTES {
+            return Err(refused(LineFault::TooLong, 0));
+        }
+        let (document, rest) = split_line(input);
+        let setup = read_setup(alloc, document)?;
+        let commands = read_commands(alloc, &setup, rest, 2)?;
+        Ok(DrillScript::over(alloc, setup, commands)?)
     }
 
-    /// What the commands of a script say together.
-    fn over(alloc: Global, read: Script<DrillCommand>) -> Result<DrillScript, AllocError>
+    /// What commands say together over a setup.
+    fn over(
+        alloc: Global,
+        setup: Setup,
+        commands: Vec<DrillCommand>,
+    ) -> Result<DrillScript, AllocError>
         ensures { IfOk result (λ drill.
-            drill_script drill ≡ drill_over (script drill_command read)) }
+            drill_script drill ≡ drill_over setup (map drill_command commands.items)) }
     {
-        let Script { setup, commands } = read;
         let moments = moments_in(alloc, &commands)?;
         let codes = codes_below(alloc, setup.len(), commands)?;
         Ok(DrillScript {

@@ -1,8 +1,9 @@
 //! The bytes of an input and its lines. What a line says is read in `script` and `command`.
-ghost use Rattle.std.specs.Prelude.{◌≡◌, ◌==◌, ◌<◌, ◌++◌, ℕ, List, length, position, ◌≢◌, take};
+ghost use Rattle.std.specs.Prelude.{◌≡◌, ◌==◌, ◌<◌, ◌≤◌, ◌++◌, ℕ, List, length, position, ◌≢◌, take};
 ghost use Rattle.std.specs.Prelude.{IfOk, IfErr, IfSome, IsOkUnless, OnOk};
 ghost use Rattle.std.specs.Iterator.{YieldsFirstRef, item_count};
 ghost use Rattle.check_script.specs.Input.{AreLines, HasBegun, HasBegunBy, lines_of, first_line_of};
+ghost use Rattle.check_script.specs.LiveInput.{behind_line};
 
 use crate::drive_error::DriveError;
 use crate::reader::ask_reader;
@@ -10,8 +11,8 @@ use memchr::memchr;
 use std::alloc::Global;
 use std::io::Read;
 
-/// How many bytes are read at most: one more than an input may have, so that a longer one is known
-/// to be too long.
+/// How many bytes of an input are read at most: one more than it may have, so that a longer one is
+/// known to be too long.
 pub const MAX_READ_BYTES: usize = 67_108_865;
 
 /// How many bytes are asked of the reader at a time.
@@ -19,26 +20,12 @@ const CHUNK: usize = 65_536;
 
 const LINE_FEED: u8 = b'\n';
 
-/// Reads to the end of the input or to `MAX_READ_BYTES` bytes, whichever comes first.
+/// Reads to the end of the input or to `most` bytes, whichever comes first.
 ///
 /// Each error of the reader is a fault, an interruption among them: nothing is tried again. An Err is
 /// `Read`, where the reader fails, or `Memory`, and what was read is lost then. `Memory` comes only where
 /// a byte was read, or there was none.
-pub fn read_input<R: Read>(alloc: Global, reader: &mut R) -> Result<Vec<u8>, DriveError>
-    ensures all { IfOk result (λ input.
-        IfSome (R.remaining reader.old) (λ bytes. input.items ≡ take MAX_READ_BYTES bytes)) }
-    ensures left { IfOk result (λ input.
-        HasBegunBy (R.remaining reader.old) (R.remaining reader.new) input.items) }
-    ensures errors { IfErr result (λ e. e ≢ DriveError.Write) }
-    ensures memory { IfErr result (λ e. e ≡ DriveError.Memory
-        → HasBegun (R.remaining reader.old) (R.remaining reader.new)) }
-{
-    read_front(alloc, reader, MAX_READ_BYTES)
-}
-
-/// Reads to the end of the input or to `most` bytes, whichever comes first. Errors come as
-/// [`read_input`] has them.
-pub fn read_front<R: Read>(
+pub fn read_at_most<R: Read>(
     alloc: Global,
     reader: &mut R,
     most: usize,
@@ -105,20 +92,22 @@ impl<'a> Iterator for Lines<'a> {
         if self.rest.is_empty() {
             return None;
         }
-        let line = first_line(self.rest);
-        let next = self.rest.len().min(line.len() + 1);
-        self.rest = &self.rest[next..];
+        let (line, rest) = split_line(self.rest);
+        self.rest = rest;
         Some(line)
     }
 }
 
-/// The bytes before the first line feed, or all where there is none.
-fn first_line(bytes: &[u8]) -> &[u8]
-    ensures { result.now ≡ first_line_of bytes.now }
+/// The first line of these bytes, and the bytes after its line feed. Without a line feed all of them are
+/// the line.
+pub fn split_line(bytes: &[u8]) -> (&[u8], &[u8])
+    ensures line { result.0.now ≡ first_line_of bytes.now }
+    ensures rest { result.1.now ≡ behind_line bytes.now }
+    ensures fewer { length result.1.now ≤ length bytes.now }
 {
     match line_end(bytes) {
-        Some(end) => &bytes[..end],
-        None => bytes,
+        Some(end) => (&bytes[..end], &bytes[end + 1..]),
+        None => (bytes, &[]),
     }
 }
 

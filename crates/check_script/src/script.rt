@@ -1,58 +1,85 @@
-//! The script of an input: line 1 is the setup document, and each later line that isn't blank is
-//! one command, of the vocabulary that is asked for.
+//! The script of an input: line 1 is the setup document, line 2 a saved state if the scheduler starts
+//! from one, and each later line that isn't blank is one command.
 ghost use Rattle.std.specs.Prelude.{◌≤◌, length, map};
 ghost use Rattle.check_objects.specs.Setup.{setup_of};
-ghost use Rattle.check_script.specs.Input.{lines_of};
-ghost use Rattle.check_script.specs.Script.{commands_behind, script_by, script_over, in_setup};
-ghost use Rattle.check_script.specs.Scripted.{script};
+ghost use Rattle.check_saved.specs.Text.{saved_of_text};
 ghost use Rattle.check_script.specs.Agreement.{Gives};
+ghost use Rattle.check_script.specs.Input.{lines_of};
+ghost use Rattle.check_script.specs.Script.{commands_behind, in_saved, in_setup, script_behind, script_of, script_over};
+ghost use Rattle.check_script.specs.Start.{CanStart};
 
-use crate::input::Lines;
+use crate::command::RunCommand;
+use crate::input::{Lines, split_line};
 use crate::line::{Command, is_blank, read_command, refused};
 use crate::refusal::{InputRefusal, LineFault, ScriptError};
+use crate::start::{Start, open, resume};
 use check_objects::{LoadError, Setup};
+use check_saved::{Saved, SavedFault};
+use check_sched::Sched;
 use std::alloc::Global;
 
 /// How many bytes an input may have at most.
 pub const MAX_INPUT_BYTES: usize = 67_108_864;
 
-/// A setup, and the commands over it in their order.
+/// A scheduler that has started, and the commands for it in their order.
 #[derive(Drop)]
-pub struct Script<C> {
-    pub setup: Setup,
-    pub commands: Vec<C>,
+pub struct Script {
+    pub sched: Sched,
+    pub commands: Vec<RunCommand>,
 }
 
-impl<C: Command> Script<C> {
+impl Script {
+    ghost use Rattle.check_script.specs.Scripted.{script};
+
     /// Reads an input, every line of it, or gives its first refusal: the input's length is tested
-    /// first, then the setup document, then the lines in their order. Out of memory is an error of
-    /// its own.
-    #[tactic(auto, unfolding(crate::specs::Script::script_by))]
-    pub fn read(alloc: Global, input: &[u8]) -> Result<Script<C>, ScriptError>
-        ensures { Gives (script C.seen) result (script_by C.meaning input.now) }
+    /// first, then the setup document, then the saved state if there is to be one, then the lines in
+    /// their order. A saved state on a line that is blank or missing is no JSON. Out of memory is an
+    /// error of its own.
+    #[tactic(auto, unfolding(crate::specs::Script::script_of))]
+    pub fn read(alloc: Global, start: Start, input: &[u8]) -> Result<Script, ScriptError>
+        requires { CanStart start }
+        ensures { Gives script result (script_of start input.now) }
     {
         if input.len() > MAX_INPUT_BYTES {
             return Err(refused(LineFault::TooLong, 0));
         }
-        let mut lines = Lines::new(input);
-        let document = lines.next().unwrap_or(&[]);
-        read_over(alloc, document, lines)
+        let (document, rest) = split_line(input);
+        let setup = read_setup(alloc, document)?;
+        Script::over(alloc, start, setup, rest)
     }
-}
 
-/// The script of a setup document and the lines after it.
-fn read_over<C: Command>(
-    alloc: Global,
-    document: &[u8],
-    lines: Lines<'_>,
-) -> Result<Script<C>, ScriptError>
-    requires { length (lines_of lines.rest.now) ≤ MAX_INPUT_BYTES }
-    ensures { Gives (script C.seen) result
-        (script_over C.meaning document.now (lines_of lines.entry.rest.now)) }
-{
-    let setup = read_setup(alloc, document)?;
-    let commands = read_commands(alloc, &setup, lines, 2)?;
-    Ok(Script { setup, commands })
+    /// The script over a setup, by the bytes after the setup document.
+    fn over(alloc: Global, start: Start, setup: Setup, bytes: &[u8]) -> Result<Script, ScriptError>
+        requires start { CanStart start }
+        requires few { length bytes.now ≤ MAX_INPUT_BYTES }
+        ensures { Gives script result (script_over start setup bytes.now) }
+    {
+        match start {
+            Start::Fresh(moment) => Script::of_lines(alloc, open(alloc, setup, moment)?, bytes, 2),
+            Start::Resumed(moment) => {
+                let (text, rest) = split_line(bytes);
+                let saved = read_saved(alloc, text)?;
+                let sched = resume(alloc, setup, &saved, moment)?;
+                Script::of_lines(alloc, sched, rest, 3)
+            }
+        }
+    }
+
+    /// The script of a scheduler and of the lines for it, of which the first has this number.
+    fn of_lines(
+        alloc: Global,
+        sched: Sched,
+        bytes: &[u8],
+        first: usize,
+    ) -> Result<Script, ScriptError>
+        requires few { length bytes.now ≤ MAX_INPUT_BYTES }
+        requires first { first ≤ 3 }
+        ensures { Gives script result
+            (script_behind (record { state = sched; number = first; rest = bytes.now })) }
+    {
+        let commands = read_commands(alloc, sched.setup(), bytes, first)?;
+        Ok(Script { sched, commands })
+    }
 }
 
 /// The setup of the document on line 1.
@@ -66,21 +93,33 @@ pub fn read_setup(alloc: Global, document: &[u8]) -> Result<Setup, ScriptError>
     }
 }
 
-/// The commands of these lines, of which the first has this number. A blank line is passed over,
-/// whatever its length, but counted.
+/// The saved state of the text on line 2.
+pub fn read_saved(alloc: Global, text: &[u8]) -> Result<Saved, ScriptError>
+    ensures { Gives (λ saved. saved) result (in_saved (saved_of_text text.now)) }
+{
+    match Saved::read(alloc, text) {
+        Ok(saved) => Ok(saved),
+        Err(SavedFault::Memory) => Err(ScriptError::Memory),
+        Err(fault) => Err(ScriptError::Refused(InputRefusal::Saved(fault))),
+    }
+}
+
+/// The commands of the lines of these bytes, of which the first has this number. A blank line is
+/// passed over, whatever its length, but counted.
 pub(crate) fn read_commands<C: Command>(
     alloc: Global,
     setup: &Setup,
-    lines: Lines<'_>,
+    bytes: &[u8],
     first: usize,
 ) -> Result<Vec<C>, ScriptError>
-    requires few { length (lines_of lines.rest.now) ≤ MAX_INPUT_BYTES }
+    requires few { length bytes.now ≤ MAX_INPUT_BYTES }
     requires first { first ≤ 3 }
     ensures { Gives (λ v. map C.seen v.items) result
-        (commands_behind first (C.meaning setup.now) (lines_of lines.entry.rest.now)) }
+        (commands_behind first (C.meaning setup.now) (lines_of bytes.now)) }
 {
     let mut commands = Vec::new(alloc);
     let mut number = first;
+    let lines = Lines::new(bytes);
     for line in lines {
         if !is_blank(line) {
             let command = read_command(alloc, setup, line, number)?;

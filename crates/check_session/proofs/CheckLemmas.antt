@@ -1,10 +1,29 @@
 -- A whole check of a setup, and what its faults leave.
-use Rattle.std.proofs.Common.{◌≡◌, ◌≢◌, ℕ, ◌<◌, ◌≤◌, ◌++◌, Bool, true, false, cond, List, [], ◌∷◌, length, Option, Some, None, Ok, Err, refl, sym, ap, subst, ◌∙◌}
-use Rattle.std.proofs.Common.{arith, inl, inr, ◌⊎◌}
-use Rattle.std.specs.Prelude.{nat_lt, ok_or, IfSome, Result}
-use Rattle.std.specs.Io.KnownBytes.{Appends, Keeps}
+use Rattle.std.proofs.Common.{◌≡◌, ◌≢◌, ℕ, ◌<◌, ◌≤◌, ◌++◌, Bool, true, false, cond, List, [], ◌∷◌, length, take, Option, Some, None, Ok, Err, refl, sym, ap, subst, ◌∙◌}
+use Rattle.std.proofs.Common.{arith, inl, inr, ◌⊎◌, length-take}
+use Rattle.std.specs.Prelude.{nat_lt, ok_or, IfErr, IfSome, Result}
+use Rattle.check_drive.specs.declared.drive.Outcome.TheVariants as outcome
+use Rattle.check_session.specs.Check.{tree_in, HasTold, IsFaultTold, IsGood, IsLineTold, IsRefusalTold, IsSummaryTold, IsTold, IsToldBy, IsTooLong, IsWritten}
+use Rattle.std.specs.Io.KnownBytes.{Appends, Consumes}
+use Rattle.std.proofs.lemmas.List.{take_all}
 use Rattle.std.proofs.lemmas.Bool.{cases_lt}
 use Rattle.std.proofs.lemmas.Bool.Decides.{nat_tests}
+use Rattle.check_script.specs.declared.drive_error.DriveError.{DriveError}
+use Rattle.check_script.specs.declared.drive_error.DriveError.TheVariants as errors
+use Rattle.check_script.specs.Input.{without_last_feed}
+use Rattle.check_script.proofs.KeptLemmas.{too_long}
+use Rattle.check_text.specs.Output.{WroteFront}
+use Rattle.check_drive.specs.declared.drive.Outcome.{Outcome}
+use Rattle.check_drive.specs.Streams.{streams}
+use Rattle.check_script.specs.Input.{HasBegun}
+use Rattle.check_script.specs.declared.start.Start.{Start}
+use Rattle.check_script.specs.declared.start.Start.TheVariants as start
+use Rattle.check_session.specs.Checked.{Checked, IsSetupLineTold, IsToldFrom, most_of}
+use Rattle.check_session.specs.declared.reading.TheConstants.{MAX_CHECKED_BYTES}
+use Rattle.check_session.proofs.CheckResumedLemmas.{resumed_told_of}
+use Rattle.check_session.proofs.ReadingLemmas.{cut_length}
+use Rattle.check_drive.proofs.DriveLemmas.{input_of, input_of-is}
+use Rattle.check_text.proofs.WrittenLemmas.{Keeps-same}
 use Rattle.serde_json.specs.Data.{Data, null}
 use Rattle.serde_json.specs.Written.{compact_text, has_float}
 use Rattle.check_documents.specs.Reading.{drafts_of}
@@ -21,19 +40,6 @@ use Rattle.check_objects.specs.Setup.{document_of, setup_of, setup_of_tree, with
 use Rattle.check_objects.specs.Configuration.{Configuration}
 use Rattle.check_explain.specs.Explanation.{tree_or_null}
 use Rattle.check_explain.proofs.NumberLemmas.{no_float, whole_numbers}
-use Rattle.check_script.specs.declared.drive_error.DriveError.{DriveError}
-use Rattle.check_script.specs.declared.drive_error.DriveError.TheVariants as errors
-use Rattle.check_script.specs.Input.{without_last_feed}
-use Rattle.check_script.proofs.KeptLemmas.{too_long}
-use Rattle.check_text.specs.Output.{WroteFront}
-use Rattle.check_text.proofs.OutputLemmas.{front_all, Appends-Keeps}
-use Rattle.check_drive.specs.declared.drive.Outcome.{Outcome}
-use Rattle.check_drive.specs.declared.drive.Outcome.TheVariants as outcome
-use Rattle.check_session.specs.Check.{tree_in, IsCheckOf, IsFaultTold, IsGood, IsLineTold, IsRefusalTold, IsSummaryTold, IsTold}
-use Rattle.check_session.specs.Reading.{read_of}
-use Rattle.check_session.proofs.ReadingLemmas.{cut_length, read_all, read_long}
-use Rattle.check_drive.proofs.DriveLemmas.{input_of, input_of-is}
-use Rattle.check_text.proofs.WrittenLemmas.{Keeps-same}
 
 -- ---- an input of which a prefix was read
 
@@ -49,69 +55,91 @@ refused_alike one other e text told same r = record {
   explained = subst (λ d. IsFaultTold (tree_or_null (tree_in d)) r.found text told) same r.explained;
 }
 
-told_long : (start : ℕ) (line : Bool) (one other text : List ℕ) (told : Outcome) → setup_of one ≡ Err load.TooLong → setup_of other ≡ Err load.TooLong
-    → document_of one ≡ document_of other → IsTold start line one text told → IsTold start line other text told
-told_long start true one other text told e f same h = rw f (refused_alike one other load.TooLong text told same (rw e at h))
-told_long start false one other text told e f same h = rw f (refused_alike one other load.TooLong text told same (rw e at h))
+-- what is printed of a document by what it is; `Good` says what is of a good one
+abbrev pub IsToldAs : (List ℕ → Configuration → List ℕ → Outcome → Type 0) → List ℕ → List ℕ → Outcome → Type 0
+IsToldAs Good document = IsToldBy (Good document) document (setup_of document)
 
-read_by : (start : ℕ) (line : Bool) (bytes text : List ℕ) (told : Outcome) → (16777217 < length bytes) ⊎ (length bytes ≤ 16777217)
-    → IsTold start line (without_last_feed (read_of bytes)) text told → IsTold start line (without_last_feed bytes) text told
-read_by start line bytes text told (inl long) h =
+told_long : (Good : List ℕ → Configuration → List ℕ → Outcome → Type 0) (one other text : List ℕ) (told : Outcome) → setup_of one ≡ Err load.TooLong
+    → setup_of other ≡ Err load.TooLong → document_of one ≡ document_of other → IsToldAs Good one text told → IsToldAs Good other text told
+told_long Good one other text told e f same h = rw f (refused_alike one other load.TooLong text told same (rw e at h))
+
+read_by : (Good : List ℕ → Configuration → List ℕ → Outcome → Type 0) (bytes text : List ℕ) (told : Outcome)
+    → (16777217 < length bytes) ⊎ (length bytes ≤ 16777217)
+    → IsToldAs Good (without_last_feed (take MAX_CHECKED_BYTES bytes)) text told → IsToldAs Good (without_last_feed bytes) text told
+read_by Good bytes text told (inl long) h =
+    let read = length-take MAX_CHECKED_BYTES bytes in
     let cut = cut_length bytes in
-    told_long start line (without_last_feed (read_of bytes)) (without_last_feed bytes) text told
-    (too_long (without_last_feed (read_of bytes)) (read_long bytes long))
+    let cut_read = cut_length (take MAX_CHECKED_BYTES bytes) in
+    told_long Good (without_last_feed (take MAX_CHECKED_BYTES bytes)) (without_last_feed bytes) text told
+    (too_long (without_last_feed (take MAX_CHECKED_BYTES bytes)) (omega (arith, read, cut_read, long)))
     (too_long (without_last_feed bytes) (omega (arith, cut, long)))
-    (document_long (without_last_feed (read_of bytes)) (read_long bytes long) ∙ sym (document_long (without_last_feed bytes) (omega (arith, cut, long)))) h
-read_by start line bytes text told (inr short) h =
-    subst (λ read. IsTold start line (without_last_feed read) text told) (read_all bytes short) h
+    (document_long (without_last_feed (take MAX_CHECKED_BYTES bytes)) (omega (arith, read, cut_read, long))
+    ∙ sym (document_long (without_last_feed bytes) (omega (arith, cut, long)))) h
+read_by Good bytes text told (inr short) h =
+    subst (λ read. IsToldAs Good (without_last_feed read) text told) (take_all MAX_CHECKED_BYTES bytes (omega (arith, short))) h
 
--- what was printed of what was read is what is printed of the input
-told_read : (start : ℕ) (line : Bool) (bytes input text : List ℕ) (told : Outcome) → input ≡ read_of bytes
-    → IsTold start line (without_last_feed input) text told → IsTold start line (without_last_feed bytes) text told
-told_read start line bytes input text told all h =
-    read_by start line bytes text told (cases_lt 16777217 (length bytes)) (subst (λ read. IsTold start line (without_last_feed read) text told) all h)
+-- what was printed of as much of an input as is read of a document is what is printed of the input
+pub told_of : (Good : List ℕ → Configuration → List ℕ → Outcome → Type 0) (had : Option (List ℕ)) (read text : List ℕ) (told : Outcome)
+    → IfSome had (λ bytes. read ≡ take MAX_CHECKED_BYTES bytes)
+    → IsToldAs Good (without_last_feed read) text told → IsToldAs Good (without_last_feed (input_of had read)) text told
+told_of Good None read text told all h = h
+told_of Good (Some bytes) read text told all h =
+    read_by Good bytes text told (cases_lt 16777217 (length bytes)) (subst (λ l. IsToldAs Good (without_last_feed l) text told) all h)
 
-pub told_of : (start : ℕ) (line : Bool) (had : Option (List ℕ)) (read text : List ℕ) (told : Outcome) → IfSome had (λ bytes. read ≡ read_of bytes)
-    → IsTold start line (without_last_feed read) text told → IsTold start line (without_last_feed (input_of had read)) text told
-told_of start line None read text told all h = h
-told_of start line (Some bytes) read text told all h = told_read start line bytes read text told all h
+pub line_told_of : (had : Option (List ℕ)) (read text : List ℕ) (told : Outcome) → IfSome had (λ bytes. read ≡ take MAX_CHECKED_BYTES bytes)
+    → IsSetupLineTold read text told → IsSetupLineTold (input_of had read) text told
+line_told_of had read text told all h = told_of (λ d c t o. IsWritten d t o ⊎ IsTooLong d t o) had read text told all h
 
--- what is printed of an input, of which one line feed at its end is no part of the document
-abbrev pub IsToldOf : ℕ → Bool → List ℕ → List ℕ → Outcome → Type 0
-IsToldOf start line input = IsTold start line (without_last_feed input)
+-- the same of what was read for a start
+pub start_told_of : (how : Start) (had : Option (List ℕ)) (read text : List ℕ) (told : Outcome) → IfSome had (λ bytes. read ≡ take (most_of how) bytes)
+    → IsToldFrom how read text told → IsToldFrom how (input_of had read) text told
+start_told_of (start.Fresh moment) had read text told all h = told_of (λ d. IsSummaryTold moment) had read text told all h
+start_told_of (start.Resumed moment) had read text told all h = resumed_told_of moment had read text told all h
 
 -- ---- how a check ends, where these texts and outcomes can be printed of an input
 
 pub memory_is_no_write : (e : DriveError) → e ≡ errors.Memory → e ≢ errors.Write
 memory_is_no_write e memory write = let both : errors.Memory ≡ errors.Write = sym memory ∙ write in cc
 
-pub write_is_no_memory : {A : Type 0} (e : DriveError) → e ≡ errors.Write → e ≡ errors.Memory → A
+write_is_no_memory : {A : Type 0} (e : DriveError) → e ≡ errors.Write → e ≡ errors.Memory → A
 write_is_no_memory e write memory = let both : errors.Write ≡ errors.Memory = sym write ∙ memory in cc
 
+told_none : (Can : List ℕ → Outcome → Type 0) (e : DriveError) (held : Option (List ℕ)) → e ≢ errors.Write → HasTold Can (Err e) held held
+told_none Can errors.Read held n = Keeps-same held
+told_none Can errors.Write held n = absurd (n refl)
+told_none Can errors.Memory held n = Keeps-same held
+
 -- an error before anything was written
-pub unwritten_check : (Can : List ℕ → List ℕ → Outcome → Type 0) (e : DriveError) (had held : Option (List ℕ)) → e ≢ errors.Write
-    → IsCheckOf Can (Err e) had held held
-unwritten_check Can errors.Read had held n = record { input = input_of had []; is_input = input_of-is had []; told = Keeps-same held }
-unwritten_check Can errors.Write had held n = absurd (n refl)
-unwritten_check Can errors.Memory had held n = record { input = input_of had []; is_input = input_of-is had []; told = Keeps-same held }
+pub unwritten_check : (Can : List ℕ → List ℕ → Outcome → Type 0) (most : ℕ) (e : DriveError) (had left held : Option (List ℕ)) → e ≢ errors.Write
+    → (e ≡ errors.Memory → HasBegun had left) → Checked Can most (Err e) (streams had left held held)
+unwritten_check Can most e had left held n memory =
+    record { input = input_of had []; is_input = input_of-is had []; told = told_none (Can (input_of had [])) e held n; read = tt; memory = memory }
 
--- the writer failed
-pub torn_check : (Can : List ℕ → List ℕ → Outcome → Type 0) (e : DriveError) (had held holds : Option (List ℕ)) (read text : List ℕ) (told : Outcome)
-    → e ≡ errors.Write → Can (input_of had read) text told → WroteFront held holds text → IsCheckOf Can (Err e) had held holds
-torn_check Can e had held holds read text told is_write can front =
-    rw is_write (record { input = input_of had read; is_input = input_of-is had read; told = (text, told, can, front) })
+-- it couldn't be printed
+pub torn_check : (Can : List ℕ → List ℕ → Outcome → Type 0) (most : ℕ) (e : DriveError) (had left held holds : Option (List ℕ)) (read text : List ℕ)
+    (told : Outcome) → e ≡ errors.Write → Can (input_of had read) text told → WroteFront held holds text
+    → Checked Can most (Err e) (streams had left held holds)
+torn_check Can most e had left held holds read text told is_write can front =
+    rw is_write
+    (record {
+      input = input_of had read;
+      is_input = input_of-is had read;
+      told = (text, told, can, front);
+      read = tt;
+      memory = λ m. write_is_no_memory errors.Write refl m;
+    })
 
--- its flush failed
-pub unflushed_check : (Can : List ℕ → List ℕ → Outcome → Type 0) (e : DriveError) (had held mid holds : Option (List ℕ)) (read text : List ℕ) (told : Outcome)
-    → e ≡ errors.Write → Can (input_of had read) text told → Appends held mid text → Keeps mid holds → IsCheckOf Can (Err e) had held holds
-unflushed_check Can e had held mid holds read text told is_write can a k =
-    torn_check Can e had held holds read text told is_write can (front_all held holds text (Appends-Keeps held mid holds text a k))
+read_most : (most : ℕ) (had left : Option (List ℕ)) (read : List ℕ) → IfSome had (λ bytes. read ≡ take most bytes) → Consumes had left read
+    → Consumes had left (take most (input_of had read))
+read_most most None left read all c = tt
+read_most most (Some bytes) left read all c = subst (λ l. Consumes (Some bytes) left l) all c
 
 -- all was printed
-pub flushed_check : (Can : List ℕ → List ℕ → Outcome → Type 0) (had held mid holds : Option (List ℕ)) (read text : List ℕ) (told : Outcome)
-    → Can (input_of had read) text told → Appends held mid text → Keeps mid holds → IsCheckOf Can (Ok told) had held holds
-flushed_check Can had held mid holds read text told can a k =
-    record { input = input_of had read; is_input = input_of-is had read; told = (text, can, Appends-Keeps held mid holds text a k) }
+pub printed_check : (Can : List ℕ → List ℕ → Outcome → Type 0) (most : ℕ) (had left held holds : Option (List ℕ)) (read text : List ℕ) (told : Outcome)
+    → IfSome had (λ bytes. read ≡ take most bytes) → Consumes had left read → Can (input_of had read) text told → Appends held holds text
+    → Checked Can most (Ok told) (streams had left held holds)
+printed_check Can most had left held holds read text told all c can a =
+    record { input = input_of had read; is_input = input_of-is had read; told = (text, can, a); read = read_most most had left read all c; memory = tt }
 
 -- ---- a document that was examined
 
@@ -202,10 +230,9 @@ line_too_long document c tree text told good long h =
 -- ---- what is told of a document
 
 pub summary_told : (start : ℕ) (document : List ℕ) (c : Configuration) (tree : Data) (text : List ℕ) (told : Outcome) → IsGood document c tree
-    → IsSummaryTold start c text told → IsTold start false document text told
+    → IsSummaryTold start c text told → IsTold start document text told
 summary_told start document c tree text told good h = rw good.1 h
 
-pub refused_told : (start : ℕ) (line : Bool) (document text : List ℕ) (told : Outcome)
-    → (e : LoadError) × (setup_of document ≡ Err e) × IsRefusalTold document e text told → IsTold start line document text told
-refused_told start true document text told (e, is, h) = rw is h
-refused_told start false document text told (e, is, h) = rw is h
+pub refused_told : (Good : Configuration → List ℕ → Outcome → Type 0) (document text : List ℕ) (told : Outcome)
+    → (e : LoadError) × (setup_of document ≡ Err e) × IsRefusalTold document e text told → IsToldBy Good document (setup_of document) text told
+refused_told Good document text told (e, is, h) = rw is h

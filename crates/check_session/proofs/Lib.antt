@@ -3,4 +3,3 @@ pub mod DrillLaws
 pub mod ReadingLemmas
 pub mod CheckLemmas
 pub mod CheckResumedLemmas
-pub mod SessionLemmas

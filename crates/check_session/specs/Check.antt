@@ -1,5 +1,5 @@
 -- What a check of a setup from a reader to a writer leaves, fault or none.
-use Rattle.std.specs.Prelude.{ℕ, ◌≡◌, ◌<◌, ◌≤◌, ◌⊎◌, Bool, true, false, List, ◌∷◌, [], ◌++◌, length, Option, Some, None, Result, Ok, Err}
+use Rattle.std.specs.Prelude.{ℕ, ◌≡◌, ◌<◌, ◌≤◌, ◌⊎◌, List, ◌∷◌, [], ◌++◌, length, Option, Some, None, Result, Ok, Err}
 use Rattle.std.specs.Io.KnownBytes.{Appends, Keeps}
 use Rattle.serde_json.specs.Data.{Data}
 use Rattle.serde_json.specs.Written.{compact_text}
@@ -12,7 +12,6 @@ use Rattle.check_objects.specs.Setup.{document_of, setup_of, IsFaultOf}
 use Rattle.check_script.specs.declared.drive_error.DriveError.{DriveError}
 use Rattle.check_script.specs.declared.drive_error.DriveError.TheVariants as fault
 use Rattle.check_script.specs.declared.refusal.InputRefusal.TheVariants as refusal
-use Rattle.check_script.specs.Input.{without_last_feed}
 use Rattle.check_explain.specs.Explanation.{tree_or_null, IsExplanation}
 use Rattle.check_summary.specs.Summary.{summary_of}
 use Rattle.check_summary.specs.Text.{summary_text}
@@ -20,7 +19,6 @@ use Rattle.check_text.specs.Output.{WroteFront}
 use Rattle.check_text.specs.Text.{refusal_line}
 use Rattle.check_drive.specs.declared.drive.Outcome.{Outcome}
 use Rattle.check_drive.specs.declared.drive.Outcome.TheVariants as outcome
-use Rattle.check_drive.specs.Drive.{IsInput}
 
 -- ---- what is printed of a document
 
@@ -79,9 +77,9 @@ IsToldBy Good document (Err e) text told = IsRefusalTold document e text told
 abbrev pub IsLineTold : List ℕ → List ℕ → Outcome → Type 0
 IsLineTold document = IsToldBy (λ c text told. IsWritten document text told ⊎ IsTooLong document text told) document (setup_of document)
 
-abbrev pub IsTold : ℕ → Bool → List ℕ → List ℕ → Outcome → Type 0
-IsTold start true document = IsLineTold document
-IsTold start false document = IsToldBy (IsSummaryTold start) document (setup_of document)
+-- with its figures
+abbrev pub IsTold : ℕ → List ℕ → List ℕ → Outcome → Type 0
+IsTold start document = IsToldBy (IsSummaryTold start) document (setup_of document)
 
 -- ---- a whole check
 
@@ -91,13 +89,3 @@ abbrev pub HasTold : (List ℕ → Outcome → Type 0) → Result Outcome DriveE
 HasTold Can (Ok told) held holds = (text : List ℕ) × Can text told × Appends held holds text
 HasTold Can (Err fault.Write) held holds = (text : List ℕ) × (told : Outcome) × Can text told × WroteFront held holds text
 HasTold Can (Err e) held holds = Keeps held holds
-
--- Whatever is known of reader and writer, a check that ended so is that of one input, of which these texts and outcomes can be printed.
-pub record IsCheckOf (Can : List ℕ → List ℕ → Outcome → Type 0) (ended : Result Outcome DriveError) (had held holds : Option (List ℕ)) : Type 0 where
-  pub input : List ℕ
-  pub is_input : IsInput had input
-  pub told : HasTold (Can input) ended held holds
-
--- of an input that is a document except for one line feed at its end
-abbrev pub IsCheckOnInput : ℕ → Bool → Result Outcome DriveError → Option (List ℕ) → Option (List ℕ) → Option (List ℕ) → Type 0
-IsCheckOnInput start line ended had held holds = IsCheckOf (λ input. IsTold start line (without_last_feed input)) ended had held holds

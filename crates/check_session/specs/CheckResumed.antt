@@ -1,26 +1,22 @@
--- What a check of a setup and a saved state leaves, fault or none.
-use Rattle.std.specs.Prelude.{ℕ, ◌≡◌, ◌≤◌, ◌^◌, List, [], ◌∷◌, ◌++◌, codes, length, nat_lt, unwrap_or, Option, Some, None, Result, Ok, Err, IfSome, if◌then◌else◌}
+-- What a check prints of a setup and a saved state.
+use Rattle.std.specs.Prelude.{ℕ, ◌≡◌, List, [], ◌∷◌, ◌++◌, codes, length, nat_lt, unwrap_or, Option, Some, None, Result, Ok, Err, if◌then◌else◌}
 use Rattle.check_changes.specs.Text.{changes_text, saved_explanation}
 use Rattle.check_objects.specs.Configuration.{Configuration}
 use Rattle.check_objects.specs.Setup.{setup_of}
 use Rattle.check_saved.specs.Saved.{Saved}
 use Rattle.check_saved.specs.Text.{saved_of_text}
 use Rattle.check_saved.specs.declared.fault.SavedFault.{SavedFault}
-use Rattle.check_script.specs.declared.drive_error.DriveError.{DriveError}
 use Rattle.check_script.specs.declared.refusal.InputRefusal.TheVariants as refusal
 use Rattle.check_script.specs.declared.refusal.LineFault.TheVariants as line_fault
 use Rattle.check_script.specs.declared.script.TheConstants.{MAX_INPUT_BYTES}
-use Rattle.check_script.specs.Input.{lines_of}
+use Rattle.check_script.specs.Input.{first_line_of}
+use Rattle.check_script.specs.LiveInput.{behind_line}
 use Rattle.check_summary.specs.Summary.{summary_of}
 use Rattle.check_summary.specs.Text.{summary_text}
 use Rattle.check_text.specs.Text.{refusal_line}
 use Rattle.check_drive.specs.declared.drive.Outcome.{Outcome}
 use Rattle.check_drive.specs.declared.drive.Outcome.TheVariants as outcome
-use Rattle.check_session.specs.Check.{IsCheckOf, IsToldBy}
-
--- the moment to start at is not past the last one (2^60), where one is given
-abbrev pub CanStart : Option ℕ → Type 0
-CanStart start = IfSome start (λ moment. moment ≤ 2 ^ 60)
+use Rattle.check_session.specs.Check.{IsToldBy}
 
 -- What is printed of a good setup and a saved state. Of a good one: the figures of the setup, of which the first checks are those of a scheduler
 -- that starts at this moment, or at the saved start, and what becomes of the objects. Of a refused one: the line of a run, and one line
@@ -34,16 +30,11 @@ IsSavedTold start c (Err e) text told = (text ≡ refusal_line (refusal.Saved e)
 abbrev pub AreBothTold : Option ℕ → List ℕ → List ℕ → List ℕ → Outcome → Type 0
 AreBothTold start document text = IsToldBy (λ c. IsSavedTold start c (saved_of_text text)) document (setup_of document)
 
--- Line 1 is the setup document, and line 2 the text of the saved state. A line that is missing is one without a byte, and what stands behind
--- the two is no matter of a check.
-abbrev pub first_two : List (List ℕ) → List ℕ × List ℕ
-first_two [] = ([], [])
-first_two (document ∷ []) = (document, [])
-first_two (document ∷ text ∷ lines) = (document, text)
-
--- the two lines of an input, where it isn't longer than that of a run may be
+-- Line 1 is the setup document, and line 2 the text of the saved state, where the input isn't longer than that of a run may be. A line that is
+-- missing is one without a byte, and what stands behind the two is no matter of a check.
 abbrev pub two_lines_of : List ℕ → Option (List ℕ × List ℕ)
-two_lines_of input = if nat_lt MAX_INPUT_BYTES (length input) then None else Some (first_two (lines_of input))
+two_lines_of input =
+    if nat_lt MAX_INPUT_BYTES (length input) then None else Some (first_line_of input, first_line_of (behind_line input))
 
 -- an input that is longer
 abbrev pub IsLengthTold : List ℕ → Outcome → Type 0
@@ -57,7 +48,3 @@ AreLinesTold start (Some (document, text)) = AreBothTold start document text
 -- what is printed of an input: its length is tested first
 abbrev pub IsResumedTold : Option ℕ → List ℕ → List ℕ → Outcome → Type 0
 IsResumedTold start input = AreLinesTold start (two_lines_of input)
-
--- what a check of a setup and a saved state leaves that ended so
-abbrev pub IsResumedCheckOnInput : Option ℕ → Result Outcome DriveError → Option (List ℕ) → Option (List ℕ) → Option (List ℕ) → Type 0
-IsResumedCheckOnInput start ended had held holds = IsCheckOf (IsResumedTold start) ended had held holds

@@ -1,5 +1,5 @@
 -- What the workers of a drill leave in the history, and what a drill writes.
-use Rattle.std.specs.Prelude.{◌≡◌, ◌≢◌, ◌⊎◌, ℕ, ◌+◌, ◌<◌, ◌≤◌, ⊤, List, [], ◌∷◌, filter_map, length, Option, Some, None, Result, Ok, Err, IfErr, IfOk, OnErr, OnOk}
+use Rattle.std.specs.Prelude.{◌≡◌, ◌≢◌, ◌⊎◌, ℕ, ◌+◌, ◌<◌, ◌≤◌, ⊤, List, [], ◌∷◌, filter_map, length, Option, Some, None, Result, Ok, Err, IfErr, IfOk, IfSome, OnErr, OnOk}
 use Rattle.std.specs.Io.KnownBytes.{Appends, Keeps}
 use Rattle.ticket_steps.specs.declared.kept.Entry.{Entry}
 use Rattle.ticket_steps.specs.History.{of, IsLegal}
@@ -15,6 +15,7 @@ use Rattle.check_drive.specs.declared.drive.Outcome.{Outcome}
 use Rattle.check_script.specs.declared.refusal.InputRefusal.{InputRefusal}
 use Rattle.check_script.specs.DrillScript.{DrillScript, drill_script_of}
 use Rattle.check_drive.specs.Drive.{HasRead, IsInput, outcome_by}
+use Rattle.check_drive.specs.Streams.{Streams}
 use Rattle.check_text.specs.Output.{WroteFront, WroteLinesUpTo}
 use Rattle.check_session.specs.ScriptedCodes.{scripted_code}
 use Rattle.check_text.specs.Text.{drill_text, refusal_line}
@@ -107,7 +108,7 @@ pub record IsDrillWritten (start workers room : ℕ) (input : List ℕ) (ended :
   pub kind : IfErr ended (λ e. e ≢ errors.Read)
   pub short : IfErr ended (λ e. e ≡ errors.Memory → WroteDrillShort start workers room input held holds)
 
--- What an error of a drill leaves, as `AfterFault` says it of a run: after a fault of the reader nothing was written. After
+-- What an error of a drill leaves: after a fault of the reader nothing was written. After
 -- any other error nothing was, or the input was read and a prefix of a text that a drill can write on it was written.
 abbrev pub AfterDrillFault : DriveError → ℕ → ℕ → ℕ → Option (List ℕ) → Option (List ℕ) → Option (List ℕ) → Option (List ℕ) → Type 0
 AfterDrillFault errors.Read start workers room had left held holds = Keeps held holds
@@ -123,3 +124,11 @@ pub record IsDrillOnInput (start workers room : ℕ) (ended : Result Outcome Dri
   pub outcome_is : IfOk ended (λ outcome. outcome ≡ drill_outcome input)
   pub written : OnOk ended (WroteDrill start workers room input held holds)
   pub front : OnErr ended (Keeps held holds ⊎ WroteDrillFront start workers room input held holds)
+
+-- how a drill ended, by all that is known of it
+pub record Drilled (start workers room : ℕ) (ended : Result Outcome DriveError) (io : Streams) : Type 0 where
+  pub input : IsDrillOnInput start workers room ended io.had io.held io.holds
+  pub read : OnOk ended (IfSome io.had (HasRead io.had io.left))
+  -- what an error leaves; out of memory the whole of what was to be written never was
+  pub fault : IfErr ended (λ e. AfterDrillFault e start workers room io.had io.left io.held io.holds)
+  pub memory : IfErr ended (λ e. e ≡ errors.Memory → IfSome io.had (λ input. WroteDrillShort start workers room input io.held io.holds))

@@ -1,23 +1,27 @@
-//! A check of a setup: reads one document, and reports what is in it, or why it is refused.
-ghost use Rattle.std.specs.Prelude.{◌≡◌, ◌≤◌, ℕ, List, Ok, IfOk, IfErr, IfSome, OnOk, option_map};
+//! A check: reads a setup, and a saved state where there is to be one, and reports what is in them, or why
+//! one of the two is refused.
+ghost use Rattle.std.specs.Prelude.{◌≡◌, ◌≤◌, ℕ, List, Ok, IfOk, IfErr, option_map};
 ghost use Rattle.serde_json.specs.View.{view};
 ghost use Rattle.check_drafts.specs.Fault.{seen};
 ghost use Rattle.check_explain.specs.Explanation.{tree_or_null};
 ghost use Rattle.check_objects.specs.Configuration.{Configuration};
 ghost use Rattle.check_objects.specs.Setup.{document_of};
-ghost use Rattle.check_session.specs.Check.{IsCheckOnInput, IsFaultTold, IsGood, IsLineTold, IsSummaryTold, IsTold};
+ghost use Rattle.check_session.specs.Check.{IsFaultTold, IsGood, IsLineTold, IsSummaryTold, IsTold};
+ghost use Rattle.check_session.specs.Checked.{Checked, IsSetupLineTold, IsToldFrom, most_of};
 ghost use Rattle.check_session.specs.Examined.{IsExamined};
-ghost use Rattle.check_script.specs.Input.{HasBegun};
-ghost use Rattle.check_session.specs.Reading.{HasReadDocument};
+ghost use Rattle.check_script.specs.Start.{CanStart};
+ghost use Rattle.check_drive.specs.Streams.{streams};
 
-use crate::reading::{MAX_CHECKED_BYTES, document, read_checked};
+use crate::check_resumed::tell_resumed;
+use crate::printing::print_text;
+use crate::reading::{MAX_CHECKED_BYTES, document, most_bytes};
 use check_drive::drive::Outcome;
 use check_explain::{explain, write_line};
 use check_objects::{Fault, LoadError, Setup, read_document};
 use check_sched::LAST_MOMENT;
-use check_script::{DriveError, InputRefusal};
+use check_script::{DriveError, InputRefusal, Start, read_at_most};
 use check_summary::{Summary, push_summary};
-use check_text::{flush, push_refusal, write_text};
+use check_text::push_refusal;
 use serde_json::Value;
 use std::alloc::{AllocError, Global};
 use std::io::{Read, Write};
@@ -29,73 +33,93 @@ pub(crate) struct Told {
     pub(crate) outcome: Outcome,
 }
 
-/// Reads one setup document, over as many lines as it likes, and reports what is in it, or why it is
-/// refused. The document is the whole input, except for one line feed at its end.
+/// Reads a setup, and a saved state if a scheduler is to start from one, and reports what is in the setup
+/// and what becomes of the saved objects, or why one of the two is refused. No scheduler is opened.
 ///
-/// Of a good one it prints the line `setup ok` and its figures, of which the first checks are those of a
-/// scheduler that starts at the moment `start`, in milliseconds; no scheduler is opened. With `line`
-/// the document itself is written in their place, on one line, which is read to the same setup. Of a
-/// refused one it prints the line that a run on it writes, and a line of plain words behind it. A document
-/// whose line would be longer than one may be is refused too, as `TooLong`.
+/// For a fresh start the document is the whole input, over as many lines as it likes, except for one line
+/// feed at its end. Of a good one it prints the line `setup ok` and its figures, of which the first checks
+/// are those of a scheduler that starts so. Of a refused one it prints the line that a run on it writes,
+/// and a line of plain words behind it.
 ///
-/// Of an input no more than 16,777,217 bytes are read, which show that a document is too long; where
-/// the last of these is a line feed, one byte more. The writer is flushed once, at the end. After the
-/// errors `Read` and `Memory` nothing was written, after `Write` a prefix of what was to be printed.
-/// `Memory` comes only where a byte was read, or there was none. (What a check prints is our own profile.)
+/// For a start from a saved state the input is that of a run: line 1 is the setup, line 2 the saved state,
+/// and what stands behind the two isn't tested. The setup is tested first. Behind its figures stands what
+/// becomes of the saved objects. An input of more than 67,108,864 bytes is refused before either is tested.
+///
+/// Of a document alone no more than 16,777,218 bytes are read, which show that it is too long. The writer is
+/// flushed once, at the end. After the errors `Read` and `Memory` nothing was written, after `Write` a
+/// prefix of what was to be printed. `Memory` comes only where a byte was read, or there was none. (What a
+/// check prints is our own profile.)
 pub fn check<R: Read, W: Write>(
     alloc: Global,
-    start: u64,
-    line: bool,
+    start: Start,
     reader: &mut R,
     writer: &mut W,
 ) -> Result<Outcome, DriveError>
-    requires start { start ≤ LAST_MOMENT }
-    ensures input { IsCheckOnInput start line result (R.remaining reader.old)
-        (W.contents writer.old) (W.contents writer.new) }
-    ensures read { OnOk result (IfSome (R.remaining reader.old)
-        (HasReadDocument (R.remaining reader.old) (R.remaining reader.new))) }
-    ensures memory { IfErr result (λ e. e ≡ DriveError.Memory
-        → HasBegun (R.remaining reader.old) (R.remaining reader.new)) }
-    ensures limit { MAX_CHECKED_BYTES ≡ 16777217 }
+    requires { CanStart start }
+    ensures checked { Checked (IsToldFrom start) (most_of start) result
+        (streams (R.remaining reader.old) (R.remaining reader.new)
+        (W.contents writer.old) (W.contents writer.new)) }
+    ensures limit { MAX_CHECKED_BYTES ≡ 16777218 }
 {
-    let input = read_checked(alloc, reader)?;
-    let told = tell(alloc, start, line, document(&input))?;
-    write_text(writer, &told.text)?;
-    flush(writer)?;
+    let input = read_at_most(alloc, reader, most_bytes(start))?;
+    let told = tell(alloc, start, &input)?;
+    print_text(writer, &told.text)?;
     Ok(told.outcome)
 }
 
+/// Reads one setup document, as [`check`] does, and writes it on one line, which is read to the same setup.
+/// A refused one is reported as `check` reports it. A document whose line would be longer than one may be
+/// is refused too, as `TooLong`. Errors come as `check` has them.
+pub fn write_setup_line<R: Read, W: Write>(
+    alloc: Global,
+    reader: &mut R,
+    writer: &mut W,
+) -> Result<Outcome, DriveError>
+    ensures { Checked IsSetupLineTold MAX_CHECKED_BYTES result
+        (streams (R.remaining reader.old) (R.remaining reader.new)
+        (W.contents writer.old) (W.contents writer.new)) }
+{
+    let input = read_at_most(alloc, reader, MAX_CHECKED_BYTES)?;
+    let told = tell_line(alloc, document(&input))?;
+    print_text(writer, &told.text)?;
+    Ok(told.outcome)
+}
+
+/// What is to be printed of an input. An Err is `Memory`.
+fn tell(alloc: Global, start: Start, input: &[u8]) -> Result<Told, DriveError>
+    requires { CanStart start }
+    ensures told { IfOk result (λ told.
+        IsToldFrom start input.now told.text.items told.outcome) }
+    ensures kind { IfErr result (λ e. e ≡ DriveError.Memory) }
+{
+    match start {
+        Start::Fresh(moment) => tell_document(alloc, moment, document(input)),
+        Start::Resumed(moment) => tell_resumed(alloc, moment, input),
+    }
+}
+
 /// What is to be printed of a document. An Err is `Memory`.
-fn tell(alloc: Global, start: u64, line: bool, document: &[u8]) -> Result<Told, DriveError>
+fn tell_document(alloc: Global, start: u64, document: &[u8]) -> Result<Told, DriveError>
     requires start { start ≤ LAST_MOMENT }
     ensures told { IfOk result (λ told.
-        IsTold start line document.now told.text.items told.outcome) }
+        IsTold start document.now told.text.items told.outcome) }
     ensures kind { IfErr result (λ e. e ≡ DriveError.Memory) }
 {
     match examine(alloc, document)? {
-        Examined::Good { setup, tree } => tell_good(alloc, start, line, &setup, &tree),
+        Examined::Good { setup, .. } => Ok(tell_summary(alloc, start, &setup)?),
         Examined::Refused(told) => Ok(told),
     }
 }
 
-/// What is to be printed of a good setup with this tree. An Err is `Memory`.
-fn tell_good(
-    alloc: Global,
-    start: u64,
-    line: bool,
-    setup: &Setup,
-    tree: &Value,
-) -> Result<Told, DriveError>
-    requires start { start ≤ LAST_MOMENT }
-    ensures told { IfOk result (λ told. (document : List ℕ)
-        → IsGood document setup.now (view tree.now)
-        → IsTold start line document told.text.items told.outcome) }
+/// The line of a document, or why there is none. An Err is `Memory`.
+fn tell_line(alloc: Global, document: &[u8]) -> Result<Told, DriveError>
+    ensures told { IfOk result (λ told.
+        IsLineTold document.now told.text.items told.outcome) }
     ensures kind { IfErr result (λ e. e ≡ DriveError.Memory) }
 {
-    if line {
-        tell_line(alloc, tree)
-    } else {
-        Ok(tell_summary(alloc, start, setup)?)
+    match examine(alloc, document)? {
+        Examined::Good { tree, .. } => tell_tree(alloc, &tree),
+        Examined::Refused(told) => Ok(told),
     }
 }
 
@@ -139,7 +163,7 @@ fn examine_tree(alloc: Global, tree: Value) -> Result<Examined, DriveError>
 }
 
 /// The line of the document with this tree, or that the line is too long. An Err is `Memory`.
-fn tell_line(alloc: Global, tree: &Value) -> Result<Told, DriveError>
+fn tell_tree(alloc: Global, tree: &Value) -> Result<Told, DriveError>
     ensures told { IfOk result (λ told. (document : List ℕ) (setup : Configuration)
         → IsGood document setup (view tree.now)
         → IsLineTold document told.text.items told.outcome) }

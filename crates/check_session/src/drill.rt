@@ -16,7 +16,7 @@ use check_desk::Desk;
 use check_drive::drive::Outcome;
 use check_objects::Setup;
 use check_sched::{Call, LAST_MOMENT, Reply};
-use check_script::{DrillScript, DriveError, MAX_INPUT_BYTES, read_input};
+use check_script::{DrillScript, DriveError, MAX_INPUT_BYTES, MAX_READ_BYTES, read_at_most};
 use check_text::{flush, push_entry, push_total, write_refusal, write_text};
 use check_workers::crew;
 use std::alloc::Global;
@@ -63,7 +63,7 @@ pub fn drill<H: Threads + Wait + Sync, R: Read, W: Write>(
     ensures input { IsDrillOnInput start workers room result (R.remaining reader.old)
         (W.contents writer.old) (W.contents writer.new) }
 {
-    let input = read_input(alloc, reader)?;
+    let input = read_at_most(alloc, reader, MAX_READ_BYTES)?;
     let outcome = answer(rt, alloc, start, workers, room, &input, writer)?;
     flush(writer)?;
     Ok(outcome)

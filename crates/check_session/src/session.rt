@@ -1,23 +1,21 @@
 //! What the program does, by its words, and its exit statuses.
-ghost use Rattle.std.specs.Prelude.{◌≡◌, codes, Result, OnOk, OnErr, IfOk, IfErr, IsOkUnless};
+ghost use Rattle.std.specs.Prelude.{◌≡◌, codes, Result, OnOk, OnErr, IsOkUnless};
 ghost use Rattle.std.specs.Io.KnownBytes.{Appends};
 ghost use Rattle.clap.specs.Walk.{texts};
 ghost use Rattle.check_script.specs.declared.drive_error.DriveError.{DriveError};
 ghost use Rattle.check_session.specs.declared.session.Ending.{Ending};
 ghost use Rattle.check_text.specs.Output.{WroteFront};
-ghost use Rattle.check_session.specs.Session.{exit_status, DidJob, Ends, FailedJob, IsSchemaTold, IsTextTold, Tells};
+ghost use Rattle.check_drive.specs.Streams.{streams};
+ghost use Rattle.check_session.specs.Session.{exit_status, Ends, HasDone, IsSchemaTold, IsTextTold, Tells};
 ghost use Rattle.check_words.specs.Words.{IsWithinLimits};
 
-use crate::check::check;
-use crate::check_resumed::check_resumed;
+use crate::check::{check, write_setup_line};
 use crate::drill::drill;
-use check_drive::drive::{Outcome, drive};
-use check_drive::drive_resumed::drive_resumed;
+use crate::printing::print_text;
+use check_drive::drive::{Outcome, run};
 use check_drive::live::live;
-use check_drive::live_resumed::live_resumed;
 use check_explain::write_schema;
 use check_script::DriveError;
-use check_text::{flush, write_text};
 use check_words::job::job;
 use check_words::words::{Job, WordsError};
 use std::alloc::Global;
@@ -43,8 +41,7 @@ pub enum Ending {
 /// before each read too.
 ///
 /// The status is that of [`exit_status`]. Where it means a fault or that there was no memory, a job
-/// leaves what `drive`, `live`, `drive_resumed`, `live_resumed`, `check`, `check_resumed` or `drill` says of
-/// that error. Without a job, and where the job is the schema, the reader is as it was, and the writer has got
+/// leaves what `run`, `live`, `check`, `write_setup_line` or `drill` says of that error. Without a job, and where the job is the schema, the reader is as it was, and the writer has got
 /// a prefix of what it was to be handed, or nothing.
 ///
 /// `rt` is the machine that starts threads and waits, which only a drill uses.
@@ -56,8 +53,9 @@ pub fn session<H: Threads + Wait + Sync, R: Read, W: Write>(
     writer: &mut W,
 ) -> u8
     ensures { (ended : Result Ending DriveError) × (result ≡ exit_status ended)
-        × Ends (texts words.now) ended (R.remaining reader.old) (R.remaining reader.new)
-        (W.contents writer.old) (W.contents writer.new) }
+        × Ends (texts words.now) ended
+        (streams (R.remaining reader.old) (R.remaining reader.new)
+        (W.contents writer.old) (W.contents writer.new)) }
 {
     exit_status(serve(rt, alloc, words, reader, writer))
 }
@@ -70,8 +68,9 @@ fn serve<H: Threads + Wait + Sync, R: Read, W: Write>(
     reader: &mut R,
     writer: &mut W,
 ) -> Result<Ending, DriveError>
-    ensures { Ends (texts words.now) result (R.remaining reader.old) (R.remaining reader.new)
-        (W.contents writer.old) (W.contents writer.new) }
+    ensures { Ends (texts words.now) result
+        (streams (R.remaining reader.old) (R.remaining reader.new)
+        (W.contents writer.old) (W.contents writer.new)) }
 {
     match job(alloc, words) {
         Ok(asked) => {
@@ -91,20 +90,15 @@ fn do_job<H: Threads + Wait + Sync, R: Read, W: Write>(
     writer: &mut W,
 ) -> Result<Outcome, DriveError>
     requires { IsWithinLimits asked }
-    ensures did { IfOk result (λ outcome.
-        DidJob asked outcome (R.remaining reader.old) (R.remaining reader.new)
-        (W.contents writer.old) (W.contents writer.new)) }
-    ensures failed { IfErr result (λ e.
-        FailedJob asked e (R.remaining reader.old) (R.remaining reader.new)
+    ensures { HasDone asked result
+        (streams (R.remaining reader.old) (R.remaining reader.new)
         (W.contents writer.old) (W.contents writer.new)) }
 {
     match asked {
-        Job::Run { start } => drive(alloc, start, reader, writer),
+        Job::Run { start } => run(alloc, start, reader, writer),
         Job::Live { start } => live(alloc, start, reader, writer),
-        Job::RunResumed { start } => drive_resumed(alloc, start, reader, writer),
-        Job::LiveResumed { start } => live_resumed(alloc, start, reader, writer),
-        Job::Check { start, line } => check(alloc, start, line, reader, writer),
-        Job::CheckResumed { start } => check_resumed(alloc, start, reader, writer),
+        Job::Check { start } => check(alloc, start, reader, writer),
+        Job::SetupLine => write_setup_line(alloc, reader, writer),
         Job::Drill {
             start,
             workers,
@@ -128,7 +122,7 @@ fn tell_schema<W: Write>(alloc: Global, writer: &mut W) -> Result<Outcome, Drive
 fn tell_text<W: Write>(writer: &mut W, told: &str) -> Result<Outcome, DriveError>
     ensures { IsTextTold told.now result (W.contents writer.old) (W.contents writer.new) }
 {
-    tell(writer, told.as_bytes())?;
+    print_text(writer, told.as_bytes())?;
     Ok(Outcome::Ran)
 }
 
@@ -139,7 +133,7 @@ fn tell_words<W: Write>(error: WordsError, writer: &mut W) -> Result<Ending, Dri
 {
     match error {
         WordsError::Help(text) => {
-            tell(writer, text.as_bytes())?;
+            print_text(writer, text.as_bytes())?;
             Ok(Ending::Helped)
         }
         WordsError::Refused => {
@@ -159,19 +153,7 @@ pub fn refuse_words<W: Write>(writer: &mut W) -> Result<(), DriveError>
         (WroteFront (W.contents writer.old) (W.contents writer.new) (codes "refused words\n")) }
     ensures only { IsOkUnless result DriveError.Write }
 {
-    tell(writer, b"refused words\n")
-}
-
-/// Writes a text and flushes it.
-fn tell<W: Write>(writer: &mut W, text: &[u8]) -> Result<(), DriveError>
-    ensures written { OnOk result
-        (Appends (W.contents writer.old) (W.contents writer.new) text.now) }
-    ensures fault { OnErr result
-        (WroteFront (W.contents writer.old) (W.contents writer.new) text.now) }
-    ensures only { IsOkUnless result DriveError.Write }
-{
-    write_text(writer, text)?;
-    flush(writer)
+    print_text(writer, b"refused words\n")
 }
 
 /// The exit status of a session: 0 ran or printed its help or version, 1 input refused, 2 words refused, 3 a fault

@@ -1,5 +1,6 @@
 -- The times of the first checks ("Service and Host Check Scheduling": inter-check delay, service interleaving).
-use Rattle.std.specs.Prelude.{ℕ, ◌+◌, ◌*◌, ◌/◌, ◌%◌, ◌==◌, ◌&&◌, ◌||◌, Bool, not, List, ◌++◌, length, map, filter, count_by, sum_by, nat_lt, nat_le, Option}
+use Rattle.std.specs.Prelude.{ℕ, ◌+◌, ◌*◌, ◌/◌, ◌%◌, ◌==◌, ◌&&◌, ◌||◌, Bool, not, List, ◌++◌, length, map, min, filter, count_by, sum_by, nat_lt, nat_le}
+use Rattle.std.specs.Prelude.{Option}
 use Rattle.std.specs.Prelude.{Some, None, if◌then◌else◌}
 use Rattle.std.specs.Int.{div_ceil}
 use Rattle.std.specs.List.{enumerate_from}
@@ -12,18 +13,21 @@ use Rattle.check_objects.specs.Configuration.{Configuration}
 use Rattle.check_spread.specs.declared.spread.Spread.{Spread}
 use Rattle.check_spread.specs.declared.spread.Scheduled.{Scheduled}
 
--- ---- what is scheduled
+-- ---- the scheduled objects
 
--- An object is scheduled at first where it is enabled and its check interval isn't 0. (Our own
--- profile.)
+-- An object is scheduled at first if it is enabled and its check interval isn't 0. (Our own profile.)
 abbrev pub is_scheduled : Object → Bool
 is_scheduled o = o.enabled && not (o.check_interval == 0)
 
--- the check interval in milliseconds: a unit lasts so many seconds
+-- An interval in milliseconds: interval_length is the length of a unit in seconds.
+abbrev pub milliseconds : Configuration → ℕ → ℕ
+milliseconds setup interval = interval * setup.options.interval_length * 1000
+
+-- the check interval in milliseconds, given the length of a unit in seconds
 abbrev pub interval_of : ℕ → Object → ℕ
 interval_of interval_length o = o.check_interval * interval_length * 1000
 
--- those of the objects that are scheduled: how many they are, and the sum of their check intervals
+-- the number of scheduled objects, and the sum of their check intervals
 abbrev pub scheduled_among : ℕ → List Object → Scheduled
 scheduled_among interval_length objects =
     record { count = count_by is_scheduled objects; total_interval = sum_by (interval_of interval_length) (filter is_scheduled objects) }
@@ -32,13 +36,13 @@ scheduled_among interval_length objects =
 
 -- Services are visited by steps of the interleave factor: at positions 0, factor, twice the factor
 -- and so on, then again from the first not yet visited. So one position is visited before another
--- where its remainder by the factor is smaller, or the remainders are equal and it is smaller.
+-- if its remainder by the factor is smaller, or the remainders are equal and it is smaller.
 abbrev pub is_visited_before : ℕ → ℕ → ℕ → ℕ → Bool
 is_visited_before factor remainder position other =
     nat_lt (other % factor) remainder || (other % factor == remainder && nat_lt other position)
 
--- The rank of the object at this position: how many that are scheduled are visited before it. The
--- others leave no gap.
+-- The rank of the object at this position: the number of scheduled objects that are visited before it.
+-- The others leave no gap.
 abbrev pub rank : ℕ → List Object → ℕ → ℕ
 rank factor objects position =
     count_by (λ p. is_scheduled p.1 && is_visited_before factor (position % factor) position p.0) (enumerate_from 0 objects)
@@ -77,7 +81,17 @@ first_time spread objects position object =
 abbrev pub first_times : Spread → List Object → List (Option ℕ)
 first_times spread objects = map (λ p. first_time spread objects p.0 p.1) (enumerate_from 0 objects)
 
--- the number of services for each host, rounded up; 1 where there is no service
+-- The time that pick chooses of two. If only one is given, it is that one.
+abbrev pub picked : (ℕ → ℕ → ℕ) → Option ℕ → Option ℕ → Option ℕ
+picked pick None other = other
+picked pick (Some one) None = Some one
+picked pick (Some one) (Some other) = Some (pick one other)
+
+-- the earlier of two times; if only one is given, it is that one
+abbrev pub earlier : Option ℕ → Option ℕ → Option ℕ
+earlier one other = picked min one other
+
+-- the number of services for each host, rounded up; 1 if there is no service
 abbrev pub smart_factor : ℕ → ℕ → ℕ
 smart_factor services hosts = if services == 0 then 1 else div_ceil services hosts
 
@@ -91,7 +105,7 @@ host_objects c = map (λ h. h.object) c.hosts
 abbrev pub service_objects : Configuration → List Object
 service_objects c = map (λ s. s.object) c.services
 
--- the hosts, and behind them the services
+-- the hosts, and after them the services
 abbrev pub all_objects : Configuration → List Object
 all_objects c = host_objects c ++ service_objects c
 
@@ -99,7 +113,7 @@ all_objects c = host_objects c ++ service_objects c
 abbrev pub minutes : ℕ → ℕ
 minutes n = n * 60000
 
--- by this method, with a maximum spread of so many minutes, and this interleave factor
+-- by this method, with this maximum spread in minutes, and this interleave factor
 abbrev pub spread_by : Configuration → ℕ → DelayMethod → ℕ → ℕ → Spread
 spread_by c start method max_minutes factor = record {
   start = start;

@@ -3,12 +3,12 @@
 //! scheduling starts.
 //!
 //! The rules are those of the Nagios Core 4 manual, chapter "Service and Host Check Scheduling"
-//! (inter-check delay, service interleaving, maximum check spread); where the manual leaves a
-//! choice, the profile of this project makes it, and the item says so.
+//! (inter-check delay, service interleaving, maximum check spread). If the manual leaves a choice, the
+//! profile of this project makes it, and the item says so.
 //!
-//! The modules: `times` has the times of all objects of a setup, `spread` the time of one rank, and
-//! `visits` the order in which objects are visited. `limits` has the limits of moments and times,
-//! which `laws` says as numbers.
+//! The modules: `times` has the times of all objects of a setup, and functions of intervals and times
+//! that other crates share. `spread` has the time of one rank, and `visits` the order in which objects are
+//! visited. `limits` has the limits of moments and times, and `laws` gives them as numbers.
 
 pub mod laws;
 mod limits;
@@ -17,4 +17,4 @@ mod times;
 mod visits;
 
 pub use limits::{LAST_MOMENT, LAST_TIME};
-pub use times::initial_times;
+pub use times::{copy_objects, earlier, initial_times, interleave_factor, milliseconds};

@@ -6,5 +6,5 @@ pub const LAST_MOMENT: u64 = 1 << 60;
 /// The time up to which checks are set, in milliseconds.
 pub const LAST_TIME: u64 = 1 << 61;
 
-/// How many milliseconds a minute has.
+/// The number of milliseconds in a minute.
 pub const MINUTE: u64 = 60_000;

@@ -1,4 +1,4 @@
-//! When the check of a rank is due.
+//! The time at which the check of a rank is due.
 
 ghost use Rattle.std.specs.Prelude.{◌≡◌, ◌<◌, ◌≤◌, ◌*◌, length, count_by, filter, sum_by, All};
 ghost use Rattle.check_spread.specs.Spread.{interval_of, is_scheduled, scheduled_among, smart_delay, time_at};
@@ -18,9 +18,9 @@ pub(crate) struct Spread {
     pub(crate) method: DelayMethod,
     /// The maximum spread, in milliseconds.
     pub(crate) max_spread: u64,
-    /// How many seconds a unit of the intervals lasts.
+    /// The length of a unit of the intervals, in seconds.
     pub(crate) interval_length: u64,
-    /// The interleave factor: by how many positions a visit goes on.
+    /// The interleave factor: the number of positions from one visit to the next.
     pub(crate) factor: usize,
 }
 
@@ -40,7 +40,7 @@ pub(crate) fn is_scheduled(object: &Object) -> bool
 }
 
 impl Scheduled {
-    /// Those of these objects that are scheduled.
+    /// The scheduled objects among these.
     pub(crate) fn of(objects: &[Object], interval_length: u64) -> Scheduled
         requires few { length objects.now ≤ MAX_OBJECTS }
         requires unit { interval_length ≤ MAX_INTERVAL_LENGTH }

@@ -1,24 +1,26 @@
 //! The times of the first checks of all objects of a setup.
 
-ghost use Rattle.std.specs.Prelude.{◌≡◌, ◌<◌, ◌≤◌, ◌++◌, IfOk, IfSome, OnOk, All, length};
+ghost use Rattle.std.specs.Prelude.{◌≡◌, ◌<◌, ◌≤◌, ◌*◌, ◌++◌, IfOk, IfSome, OnOk, All, length};
 ghost use Rattle.check_objects.specs.Configuration.{object_count, IsSetup};
-ghost use Rattle.check_spread.specs.Spread.{all_objects, factor_by, first_times, initial_times};
+ghost use Rattle.check_spread.specs.Spread.{all_objects, earlier, factor_by, first_times, initial_times, milliseconds};
 ghost use Rattle.check_spread.specs.Spread.{host_spread, service_spread};
 ghost use Rattle.check_spread.specs.Limits.{IsInLimits};
 
 use crate::limits::{LAST_MOMENT, LAST_TIME, MINUTE};
 use crate::spread::{Scheduled, Spread, is_scheduled};
 use crate::visits::first_ranks;
-use check_objects::{InterleaveFactor, MAX_INTERVAL, MAX_OBJECTS, Object, Setup};
+use check_objects::{
+    InterleaveFactor, MAX_INTERVAL, MAX_INTERVAL_LENGTH, MAX_OBJECTS, Object, Setup,
+};
 use std::alloc::{AllocError, Global};
 
-/// The time of the first check of each object of the setup, by number, in milliseconds, where
-/// scheduling starts at the moment `start`, in milliseconds. None for an object that isn't
-/// scheduled at first: one that is disabled or whose check interval is 0.
+/// The time of the first check of each object of the setup, by number, in milliseconds. Scheduling
+/// starts at the moment `start`, in milliseconds. The time is None for an object that isn't scheduled
+/// at first: it is disabled, or its check interval is 0.
 ///
 /// Hosts and services are spread each by their own inter-check delay method and maximum spread, and
-/// services are interleaved. (Manual: "Service and Host Check Scheduling"; the rounding of the
-/// smart delay, and that the maximum spread acts only on it, are our own profile.) It takes time
+/// services are interleaved. (Manual: "Service and Host Check Scheduling"; our own profile defines the
+/// rounding of the smart delay, and applies the maximum spread to the smart delay only.) It takes time
 /// linear in the objects. An Err means out of memory.
 #[tactic(auto, unfolding(crate::specs::Spread::initial_times))]
 pub fn initial_times(
@@ -71,7 +73,7 @@ fn push_first_times(
     Ok(())
 }
 
-/// How the first checks of hosts are spread, which is without interleaving, and those of services.
+/// The spread of the first checks of hosts, without interleaving, and that of services.
 fn find_spreads(setup: &Setup, start: u64) -> (Spread, Spread)
     requires start { start ≤ LAST_MOMENT }
     requires valid_setup { IsSetup setup.now }
@@ -96,11 +98,10 @@ fn find_spreads(setup: &Setup, start: u64) -> (Spread, Spread)
     (hosts, services)
 }
 
-/// The interleave factor: the one that the setup names, or the number of services for each host,
-/// rounded up, and 1 where there is no service. It is over all services and hosts, also those that
-/// aren't scheduled.
-fn interleave_factor(setup: &Setup) -> usize
-    requires { IsSetup setup.now }
+/// The interleave factor of services: the one that the setup names, or the number of services for
+/// each host, rounded up. The factor is 1 if there is no service. All services and hosts count, also
+/// those that aren't scheduled. (Manual: "Service and Host Check Scheduling", service interleaving.)
+pub fn interleave_factor(setup: &Setup) -> usize
     ensures factor { result ≡ factor_by setup.now.options.service_interleave_factor
         (length setup.now.services) (length setup.now.hosts) }
     ensures steps { 0 < result }
@@ -113,8 +114,30 @@ fn interleave_factor(setup: &Setup) -> usize
     }
 }
 
-/// All objects in the order of their numbers.
-fn copy_objects(alloc: Global, setup: &Setup) -> Result<Vec<Object>, AllocError>
+/// An interval of `interval` units, in milliseconds. The setup's option `interval_length` is the
+/// length of a unit in seconds.
+pub fn milliseconds(setup: &Setup, interval: u64) -> u64
+    requires valid_setup { IsSetup setup.now }
+    requires interval { interval ≤ MAX_INTERVAL }
+    ensures value { result ≡ milliseconds setup.now interval }
+    ensures within { result ≤ MAX_INTERVAL * MAX_INTERVAL_LENGTH * 1000 }
+{
+    interval * setup.options().interval_length * 1000
+}
+
+/// The earlier of two times. If only one is given, it is that one; without a time it is None.
+pub fn earlier(one: Option<u64>, other: Option<u64>) -> Option<u64>
+    ensures { result ≡ earlier one other }
+{
+    match (one, other) {
+        (Some(one), Some(other)) => Some(one.min(other)),
+        (Some(one), None) => Some(one),
+        (None, other) => other,
+    }
+}
+
+/// Copies all objects of the setup, in the order of their numbers. An Err means out of memory.
+pub fn copy_objects(alloc: Global, setup: &Setup) -> Result<Vec<Object>, AllocError>
     ensures objects { IfOk result (λ objects. objects.items ≡ all_objects setup.now) }
     ensures intervals { IfOk result (λ objects.
         All (λ o. o.check_interval ≤ MAX_INTERVAL) objects.items) }

@@ -1,8 +1,8 @@
-//! The order in which objects are visited, by the ranks that their positions have.
+//! The order in which objects are visited, by the ranks of their positions.
 //!
-//! Positions with a smaller remainder by the interleave factor are visited first, and of equal
-//! remainders the smaller position: so a rank is known once it is known how many scheduled objects
-//! have smaller remainders, and how many of the same remainder came before.
+//! Positions with a smaller remainder by the interleave factor are visited first. At equal remainders the
+//! smaller position comes first. So a rank is the number of scheduled objects with smaller remainders,
+//! plus the number of those with the same remainder that came before.
 
 ghost use Rattle.std.specs.Prelude.{◌≡◌, ◌<◌, ◌≤◌, IfOk, length, sum};
 ghost use Rattle.check_spread.specs.Visits.{has_less_remainder, sums_before, HasCounts};
@@ -22,7 +22,7 @@ pub(crate) fn first_ranks(
     ensures { IfOk result (λ ranks.
         HasCounts (has_less_remainder factor) factor objects.now ranks.items) }
 {
-    // how many scheduled objects have each remainder
+    // the number of scheduled objects with each remainder
     let mut counts = vec![in alloc; 0; factor]?;
     for (position, object) in objects.iter().enumerate() {
         if is_scheduled(object) {

@@ -10,13 +10,14 @@ use Rattle.std.proofs.lemmas.List.Elements.{All-nil, All-cons, All-weaker}
 use Rattle.check_drafts.specs.declared.object.Object.{Object}
 use Rattle.check_drafts.specs.declared.options.DelayMethod.{DelayMethod}
 use Rattle.check_objects.specs.Configuration.{Configuration, host_count}
-use Rattle.check_spread.specs.Spread.{factor_by, first_time, first_times, host_objects, host_spread, initial_times, is_scheduled, rank, scheduled_among}
+use Rattle.check_spread.specs.Spread.{earlier, factor_by, first_time, first_times, host_objects, host_spread, initial_times, is_scheduled, rank}
+use Rattle.check_spread.specs.Spread.{scheduled_among, picked}
 use Rattle.check_spread.specs.Spread.{service_objects, service_spread, spread_by, time_at}
 use Rattle.link_order.specs.Cycles.{deep, has_cycle}
 use Rattle.link_order.proofs.ChainLemmas.{some_below}
 use Rattle.check_summary.specs.declared.spans.Span.{Span}
 use Rattle.check_summary.specs.Chains.{greatest_to, has_chain, longest_chain, IsReached}
-use Rattle.check_summary.specs.Summary.{earliest, is_disabled, lacks_interval, later, latest, picked, reasons_among, sooner, span_of, summary_of, with_spans}
+use Rattle.check_summary.specs.Summary.{earliest, is_disabled, lacks_interval, later, latest, reasons_among, span_of, summary_of, with_spans}
 use Rattle.check_summary.specs.Worth.{moved, moved_span, reasons_count, IsFirstBy, IsLeast, IsGreatest}
 use Rattle.check_summary.proofs.DepthLemmas.{none_below, shallow_by, shallow_longer}
 
@@ -63,7 +64,7 @@ picked_moved pick delay h (Some t) (Some u) = ap Some (h t u)
 
 earliest_moved : (delay : ℕ) (ts : List (Option ℕ)) → earliest (map (move delay) ts) ≡ move delay (earliest ts)
 earliest_moved delay [] = refl
-earliest_moved delay (t ∷ ts) = ap (λ e. sooner (move delay t) e) (earliest_moved delay ts) ∙ picked_moved min delay (λ a b. omega arith) t (earliest ts)
+earliest_moved delay (t ∷ ts) = ap (λ e. earlier (move delay t) e) (earliest_moved delay ts) ∙ picked_moved min delay (λ a b. omega arith) t (earliest ts)
 
 latest_moved : (delay : ℕ) (ts : List (Option ℕ)) → latest (map (move delay) ts) ≡ move delay (latest ts)
 latest_moved delay [] = refl

@@ -3,27 +3,27 @@ use Rattle.std.specs.Prelude.{◌≡◌, ℕ, zero, suc, ◌+◌, ◌<◌, ◌�
 use Rattle.std.specs.List.{slice_index_or}
 use Rattle.link_order.specs.Cycles.{deep, any_below}
 
--- whether a chain of so many links begins at some object
+-- whether a chain of this number of links begins at some object
 abbrev pub has_chain : List (List ℕ) → ℕ → Bool
 has_chain links count = any_below (λ object. deep links object count) (length links)
 
--- the greatest number up to n that passes the test, or 0 where none from 1 on does
+-- the greatest number from 1 to n that passes the test, or 0
 abbrev pub greatest_to : (ℕ → Bool) → ℕ → ℕ
 greatest_to test zero = 0
 greatest_to test (suc n) = if test (suc n) then suc n else greatest_to test n
 
--- How many links the longest chain has, but no more than there are objects. Links that lead back to no object have no chain
--- as long as that.
+-- The number of links in the longest chain, but at most the number of objects. If no links lead back to an object, every chain is
+-- shorter than that.
 unfoldable pub longest_chain : List (List ℕ) → ℕ
 longest_chain links = greatest_to (has_chain links) (length links)
 
--- ---- by depths, as the code keeps them
+-- ---- by depths, as the code stores them
 
--- what is known of the depth of the object with this number
+-- the depth of the object with this number, among these
 abbrev pub depth_at : List ℕ → ℕ → ℕ
 depth_at depths object = slice_index_or depths object 0
 
--- a chain of so many links begins at the object, and none of one more
+-- a chain of this number of links begins at the object, and no longer one
 pub record IsDepth (links : List (List ℕ)) (object depth : ℕ) : Type 0 where
   pub chain : deep links object depth ≡ true
   pub none_longer : deep links object (suc depth) ≡ false
@@ -43,7 +43,7 @@ abbrev pub greatest_of : List ℕ → ℕ
 greatest_of [] = 0
 greatest_of (depth ∷ depths) = max depth (greatest_of depths)
 
--- a chain of so many links is there; one of none is anywhere
+-- there is a chain of this number of links; one of 0 links is everywhere
 abbrev pub IsReached : List (List ℕ) → ℕ → Type 0
 IsReached links zero = Unit {0}
 IsReached links (suc count) = has_chain links (suc count) ≡ true

@@ -1,8 +1,8 @@
--- What an operator asks of a setup at a glance.
-use Rattle.std.specs.Prelude.{ℕ, min, max, ◌==◌, ◌&&◌, Bool, not, List, [], ◌∷◌, length, take, drop, count_by, sum_by, Option, Some, None}
+-- The summary of a setup.
+use Rattle.std.specs.Prelude.{ℕ, max, ◌==◌, ◌&&◌, Bool, not, List, [], ◌∷◌, length, take, drop, count_by, sum_by, Option, Some, None}
 use Rattle.check_drafts.specs.declared.object.Object.{Object}
 use Rattle.check_objects.specs.Configuration.{Configuration, host_count, masters_of, parents_by_host}
-use Rattle.check_spread.specs.Spread.{all_objects, factor_by, initial_times, is_scheduled}
+use Rattle.check_spread.specs.Spread.{all_objects, earlier, factor_by, initial_times, is_scheduled, picked}
 use Rattle.check_summary.specs.Chains.{longest_chain}
 use Rattle.check_summary.specs.declared.chains.Chains.{Chains}
 use Rattle.check_summary.specs.declared.counts.Links.{Links}
@@ -27,7 +27,7 @@ links_in c = record { dependencies = dependency_count c; parents = parent_count 
 abbrev pub chains_in : Configuration → Chains
 chains_in c = record { dependencies = longest_chain (masters_of c); parents = longest_chain (parents_by_host c) }
 
--- ---- what is scheduled, and why the others aren't
+-- ---- the scheduled objects, and why the others aren't
 
 -- its active checks are switched off
 abbrev pub is_disabled : Object → Bool
@@ -37,33 +37,23 @@ is_disabled o = not o.enabled
 abbrev pub lacks_interval : Object → Bool
 lacks_interval o = o.enabled && o.check_interval == 0
 
--- how many of these objects are scheduled, disabled, and without an interval: each is one of these
+-- the numbers of these objects that are scheduled, disabled, and without an interval: each object is one of these
 abbrev pub reasons_among : List Object → Reasons
 reasons_among objects =
     record { scheduled = count_by is_scheduled objects; disabled = count_by is_disabled objects; without_interval = count_by lacks_interval objects }
 
 -- ---- the first and the last of the first checks
 
--- the one of two times that is picked, where there are such
-abbrev pub picked : (ℕ → ℕ → ℕ) → Option ℕ → Option ℕ → Option ℕ
-picked pick None u = u
-picked pick (Some t) None = Some t
-picked pick (Some t) (Some u) = Some (pick t u)
-
--- the sooner of two times, where there are such
-abbrev pub sooner : Option ℕ → Option ℕ → Option ℕ
-sooner t u = picked min t u
-
--- the later of two times, where there are such
+-- the later of two times; if only one is given, it is that one
 abbrev pub later : Option ℕ → Option ℕ → Option ℕ
 later t u = picked max t u
 
--- the least of the times that there are
+-- the least of the times, if there is one
 abbrev pub earliest : List (Option ℕ) → Option ℕ
 earliest [] = None
-earliest (t ∷ ts) = sooner t (earliest ts)
+earliest (t ∷ ts) = earlier t (earliest ts)
 
--- the greatest of the times that there are
+-- the greatest of the times, if there is one
 abbrev pub latest : List (Option ℕ) → Option ℕ
 latest [] = None
 latest (t ∷ ts) = later t (latest ts)
@@ -73,7 +63,7 @@ span_of times = record { first = earliest times; last = latest times }
 
 -- ---- all of it
 
--- what is reported of a setup whose first checks have these spans
+-- the summary of a setup whose first checks have these spans
 abbrev pub with_spans : Configuration → Span → Span → Summary
 with_spans c host_span service_span = record {
   hosts = length c.hosts;
@@ -88,6 +78,6 @@ with_spans c host_span service_span = record {
   interleave_factor = factor_by c.options.service_interleave_factor (length c.services) (length c.hosts);
 }
 
--- what is reported of a setup whose scheduling begins at this moment
+-- the summary of a setup whose scheduling begins at this moment
 abbrev pub summary_of : Configuration → ℕ → Summary
 summary_of c start = with_spans c (span_of (take (host_count c) (initial_times c start))) (span_of (drop (host_count c) (initial_times c start)))

@@ -1,4 +1,4 @@
--- The lines that say what an operator asks of a setup: a word and a value each.
+-- The lines of a summary: a word and a value each.
 use Rattle.std.specs.Prelude.{ℕ, List, ◌++◌, Option, Some, None, codes, decimal}
 use Rattle.check_drafts.specs.declared.options.DelayMethod.{DelayMethod}
 use Rattle.check_drafts.specs.declared.options.DelayMethod.TheVariants as method
@@ -15,7 +15,7 @@ value_line word value = word ++ (codes " " ++ (value ++ codes "\n"))
 abbrev pub count_line : List ℕ → ℕ → List ℕ
 count_line word count = value_line word (decimal count)
 
--- a moment in milliseconds, or that there is none
+-- a moment in milliseconds, or the word for no moment
 abbrev pub moment_text : Option ℕ → List ℕ
 moment_text (Some time) = decimal time
 moment_text None = codes "none"

@@ -1,4 +1,4 @@
--- What the figures of a summary are worth.
+-- Facts about the figures of a summary.
 use Rattle.std.specs.Prelude.{◌≡◌, ℕ, ◌+◌, ◌≤◌, List, Option, Some, None, IfSome, All, option_map}
 use Rattle.std.specs.List.{Contains}
 use Rattle.check_summary.specs.declared.counts.Reasons.{Reasons}
@@ -10,7 +10,7 @@ use Rattle.check_summary.specs.declared.summary.Summary.{Summary}
 abbrev pub moved_span : ℕ → Span → Span
 moved_span delay span = record { first = option_map (λ time. time + delay) span.first; last = option_map (λ time. time + delay) span.last }
 
--- the same figures, with both spans so much later
+-- the same figures, with both spans later by a delay
 abbrev pub moved : ℕ → Summary → Summary
 moved delay s = record {
   hosts = s.hosts;
@@ -27,16 +27,16 @@ moved delay s = record {
 
 -- ---- a span
 
--- it is one of the times, and stands so to each of them; where it is none there is no time
+-- it is one of the times, and has this relation to each of them; if it is missing, there is no time
 abbrev pub IsFirstBy : (ℕ → ℕ → Type 0) → List (Option ℕ) → Option ℕ → Type 0
 IsFirstBy stands times None = All (λ time. time ≡ None) times
 IsFirstBy stands times (Some first) = Contains times (Some first) × All (λ time. IfSome time (stands first)) times
 
--- it is one of the times, and none is less; where it is none there is no time
+-- it is one of the times, and no time is less; if it is missing, there is no time
 abbrev pub IsLeast : List (Option ℕ) → Option ℕ → Type 0
 IsLeast times least = IsFirstBy (λ a b. a ≤ b) times least
 
--- it is one of the times, and none is greater; where it is none there is no time
+-- it is one of the times, and no time is greater; if it is missing, there is no time
 abbrev pub IsGreatest : List (Option ℕ) → Option ℕ → Type 0
 IsGreatest times greatest = IsFirstBy (λ a b. b ≤ a) times greatest
 

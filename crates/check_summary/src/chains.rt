@@ -1,4 +1,4 @@
-//! The longest chains: how many dependencies, and how many parents, follow one another.
+//! The longest chains of dependencies, and of parents.
 
 ghost use Rattle.std.specs.Prelude.{◌≡◌, IfOk};
 ghost use Rattle.check_summary.specs.Summary.{chains_in};
@@ -7,12 +7,12 @@ use crate::depths::longest_chain;
 use check_objects::Setup;
 use std::alloc::{AllocError, Global};
 
-/// How many links the longest chains have; 0 where there is no link.
+/// The number of links in the longest chains; 0 if there is no link.
 #[derive(Clone, Copy, Debug, PartialEq, Eq)]
 pub struct Chains {
-    /// Of dependencies: from an object to its master, from that one to its own, and so on.
+    /// Chains of dependencies: from an object to its master, from that one to its own, and so on.
     pub dependencies: usize,
-    /// Of parents: from a host to its parent, from that one to its own, and so on.
+    /// Chains of parents: from a host to its parent, from that one to its own, and so on.
     pub parents: usize,
 }
 

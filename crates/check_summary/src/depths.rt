@@ -1,5 +1,5 @@
-//! The longest chain of links, by the depth of each object: how many links the longest chain from it
-//! has.
+//! The longest chain of links, by the depth of each object: the number of links in the longest chain
+//! from it.
 
 ghost use Rattle.std.specs.Prelude.{◌≡◌, ◌≤◌, ℕ, IfOk, length, map, nat_lt, true};
 ghost use Rattle.std.specs.List.{list_all};
@@ -11,8 +11,8 @@ use link_order::{OrderOrCycle, order_by_links};
 use smallvec::SmallVec;
 use std::alloc::{AllocError, Global};
 
-/// How many links the longest chain has, where the links of each object are given by its number. With
-/// a chain that leads back there are as many as objects. An Err means out of memory.
+/// The number of links in the longest chain, given the links of each object by its number. If a chain
+/// leads back, it is the number of objects. An Err means out of memory.
 pub(crate) fn longest_chain(alloc: Global, links: &[SmallVec<u32, 4>]) -> Result<usize, AllocError>
     requires few { length links.now ≤ 4096 }
     requires within { are_within (length links.now) (map (λ list. list.items) links.now) ≡ true }
@@ -28,7 +28,7 @@ pub(crate) fn longest_chain(alloc: Global, links: &[SmallVec<u32, 4>]) -> Result
     }
 }
 
-/// The depth of each object, by number. The order has each object behind all that it links to.
+/// The depth of each object, by number. In the order each object comes after all that it links to.
 fn find_depths(
     alloc: Global,
     links: &[SmallVec<u32, 4>],
@@ -46,7 +46,7 @@ fn find_depths(
     Ok(depths)
 }
 
-/// The depth of an object with these links, where the depths of those that they go to are known.
+/// The depth of an object with these links, given the depths of the objects that they lead to.
 fn depth_over(links: &[u32], depths: &[usize]) -> usize
     requires within { list_all (λ link. nat_lt link (length depths.now)) links.now ≡ true }
     requires few { (object : ℕ) → depth_at depths.now object ≤ 4096 }
@@ -59,7 +59,7 @@ fn depth_over(links: &[u32], depths: &[usize]) -> usize
     most
 }
 
-/// The greatest of the depths; 0 where there is none.
+/// The greatest of the depths, or 0 without depths.
 fn greatest_of(depths: &[usize]) -> usize
     ensures { result ≡ greatest_of depths.now }
 {

@@ -1,10 +1,10 @@
 #![tactic(auto)]
-//! What an operator asks of a setup at a glance: how much there is, how much of it is scheduled, how
-//! its first checks are spread, and the text that says it.
+//! The summary of a setup: the number of objects and links, how many objects are scheduled, how the first
+//! checks are spread, and the text of these figures.
 //!
-//! The modules: `counts` has how many objects and links there are, `chains` how many links follow one
-//! another, by the `depths` of objects, `spans` the first and the last of the first checks, `summary`
-//! all together, and `text` the lines. `laws` says what the figures are worth.
+//! The modules: `counts` has the numbers of objects and links. `chains` has the longest chains of links, by
+//! the `depths` of objects. `spans` has the first and the last of the first checks. `summary` has all
+//! figures, `text` the lines, and `laws` the facts that the figures meet.
 
 mod chains;
 mod counts;

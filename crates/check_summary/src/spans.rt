@@ -1,17 +1,19 @@
 //! The first and the last of the first checks.
 
 ghost use Rattle.std.specs.Prelude.{◌≡◌};
-ghost use Rattle.check_summary.specs.Summary.{earliest, latest, later, sooner, span_of};
+ghost use Rattle.check_summary.specs.Summary.{earliest, latest, later, span_of};
 
-/// When the first checks of one sort of object are due, in milliseconds: from `first` to `last`. Both
-/// are None where no object of the sort is scheduled.
+use check_spread::earlier;
+
+/// The times at which the first checks of one sort of object are due, in milliseconds, from `first` to
+/// `last`. Both are None if no object of the sort is scheduled.
 #[derive(Clone, Copy, Debug, PartialEq, Eq)]
 pub struct Span {
     pub first: Option<u64>,
     pub last: Option<u64>,
 }
 
-/// From when to when these times are.
+/// The span of these times.
 pub(crate) fn find_span(times: &[Option<u64>]) -> Span
     ensures { result ≡ span_of times.now }
 {
@@ -21,18 +23,18 @@ pub(crate) fn find_span(times: &[Option<u64>]) -> Span
     }
 }
 
-/// The least of the times that there are.
+/// The least of the times, if there is one.
 fn find_first(times: &[Option<u64>]) -> Option<u64>
     ensures { result ≡ earliest times.now }
 {
     let mut first = None;
     for time in times {
-        first = sooner(first, *time);
+        first = earlier(first, *time);
     }
     first
 }
 
-/// The greatest of the times that there are.
+/// The greatest of the times, if there is one.
 fn find_last(times: &[Option<u64>]) -> Option<u64>
     ensures { result ≡ latest times.now }
 {
@@ -43,18 +45,7 @@ fn find_last(times: &[Option<u64>]) -> Option<u64>
     last
 }
 
-/// The sooner of two times, where there are such.
-fn sooner(found: Option<u64>, time: Option<u64>) -> Option<u64>
-    ensures { result ≡ sooner found time }
-{
-    match (found, time) {
-        (Some(found), Some(time)) => Some(found.min(time)),
-        (None, time) => time,
-        (found, None) => found,
-    }
-}
-
-/// The later of two times, where there are such.
+/// The later of two times. If only one is given, it is that one; without a time it is None.
 fn later(found: Option<u64>, time: Option<u64>) -> Option<u64>
     ensures { result ≡ later found time }
 {

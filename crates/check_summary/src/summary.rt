@@ -1,19 +1,18 @@
-//! What an operator asks of a setup, all together.
+//! All figures of the summary of a setup.
 
 ghost use Rattle.std.specs.Prelude.{◌≡◌, ◌≤◌, IfOk, length};
 ghost use Rattle.check_objects.specs.Configuration.{IsSetup};
-ghost use Rattle.check_spread.specs.Spread.{all_objects, factor_by};
 ghost use Rattle.check_summary.specs.Summary.{summary_of};
 
 use crate::chains::{Chains, find_chains};
 use crate::counts::{Links, Reasons, count_links, count_reasons};
 use crate::spans::{Span, find_span};
-use check_objects::{DelayMethod, InterleaveFactor, Object, Setup};
-use check_spread::{LAST_MOMENT, initial_times};
+use check_objects::{DelayMethod, Setup};
+use check_spread::{LAST_MOMENT, copy_objects, initial_times, interleave_factor};
 use std::alloc::{AllocError, Global};
 
-/// What an operator asks of a setup at a glance. Times are moments in milliseconds, as the scheduler
-/// would set them that starts at the moment that was given.
+/// The summary of a setup. Times are moments in milliseconds, as a scheduler sets them that starts at the
+/// given moment.
 #[derive(Clone, Copy, Debug, PartialEq, Eq)]
 pub struct Summary {
     /// How many hosts there are.
@@ -28,27 +27,27 @@ pub struct Summary {
     pub chains: Chains,
     /// How the first checks of hosts are spread.
     pub host_delay: DelayMethod,
-    /// From when to when the first checks of hosts are due.
+    /// The span of the first checks of hosts.
     pub host_span: Span,
     /// How the first checks of services are spread.
     pub service_delay: DelayMethod,
-    /// From when to when the first checks of services are due.
+    /// The span of the first checks of services.
     pub service_span: Span,
-    /// By how many positions a visit of the services goes on (manual: Service and Host Check
+    /// The number of positions from one visit of a service to the next (manual: Service and Host Check
     /// Scheduling, service interleaving).
     pub interleave_factor: usize,
 }
 
 impl Summary {
-    /// What there is to report of a setup whose scheduling starts at the moment `start`, in
-    /// milliseconds. It takes time linear in the objects and their links. An Err means out of memory.
+    /// The summary of a setup whose scheduling starts at the moment `start`, in milliseconds. It takes time
+    /// linear in the objects and their links. An Err means out of memory.
     pub fn of(alloc: Global, setup: &Setup, start: u64) -> Result<Summary, AllocError>
         requires { start ≤ LAST_MOMENT }
         ensures exact { IfOk result (λ summary. summary ≡ summary_of setup.now start) }
     {
         let times = initial_times(alloc, setup, start)?;
         let (host_times, service_times) = times.split_at(setup.hosts());
-        let objects = collect_objects(alloc, setup)?;
+        let objects = copy_objects(alloc, setup)?;
         let options = setup.options();
         Ok(Summary {
             hosts: setup.hosts(),
@@ -71,29 +70,4 @@ fn count_services(setup: &Setup) -> usize
     ensures setup { IsSetup setup.now }
 {
     setup.len() - setup.hosts()
-}
-
-/// The interleave factor: the one that the setup names, or how many services a host has on average,
-/// rounded up, and 1 where there is no service.
-fn interleave_factor(setup: &Setup) -> usize
-    ensures { result ≡ factor_by setup.now.options.service_interleave_factor
-        (length setup.now.services) (length setup.now.hosts) }
-{
-    let services = count_services(setup);
-    match setup.options().service_interleave_factor {
-        InterleaveFactor::Fixed(factor) => factor as usize,
-        InterleaveFactor::Smart if services == 0 => 1,
-        InterleaveFactor::Smart => services.div_ceil(setup.hosts()),
-    }
-}
-
-/// All objects in the order of their numbers.
-fn collect_objects(alloc: Global, setup: &Setup) -> Result<Vec<Object>, AllocError>
-    ensures { IfOk result (λ objects. objects.items ≡ all_objects setup.now) }
-{
-    let mut objects = Vec::with_capacity(alloc, setup.len())?;
-    for number in 0..setup.len() {
-        objects.push(*setup.object(number as u32))?;
-    }
-    Ok(objects)
 }

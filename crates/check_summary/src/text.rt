@@ -1,4 +1,4 @@
-//! The lines that say what an operator asks of a setup: a word and a value each.
+//! The lines of a summary: a word and a value each.
 
 ghost use Rattle.std.specs.Prelude.{◌≡◌, ◌++◌, OnOk, codes, decimal, string_bytes};
 ghost use Rattle.check_summary.specs.Text.{value_line, count_line, moment_text, method_text, sizes_text, chains_text, reasons_text, hosts_text, services_text, factor_text, spread_text, spreads_text, good_text, summary_text};

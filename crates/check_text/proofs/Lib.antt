@@ -3,4 +3,3 @@ pub mod WrittenLemmas
 pub mod TextLemmas
 pub mod LiveLaws
 pub mod RoomLemmas
-pub mod LiveResumedLaws

@@ -1,11 +1,13 @@
 -- Laws of the text of a conversation.
 use Rattle.std.proofs.Common.{◌≡◌, ℕ, suc, ◌+◌, ◌==◌, Bool, true, false, cond, List, [], ◌∷◌, ◌++◌, length, Option, Some, None, Result, Ok, Err, refl, sym, ap, ◌∙◌}
-use Rattle.std.proofs.Common.{arith, append_assoc, append-nil, inl, inr}
+use Rattle.std.proofs.Common.{arith, append_assoc, append-nil, inl, inr, subst}
 use Rattle.std.specs.Prelude.{nat_lt}
 use Rattle.check_objects.specs.Configuration.{Configuration}
 use Rattle.check_objects.specs.Setup.{setup_of}
 use Rattle.check_drafts.specs.Agreement.{◌>>=◌}
-use Rattle.check_drafts.specs.declared.error.LoadError.{LoadError}
+use Rattle.check_saved.specs.Saved.{Saved}
+use Rattle.check_saved.specs.Text.{saved_of_text}
+use Rattle.check_sched.specs.Saved.{resumed}
 use Rattle.check_sched.specs.State.{State, opening}
 use Rattle.check_script.specs.declared.command.RunCommand.{RunCommand}
 use Rattle.check_text.proofs.TextLemmas.{command_keeps}
@@ -13,16 +15,24 @@ use Rattle.check_script.specs.declared.refusal.InputRefusal.{InputRefusal}
 use Rattle.check_script.specs.declared.refusal.InputRefusal.TheVariants as refusal
 use Rattle.check_script.specs.declared.refusal.LineFault.TheVariants as fault
 use Rattle.check_script.specs.declared.script.TheConstants.{MAX_INPUT_BYTES}
+use Rattle.check_script.specs.declared.start.Start.{Start}
+use Rattle.check_script.specs.declared.start.Start.TheVariants as start
 use Rattle.check_script.specs.Command.{command_by}
 use Rattle.check_script.specs.Input.{first_line_of, lines_of, onto_first}
 use Rattle.check_script.specs.Line.{command_of, is_blank}
 use Rattle.check_script.specs.LiveInput.{behind_line, has_feed, said_by}
-use Rattle.check_script.specs.Script.{Script, commands_of, in_setup, script_by, script_in, script_of, script_over}
+use Rattle.check_script.specs.Script.{Beginning, Script, beginning_of, beginning_over, commands_behind, in_saved, in_setup, resumed_from, script_behind, script_of, within_limit}
 use Rattle.check_script.proofs.LiveInputLemmas.{behind_stays, first_stays, lines_apart}
-use Rattle.check_script.proofs.ScriptLemmas.{commands_by_number, commands_from, script_with}
-use Rattle.check_text.specs.LiveText.{answer_to, answers_from, live_over, live_text, said, state_after}
+use Rattle.check_script.proofs.ScriptLemmas.{commands_by_number, commands_from}
+use Rattle.check_text.specs.LiveText.{BeginsWith, HasStart, answer_to, answers_from, answers_over, live_text, said, state_after}
 use Rattle.check_text.specs.Output.{AreWholeLines}
 use Rattle.check_text.specs.Text.{answer_line, refusal_line, script_text, state_by, text, text_from}
+
+abbrev pub script_with : State → List RunCommand → Script
+script_with s all = record { state = s; commands = all }
+
+abbrev pub begun : State → ℕ → List ℕ → Beginning
+begun s n bytes = record { state = s; number = n; rest = bytes }
 
 -- ---- an input that a run accepts
 
@@ -66,40 +76,73 @@ answers_agree (line ∷ lines) c s n all same e =
     (λ t more kept f. answers_agree lines s.setup t (n + 1) more kept f)
     (sym (commands_said s.setup n line lines) ∙ ap (λ d. commands_from (command_by d) n (line ∷ lines)) same ∙ e)
 
-in_lines : (input : List ℕ) → script_in command_by (lines_of input) ≡ script_over command_by (first_line_of input) (lines_of (behind_line input))
-in_lines [] = refl
-in_lines (b ∷ bs) = ap (script_in command_by) (lines_apart b bs)
+over_commands : (b : Beginning) (script : Script) (all : Result (List RunCommand) InputRefusal)
+    → commands_from (command_by b.state.setup) b.number (lines_of b.rest) ≡ all
+    → (all >>= λ l. Ok (script_with b.state l)) ≡ Ok script
+    → answers_from b.state b.number (lines_of b.rest) ≡ text_from script.state script.commands
+over_commands b script (Err e) same h = cc
+over_commands b script (Ok l) same h =
+    let is : (script_with b.state l) ≡ script = cc in
+    answers_agree (lines_of b.rest) b.state.setup b.state b.number l refl same ∙ ap (λ (s : Script). text_from s.state s.commands) is
 
-over_commands : (start : ℕ) (c : Configuration) (lines : List (List ℕ)) (script : Script RunCommand) (all : Result (List RunCommand) InputRefusal)
-    → commands_from (command_by c) 2 lines ≡ all → (all >>= λ l. Ok (script_with c l)) ≡ Ok script
-    → answers_from (opening c start) 2 lines ≡ text_from (opening script.setup start) script.commands
-over_commands start c lines script (Err e) same h = cc
-over_commands start c lines script (Ok l) same h =
-    let is : script_with c l ≡ script = cc in
-    answers_agree lines c (opening c start) 2 l refl same ∙ ap (λ (s : Script RunCommand). text_from (opening s.setup start) s.commands) is
+over_agrees : (r : Result Beginning InputRefusal) (script : Script) → (r >>= script_behind) ≡ Ok script
+    → answers_over r ≡ text_from script.state script.commands
+over_agrees (Err e) script h = cc
+over_agrees (Ok b) script h =
+    over_commands b script (commands_behind b.number (command_by b.state.setup) (lines_of b.rest))
+    (sym (commands_by_number (command_by b.state.setup) b.number (lines_of b.rest))) h
 
-over_agrees : (start : ℕ) (setup : Result Configuration LoadError) (lines : List (List ℕ)) (script : Script RunCommand)
-    → (in_setup setup >>= λ c. (commands_of (command_by c) lines >>= λ all. Ok (script_with c all))) ≡ Ok script
-    → live_over start setup lines ≡ text_from (opening script.setup start) script.commands
-over_agrees start (Err e) lines script h = cc
-over_agrees start (Ok c) lines script h =
-    over_commands start c lines script (commands_of (command_by c) lines) (sym (commands_by_number (command_by c) 2 lines)) h
-
-pub accepted_by : {X : Type 0} (long : Bool) (r : Result X InputRefusal) (script : X)
+accepted_by : {X : Type 0} (long : Bool) (r : Result X InputRefusal) (script : X)
     → cond long (Err (refusal.Line fault.TooLong 0)) r ≡ Ok script → r ≡ Ok script
 accepted_by true r script e = cc
 accepted_by false r script e = e
 
--- what is accepted is within the limit, so that it is the script of its lines
-pub accepted : (input : List ℕ) (script : Script RunCommand) → script_of input ≡ Ok script → script_in command_by (lines_of input) ≡ Ok script
-unfolding script_by
-accepted input script e = accepted_by (nat_lt MAX_INPUT_BYTES (length input)) (script_in command_by (lines_of input)) script e
+-- what is accepted is within the limit
+pub accepted : (how : Start) (input : List ℕ) (script : Script) → script_of how input ≡ Ok script → (beginning_of how input >>= script_behind) ≡ Ok script
+unfolding script_of
+accepted how input script e = accepted_by (nat_lt MAX_INPUT_BYTES (length input)) (beginning_of how input >>= script_behind) script e
 
-pub agrees : (start : ℕ) (input : List ℕ) (script : Script RunCommand) → script_of input ≡ Ok script → live_text start input ≡ text start input
-unfolding live_text text
-agrees start input script e =
-    let over = sym (in_lines input) ∙ accepted input script e in
-    over_agrees start (setup_of (first_line_of input)) (lines_of (behind_line input)) script over ∙ ap (script_text start) (sym e)
+run_text : (how : Start) (input : List ℕ) (script : Script) → script_of how input ≡ Ok script → text how input ≡ text_from script.state script.commands
+unfolding text
+run_text how input script e = ap script_text e
+
+pub agrees : (how : Start) (input : List ℕ) (script : Script) → script_of how input ≡ Ok script → live_text how input ≡ text how input
+unfolding live_text
+agrees how input script e = over_agrees (beginning_of how input) script (accepted how input script e) ∙ sym (run_text how input script e)
+
+-- ---- the start
+
+-- a script's state is that of its beginning
+behind_state : (b : Beginning) (all : Result (List RunCommand) InputRefusal) (script : Script)
+    → (all >>= λ l. Ok (script_with b.state l)) ≡ Ok script → script.state ≡ b.state
+behind_state b (Ok l) script h = let is : script ≡ (script_with b.state l) = cc in ap (λ (s : Script). s.state) is
+behind_state b (Err e) script h = cc
+
+resumed_state : (moment : Option ℕ) (input : List ℕ) (setup : Configuration) (saved : Saved) (script : Script) → BeginsWith input setup saved
+    → script_of (start.Resumed moment) input ≡ Ok script → script.state ≡ resumed_from setup saved moment
+resumed_state moment input setup saved script w e =
+    let b = begun (resumed_from setup saved moment) 3 (behind_line (behind_line input)) in
+    let begins : beginning_of (start.Resumed moment) input ≡ Ok b =
+    ap (λ r. in_setup r >>= λ c. beginning_over (start.Resumed moment) c (behind_line input)) w.document
+    ∙ ap (λ r. in_saved r >>= λ s. Ok (begun (resumed_from setup s moment) 3 (behind_line (behind_line input)))) w.text in
+    behind_state b (commands_behind 3 (command_by b.state.setup) (lines_of b.rest)) script
+    (sym (ap (λ r. r >>= script_behind) begins) ∙ accepted (start.Resumed moment) input script e)
+
+pub given_start : (moment : ℕ) (input : List ℕ) (setup : Configuration) (saved : Saved) (script : Script) → BeginsWith input setup saved
+    → script_of (start.Resumed (Some moment)) input ≡ Ok script
+    → text (start.Resumed (Some moment)) input ≡ text_from (resumed setup saved moment) script.commands
+given_start moment input setup saved script w e =
+    run_text (start.Resumed (Some moment)) input script e
+    ∙ ap (λ s. text_from s script.commands) (resumed_state (Some moment) input setup saved script w e)
+
+pub start_replaced : (moment : ℕ) (input other : List ℕ) (setup : Configuration) (saved : Saved) (script there : Script)
+    → BeginsWith input setup saved → BeginsWith other setup (record saved { start = moment })
+    → script_of (start.Resumed (Some moment)) input ≡ Ok script → script_of (start.Resumed None) other ≡ Ok there → there.commands ≡ script.commands
+    → text (start.Resumed None) other ≡ text (start.Resumed (Some moment)) input
+start_replaced moment input other setup saved script there w v e f same =
+    run_text (start.Resumed None) other there f
+    ∙ ap (λ s. text_from s there.commands) (resumed_state None other setup (record saved { start = moment }) there v f)
+    ∙ ap (text_from (resumed setup saved moment)) same ∙ sym (given_start moment input setup saved script w e)
 
 -- ---- what comes later
 
@@ -135,11 +178,6 @@ pub lines_by : (bytes back : List ℕ) → AreWholeLines bytes → lines_of (byt
 lines_by bytes back (inl e) = rw e refl
 lines_by bytes back (inr (xs, e)) = rw e (lines_of-whole xs back)
 
--- the lines behind line 1 of whole lines and of what comes later
-lines_behind : (front back : List ℕ)
-    → lines_of (behind_line (front ++ 10 ∷ []) ++ back) ≡ lines_of (behind_line (front ++ 10 ∷ [])) ++ lines_of back
-lines_behind front back = lines_by (behind_line (front ++ 10 ∷ [])) back (behind_whole front)
-
 pub feed_last : (front : List ℕ) → has_feed (front ++ 10 ∷ []) ≡ true
 feed_last [] = refl
 feed_last (b ∷ bs) = elim (b == 10) as (λ v. cond v true (has_feed (bs ++ 10 ∷ [])) ≡ true) [
@@ -154,28 +192,104 @@ answers_apart s n (x ∷ xs) ys =
     let first = answer_to s (said s n x) in
     (again.0, ap (λ l. first ++ l) again.1 ∙ sym (append_assoc first _ again.0))
 
-over_apart : (start : ℕ) (setup : Result Configuration LoadError) (xs ys : List (List ℕ))
-    → (rest : List ℕ) × (live_over start setup (xs ++ ys) ≡ live_over start setup xs ++ rest)
-over_apart start (Ok c) xs ys = answers_apart (opening c start) 2 xs ys
-over_apart start (Err e) xs ys = ([], sym (append-nil _))
+-- a beginning with more bytes behind it
+abbrev more : List ℕ → Result Beginning InputRefusal → Result Beginning InputRefusal
+more back (Ok b) = Ok (record b { rest = b.rest ++ back })
+more back (Err e) = Err e
+
+saved_more : (moment : Option ℕ) (c : Configuration) (r : Result Saved InputRefusal) (rest back : List ℕ)
+    → (r >>= λ s. Ok (begun (resumed_from c s moment) 3 (rest ++ back)))
+    ≡ more back (r >>= λ s. Ok (begun (resumed_from c s moment) 3 rest))
+saved_more moment c (Ok s) rest back = refl
+saved_more moment c (Err e) rest back = refl
+
+over_more : (how : Start) (c : Configuration) (bytes back : List ℕ) → HasStart how bytes
+    → beginning_over how c (bytes ++ back) ≡ more back (beginning_over how c bytes)
+over_more (start.Fresh moment) c bytes back h = refl
+over_more (start.Resumed moment) c bytes back h =
+    ap (λ l. in_saved (saved_of_text l) >>= λ s. Ok (begun (resumed_from c s moment) 3 (behind_line (bytes ++ back)))) (first_stays bytes back h)
+    ∙ ap (λ l. in_saved (saved_of_text (first_line_of bytes)) >>= λ s. Ok (begun (resumed_from c s moment) 3 l)) (behind_stays bytes back h)
+    ∙ saved_more moment c (in_saved (saved_of_text (first_line_of bytes))) (behind_line bytes) back
+
+setup_more : (how : Start) (setup : Result Configuration InputRefusal) (bytes back : List ℕ) → HasStart how bytes
+    → (setup >>= λ c. beginning_over how c (bytes ++ back)) ≡ more back (setup >>= λ c. beginning_over how c bytes)
+setup_more how (Ok c) bytes back h = over_more how c bytes back h
+setup_more how (Err e) bytes back h = refl
+
+-- the beginning of whole lines and of what comes later
+begins_on : (how : Start) (front back : List ℕ) → HasStart how (behind_line (front ++ 10 ∷ []))
+    → beginning_of how ((front ++ 10 ∷ []) ++ back) ≡ more back (beginning_of how (front ++ 10 ∷ []))
+begins_on how front back h =
+    let whole = front ++ 10 ∷ [] in
+    let feed = feed_last front in
+    ap (λ l. in_setup (setup_of l) >>= λ c. beginning_over how c (behind_line (whole ++ back))) (first_stays whole back feed)
+    ∙ ap (λ l. in_setup (setup_of (first_line_of whole)) >>= λ c. beginning_over how c l) (behind_stays whole back feed)
+    ∙ setup_more how (in_setup (setup_of (first_line_of whole))) (behind_line whole) back h
+
+behind_two : (bytes : List ℕ) → AreWholeLines bytes → AreWholeLines (behind_line bytes)
+behind_two bytes (inl none) = rw none (inl refl)
+behind_two bytes (inr (xs, e)) = subst (λ l. AreWholeLines (behind_line l)) (sym e) (behind_whole xs)
+
+first_apart : (bytes : List ℕ) → has_feed bytes ≡ true → length (lines_of bytes) ≡ suc (length (lines_of (behind_line bytes)))
+first_apart [] feed = cc
+first_apart (b ∷ bs) feed = ap length (lines_apart b bs)
+
+-- What is left behind whole lines: whole lines, the first of which has the beginning's number.
+record IsLeft (b : Beginning) (lines : ℕ) : Type 0 where
+  whole : AreWholeLines b.rest
+  count : b.number + length (lines_of b.rest) ≡ lines
+
+saved_left : (moment : Option ℕ) (c : Configuration) (r : Result Saved InputRefusal) (bytes : List ℕ) (b : Beginning) → has_feed bytes ≡ true
+    → AreWholeLines bytes
+    → (r >>= λ s. Ok (begun (resumed_from c s moment) 3 (behind_line bytes))) ≡ Ok b
+    → IsLeft b (length (lines_of bytes) + 2)
+saved_left moment c (Err e) bytes b feed whole h = cc
+saved_left moment c (Ok s) bytes b feed whole h =
+    let d = begun (resumed_from c s moment) 3 (behind_line bytes) in
+    let is : d ≡ b = cc in
+    let first = first_apart bytes feed in
+    rw (← is) (record { whole = behind_two bytes whole; count = omega (arith, first) })
+
+over_left : (how : Start) (c : Configuration) (bytes : List ℕ) (b : Beginning) → HasStart how bytes → AreWholeLines bytes
+    → beginning_over how c bytes ≡ Ok b → IsLeft b (length (lines_of bytes) + 2)
+over_left (start.Fresh moment) c bytes b start whole h =
+    let d = begun (opening c moment) 2 bytes in
+    let is : d ≡ b = cc in
+    rw (← is) (record { whole = whole; count = omega arith })
+over_left (start.Resumed moment) c bytes b start whole h = saved_left moment c (in_saved (saved_of_text (first_line_of bytes))) bytes b start whole h
+
+setup_left : (how : Start) (setup : Result Configuration InputRefusal) (bytes : List ℕ) (b : Beginning) → HasStart how bytes → AreWholeLines bytes
+    → (setup >>= λ c. beginning_over how c bytes) ≡ Ok b → IsLeft b (length (lines_of bytes) + 2)
+setup_left how (Ok c) bytes b start whole h = over_left how c bytes b start whole h
+setup_left how (Err e) bytes b start whole h = cc
+
+left_by : (how : Start) (front : List ℕ) (b : Beginning) → HasStart how (behind_line (front ++ 10 ∷ []))
+    → beginning_of how (front ++ 10 ∷ []) ≡ Ok b → IsLeft b (length (lines_of (behind_line (front ++ 10 ∷ []))) + 2)
+left_by how front b start h =
+    setup_left how (in_setup (setup_of (first_line_of (front ++ 10 ∷ [])))) (behind_line (front ++ 10 ∷ [])) b start (behind_whole front) h
 
 -- the text of whole lines and of what comes later
-live_parts : (start : ℕ) (front back : List ℕ)
-    → live_text start ((front ++ 10 ∷ []) ++ back)
-    ≡ live_over start (setup_of (first_line_of (front ++ 10 ∷ []))) (lines_of (behind_line (front ++ 10 ∷ [])) ++ lines_of back)
+parts : (how : Start) (front back : List ℕ) (b : Beginning) → HasStart how (behind_line (front ++ 10 ∷ []))
+    → beginning_of how (front ++ 10 ∷ []) ≡ Ok b
+    → live_text how ((front ++ 10 ∷ []) ++ back) ≡ answers_from b.state b.number (lines_of b.rest ++ lines_of back)
 unfolding live_text
-live_parts start front back =
-    let feed = feed_last front in
-    ap (λ l. live_over start (setup_of l) (lines_of (behind_line ((front ++ 10 ∷ []) ++ back)))) (first_stays (front ++ 10 ∷ []) back feed)
-    ∙ ap (λ l. live_over start (setup_of (first_line_of (front ++ 10 ∷ []))) l)
-    (ap lines_of (behind_stays (front ++ 10 ∷ []) back feed) ∙ lines_behind front back)
+parts how front back b h e =
+    ap answers_over (begins_on how front back h ∙ ap (more back) e)
+    ∙ ap (answers_from b.state b.number) (lines_by b.rest back (left_by how front b h e).whole)
 
-pub goes_on : (start : ℕ) (front back : List ℕ)
-    → (rest : List ℕ) × (live_text start ((front ++ 10 ∷ []) ++ back) ≡ live_text start (front ++ 10 ∷ []) ++ rest)
+goes_on_by : (how : Start) (front back : List ℕ) (r : Result Beginning InputRefusal) → HasStart how (behind_line (front ++ 10 ∷ []))
+    → beginning_of how (front ++ 10 ∷ []) ≡ r
+    → (rest : List ℕ) × (live_text how ((front ++ 10 ∷ []) ++ back) ≡ answers_over r ++ rest)
 unfolding live_text
-goes_on start front back =
-    let apart = over_apart start (setup_of (first_line_of (front ++ 10 ∷ []))) (lines_of (behind_line (front ++ 10 ∷ []))) (lines_of back) in
-    (apart.0, live_parts start front back ∙ apart.1)
+goes_on_by how front back (Ok b) h e =
+    let apart = answers_apart b.state b.number (lines_of b.rest) (lines_of back) in
+    (apart.0, parts how front back b h e ∙ apart.1)
+goes_on_by how front back (Err why) h e = ([], ap answers_over (begins_on how front back h ∙ ap (more back) e) ∙ sym (append-nil _))
+
+pub goes_on : (how : Start) (front back : List ℕ) → HasStart how (behind_line (front ++ 10 ∷ []))
+    → (rest : List ℕ) × (live_text how ((front ++ 10 ∷ []) ++ back) ≡ live_text how (front ++ 10 ∷ []) ++ rest)
+unfolding live_text
+goes_on how front back h = goes_on_by how front back (beginning_of how (front ++ 10 ∷ [])) h refl
 
 -- ---- a refused line
 
@@ -217,17 +331,17 @@ pub count_apart : (front : List ℕ) → length (lines_of (front ++ 10 ∷ [])) 
 count_apart [] = ap length (lines_apart 10 [])
 count_apart (b ∷ bs) = ap length (lines_apart b (bs ++ 10 ∷ []))
 
-pub passes : (start : ℕ) (setup : Configuration) (front line back : List ℕ) (why : InputRefusal)
-    → setup_of (first_line_of (front ++ 10 ∷ [])) ≡ Ok setup → has_feed line ≡ false
-    → said_by (command_by setup) (length (lines_of (front ++ 10 ∷ [])) + 1) line ≡ Err why
-    → Passes (live_text start ((front ++ 10 ∷ []) ++ (line ++ 10 ∷ back))) (live_text start ((front ++ 10 ∷ []) ++ (10 ∷ back))) why
-passes start setup front line back why s free e =
-    let xs = lines_of (behind_line (front ++ 10 ∷ [])) in
-    let number : 2 + length xs ≡ length (lines_of (front ++ 10 ∷ [])) + 1 = omega (arith, count_apart front) in
-    let p = passes_in xs (opening setup start) 2 line (lines_of back) why (ap (λ k. said_by (command_by setup) k line) number ∙ e) in
-    let over = λ (bytes : List ℕ). live_parts start front bytes ∙ ap (λ r. live_over start r (xs ++ lines_of bytes)) s in (
+pub passes : (how : Start) (b : Beginning) (front line back : List ℕ) (why : InputRefusal)
+    → HasStart how (behind_line (front ++ 10 ∷ [])) → beginning_of how (front ++ 10 ∷ []) ≡ Ok b → has_feed line ≡ false
+    → said_by (command_by b.state.setup) (length (lines_of (front ++ 10 ∷ [])) + 1) line ≡ Err why
+    → Passes (live_text how ((front ++ 10 ∷ []) ++ (line ++ 10 ∷ back))) (live_text how ((front ++ 10 ∷ []) ++ (10 ∷ back))) why
+passes how b front line back why h s free e =
+    let xs = lines_of b.rest in
+    let left = left_by how front b h s in
+    let number : b.number + length xs ≡ length (lines_of (front ++ 10 ∷ [])) + 1 = omega (arith, count_apart front, left.count) in
+    let p = passes_in xs b.state b.number line (lines_of back) why (ap (λ k. said_by (command_by b.state.setup) k line) number ∙ e) in (
       p.0,
       p.1,
-      over (line ++ 10 ∷ back) ∙ ap (λ l. live_over start (Ok setup) (xs ++ l)) (line_first line back free) ∙ p.2,
-      over (10 ∷ back) ∙ p.3,
+      parts how front (line ++ 10 ∷ back) b h s ∙ ap (λ l. answers_from b.state b.number (xs ++ l)) (line_first line back free) ∙ p.2,
+      parts how front (10 ∷ back) b h s ∙ p.3,
     )

@@ -1,6 +1,6 @@
--- The text that a run writes: a function of the start and of the input. The words of each line are
+-- The text that a run writes: a function of how its scheduler starts and of the input. The words of each line are
 -- said once, here.
-use Rattle.std.specs.Prelude.{ℕ, Bool, true, false, if◌then◌else◌, List, [], ◌∷◌, ◌++◌, Option, Some, None, Result, Ok, Err, codes, decimal, flat_map, length, unwrap_or}
+use Rattle.std.specs.Prelude.{ℕ, Bool, true, false, if◌then◌else◌, List, [], ◌∷◌, ◌++◌, Option, Some, None, Result, Ok, Err, codes, decimal, flat_map, length}
 use Rattle.ticket_steps.specs.declared.kept.Entry.{Entry}
 use Rattle.check_objects.specs.Configuration.{Configuration, name_of}
 use Rattle.check_drafts.specs.declared.error.LoadError.{LoadError}
@@ -15,13 +15,12 @@ use Rattle.check_sched.specs.declared.call.Reply.{Reply}
 use Rattle.check_sched.specs.declared.call.Reply.TheVariants as reply
 use Rattle.check_sched.specs.declared.call.Refusal.{Refusal}
 use Rattle.check_sched.specs.declared.call.Refusal.TheVariants as refused
-use Rattle.check_saved.specs.Saved.{Saved}
 use Rattle.check_saved.specs.Text.{saved_text}
 use Rattle.check_saved.specs.Words.{flapping_word}
 use Rattle.check_saved.specs.declared.fault.SavedFault.{SavedFault}
 use Rattle.check_saved.specs.declared.fault.SavedFault.TheVariants as saved
-use Rattle.check_sched.specs.Saved.{resumed, saved_of}
-use Rattle.check_sched.specs.State.{State, opening}
+use Rattle.check_sched.specs.Saved.{saved_of}
+use Rattle.check_sched.specs.State.{State}
 use Rattle.check_sched.specs.Step.{step}
 use Rattle.check_script.specs.declared.command.RunCommand.{RunCommand}
 use Rattle.check_script.specs.declared.command.RunCommand.TheVariants as command
@@ -29,7 +28,7 @@ use Rattle.check_script.specs.declared.refusal.LineFault.{LineFault}
 use Rattle.check_script.specs.declared.refusal.LineFault.TheVariants as fault
 use Rattle.check_script.specs.declared.refusal.InputRefusal.{InputRefusal}
 use Rattle.check_script.specs.declared.refusal.InputRefusal.TheVariants as refusal
-use Rattle.check_script.specs.ResumedScript.{ResumedScript, resumed_script_of}
+use Rattle.check_script.specs.declared.start.Start.{Start}
 use Rattle.check_script.specs.Script.{Script, script_of}
 
 -- a line: its text, ended by a line feed
@@ -193,29 +192,15 @@ abbrev pub text_from : State → List RunCommand → List ℕ
 text_from s [] = []
 text_from s (c ∷ cs) = answer_line s c ++ text_from (state_by s c) cs
 
-abbrev pub script_text : ℕ → Result (Script RunCommand) InputRefusal → List ℕ
-script_text start (Ok s) = text_from (opening s.setup start) s.commands
-script_text start (Err r) = refusal_line r
+-- the text of a script, or of the refusal of its input
+abbrev pub script_text : Result Script InputRefusal → List ℕ
+script_text (Ok s) = text_from s.state s.commands
+script_text (Err r) = refusal_line r
 
--- What a run on the input writes, the scheduler starting at the moment `start`: the one line of the
--- input's first refusal, or the lines of the answers to its commands, in order.
-unfoldable pub text : ℕ → List ℕ → List ℕ
-text start input = script_text start (script_of input)
-
--- ---- the same of a run that goes on from what was saved
-
--- the state in which a scheduler goes on over a setup from what was saved, from this moment on, or from the saved start
-abbrev pub resumed_from : Configuration → Saved → Option ℕ → State
-resumed_from c s start = resumed c s (unwrap_or start s.start)
-
-abbrev pub resumed_script_text : Option ℕ → Result ResumedScript InputRefusal → List ℕ
-resumed_script_text start (Ok s) = text_from (resumed_from s.setup s.saved start) s.commands
-resumed_script_text start (Err r) = refusal_line r
-
--- What a run on the input writes that goes on from what was saved, from the moment `start` on, or from the saved start: the one
--- line of the input's first refusal, or the lines of the answers to its commands, in order.
-unfoldable pub text_resumed : Option ℕ → List ℕ → List ℕ
-text_resumed start input = resumed_script_text start (resumed_script_of input)
+-- What a run on the input writes, by how its scheduler starts: the one line of the input's first refusal, or the lines of the
+-- answers to its commands, in order.
+unfoldable pub text : Start → List ℕ → List ℕ
+text how input = script_text (script_of how input)
 
 -- ---- the text of a drill
 

@@ -10,6 +10,9 @@ use Rattle.clap.specs.Words.{App, IsAmong, Row, Rule, Text, fault_of, first_of, 
 use Rattle.clap.specs.declared.builder.action.ArgAction.TheVariants as action
 use Rattle.clap.specs.declared.error.kind.ErrorKind.{ErrorKind}
 use Rattle.clap.specs.declared.error.kind.ErrorKind.TheVariants as kind
+use Rattle.check_script.specs.declared.start.Start.{Start}
+use Rattle.check_script.specs.declared.start.Start.TheVariants as start
+use Rattle.check_script.specs.Start.{CanStart}
 use Rattle.check_words.specs.declared.words.Job.{Job}
 use Rattle.check_words.specs.declared.words.Job.TheVariants as job
 use Rattle.check_words.specs.declared.words.WordsError.{WordsError}
@@ -134,30 +137,32 @@ start_by (Some text) = option_map Some (number_between 0 (2 ^ 60) text)
 abbrev pub open_start_of : List Row → Option (Option ℕ)
 open_start_of options = start_by (first_of (codes "start") options)
 
--- the job with this start, which goes on from what was saved, or from its own start, which is 0 where none is given
-abbrev pub run_from : Bool → Option ℕ → Job
-run_from resumes start = if resumes then job.RunResumed start else job.Run (unwrap_or start 0)
+-- how a scheduler starts with this flag `--resume` and this moment: from a saved state, or fresh, at 0 where no moment is given
+abbrev pub start_from : Bool → Option ℕ → Start
+start_from true moment = start.Resumed moment
+start_from false moment = start.Fresh (unwrap_or moment 0)
 
-abbrev pub live_from : Bool → Option ℕ → Job
-live_from resumes start = if resumes then job.LiveResumed start else job.Live (unwrap_or start 0)
+-- how the scheduler of `run`, `live` or `check` starts, by the options that were read
+abbrev pub scheduler_start_of : List Row → Option Start
+scheduler_start_of options = option_map (start_from (resume_of options)) (open_start_of options)
 
 -- `run`, by the options that were read for it
 abbrev pub run_of : List Row → Option Job
-run_of options = option_map (run_from (resume_of options)) (open_start_of options)
+run_of options = option_map job.Run (scheduler_start_of options)
 
 -- `live`, by the options that were read for it
 abbrev pub live_of : List Row → Option Job
-live_of options = option_map (live_from (resume_of options)) (open_start_of options)
+live_of options = option_map job.Live (scheduler_start_of options)
 
--- `check` with these flags and this start: the setup's line is no matter of what was saved
-abbrev pub check_from : Bool → Bool → Option ℕ → Option Job
-check_from true true start = None
-check_from true false start = Some (job.CheckResumed start)
-check_from false line start = Some (job.Check (unwrap_or start 0) line)
+-- `check` with this flag `--line` and this start: a setup that is written as one line has no saved state
+abbrev pub check_from : Bool → Start → Option Job
+check_from false how = Some (job.Check how)
+check_from true (start.Fresh moment) = Some job.SetupLine
+check_from true (start.Resumed moment) = None
 
 -- `check`, by the options that were read for it
 abbrev pub check_of : List Row → Option Job
-check_of options = option_and_then (check_from (resume_of options) (line_of options)) (open_start_of options)
+check_of options = option_and_then (check_from (line_of options)) (scheduler_start_of options)
 
 -- `drill`, by the options that were read for it
 abbrev pub drill_of : List Row → Option Job
@@ -168,7 +173,7 @@ drill_of options = option_and_then (λ start.
 
 -- the job of a subcommand with its options; without a subcommand it is `run` from the start 0
 abbrev pub job_of : Option (Text × List Row) → Option Job
-job_of None = Some (job.Run 0)
+job_of None = Some (job.Run (start.Fresh 0))
 job_of (Some (name, options)) =
     if bytes_eq name (codes "run") then run_of options
     else (if bytes_eq name (codes "live") then live_of options
@@ -183,12 +188,10 @@ job_asked words = job_of (subcommand_of program words)
 
 -- the numbers of a job are within their limits
 abbrev pub IsWithinLimits : Job → Type 0
-IsWithinLimits (job.Run start) = start ≤ 2 ^ 60
-IsWithinLimits (job.Live start) = start ≤ 2 ^ 60
-IsWithinLimits (job.RunResumed start) = IfSome start (λ moment. moment ≤ 2 ^ 60)
-IsWithinLimits (job.LiveResumed start) = IfSome start (λ moment. moment ≤ 2 ^ 60)
-IsWithinLimits (job.Check start line) = start ≤ 2 ^ 60
-IsWithinLimits (job.CheckResumed start) = IfSome start (λ moment. moment ≤ 2 ^ 60)
+IsWithinLimits (job.Run how) = CanStart how
+IsWithinLimits (job.Live how) = CanStart how
+IsWithinLimits (job.Check how) = CanStart how
+IsWithinLimits job.SetupLine = ⊤
 IsWithinLimits job.Schema = ⊤
 IsWithinLimits (job.Drill start workers room) = (start ≤ 2 ^ 60) × (1 ≤ workers) × (workers ≤ 64) × (room ≤ 1000000)
 

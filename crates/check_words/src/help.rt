@@ -1,11 +1,11 @@
-//! The texts of the help. They are broken by hand, for 80 columns.
+//! The texts of the help, with line breaks for 80 columns.
 
-/// What the help says of the program, or of a subcommand.
+/// The help text of the program or of a subcommand.
 #[derive(Clone, Copy)]
 pub(crate) struct Help {
     /// What it does.
     pub(crate) about: &'static str,
-    /// What stands at the end of its own help.
+    /// The text at the end of its own help.
     pub(crate) notes: &'static str,
 }
 
@@ -13,26 +13,26 @@ pub(crate) struct Help {
 pub(crate) const HELP: Help = Help {
     about: "\
 Schedules the active checks of hosts and services by the rules of Nagios Core 4,
-with the differences that docs/NAGIOS.md lists: it decides whose check is due,
-and what a result does to state, attempt and next time. It runs no plugins:
-return codes are part of its input.
+with some differences: it decides which check is due, and what a result does to
+state, attempt and next time. It runs no plugins: return codes are part of its
+input.
 
 A setup and a script come from standard input. `run` makes the script's calls
-one after another, and answers each by a line. `live` answers each line as soon
-as it arrives. `check` prints what is in a setup, or why it is refused. `drill`
-has workers in threads share one scheduler, and writes the history that they
-made. Without a command it does `run --start 0`.",
+one after another, and answers each with a line. `live` answers each line as
+soon as it arrives. `check` prints what is in a setup, or why it is refused.
+`drill` has workers in threads share one scheduler, and writes their history.
+Without a command it does `run --start 0`.",
     notes: "\
 Input:
   Line 1 is the setup, a JSON object with options, hosts and services. Each
   later line is a JSON array: `nagsched run --help` and `nagsched drill --help`
   list them. `run` and `drill` check the whole input before the first call.
-  docs/FORMATS.md has every member, line and refusal, each with an example.
+  nagsched(1) and nagsched(5) describe every member, line and refusal.
 
 Exit status:
   0  ran, or wrote its help or its version
-  1  the input was refused: a line says why and where, of `check` two
-  2  the words were refused, with the line `refused words`
+  1  the input was refused: a line says why and where, from `check` two lines
+  2  the arguments were refused, with the line `refused words`
   3  standard input or standard output failed
   4  out of memory
 
@@ -45,26 +45,26 @@ Example:
 pub(crate) const HELP_RUN: Help = Help {
     about: "Makes the calls of a script on one scheduler",
     notes: "\
-Input, behind the setup, a call a line; moments and times in milliseconds:
+Input after the setup, one call per line; moments and times in milliseconds:
   [\"take\",now]                    asks what is due, and takes it
   [\"report\",name,run,code]        the return code of a check, 0 to 3
-  [\"abandon\",name,run,now]        gives a check up that won't come back
+  [\"abandon\",name,run,now]        gives up a check that won't return
   [\"reschedule\",name,time,forced] sets the next check
   [\"enable\",name,on]              switches an object's active checks
-  [\"status\",name]                 asks how an object stands
-  [\"save\"]                        asks for the state to save, and is no call
+  [\"status\",name]                 asks for the state of an object
+  [\"save\"]                        asks for the state to save; isn't a call
 With --resume line 2 is a saved state, as `saved` wrote it without that word.
 
-Output, a line for each call:
+Output, one line per call:
   taken RUN NAME        putoff TIME NAME        idle TIME        atlimit
   standing STATE KIND ATTEMPT CHANGED FLAP TIME NAME
   freed TIME NAME       done NAME               refused CODE WHY
   saved STATE           the answer to `save`
 
-docs/FORMATS.md has every line, member and refusal, each with an example.
+nagsched(1) and nagsched(5) describe every line, member and refusal.
 
 Exit status:
-  0 ran   1 input refused   2 words refused   3 device failed   4 out of memory
+  0 ran  1 input refused  2 arguments refused  3 device failed  4 out of memory
 
 Example:
   printf '%s\\n' '{\"hosts\":[{\"name\":\"gateway\",\"max_check_attempts\":3}]}' \\
@@ -77,18 +77,18 @@ pub(crate) const HELP_LIVE: Help = Help {
     notes: "\
 Input and output are those of `run`, but each line is answered as soon as it
 arrives, before more is read, and there is no limit on the whole.
-  A line that is no command is answered by `refused CODE WHY LINE`, and changes
-  nothing: the conversation goes on.
+  A line that isn't a command is answered with `refused CODE WHY LINE`, and
+  changes nothing. The conversation continues.
   A blank line has no answer: don't wait for one.
-  A refused setup is answered by its line, and ends the conversation. So is a
-  refused saved state, which with --resume is line 2.
-It doesn't read while it writes: who sends more than pipes hold has to read the
+  A refused setup is answered with its line, and ends the conversation. So is a
+  refused saved state, which is line 2 with --resume.
+It doesn't read while it writes: if you send more than a pipe holds, read the
 answers meanwhile.
 
-docs/FORMATS.md has every line, member and refusal, each with an example.
+nagsched(1) and nagsched(5) describe every line, member and refusal.
 
 Exit status:
-  0 ran   1 setup refused   2 words refused   3 device failed   4 out of memory
+  0 ran  1 setup refused  2 arguments refused  3 device failed  4 out of memory
 
 Example, whose second answer comes two seconds after the first:
   (printf '%s\\n' '{\"hosts\":[{\"name\":\"gateway\",\"max_check_attempts\":3}]}' \\
@@ -99,36 +99,36 @@ Example, whose second answer comes two seconds after the first:
 pub(crate) const HELP_CHECK: Help = Help {
     about: "Prints what is in a setup, or why it is refused",
     notes: "\
-Input is one setup, over as many lines as it likes. No check is scheduled.
+Input is one setup, on any number of lines. No check is scheduled.
 
-Output, a word and its value a line:
+Output, one word and its value per line:
   setup ok
   hosts, services, dependencies, parents         how many there are
   dependency_chain, parent_chain                 how long the longest chain is
   scheduled, disabled, without_interval          objects, each in one of these
   host_delay, host_first, host_last              the delay method of hosts, and
                                                  the first and last first check
-  service_delay, service_first, service_last     the same of services
-  interleave_factor                              that of services
+  service_delay, service_first, service_last     the same for services
+  interleave_factor                              the one of services
 With --line it writes the setup itself, on one line, and nothing else.
-A refused setup is answered by the line of `run`, and one that says where and
-why in plain words.
+A refused setup is answered with the line that `run` writes, and one that says
+where and why in plain words.
 
 With --resume, which doesn't go with --line, line 1 is the setup and line 2 a
-saved state. Behind the figures stands what becomes of the saved objects:
+saved state. After the figures, the output says what becomes of saved objects:
   kept, new, dropped        objects of both, of the setup alone, and of the
                             saved state alone
-  given_up                  runs that are given up, since more services are
-                            out than the setup allows
+  given_up                  runs that are given up, because more services are
+                            running than the setup allows
   changed attempts NAME     the setup has another maximum of attempts for it;
-                            `interval` and `enabled` stand there likewise
-A refused saved state is answered like a refused setup. --start is the start
-that the run will have.
+                            likewise `interval` and `enabled`
+A refused saved state is answered like a refused setup. --start is the start of
+the run to come.
 
-docs/FORMATS.md has every line, member and refusal, each with an example.
+nagsched(1) and nagsched(5) describe every line, member and refusal.
 
 Exit status:
-  0 good   1 input refused   2 words refused   3 device failed   4 out of memory
+  0 good  1 input refused  2 arguments refused  3 device failed  4 out of memory
 
 Example:
   echo '{\"hosts\":[{\"name\":\"gateway\",\"max_check_attempts\":3}]}' |
@@ -139,7 +139,7 @@ Example:
 pub(crate) const HELP_DRILL: Help = Help {
     about: "Has workers share one scheduler, with scripted plugins",
     notes: "\
-Input, behind the setup, in any order:
+Input after the setup, in any order:
   [\"plugin\",name,code,..]  the return codes of an object's plugin, by the run's
                            number, over and over; without such a line it is 0
   [\"moment\",now]           one more moment, in ms, at which each worker takes
@@ -148,10 +148,10 @@ Output:
   PASS LINE              the worker's pass and the line of `run`, for each call
   total ENTRIES REFUSED  calls recorded, and refused out of memory
 
-docs/FORMATS.md has every line, member and refusal, each with an example.
+nagsched(1) and nagsched(5) describe every line, member and refusal.
 
 Exit status:
-  0 ran   1 input refused   2 words refused   3 device failed   4 out of memory
+  0 ran  1 input refused  2 arguments refused  3 device failed  4 out of memory
 
 Example:
   printf '%s\\n' '{\"hosts\":[{\"name\":\"gateway\",\"max_check_attempts\":3}]}' \\
@@ -162,13 +162,13 @@ Example:
 pub(crate) const HELP_SCHEMA: Help = Help {
     about: "Writes the JSON schema of a setup",
     notes: "\
-No input is read. Output is a JSON schema of draft 2020-12, which says of each
-member its name, its kind, its limits and its default.
+No input is read. Output is a JSON schema of draft 2020-12, with the name, the
+kind, the limits and the default of each member.
 
-docs/FORMATS.md has every line, member and refusal, each with an example.
+nagsched(1) and nagsched(5) describe every line, member and refusal.
 
 Exit status:
-  0 written   2 words refused   3 device failed   4 out of memory
+  0 written  2 arguments refused  3 device failed  4 out of memory
 
 Example:
   nagsched schema",
@@ -182,7 +182,7 @@ pub(crate) const ABOUT_OPEN_START: &str =
     "Start in ms, 0 to 2^60 [default: 0, with --resume the saved]";
 
 /// What the help of `run` and `live` says of the flag `--resume`.
-pub(crate) const ABOUT_RESUME: &str = "Goes on from a saved state, which is line 2";
+pub(crate) const ABOUT_RESUME: &str = "Resumes a saved state, which is line 2";
 
 /// What the help of `check` says of the flag `--resume`.
 pub(crate) const ABOUT_CHECK_RESUME: &str = "Checks a saved state too, which is line 2";

@@ -7,7 +7,8 @@ ghost use Rattle.clap.specs.Walk.{texts};
 ghost use Rattle.check_words.specs.Words.{program, run_subcommand, live_subcommand, check_subcommand, drill_subcommand, schema_subcommand};
 ghost use Rattle.check_words.specs.Words.{number_option, open_start_option, opener};
 ghost use Rattle.check_words.specs.Words.{flag, flag_of, resume_of};
-ghost use Rattle.check_words.specs.Words.{check_from, live_from, open_start_of, run_from, start_by};
+ghost use Rattle.check_script.specs.Start.{CanStart};
+ghost use Rattle.check_words.specs.Words.{check_from, open_start_of, scheduler_start_of, start_by, start_from};
 ghost use Rattle.check_words.specs.Words.{job_asked, job_of, run_of, live_of, check_of, drill_of, start_of, workers_of, room_of};
 ghost use Rattle.check_words.specs.Words.{number_of, number_between, Explains, IsWithinLimits, Reads, Tells, version_line};
 
@@ -16,12 +17,11 @@ use crate::help::{
     ABOUT_WORKERS, HELP, HELP_CHECK, HELP_DRILL, HELP_LIVE, HELP_RUN, HELP_SCHEMA, Help,
 };
 use crate::words::{Job, VERSION, WordsError};
+use check_sched::LAST_MOMENT;
+use check_script::Start;
 use clap::error::ErrorKind;
 use clap::{Arg, ArgAction, ArgMatches, Command};
 use std::alloc::{AllocError, Global};
-
-/// The latest moment at which a scheduler may start, in milliseconds.
-const LAST_MOMENT: u64 = 1 << 60;
 
 /// The most workers that a drill may have.
 const MAX_WORKERS: u64 = 64;
@@ -174,9 +174,11 @@ fn read_job(matches: &ArgMatches<'_>) -> Result<Job, WordsError>
     ensures limits { IfOk result IsWithinLimits }
 {
     match matches.subcommand() {
-        None => Ok(Job::Run { start: 0 }),
-        Some(("run", options)) => read_opener(options, false).ok_or(WordsError::Refused),
-        Some(("live", options)) => read_opener(options, true).ok_or(WordsError::Refused),
+        None => Ok(Job::Run {
+            start: Start::Fresh(0),
+        }),
+        Some(("run", options)) => read_run(options).ok_or(WordsError::Refused),
+        Some(("live", options)) => read_live(options).ok_or(WordsError::Refused),
         Some(("check", options)) => read_check(options).ok_or(WordsError::Refused),
         Some(("drill", options)) => read_drill(options).ok_or(WordsError::Refused),
         Some(("schema", _)) => Ok(Job::Schema),
@@ -184,27 +186,24 @@ fn read_job(matches: &ArgMatches<'_>) -> Result<Job, WordsError>
     }
 }
 
-/// The job of `run` with these options, or that of `live`.
-fn read_opener(options: &ArgMatches<'_>, live: bool) -> Option<Job>
-    ensures asked { result ≡ (if live then live_of (rows_of (found_of options.now))
-        else run_of (rows_of (found_of options.now))) }
+/// The job of `run` with these options.
+fn read_run(options: &ArgMatches<'_>) -> Option<Job>
+    ensures asked { result ≡ run_of (rows_of (found_of options.now)) }
     ensures limits { IfSome result IsWithinLimits }
 {
-    let start = read_open_start(options)?;
-    Some(opener_from(live, is_resumed(options), start))
+    Some(Job::Run {
+        start: read_scheduler_start(options)?,
+    })
 }
 
-/// The job of `run` with this start, or that of `live`.
-fn opener_from(live: bool, resumes: bool, start: Option<u64>) -> Job
-    ensures { result ≡ (if live then live_from resumes start else run_from resumes start) }
+/// The job of `live` with these options.
+fn read_live(options: &ArgMatches<'_>) -> Option<Job>
+    ensures asked { result ≡ live_of (rows_of (found_of options.now)) }
+    ensures limits { IfSome result IsWithinLimits }
 {
-    let anew = start.unwrap_or(0);
-    match (live, resumes) {
-        (false, false) => Job::Run { start: anew },
-        (false, true) => Job::RunResumed { start },
-        (true, false) => Job::Live { start: anew },
-        (true, true) => Job::LiveResumed { start },
-    }
+    Some(Job::Live {
+        start: read_scheduler_start(options)?,
+    })
 }
 
 /// The job of `check` with these options.
@@ -212,21 +211,40 @@ fn read_check(options: &ArgMatches<'_>) -> Option<Job>
     ensures asked { result ≡ check_of (rows_of (found_of options.now)) }
     ensures limits { IfSome result IsWithinLimits }
 {
-    let start = read_open_start(options)?;
-    check_from(is_resumed(options), read_flag(options, "line"), start)
+    let start = read_scheduler_start(options)?;
+    check_from(read_flag(options, "line"), start)
 }
 
-/// The job of `check` with these flags and this start, if they go together.
-fn check_from(resumes: bool, line: bool, start: Option<u64>) -> Option<Job>
-    ensures { result ≡ check_from resumes line start }
+/// The job of `check` with this flag `--line` and this start, if they go together.
+fn check_from(line: bool, start: Start) -> Option<Job>
+    ensures asked { result ≡ check_from line start }
+    ensures limits { CanStart start → IfSome result IsWithinLimits }
 {
-    match (resumes, line) {
-        (true, true) => None,
-        (true, false) => Some(Job::CheckResumed { start }),
-        (false, line) => Some(Job::Check {
-            start: start.unwrap_or(0),
-            line,
-        }),
+    match (line, start) {
+        (false, start) => Some(Job::Check { start }),
+        (true, Start::Fresh(_)) => Some(Job::SetupLine),
+        (true, Start::Resumed(_)) => None,
+    }
+}
+
+/// How the scheduler of `run`, `live` or `check` starts with these options.
+fn read_scheduler_start(options: &ArgMatches<'_>) -> Option<Start>
+    ensures value { result ≡ scheduler_start_of (rows_of (found_of options.now)) }
+    ensures limits { IfSome result CanStart }
+{
+    let moment = read_open_start(options)?;
+    Some(start_from(is_resumed(options), moment))
+}
+
+/// How a scheduler starts with this flag `--resume` and this moment.
+fn start_from(resumes: bool, moment: Option<u64>) -> Start
+    ensures value { result ≡ start_from resumes moment }
+    ensures limits { IfSome moment (λ m. m ≤ LAST_MOMENT) → CanStart result }
+{
+    if resumes {
+        Start::Resumed(moment)
+    } else {
+        Start::Fresh(moment.unwrap_or(0))
     }
 }
 

@@ -1,45 +1,30 @@
 //! What the program's words can ask for. They are read in `job`.
 
+use check_script::Start;
 use std::alloc::AllocError;
 use thiserror::Error;
 
 /// What the program's words ask it to do.
 #[derive(Clone, Copy, Debug, PartialEq, Eq)]
 pub enum Job {
-    /// To make the calls of a script on a scheduler that starts at the moment `start`, in
-    /// milliseconds, from 0 to 2^60.
+    /// To make the calls of a script on a scheduler that starts so, at a moment from 0 to 2^60.
     Run {
-        start: u64,
+        start: Start,
     },
-    /// To answer lines one after another as they come, on a scheduler that starts at the moment
-    /// `start`, as above.
+    /// To answer lines one after another as they come, on a scheduler that starts so, as above.
     Live {
-        start: u64,
+        start: Start,
     },
-    /// To do as `Run` does on a scheduler that goes on from a saved state, which is the second line of the
-    /// input: from the moment `start` on, as above, or from the saved start where there is none.
-    RunResumed {
-        start: Option<u64>,
-    },
-    /// To do as `Live` does on a scheduler that goes on from a saved state, with the start of
-    /// `RunResumed`.
-    LiveResumed {
-        start: Option<u64>,
-    },
-    /// To check a setup, and to report what is in it or why it is refused. Its first checks are those of
-    /// a scheduler that starts at the moment `start`, as above. With `line` the setup itself is written
-    /// on one line in place of what is in it.
+    /// To check a setup, and a saved state if the scheduler starts from one, and to report what is in the
+    /// setup and what becomes of the saved objects in it, or why one of the two is refused. The first checks
+    /// are those of a scheduler that starts so, as above.
     Check {
-        start: u64,
-        line: bool,
+        start: Start,
     },
-    /// To check a setup and a saved state, and to report what is in the setup and what becomes of the saved
-    /// objects in it, or why one of the two is refused. The start is that of `RunResumed`.
-    CheckResumed {
-        start: Option<u64>,
-    },
+    /// To check a setup, and to write it on one line or report why it is refused.
+    SetupLine,
     /// To have workers, 1 to 64 of them, check what is due at the moments of a script, on one
-    /// scheduler that starts at the moment `start`, as above. The scheduler's book has room for
+    /// scheduler that starts fresh at the moment `start`, from 0 to 2^60. The scheduler's book has room for
     /// `room` entries from the outset, 0 to 1,000,000.
     Drill {
         start: u64,

@@ -18,7 +18,6 @@ use crate::plugin::Plugin;
 use crate::tally::Tally;
 use crate::worker::work;
 use check_book::Book;
-use check_desk::laws::every_pass;
 use check_desk::{Desk, Pass};
 use std::alloc::{AllocError, Global};
 use std::sync::Wait;
@@ -85,8 +84,6 @@ pub fn crew<R: Threads + Wait + Sync, P: Plugin + Sync>(
         × ((pass_of pass).calls ≡ calls_in passes.items + calls_counted (tally_of_all shifts))))
         (λ back. back ≡ desk)) }
 {
-    // for the proof: what every pass has seen is a history of its desk
-    every_pass();
     if passes.is_empty() {
         return Err(CrewError::NoPass(desk));
     }
@@ -160,8 +157,6 @@ fn gather_all(desk: &Desk, mut worked: Vec<(Pass, Tally)>) -> Option<(Pass, Tall
     requires { All (λ w. IsTallied desk.now w.0 w.1) worked.items }
     ensures { MatchGathered desk.now worked.items result }
 {
-    // for the proof: the calls of every pass are few, so that they can be added up
-    every_pass();
     let (mut pass, mut tally) = worked.pop()?;
     while let Some((other, more)) = worked.pop() {
         pass = desk.gather(other, pass);

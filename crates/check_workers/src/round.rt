@@ -7,7 +7,6 @@ ghost use Rattle.check_workers.specs.Tallies.{IsSum};
 
 use crate::plugin::Plugin;
 use crate::tally::{Stop, Tally};
-use check_book::laws::replies;
 use check_desk::{Answer, Desk, Pass};
 use check_sched::{Call, Reply};
 use std::sync::Wait;
@@ -36,8 +35,6 @@ pub fn round<P: Plugin>(
         (pass_of result.0) result.1 result.2 }
     ensures sums { IsSum result.1 }
 {
-    // for the proof: which replies a take can have
-    replies();
     let (pass, answer) = desk.ask(rt, pass, Call::Take { now });
     match answer {
         Answer::Reply(reply) => match reply {
@@ -73,8 +70,6 @@ fn report<P: Plugin>(
         (pass_of pass) (pass_of result.0) result.1 result.2 }
     ensures sums { IsSum result.1 }
 {
-    // for the proof: which replies the report of a check that was taken can have
-    replies();
     let code = plugin.check(object, run, now);
     let open = Some((object, run));
     let (pass, answer) = desk.ask(rt, pass, Call::Report { object, run, code });

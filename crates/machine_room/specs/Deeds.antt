@@ -1,4 +1,4 @@
--- What a loop does to what is outside of it.
+-- The deeds of a loop in its environment.
 use Rattle.std.specs.Prelude.{◌≡◌, ℕ, Bool, List, [], ◌∷◌, Option}
 use Rattle.check_sched.specs.declared.call.Call.{Call}
 use Rattle.check_sched.specs.declared.call.Reply.{Reply}
@@ -7,11 +7,11 @@ use Rattle.machine_room.specs.declared.outside.News.{News}
 pub data Deed : Type 0 where
   -- it reads the clock, which gives this moment
   reads : ℕ → Deed
-  -- it asks what has come in, and is given this
+  -- it asks for the next event, and gets this
   asks : Option News → Deed
   -- it hands over the reply to a call that came in
   answers : Call → Reply → Deed
-  -- it has the plugin of an object started, under a run and at a moment, and is told whether it could be
+  -- it starts the plugin of an object, under a run and at a moment, and learns whether that was possible
   begins : ℕ → ℕ → ℕ → Bool → Deed
   -- it sleeps until this moment at most
   sleeps : ℕ → Deed

@@ -1,4 +1,4 @@
--- What clauses say of a round of the loop.
+-- The facts about a round of the loop that clauses state.
 use Rattle.std.specs.Prelude.{◌≡◌, ℕ, ◌+◌, ◌<◌, ◌≤◌, ◌==◌, ◌&&◌, ◌⊎◌, Bool, false, not, List, [], ◌∷◌, ◌++◌, length, filter, flat_map}
 use Rattle.std.specs.Prelude.{Result, Ok, Err, Some, None, Any, Contains, if◌then◌else◌}
 use Rattle.std.specs.List.{All, list_any}
@@ -31,7 +31,7 @@ IsOut state run = run_number_of run.object state ≡ Some run.number
 abbrev pub run_of : ℕ → ℕ → ℕ → Run
 run_of object number limit = record { object = object; number = number; limit = limit }
 
--- the limit of a check that was taken at this moment: five minutes later, or at once where its plugin couldn't be started
+-- the limit of a check that was taken at this moment: five minutes later, or at once if its plugin couldn't be started
 abbrev pub limit_at : Bool → ℕ → ℕ
 limit_at is_begun now = if is_begun then now + 300000 else now
 
@@ -62,7 +62,7 @@ KeepsRuns before after runs left = (new : List (Entry Call Reply)) × (before ++
 
 -- ---- passes
 
--- the pass is of this desk, and no run was forgotten since this caller had it
+-- the pass is of this desk, and no run was lost since this caller had it
 abbrev pub IsReturned : Desk → Caller Call Reply → List Run → List Run → Pass → Type 0
 IsReturned desk before runs left pass = IsPassOf desk pass × KeepsRuns before.seen (pass_of pass).seen runs left
 
@@ -71,7 +71,7 @@ abbrev pub IsBack : Desk → Caller Call Reply → List Run → List Run → Res
 IsBack desk before runs left (Ok pass) = IsReturned desk before runs left pass
 IsBack desk before runs left (Err ended) = IsReturned desk before runs left ended.pass
 
--- the pass beside a reply, or at the end of a generation: it is of this desk, and has seen what this caller had
+-- the pass with a reply, or at the end of a generation: it is of this desk, and has seen all that this caller had
 abbrev pub IsBackWith : Desk → Caller Call Reply → Result (Pass × Reply) Ended → Type 0
 IsBackWith desk before (Ok made) = IsPassOf desk made.0 × IsPrefix before.seen (pass_of made.0).seen
 IsBackWith desk before (Err ended) = IsPassOf desk ended.pass × IsPrefix before.seen (pass_of ended.pass).seen
@@ -95,19 +95,19 @@ pub record HasCalled {S : Type 0} (does : S → Deed → S → Type 0) (before a
   pub made : HasMade entries 0 before after
   pub left_are : left ≡ left_of entries runs
 
--- the entry's call gives up a run of this list that is past its limit at this moment
+-- the entry's call abandons a run of this list that is past its limit at this moment
 abbrev pub IsGivenUp : ℕ → List Run → Entry Call Reply → Type 0
 IsGivenUp now runs e =
     (run : Run) × Contains runs run × (run.limit ≤ now) × (e.call ≡ call.Abandon run.object run.number now)
 
--- the caller has given up runs of the list that are past their limit, and they have left it; it made no other call
+-- the caller has abandoned runs of the list that are past their limit, and they have left it; it made no other call
 pub record HasGivenUp (now : ℕ) (before after : Caller Call Reply) (runs left : List Run) : Type 0 where
   pub entries : List (Entry Call Reply)
   pub are_given_up : All (IsGivenUp now runs) entries
   pub made : HasMade entries 0 before after
   pub left_are : left ≡ left_of entries runs
 
--- where the reply is that a check was taken at this moment, its plugin was to be started, and its run was added to the list
+-- if the reply is that a check was taken at this moment, its plugin was to be started, and its run was added to the list
 abbrev pub IsBegun : {S : Type 0} → (S → Deed → S → Type 0) → ℕ → Reply → List Run → List Run → S → S → Type 0
 IsBegun does now (reply.Taken object number) before after s t =
     (is_begun : Bool) × does s (begins object number now is_begun) t
@@ -116,7 +116,7 @@ IsBegun does now other before after s t = (after ≡ before) × (s ≡ t)
 
 -- ---- sleeping
 
--- until when to sleep after this reply, whatever is out
+-- the time until which to sleep after this reply, by the reply alone
 abbrev pub due_after : ℕ → Reply → ℕ
 due_after now (reply.Idle (Some time)) = time
 due_after now reply.AtLimit = now + 1000
@@ -128,7 +128,7 @@ pub record IsWake (now : ℕ) (answer : Reply) (runs : List Run) (until : ℕ) :
   pub limits : All (λ run. until ≤ run.limit) runs
   pub earliest : (until ≡ due_after now answer) ⊎ Any (λ run. until ≡ run.limit) runs
 
--- where no check was taken or put off, the loop has slept until then, once
+-- if no check was taken or put off, the loop has slept until then, once
 abbrev pub HasSlept : {S : Type 0} → (S → Deed → S → Type 0) → ℕ → Reply → List Run → S → S → Type 0
 HasSlept does now (reply.Taken object number) runs s t = s ≡ t
 HasSlept does now (reply.PutOff object until) runs s t = s ≡ t
@@ -136,7 +136,7 @@ HasSlept does now other runs s t = (until : ℕ) × IsWake now other runs until 
 
 -- ---- a round
 
--- What a round at this moment was that ended well: the calls that came in, then the runs that were given up, then a take, and then sleep.
+-- A round at this moment that ended well: the calls that came in, then the runs that were abandoned, then a take, and then sleep.
 pub record HasTaken {S : Type 0} (does : S → Deed → S → Type 0) (now : ℕ) (before after : Caller Call Reply)
     (runs left : List Run) (s t : S) : Type 0 where
   pub came_in : List (Entry Call Reply)

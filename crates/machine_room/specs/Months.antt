@@ -1,4 +1,4 @@
--- What clauses say of generations, restarts and other setups.
+-- The facts about generations, restarts and other setups that clauses state.
 use Rattle.std.specs.Prelude.{◌≡◌, ℕ, List, [], ◌∷◌, Ok, Option, Some, None}
 use Rattle.ticket_steps.specs.declared.kept.Entry.{Entry}
 use Rattle.ticket_steps.specs.History.{IsLegal, replay}
@@ -12,18 +12,18 @@ use Rattle.check_sched.specs.declared.call.Call.{Call}
 use Rattle.check_sched.specs.declared.call.Reply.{Reply}
 use Rattle.machine_room.specs.Deeds.{Deed, reads}
 
--- the text of what is saved of a scheduler in this state
+-- the text of the saved state of a scheduler in this state
 abbrev pub saved_text_of : State → List ℕ
 saved_text_of state = saved_text (saved_of state)
 
--- the state goes on from what this text says, over this setup and from this moment on
+-- the state is resumed from this text, over this setup and from this moment on
 pub record IsResumed (setup : Configuration) (text : List ℕ) (start : ℕ) (state : State)
     : Type 0 where
   pub saved : Saved
   pub read : saved_of_text text ≡ Ok saved
   pub goes_on : state ≡ resumed setup saved start
 
--- the state goes on from the text that was kept, or is the opening where none was
+-- the state is resumed from the stored text, or is the opening if there is none
 abbrev pub IsFirst : Configuration → Option (List ℕ) → ℕ → State → Type 0
 IsFirst setup (Some text) start state = IsResumed setup text start state
 IsFirst setup None start state = state ≡ opening setup start
@@ -41,8 +41,8 @@ AreGenerations past [] from to = from ≡ to
 AreGenerations past (history ∷ histories) from to =
     (next : State) × IsGeneration past history from next × AreGenerations past histories next to
 
--- A setup was watched: it is one that the files gave. From the moment on that the clock gave first, the first state went on from what was
--- kept, and generations led from it to the last state.
+-- A setup was monitored: it is one that the files gave. The first state was resumed from the stored text, at the first moment of the clock,
+-- and generations led from it to the last state.
 pub record IsWatched {S : Type 0} (does : S → Deed → S → Type 0) (gives : Configuration → Type 0)
     (past : Configuration → List (Entry Call Reply) → Type 0) (kept : Option (List ℕ)) (outside : S) (to : State) : Type 0 where
   pub start : ℕ

@@ -1,21 +1,21 @@
 #![tactic(auto)]
-//! The program `machine_room`: a machine room that is watched for days, to show embedders how a
-//! desk runs for months. It runs the loop of `months`, which a program that embeds the scheduler may
-//! take as it is, with a simulated clock, machines that answer late or never, an operator, and a
-//! setup that changes after half of the days.
+//! The program `machine_room` monitors a simulated machine room for some days. It shows embedders how a
+//! desk runs for months. It runs the loop of `months`, which a program that embeds the scheduler can
+//! use unchanged. The clock, the machines and the operator are simulated: some machines answer late or
+//! never, and the setup changes after half of the days.
 //!
 //! Its argument is the number of days, 1 to 10,000. It writes each setup that it takes up, as one
 //! line. For each generation it writes the state that it keeps, as one line, and then a line for
 //! each entry: the call as `nagsched run` reads it, a tab, the number of the pass that made it, and
 //! its reply as `nagsched run` writes it.
 //!
-//! It ends in status 0, and in 1 if a pass of the desk is missing when a generation ends, 2 if the
-//! argument is wrong, 3 if the output can't be written, 4 out of memory, 5 if a setup or a kept
-//! state is refused.
+//! The exit status is 0, or 1 if a pass of the desk is missing when a generation ends, 2 if the
+//! argument is wrong, 3 if the output can't be written, 4 if memory runs out, and 5 if a setup or a
+//! stored state is refused.
 //!
-//! `months` has the loop, `round` a round of it, `outside` what it has to do with, `runs` the
-//! checks that it has out, and `restart` what is saved and resumed. `room` has the setups and the
-//! machines, `simulated` the outside, `told` the lines, and `fault` why the program ends early.
+//! `months` has the loop, `round` a round of it, `outside` the traits for its environment, `runs` the
+//! checks that are out, and `restart` the saved text. `room` has the setups and the machines,
+//! `simulated` the simulated environment, `told` the lines of output, and `fault` the errors.
 
 mod fault;
 mod months;
@@ -37,10 +37,10 @@ use std::rt::Env;
 use std::sync::Wait;
 use std::{env, io};
 
-/// The most days.
+/// The greatest number of days.
 const MAX_DAYS: u32 = 10_000;
 
-/// For how many entries the book of a generation has room.
+/// The number of entries for which the book of a generation has room.
 const ROOM: usize = 200;
 
 fn main(rt: HostRuntime) -> ExitCode {
@@ -50,7 +50,7 @@ fn main(rt: HostRuntime) -> ExitCode {
     }
 }
 
-/// Watches the room for as many days as the argument asks for, and writes all to standard output.
+/// Monitors the room for the number of days in the argument, and writes all to standard output.
 fn watch<R: Env + Print + AllocGlobal + Wait>(rt: &R) -> Result<(), Fault> {
     let alloc = rt.alloc();
     let mut outside = Days::of(asked(rt, alloc)?);
@@ -62,7 +62,7 @@ fn watch<R: Env + Print + AllocGlobal + Wait>(rt: &R) -> Result<(), Fault> {
     files.flush()
 }
 
-/// The number of days that the argument asks for. An Err is `Words` or `Memory`.
+/// The number of days in the argument. An Err is `Words` or `Memory`.
 fn asked<R: Env + AllocGlobal>(rt: &R, alloc: Global) -> Result<u32, Fault> {
     let args = match env::args(rt) {
         Ok(args) => args,

@@ -1,9 +1,8 @@
-//! The whole loop of a program that watches for months: it goes on from the state that was kept,
-//! works at a desk round by round, keeps the state now and then and at the end, and takes over
-//! other setups.
+//! The whole loop of a program that monitors for months. It resumes the stored state, works at a desk
+//! round by round, stores the state from time to time and at the end, and takes over other setups.
 //!
-//! `outside` has what the program brings, `round` a round, `runs` the list of the checks that are
-//! out and how long all takes, `restart` the text of a state.
+//! `outside` has the traits that the program implements, `round` a round, `runs` the list of the checks
+//! that are out and the time limits, and `restart` the text of a state.
 
 ghost use Rattle.std.specs.Prelude.{◌≡◌, List, [], Some, IfOk};
 ghost use Rattle.ticket_steps.specs.declared.kept.Entry.{Entry};
@@ -25,12 +24,12 @@ use check_desk::{Desk, Pass};
 use std::alloc::Global;
 use std::sync::Wait;
 
-/// Watches until the program is to end, and gives the book as it stands then; the text of its state
-/// is what was kept last. To take over another setup is to begin again as after a restart: from the
-/// state that was kept, over the setup as it is then.
+/// Monitors until the program is to end, and returns the book. The text that was stored last is that of
+/// the book's state. To take over another setup, the loop begins again as after a restart: from the stored
+/// state, over the new setup.
 ///
-/// A generation has half as many rounds as its book has room for entries: with a room of 0 or 1
-/// it has none, and nothing is ever taken.
+/// The number of rounds of a generation is half the room of its book. With a room of 0 or 1 a generation
+/// has no rounds, and nothing is ever taken.
 pub(crate) fn watch_months<O: Outside, F: Files>(
     rt: &impl Wait,
     alloc: Global,
@@ -50,8 +49,8 @@ pub(crate) fn watch_months<O: Outside, F: Files>(
     unreachable!()
 }
 
-/// Watches over one setup, a generation after another. The checks that were out when the state
-/// was kept are past their limit at once: nobody runs their plugins any more.
+/// Monitors over one setup, one generation after another. The checks that were out when the state was
+/// stored are past their limit at once, because their plugins no longer run.
 fn watch_setup<O: Outside, F: Files>(
     rt: &impl Wait,
     alloc: Global,
@@ -68,7 +67,7 @@ fn watch_setup<O: Outside, F: Files>(
     let setup = files.setup(alloc)?;
     let kept = files.state(alloc)?;
     let mut book = begin(alloc, setup, kept, start, room)?;
-    let mut runs = out_at(alloc, book.sched(), start)?;
+    let mut runs = out_at(alloc, &book, start)?;
     for _ in rt.forever() {
         let (next, end) = generation(rt, alloc, book, outside, files, &mut runs, room)?;
         book = match end {
@@ -115,8 +114,8 @@ fn generation<O: Outside, F: Files>(
     Ok((book, end))
 }
 
-/// Works at a desk by one pass, so many rounds at most. Where several threads work at a desk,
-/// each has a pass, an outside and a list of runs of its own.
+/// Works at a desk by one pass, for at most `rounds` rounds. If several threads work at a desk, each has
+/// a pass, an outside and a list of runs of its own.
 fn watch<O: Outside>(
     rt: &impl Wait,
     desk: &Desk,

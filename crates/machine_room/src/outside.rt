@@ -1,5 +1,5 @@
-//! What a loop that watches for months has to do with: the clock, the plugins, the operators, and
-//! the files. A program brings these two traits; `simulated` has one of each.
+//! The environment of a loop that monitors for months: the clock, the plugins, the operators, and the
+//! files. A program implements these two traits. `simulated` has an example of each.
 
 ghost use Rattle.std.specs.Prelude.{◌≡◌, ◌≤◌, Some, option_map, IfOk, OnOk};
 
@@ -9,7 +9,7 @@ use check_sched::{Call, LAST_MOMENT, Reply};
 use std::alloc::Global;
 use ticket_steps::Entry;
 
-/// What comes in from outside.
+/// An event from outside.
 #[derive(Clone, Copy)]
 pub(crate) enum News {
     /// A plugin's report, or an operator's call.
@@ -21,10 +21,10 @@ pub(crate) enum News {
 /// Why a generation ends.
 #[derive(Clone, Copy)]
 pub(crate) enum End {
-    /// It is long enough.
+    /// Its rounds are used up, or a call couldn't be made.
     Renewal,
-    /// Another setup is to be taken over. The checks that are out are given up, and a plugin that
-    /// runs on is no longer asked for.
+    /// Another setup is to be taken over. The checks that are out are abandoned, and the results of
+    /// plugins that still run are no longer used.
     Setup,
     /// The program is to end.
     Program,
@@ -33,8 +33,8 @@ pub(crate) enum End {
 /// The clock, the plugins and the operators. A program runs the plugins in threads or processes
 /// of its own, which no call of this waits for.
 ///
-/// `does` is for contracts only: it says which deeds lead from one state of the outside to which. A
-/// program that has nothing to prove of its own names all: `ghost does = { λ before deed after. ⊤ };`.
+/// `does` is for contracts only: it relates a state of the outside, a deed, and the state after it. A
+/// program without proofs of its own allows all: `ghost does = { λ before deed after. ⊤ };`.
 pub(crate) trait Outside {
     ghost use Rattle.std.specs.Prelude.{◌≤◌};
     ghost use Rattle.machine_room.specs.Deeds.{Deed, answers, asks, begins, reads, sleeps};
@@ -46,30 +46,30 @@ pub(crate) trait Outside {
         ensures moment { result ≤ LAST_MOMENT }
         ensures does { does self.old (reads result) self.new };
 
-    /// Starts the plugin of a check that was taken. False where it can't be started.
+    /// Starts the plugin of a check that was taken. Returns false if it can't be started.
     fn begin(&mut self, object: u32, run: u64, now: u64) -> bool
         ensures { does self.old (begins object run now result) self.new };
 
-    /// What has come in, one by one. A call stays until it was answered: it is given again where
-    /// there was no memory for it.
+    /// The next event. A call stays until it is answered: it is returned again if there was no memory
+    /// for it.
     fn came_in(&mut self) -> Option<News>
         ensures { does self.old (asks result) self.new };
 
-    /// Is handed the reply to the call that `came_in` gave last, which is done with: how an object
-    /// stands after a report, or why the call was refused.
+    /// Takes the reply to the last call that `came_in` returned, for example the standing of an object
+    /// after a report, or why the call was refused. The call is done.
     fn answered(&mut self, call: Call, reply: Reply)
         ensures { does self.old (answers call reply) self.new };
 
-    /// Sleeps until this moment, or until something comes in. It may end earlier.
+    /// Sleeps until this moment, or until an event comes in. It may end earlier.
     fn sleep(&mut self, until: u64)
         ensures { does self.old (sleeps until) self.new };
 }
 
-/// The file with the setup, the one that keeps the state, and where the history goes.
+/// The setup file, the file with the stored state, and the destination of the history.
 ///
-/// For contracts only: `kept` is the text that was kept last, `gives` says of which setups the file
-/// may give one, and `past` which histories it may be handed; a program that has nothing to prove of
-/// these two names all, by `⊤`.
+/// For contracts only: `kept` is the text that was stored last, `gives` the set of setups that the file may
+/// have, and `past` the set of histories that it may get. A program without proofs about these two allows
+/// all, by `⊤`.
 pub(crate) trait Files {
     ghost use Rattle.std.specs.Prelude.{ℕ, List, Option};
     ghost use Rattle.ticket_steps.specs.declared.kept.Entry.{Entry as EntryOf};
@@ -83,20 +83,20 @@ pub(crate) trait Files {
 
     ghost past: { Configuration → List (EntryOf CallOf ReplyOf) → Type 0 };
 
-    /// The setup as it is now.
+    /// The present setup.
     fn setup(&mut self, alloc: Global) -> Result<Setup, Fault>
         ensures kept { kept self.new ≡ kept self.old }
         ensures given { IfOk result gives };
 
-    /// The text that was kept last, by this run of the program or by an earlier one.
+    /// The text that was stored last, by this run of the program or by an earlier one.
     fn state(&self, alloc: Global) -> Result<Option<Vec<u8>>, Fault>
         ensures { IfOk result (λ text. option_map (λ bytes. bytes.items) text ≡ kept self.now) };
 
-    /// Keeps a text in place of the one before, so that one of the two is always whole.
+    /// Stores a text in place of the one before, so that one of the two is always whole.
     fn keep(&mut self, text: &[u8]) -> Result<(), Fault>
         ensures { OnOk result (kept self.new ≡ Some text.now) };
 
-    /// Is handed the history of a generation that has ended.
+    /// Takes the history of a generation that has ended.
     fn past(&mut self, setup: &Setup, entries: &[Entry<Call, Reply>]) -> Result<(), Fault>
         ensures kept { kept self.new ≡ kept self.old }
         ensures past { OnOk result (past setup.now entries.now) };

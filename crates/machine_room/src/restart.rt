@@ -1,5 +1,5 @@
-//! A restart: the book is put down as text, and another one goes on from that text. A program
-//! that really ends keeps the text in a file, and reads its setup anew.
+//! A restart: the state of the book is saved as text, and another book is resumed from that text. A
+//! program that really ends stores the text in a file, and reads its setup again.
 
 ghost use Rattle.std.specs.Prelude.{◌≡◌, ◌≤◌, [], option_map, IfErr, IfNone, IfOk, IfSome};
 ghost use Rattle.check_book.specs.Books.{entries_of, refused_of, sched_of};
@@ -12,14 +12,14 @@ use check_objects::Setup;
 use check_sched::{LAST_MOMENT, Saved};
 use std::alloc::{AllocError, Global};
 
-/// The text of what is saved of a book, as it stands.
+/// The text of a book's saved state.
 pub(crate) fn saved_text(alloc: Global, book: &Book) -> Result<Vec<u8>, AllocError>
     ensures { IfOk result (λ text. text.items ≡ saved_text_of (sched_of book.now)) }
 {
     book.save(alloc)?.write(alloc)
 }
 
-/// The book that goes on from a saved text over this setup, which may be another one, from this
+/// The book that is resumed from a saved text over this setup, which may be another one, from this
 /// moment on.
 pub(crate) fn take_up(
     alloc: Global,
@@ -40,7 +40,7 @@ pub(crate) fn take_up(
     }
 }
 
-/// The book to begin with: it goes on from the text that was kept, or opens anew where none was.
+/// The first book: it is resumed from the stored text, or opened if there is none.
 pub(crate) fn begin(
     alloc: Global,
     setup: Setup,

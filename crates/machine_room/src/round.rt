@@ -1,5 +1,5 @@
-//! A round of the loop: it makes the calls that have come in, gives up what takes too long, takes
-//! what is due, and sleeps.
+//! A round of the loop: it makes the calls that have come in, abandons the runs that are past their limit,
+//! takes a check that is due, and sleeps.
 
 ghost use Rattle.std.specs.Prelude.{◌≡◌, ℕ, Bool, ◌<◌, ◌≤◌, ◌∷◌, ◌++◌, []};
 ghost use Rattle.std.specs.Prelude.{Contains, IfOk, OnErr, OnOk, vec_capacity, vec_len};
@@ -18,7 +18,7 @@ use check_desk::{Answer, Desk, Pass};
 use check_sched::{Call, LAST_MOMENT, Reply};
 use std::sync::Wait;
 
-/// How many calls that came in are made in a round at most.
+/// The greatest number of incoming calls that a round makes.
 const CALLS_AT_ONCE: u32 = 1_000;
 
 /// A pass whose generation has ended, and why.
@@ -77,7 +77,7 @@ fn make_calls<O: Outside>(
     Ok(pass)
 }
 
-/// Makes a call that came in. One that can't be made isn't answered, so that it stays outside.
+/// Makes a call that came in. A call that can't be made isn't answered, and comes in again.
 fn make_call<O: Outside>(
     rt: &impl Wait,
     desk: &Desk,
@@ -101,7 +101,7 @@ fn make_call<O: Outside>(
     Ok(pass)
 }
 
-/// Gives up each run that is past its limit: its object is due again.
+/// Abandons each run that is past its limit, so that its object is due again.
 fn give_up_overdue(
     rt: &impl Wait,
     desk: &Desk,
@@ -122,7 +122,7 @@ fn give_up_overdue(
     Ok(pass)
 }
 
-/// Gives up a run, which leaves the list.
+/// Abandons a run, and removes it from the list.
 fn give_up(
     rt: &impl Wait,
     desk: &Desk,
@@ -149,7 +149,7 @@ fn give_up(
     Ok(pass)
 }
 
-/// Takes a check, and starts its plugin. One that can't be started is past its limit at once.
+/// Takes a check, and starts its plugin. If the plugin can't be started, the run is past its limit at once.
 fn take<O: Outside>(
     rt: &impl Wait,
     desk: &Desk,
@@ -206,7 +206,7 @@ fn rest<O: Outside>(outside: &mut O, now: u64, reply: Reply, runs: &[Run])
     }
 }
 
-/// Makes a call. Where that can't be the generation ends: the next one has room and calls again.
+/// Makes a call. If the call can't be made, the generation ends: the next one has room and calls again.
 fn ask(rt: &impl Wait, desk: &Desk, pass: Pass, call: Call) -> Result<(Pass, Reply), Ended>
     requires { IsPassOf desk.now pass }
     ensures back { IsBackWith desk.now (pass_of pass) result }

@@ -1,24 +1,26 @@
-//! The checks that a loop has out, and until when it may sleep.
+//! The checks that are out, and the time until which the loop may sleep.
 
 ghost use Rattle.std.specs.Prelude.{◌≡◌, ℕ, ◌≤◌, ◌<◌, ◌⊎◌, Some, None};
 ghost use Rattle.std.specs.Prelude.{Any, Contains, IfOk, IfSome};
 ghost use Rattle.std.specs.List.{All};
+ghost use Rattle.check_book.specs.Books.{sched_of};
 ghost use Rattle.check_sched.specs.State.{run_number_of};
 ghost use Rattle.machine_room.specs.Loop.{IsOut, IsWake, due_after, left_by, limit_at, names, run_of};
 
-use check_sched::{Call, LAST_MOMENT, Reply, Sched};
+use check_book::Book;
+use check_sched::{Call, LAST_MOMENT, Reply};
 use std::alloc::{AllocError, Global};
 
-/// How long a plugin may run, in milliseconds.
+/// The time limit of a plugin, in milliseconds.
 const PLUGIN_LIMIT: u64 = 300_000;
 
-/// How long a loop sleeps at most: at the limit of checks that run at once, and where none is
+/// The longest sleep of a loop in milliseconds: at the limit of checks that run at once, and if no check is
 /// due.
 const AT_LIMIT: u64 = 1_000;
 
 const WITHOUT_WORK: u64 = 3_600_000;
 
-/// A check that is out, and the moment at which it is given up.
+/// A check that is out, and the moment at which it is abandoned.
 #[derive(Clone, Copy)]
 pub(crate) struct Run {
     pub(crate) object: u32,
@@ -26,14 +28,15 @@ pub(crate) struct Run {
     pub(crate) limit: u64,
 }
 
-/// The checks that a scheduler has out, all of them, with this limit.
-pub(crate) fn out_at(alloc: Global, sched: &Sched, limit: u64) -> Result<Vec<Run>, AllocError>
+/// Lists the runs of all checks of a book's scheduler that are out, each with this limit.
+pub(crate) fn out_at(alloc: Global, book: &Book, limit: u64) -> Result<Vec<Run>, AllocError>
     ensures out { IfOk result (λ runs.
-        All (λ run. IsOut sched.now run × (run.limit ≡ limit)) runs.items) }
+        All (λ run. IsOut (sched_of book.now) run × (run.limit ≡ limit)) runs.items) }
     ensures all { IfOk result (λ runs. (object number : ℕ)
-        → run_number_of object sched.now ≡ Some number
+        → run_number_of object (sched_of book.now) ≡ Some number
         → Contains runs.items (run_of object number limit)) }
 {
+    let sched = book.sched();
     let mut runs = Vec::new(alloc);
     for place in 0..sched.setup().len() {
         let object = place as u32;
@@ -45,8 +48,6 @@ pub(crate) fn out_at(alloc: Global, sched: &Sched, limit: u64) -> Result<Vec<Run
             })?;
         }
     }
-    // for the proof: it has as many objects as its setup
-    sched.is_state();
     Ok(runs)
 }
 
@@ -90,7 +91,7 @@ fn is_named(call: Call, run: Run) -> bool
     }
 }
 
-/// Until when a plugin may run that was started at this moment, or couldn't be.
+/// The limit of a check that was taken at this moment, and whose plugin was started or couldn't be.
 pub(crate) fn limit_of(is_begun: bool, now: u64) -> u64
     requires { now ≤ LAST_MOMENT }
     ensures { result ≡ limit_at is_begun now }
@@ -98,8 +99,8 @@ pub(crate) fn limit_of(is_begun: bool, now: u64) -> u64
     if is_begun { now + PLUGIN_LIMIT } else { now }
 }
 
-/// Until when to sleep where no check was taken: until the next is due, a second at the limit of
-/// checks that run at once, an hour where none is due, and never past the limit of a run.
+/// The time until which to sleep if no check was taken: until the next check is due, a second at the limit
+/// of checks that run at once, an hour if no check is due, and never past the limit of a run.
 pub(crate) fn wake(now: u64, reply: Reply, runs: &[Run]) -> u64
     requires { now ≤ LAST_MOMENT }
     ensures { IsWake now reply runs.now result }
@@ -119,7 +120,7 @@ fn earliest(until: u64, runs: &[Run]) -> u64
     }
 }
 
-/// Until when to sleep, whatever is out.
+/// The time until which to sleep by the reply alone.
 fn due(now: u64, reply: Reply) -> u64
     requires { now ≤ LAST_MOMENT }
     ensures { result ≡ due_after now reply }

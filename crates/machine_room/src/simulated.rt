@@ -1,6 +1,5 @@
-//! What is outside of the loop, simulated: a clock that goes on only while the loop sleeps,
-//! machines that answer after seconds or never, an operator, a setup that changes, and files that
-//! are kept in memory.
+//! The simulated environment of the loop: a clock that advances only while the loop sleeps, machines that
+//! answer after seconds or never, an operator, a setup that changes, and files in memory.
 
 ghost use Rattle.std.specs.Prelude.{⊤, option_map};
 
@@ -45,7 +44,7 @@ impl Days {
         }
     }
 
-    /// The next report that is there.
+    /// The next report that has come in.
     fn report(&self) -> Option<Call> {
         for object in 0..OBJECTS {
             if let Some(Pending { time, call }) = self.pending[object] {
@@ -57,7 +56,7 @@ impl Days {
         None
     }
 
-    /// When the next report, the operator's next call, the change of the setup or the end comes.
+    /// The time of the next event: a report, a call of the operator, the change of the setup, or the end.
     fn next(&self) -> u64 {
         let mut next = self.noon.min(self.end);
         if let Some(change) = self.change {

@@ -1,4 +1,4 @@
-//! How a generation is reported: its entries as lines that `nagsched run` reads and writes.
+//! The report of a generation: its entries as lines that `nagsched run` reads and writes.
 
 use crate::fault::Fault;
 use check_objects::Setup;
@@ -8,7 +8,7 @@ use std::alloc::{AllocError, Global};
 use std::io::Write;
 use ticket_steps::Entry;
 
-/// Writes entries, a line each.
+/// Writes entries, one line for each.
 pub(crate) fn write_entries<W: Write>(
     alloc: Global,
     setup: &Setup,
@@ -26,8 +26,7 @@ pub(crate) fn write_entries<W: Write>(
     Ok(())
 }
 
-/// Appends a call as a command of `nagsched run`. The room's names have no character that JSON writes
-/// in another way.
+/// Appends a call as a command of `nagsched run`. The room's names have no character that JSON escapes.
 fn push_call(line: &mut String, setup: &Setup, call: Call) -> Result<(), AllocError> {
     match call {
         Call::Take { now } => write!(*line, "[\"take\",{now}]"),
@@ -58,7 +57,7 @@ fn push_call(line: &mut String, setup: &Setup, call: Call) -> Result<(), AllocEr
     }
 }
 
-/// The full name of an object, or nothing where the setup has no object of this number.
+/// The full name of an object, or an empty text if the setup has no object of this number.
 fn name_of(setup: &Setup, object: u32) -> &str {
     if (object as usize) < setup.len() {
         setup.name(object)

@@ -1,41 +1,46 @@
--- What C is handed of passes that are put together, of a desk that is ended, and of a book that goes on.
+-- What C gets of passes that are gathered, of a desk that is closed, and of a book that is renewed.
 use Rattle.std.specs.Prelude.{◌≡◌, ◌⊎◌, ℕ, true, is_some, Option, Some, None}
 use Rattle.check_handles.specs.declared.desk_pass.DeskPass.{DeskPass}
-use Rattle.check_handles.specs.declared.lodged.Ledger.{Ledger}
-use Rattle.check_handles.specs.declared.lodged.Lodged.{Lodged}
-use Rattle.check_handles.specs.declared.lodged.Lodged.TheVariants as lodged
-use Rattle.check_handles.specs.Desks.{IsSamePass, desk_of, stage_of}
+use Rattle.check_handles.specs.declared.target.NamedBook.{NamedBook}
+use Rattle.check_handles.specs.declared.target.HandleTarget.{HandleTarget}
+use Rattle.check_handles.specs.declared.target.HandleTarget.TheVariants as target
+use Rattle.check_handles.specs.Desks.{IsSamePass, desk_of, pass_state_of}
 use Rattle.check_handles.specs.Closing.{IsBook, IsBookAfter, IsGathered, IsRenewed, IsResting}
 use Rattle.nagsched_c.specs.declared.status.TheConstants.{MISSING, NO_MEMORY, OK, WRONG}
 
 -- Two passes became one, and the second handle is empty; or nothing was done.
-abbrev pub HasGathered : Option Lodged → Option Lodged → ℕ → Option Lodged → Option Lodged → Type 0
+abbrev pub HasGathered : Option HandleTarget → Option HandleTarget → ℕ → Option HandleTarget → Option HandleTarget → Type 0
 HasGathered a b status a' b' =
-    ((status ≡ OK) × (b' ≡ None) × ((first : Lodged) × (second : Lodged) × (both : Lodged) × (a ≡ Some first) × (b ≡ Some second) × (a' ≡ Some both) × IsGathered first second both))
+    ((status ≡ OK) × (b' ≡ None) × ((first : HandleTarget) × (second : HandleTarget) × (both : HandleTarget)
+    × (a ≡ Some first) × (b ≡ Some second) × (a' ≡ Some both) × IsGathered first second both))
     ⊎ ((status ≡ WRONG) × (a' ≡ a) × (b' ≡ b))
 
 -- a pass at rest, in a handle
-abbrev pub IsRestingIn : Option Lodged → Type 0
-IsRestingIn (Some lodged) = IsResting lodged
+abbrev pub IsRestingIn : Option HandleTarget → Type 0
+IsRestingIn (Some target) = IsResting target
 IsRestingIn None = ⊥
 
--- The desk was ended, and the handle has its book; or passes are missing, and the pass is as it was; or the handle has no pass
--- that rests, and nothing was done.
-abbrev pub HasClosed : Option Lodged → ℕ → Option Lodged → Type 0
+-- The desk was closed, and the handle has its book; or passes are missing, and the pass is unchanged; or the handle has no pass that rests, and nothing was
+-- done.
+abbrev pub HasClosed : Option HandleTarget → ℕ → Option HandleTarget → Type 0
 HasClosed before status after =
-    ((pass : DeskPass) × (before ≡ Some (lodged.Pass pass)) × (status ≡ OK) × ((ledger : Ledger) × (after ≡ Some (lodged.Book ledger)) × IsBookAfter (desk_of pass) (stage_of pass) ledger))
-    ⊎ (((pass : DeskPass) × (before ≡ Some (lodged.Pass pass)) × (status ≡ MISSING) × ((same : DeskPass) × (after ≡ Some (lodged.Pass same)) × IsSamePass pass same))
+    ((pass : DeskPass) × (before ≡ Some (target.Pass pass)) × (status ≡ OK)
+    × ((named : NamedBook) × (after ≡ Some (target.Book named)) × IsBookAfter (desk_of pass) (pass_state_of pass) named))
+    ⊎ (((pass : DeskPass) × (before ≡ Some (target.Pass pass)) × (status ≡ MISSING)
+    × ((same : DeskPass) × (after ≡ Some (target.Pass same)) × IsSamePass pass same))
     ⊎ ((status ≡ WRONG) × (after ≡ before) × (IsRestingIn before → ⊥)))
 
 -- a book, in a handle
-abbrev pub IsBookIn : Option Lodged → Type 0
-IsBookIn (Some lodged) = IsBook lodged
+abbrev pub IsBookIn : Option HandleTarget → Type 0
+IsBookIn (Some target) = IsBook target
 IsBookIn None = ⊥
 
--- The book goes on, and its history is in the other handle; or memory was refused, and the book is as it was; or the handle has no book
--- or the other isn't empty, and nothing was done.
-abbrev pub HasRenewed : ℕ → Option Lodged → Option Lodged → ℕ → Option Lodged → Option Lodged → Type 0
+-- The book was renewed, and its history is in the other handle; or memory was refused, and the book is unchanged; or the handle has no book or the other
+-- isn't empty, and nothing was done.
+abbrev pub HasRenewed : ℕ → Option HandleTarget → Option HandleTarget → ℕ → Option HandleTarget → Option HandleTarget → Type 0
 HasRenewed room book history status book' history' =
-    ((history ≡ None) × (status ≡ OK) × ((before : Ledger) × (after : Ledger) × (book ≡ Some (lodged.Book before)) × (book' ≡ Some (lodged.Book after)) × IsRenewed room before after history'))
-    ⊎ (((history' ≡ history) × (status ≡ NO_MEMORY) × ((before : Ledger) × (after : Ledger) × (book ≡ Some (lodged.Book before)) × (book' ≡ Some (lodged.Book after)) × (after.book ≡ before.book)))
+    ((history ≡ None) × (status ≡ OK) × ((before : NamedBook) × (after : NamedBook)
+    × (book ≡ Some (target.Book before)) × (book' ≡ Some (target.Book after)) × IsRenewed room before after history'))
+    ⊎ (((history' ≡ history) × (status ≡ NO_MEMORY) × ((before : NamedBook) × (after : NamedBook)
+    × (book ≡ Some (target.Book before)) × (book' ≡ Some (target.Book after)) × (after.book ≡ before.book)))
     ⊎ ((status ≡ WRONG) × (book' ≡ book) × (history' ≡ history) × (IsBookIn book → is_some history ≡ true)))

@@ -1,14 +1,14 @@
--- What C is handed of opening a desk.
+-- What C gets of opening a desk.
 use Rattle.std.specs.Prelude.{◌≡◌, ◌⊎◌, ◌<◌, ◌≤◌, ℕ, Bool, true, not, is_some, List, length, Option, Some, None}
 use Rattle.std.specs.List.{list_all}
 use Rattle.check_handles.specs.declared.handle.Handle.{Handle}
-use Rattle.check_handles.specs.declared.lodged.Lodged.{Lodged}
+use Rattle.check_handles.specs.declared.target.HandleTarget.{HandleTarget}
 use Rattle.check_handles.specs.declared.opening.Terms.{Terms}
 use Rattle.check_handles.specs.Handles.{contents_of}
 use Rattle.check_handles.specs.Opening.{IsBack, IsOpenedBy, IsSource}
 use Rattle.nagsched_c.specs.declared.status.TheConstants.{NO_MEMORY, OK, WRONG}
 
--- the terms on which a desk opens at this start and with this room, where it has this mark and each pass so many calls
+-- the terms of a desk with this start, this room, this mark, and this many calls for each pass
 abbrev pub terms_of : ℕ → ℕ → ℕ → ℕ → Terms
 terms_of start room mark calls = record { start = start; room = room; mark = mark; calls = calls }
 
@@ -20,20 +20,21 @@ are_empty handles = list_all (λ handle. not (is_some (contents_of handle))) han
 abbrev pub ArePlaces : List Handle → Type 0
 ArePlaces passes = (0 < length passes) × (length passes ≤ 1024) × (are_empty passes ≡ true)
 
--- what a handle leads to can be opened
-abbrev pub IsSourceIn : Terms → Option Lodged → Type 0
+-- a desk can be opened on the target of a handle
+abbrev pub IsSourceIn : Terms → Option HandleTarget → Type 0
 IsSourceIn terms (Some source) = IsSource terms source
 IsSourceIn terms None = ⊥
 
--- all that opening needs but memory
-abbrev pub MayOpen : Terms → Option Lodged → List Handle → Type 0
+-- all that opening needs except memory
+abbrev pub MayOpen : Terms → Option HandleTarget → List Handle → Type 0
 MayOpen terms before passes = ArePlaces passes × IsSourceIn terms before × (0 < terms.calls) × (terms.calls ≤ 4294967295)
 
--- The three answers: a desk was opened, and the handle that was given is empty; memory was refused, and the source is handed back; or
--- it can't be opened so, and nothing was done.
-abbrev pub HasOpened : Terms → Option Lodged → List Handle → ℕ → Option Lodged → List Handle → Type 0
+-- The three statuses: a desk was opened, and the source's handle is empty; memory was refused, and the source is handed back; or it can't be opened like
+-- this, and nothing was done.
+abbrev pub HasOpened : Terms → Option HandleTarget → List Handle → ℕ → Option HandleTarget → List Handle → Type 0
 HasOpened terms before passes status after opened =
     ((status ≡ OK) × (after ≡ None)
-    × ((source : Lodged) × (before ≡ Some source) × IsSource terms source × IsOpenedBy terms source opened))
-    ⊎ (((status ≡ NO_MEMORY) × (opened ≡ passes) × ((source : Lodged) × (back : Lodged) × (before ≡ Some source) × (after ≡ Some back) × IsBack terms source back))
+    × ((source : HandleTarget) × (before ≡ Some source) × IsSource terms source × IsOpenedBy terms source opened))
+    ⊎ (((status ≡ NO_MEMORY) × (opened ≡ passes) × ((source : HandleTarget) × (back : HandleTarget)
+    × (before ≡ Some source) × (after ≡ Some back) × IsBack terms source back))
     ⊎ ((status ≡ WRONG) × (after ≡ before) × (opened ≡ passes) × (MayOpen terms before passes → ⊥)))

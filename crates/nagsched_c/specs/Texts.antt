@@ -1,4 +1,4 @@
--- The texts that C is handed.
+-- The texts that C gets.
 use Rattle.std.specs.Prelude.{◌≡◌, ◌≢◌, ◌⊎◌, ℕ, List}
 use Rattle.ticket_steps.specs.declared.kept.Entry.{Entry}
 use Rattle.check_drafts.specs.declared.error.LoadError.{LoadError}
@@ -24,12 +24,12 @@ use Rattle.nagsched_c.specs.declared.status.TheConstants.{NO_MEMORY, WRONG}
 abbrev pub IsUntold : ℕ → List ℕ → ℕ → ℕ → List ℕ → ℕ → Type 0
 IsUntold why room before status after bytes = (status ≡ why) × (after ≡ room) × (bytes ≡ before)
 
--- the line was put, or memory was refused for it
+-- the line was written, or memory was refused for it
 abbrev pub IsTold : List ℕ → List ℕ → ℕ → ℕ → List ℕ → ℕ → Type 0
 IsTold line room before status after bytes = IsPut line room status after bytes ⊎ IsUntold NO_MEMORY room before status after bytes
 
--- the line of the refusal with this struct was written, of a document or of a saved state; or none is refused so, as where memory is lacking,
--- and nothing was written
+-- the line of the refusal with this struct was written, of a document or of a saved state; or no refusal but out of memory has this struct, and nothing was
+-- written
 abbrev pub HasRefusalText : PlainRefusal → List ℕ → ℕ → ℕ → List ℕ → ℕ → Type 0
 HasRefusalText told room before status after bytes =
     ((error : LoadError) × (error ≢ load.Memory) × (plain_refusal error ≡ told)
@@ -40,7 +40,8 @@ HasRefusalText told room before status after bytes =
 -- the line of the reply with this struct, to the call with this struct, was written; or no call or no reply has its struct
 abbrev pub HasReplyText : Configuration → PlainCall → PlainReply → List ℕ → ℕ → ℕ → List ℕ → ℕ → Type 0
 HasReplyText setup asked told room before status after bytes =
-    ((call : Call) × (reply : Reply) × (plain_call call ≡ asked) × (plain_reply reply ≡ told) × IsTold (reply_line setup call reply) room before status after bytes)
+    ((call : Call) × (reply : Reply) × (plain_call call ≡ asked) × (plain_reply reply ≡ told)
+    × IsTold (reply_line setup call reply) room before status after bytes)
     ⊎ (IsUntold WRONG room before status after bytes × (IsNoCall asked ⊎ IsNoReply told))
 
 -- the line of the entry with this struct was written; or no entry has it

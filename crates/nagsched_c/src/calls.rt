@@ -1,7 +1,7 @@
 //! The six calls, a try each.
 //!
-//! A try looks once whether the pass's turn has come, and makes the call then; C tries again until it
-//! has. So no pass holds the book between two calls of C.
+//! A try looks once whether the pass's turn has come, and makes the call then. C tries again until it has.
+//! So no pass holds the book between two calls of C.
 
 ghost use Rattle.std.specs.Prelude.{◌≡◌, Option, Some, None};
 ghost use Rattle.check_rules.specs.Numbers.{numbered_code};
@@ -11,7 +11,7 @@ ghost use Rattle.check_records.specs.Plain.{flag_of};
 ghost use Rattle.nagsched_c.specs.Tries.{reply_after, status_of, HasTried, HasTriedIf};
 
 use crate::status::{NO_MEMORY, OK, SPENT, WAIT, WRONG};
-use check_handles::{Handle, Lodged, Step};
+use check_handles::{Handle, HandleTarget, Step};
 use check_records::{PlainReply, flag_of, tell_reply};
 use check_rules::Code;
 use check_sched::Call;
@@ -19,11 +19,11 @@ use std::alloc::Global;
 
 /// Asks which object is to be checked at the moment `now`, and begins its check.
 ///
-/// What a try of any of the six calls does: where the turn has come the call is made and recorded, and
-/// the struct has its reply (`OK`). Where it hasn't the pass waits, and the same call with the same
-/// arguments is to be made again (`WAIT`). `SPENT`: the pass has no call left. `NO_MEMORY`: there was
-/// none for the entry; the call wasn't made, but is counted. `WRONG`, where the handle has no pass, or
-/// the pass waits for the turn of another call: nothing was done.
+/// Each of the six calls is tried like this. If the turn has come, the call is made and recorded, and the
+/// struct has its reply (`OK`). If it hasn't, the pass waits, and C has to make the same call with the same
+/// arguments again (`WAIT`). `SPENT`: the pass has no call left. `NO_MEMORY`: out of memory for the entry;
+/// the call wasn't made, but is counted. `WRONG`: the handle has no pass, or the pass waits for the turn of
+/// another call; nothing was done.
 #[unsafe(no_mangle)]
 pub extern "C" fn nagsched_try_take(
     alloc: Global,
@@ -37,8 +37,8 @@ pub extern "C" fn nagsched_try_take(
     try_call(alloc, pass, Call::Take { now }, reply)
 }
 
-/// Reports what the check of an object returned that was handed out under the number `run`, and ends that
-/// run. A code above 3 is `WRONG`. The rest is as of [`nagsched_try_take`].
+/// Reports the return code of the check of an object that was handed out under the number `run`, and ends
+/// that run. A code above 3 is `WRONG`. The rest is as for [`nagsched_try_take`].
 #[unsafe(no_mangle)]
 pub extern "C" fn nagsched_try_report(
     alloc: Global,
@@ -57,8 +57,8 @@ pub extern "C" fn nagsched_try_report(
     }
 }
 
-/// Gives up, at the moment `now`, the check of an object that was handed out under the number `run`, and
-/// ends that run without a result. The rest is as of [`nagsched_try_take`].
+/// Abandons, at the moment `now`, the check of an object that was handed out under the number `run`, and
+/// ends that run without a result. The rest is as for [`nagsched_try_take`].
 #[unsafe(no_mangle)]
 pub extern "C" fn nagsched_try_abandon(
     alloc: Global,
@@ -74,8 +74,8 @@ pub extern "C" fn nagsched_try_abandon(
     try_call(alloc, pass, Call::Abandon { object, run, now }, reply)
 }
 
-/// Sets the next check of an object to the moment `time`, forced where `forced` is 1. Another number than
-/// 0 and 1 is `WRONG`. The rest is as of [`nagsched_try_take`].
+/// Sets the next check of an object to the time `time`, in milliseconds, forced if `forced` is 1. Another
+/// number than 0 and 1 is `WRONG`. The rest is as for [`nagsched_try_take`].
 #[unsafe(no_mangle)]
 pub extern "C" fn nagsched_try_reschedule(
     alloc: Global,
@@ -101,8 +101,8 @@ pub extern "C" fn nagsched_try_reschedule(
     }
 }
 
-/// Turns the active checks of an object on, where `on` is 1, or off, where it is 0. Another number is
-/// `WRONG`. The rest is as of [`nagsched_try_take`].
+/// Switches the active checks of an object on, if `on` is 1, or off, if it is 0. Another number is `WRONG`.
+/// The rest is as for [`nagsched_try_take`].
 #[unsafe(no_mangle)]
 pub extern "C" fn nagsched_try_enable(
     alloc: Global,
@@ -120,7 +120,7 @@ pub extern "C" fn nagsched_try_enable(
     }
 }
 
-/// Asks what is known of an object, and changes nothing but the history. The rest is as of
+/// Asks for the standing of an object, and changes only the history. The rest is as for
 /// [`nagsched_try_take`].
 #[unsafe(no_mangle)]
 pub extern "C" fn nagsched_try_status(
@@ -135,23 +135,23 @@ pub extern "C" fn nagsched_try_status(
     try_call(alloc, pass, Call::Status { object }, reply)
 }
 
-/// A try to make the call.
+/// Tries to make the call.
 fn try_call(alloc: Global, pass: &mut Handle, call: Call, reply: &mut PlainReply) -> u32
     ensures { HasTried call (contents_of pass.old) reply.old result (contents_of pass.new)
         reply.new }
 {
-    let Some(mut lodged) = pass.take(alloc) else {
+    let Some(mut target) = pass.take(alloc) else {
         return WRONG;
     };
-    let status = match &mut *lodged {
-        Lodged::Pass(pass) => tell(pass.step(call), reply),
+    let status = match &mut *target {
+        HandleTarget::Pass(pass) => tell(pass.step(call), reply),
         _ => WRONG,
     };
-    *pass = Handle::of(lodged);
+    *pass = Handle::of(target);
     status
 }
 
-/// Tells C what came of a try.
+/// Writes the outcome of a try for C.
 fn tell(step: Step, reply: &mut PlainReply) -> u32
     ensures status { result ≡ status_of step }
     ensures reply { reply.new ≡ reply_after step reply.old }

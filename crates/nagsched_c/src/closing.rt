@@ -1,4 +1,4 @@
-//! Passes put together, a desk ended, and its book gone on with.
+//! Passes gathered, a desk closed, and its book renewed.
 
 ghost use Rattle.std.specs.Prelude.{◌≡◌, ◌↔◌, is_some, true};
 ghost use Rattle.check_handles.specs.Closing.{AreOfOneDesk, MayBeGathered, MissesPasses};
@@ -6,16 +6,16 @@ ghost use Rattle.check_handles.specs.Handles.{contents_of};
 ghost use Rattle.nagsched_c.specs.Closing.{HasClosed, HasGathered, HasRenewed, IsBookIn, IsRestingIn};
 
 use crate::status::{MISSING, NO_MEMORY, OK, WRONG};
-use check_handles::closing::{close, go_on, is_book, put_together, rests};
-use check_handles::{Handle, Lodged};
+use check_handles::closing::{close, is_book, put_together, renew, rests};
+use check_handles::{Handle, HandleTarget};
 use std::alloc::Global;
 use std::mem::replace;
 
-/// Puts two passes of one desk together: the first goes on, and answers for the calls of both. The
-/// second handle is empty then.
+/// Gathers two passes of one desk: the first stays, and answers for the calls of both. The second handle is
+/// empty afterwards.
 ///
-/// Wrong exactly where one of the two is no pass or waits for its turn, or where their desks have two
-/// marks: then both are as they were.
+/// Wrong exactly if one of the two is no pass or waits for its turn, or if their desks have two marks. Then
+/// both are as they were.
 #[unsafe(no_mangle)]
 pub extern "C" fn nagsched_gather(alloc: Global, pass: &mut Handle, other: &mut Handle) -> u32
     requires one_desk { AreOfOneDesk (contents_of pass.old) (contents_of other.old) }
@@ -41,42 +41,42 @@ pub extern "C" fn nagsched_gather(alloc: Global, pass: &mut Handle, other: &mut 
     }
 }
 
-/// Ends the desk, where all its passes were gathered into this one: the handle has the book then.
+/// Ends the desk, if all its passes were gathered into this one. The handle has the book afterwards.
 ///
-/// Missing where they weren't, and wrong exactly where the handle has no pass or the pass waits for
-/// its turn: then it is as it was.
+/// Missing if they weren't, and wrong exactly if the handle has no pass or the pass waits for its turn. Then
+/// the handle is as it was.
 #[unsafe(no_mangle)]
 pub extern "C" fn nagsched_close(alloc: Global, pass: &mut Handle) -> u32
     ensures closed { HasClosed (contents_of pass.old) result (contents_of pass.new) }
     ensures missing { MissesPasses (contents_of pass.old) → result ≡ MISSING }
     ensures wrong { (result ≡ WRONG) ↔ (IsRestingIn (contents_of pass.old) → ⊥) }
 {
-    let Some(mut lodged) = pass.take(alloc) else {
+    let Some(mut target) = pass.take(alloc) else {
         return WRONG;
     };
-    if !rests(&lodged) {
-        *pass = Handle::of(lodged);
+    if !rests(&target) {
+        *pass = Handle::of(target);
         return WRONG;
     }
-    match close(replace(&mut *lodged, Lodged::Nothing)) {
+    match close(replace(&mut *target, HandleTarget::Nothing)) {
         Ok(book) => {
-            *lodged = book;
-            *pass = Handle::of(lodged);
+            *target = book;
+            *pass = Handle::of(target);
             OK
         }
         Err(same) => {
-            *lodged = same;
-            *pass = Handle::of(lodged);
+            *target = same;
+            *pass = Handle::of(target);
             MISSING
         }
     }
 }
 
-/// Goes on with a book: it opens where it stood, without entries and with room for so many. Its entries
-/// move to the other handle, which is empty before.
+/// Renews a book: it opens in its present state, without entries and with room for `room` entries. Its
+/// entries move to the other handle, which must be empty.
 ///
-/// Wrong, exactly where the first handle has no book or the second isn't empty. Where that or memory is
-/// refused (`NO_MEMORY`) both are as they were.
+/// Wrong exactly if the first handle has no book or the second isn't empty. Then, and if memory is refused
+/// (`NO_MEMORY`), both are as they were.
 #[unsafe(no_mangle)]
 pub extern "C" fn nagsched_renew(
     alloc: Global,
@@ -92,16 +92,16 @@ pub extern "C" fn nagsched_renew(
     if !history.is_empty() {
         return WRONG;
     }
-    let Some(mut lodged) = book.take(alloc) else {
+    let Some(mut target) = book.take(alloc) else {
         return WRONG;
     };
-    if !is_book(&lodged) {
-        *book = Handle::of(lodged);
+    if !is_book(&target) {
+        *book = Handle::of(target);
         return WRONG;
     }
-    let (now, past) = go_on(alloc, replace(&mut *lodged, Lodged::Nothing), room);
-    *lodged = now;
-    *book = Handle::of(lodged);
+    let (now, past) = renew(alloc, replace(&mut *target, HandleTarget::Nothing), room);
+    *target = now;
+    *book = Handle::of(target);
     match past {
         Some(past) => {
             *history = Handle::of(past);

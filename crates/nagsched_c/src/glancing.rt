@@ -4,14 +4,14 @@ ghost use Rattle.nagsched_c.specs.Glances.{HasGlanced};
 ghost use Rattle.check_handles.specs.Handles.{contents_of};
 
 use crate::status::{OK, WRONG};
-use check_handles::{Handle, Lodged};
+use check_handles::{Handle, HandleTarget};
 use check_records::{PlainStanding, plain_standing};
 use std::alloc::Global;
 
-/// Reads what is known of an object, by one load: whoever holds the desk, it doesn't wait.
+/// Reads the standing of an object, by one load: it never waits for another call.
 ///
-/// Wrong where the handle has no pass, where the pass waits for its turn, or where there is no
-/// object of this number: nothing was done then.
+/// Wrong if the handle has no pass, if the pass waits for its turn, or if there is no object of this number.
+/// Then nothing was done.
 #[unsafe(no_mangle)]
 pub extern "C" fn nagsched_glance(
     alloc: Global,
@@ -22,11 +22,11 @@ pub extern "C" fn nagsched_glance(
     ensures { HasGlanced object (contents_of pass.old) standing.old result
         (contents_of pass.new) standing.new }
 {
-    let Some(mut lodged) = pass.take(alloc) else {
+    let Some(mut target) = pass.take(alloc) else {
         return WRONG;
     };
-    let status = match &mut *lodged {
-        Lodged::Pass(pass) => match pass.glance(object) {
+    let status = match &mut *target {
+        HandleTarget::Pass(pass) => match pass.glance(object) {
             Some(known) => {
                 *standing = plain_standing(known);
                 OK
@@ -35,6 +35,6 @@ pub extern "C" fn nagsched_glance(
         },
         _ => WRONG,
     };
-    *pass = Handle::of(lodged);
+    *pass = Handle::of(target);
     status
 }

@@ -1,19 +1,20 @@
-//! Histories: how many entries, each by its index, and how many calls were refused.
+//! Histories: the number of entries, each entry by its index, and the number of refused calls.
 
 ghost use Rattle.std.specs.Prelude.{◌≡◌, length};
 ghost use Rattle.check_book.specs.Books.{refused_of};
 ghost use Rattle.check_handles.specs.Handles.{contents_of};
-ghost use Rattle.nagsched_c.specs.Histories.{entries_in, refused_in, HasEntry, MatchKept};
+ghost use Rattle.nagsched_c.specs.Histories.{book_in, entries_in, HasEntry, MatchKept};
 
 use crate::status::{OK, WRONG};
-use check_handles::{Handle, Lodged};
+use check_handles::Handle;
 use check_records::{PlainEntry, plain_entry};
+use check_sched::{Call, Reply};
 use std::alloc::Global;
-use ticket_steps::Kept;
+use ticket_steps::{Entry, Kept};
 
-/// How many entries a book or a history has.
+/// The number of entries of a book or a history.
 ///
-/// Wrong, exactly where the handle is neither: nothing is written then.
+/// Wrong exactly if the handle has neither. Then nothing is written.
 #[unsafe(no_mangle)]
 pub extern "C" fn nagsched_entries(alloc: Global, kept: &mut Handle, count: &mut u64) -> u32
     ensures handle { contents_of kept.new ≡ contents_of kept.old }
@@ -21,23 +22,23 @@ pub extern "C" fn nagsched_entries(alloc: Global, kept: &mut Handle, count: &mut
         (λ entries. (result ≡ OK) × (count.new ≡ length entries))
         ((result ≡ WRONG) × (count.new ≡ count.old)) }
 {
-    let Some(lodged) = kept.take(alloc) else {
+    let Some(target) = kept.take(alloc) else {
         return WRONG;
     };
-    let status = match lodged.entries() {
+    let status = match target.entries() {
         Some(entries) => {
             *count = entries.len() as u64;
             OK
         }
         None => WRONG,
     };
-    *kept = Handle::of(lodged);
+    *kept = Handle::of(target);
     status
 }
 
 /// The entry of a book or a history with this index, from 0.
 ///
-/// Wrong, exactly where the handle is neither, or has no entry of this index: nothing is written then.
+/// Wrong exactly if the handle has neither, or no entry of this index. Then nothing is written.
 #[unsafe(no_mangle)]
 pub extern "C" fn nagsched_entry(
     alloc: Global,
@@ -50,43 +51,50 @@ pub extern "C" fn nagsched_entry(
         (λ entries. HasEntry entries index entry.old result entry.new)
         ((result ≡ WRONG) × (entry.new ≡ entry.old)) }
 {
-    let Some(lodged) = kept.take(alloc) else {
+    let Some(target) = kept.take(alloc) else {
         return WRONG;
     };
-    let status = match lodged.entries() {
-        Some(entries) => match entries.get(index as usize) {
-            Some(found) => {
-                *entry = plain_entry(found);
-                OK
-            }
-            None => WRONG,
-        },
+    let status = match target.entries() {
+        Some(entries) => put_entry(entries, index, entry),
         None => WRONG,
     };
-    *kept = Handle::of(lodged);
+    *kept = Handle::of(target);
     status
 }
 
-/// How many calls a book refused when out of memory.
+/// Writes the entry with this index, if there is one.
+fn put_entry(entries: &[Entry<Call, Reply>], index: u64, entry: &mut PlainEntry) -> u32
+    ensures { HasEntry entries.now index entry.old result entry.new }
+{
+    match entries.get(index as usize) {
+        Some(found) => {
+            *entry = plain_entry(found);
+            OK
+        }
+        None => WRONG,
+    }
+}
+
+/// The number of calls that a book refused when out of memory.
 ///
-/// Wrong, exactly where the handle has no book: nothing is written then.
+/// Wrong exactly if the handle has no book. Then nothing is written.
 #[unsafe(no_mangle)]
 pub extern "C" fn nagsched_refused(alloc: Global, book: &mut Handle, count: &mut u64) -> u32
     ensures handle { contents_of book.new ≡ contents_of book.old }
-    ensures told { MatchKept (refused_in (contents_of book.old))
-        (λ refused. (result ≡ OK) × (count.new ≡ refused))
+    ensures told { MatchKept (book_in (contents_of book.old))
+        (λ kept. (result ≡ OK) × (count.new ≡ refused_of kept))
         ((result ≡ WRONG) × (count.new ≡ count.old)) }
 {
-    let Some(lodged) = book.take(alloc) else {
+    let Some(target) = book.take(alloc) else {
         return WRONG;
     };
-    let status = match &*lodged {
-        Lodged::Book(ledger) => {
-            *count = ledger.book.refused();
+    let status = match target.book() {
+        Some(book) => {
+            *count = book.refused();
             OK
         }
-        _ => WRONG,
+        None => WRONG,
     };
-    *book = Handle::of(lodged);
+    *book = Handle::of(target);
     status
 }

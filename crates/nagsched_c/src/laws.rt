@@ -3,7 +3,7 @@
 ghost use Rattle.std.specs.Prelude.{◌≡◌};
 ghost use Rattle.nagsched_c.specs.declared.status.TheConstants.{MISSING, NO_MEMORY, OK, REFUSED, SPENT, WAIT, WRONG};
 
-/// The number of each status, as the header has it.
+/// The number of each status, as in the header.
 pub fn numbers_of_statuses()
     ensures ok { OK ≡ 0 }
     ensures wait { WAIT ≡ 1 }

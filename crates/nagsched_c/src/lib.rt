@@ -1,16 +1,17 @@
 #![tactic(auto)]
 //! The desk for C: what `nagsched.h` declares.
 //!
-//! C holds one type, a [`Handle`](check_handles::Handle), and hands a pointer to it to each function. What
-//! crosses besides are numbers, texts and structs of numbers. A function that is called wrongly says so,
-//! where that can be seen, and changes nothing.
+//! C has one type, a [`Handle`](check_handles::Handle), and passes a pointer to it to each function. All other
+//! arguments and results are numbers, texts and structs of numbers. A function that is called wrongly reports
+//! it, if it can see the mistake, and changes nothing. Each function that uses what a handle leads to takes
+//! this target out of the handle, works on it, and puts it back.
 //!
-//! The handle and what it leads to are check_handles', the structs check_records'.
+//! The handle and its target are in check_handles, the structs in check_records.
 //!
-//! The modules: `status` has what each function gives, `laws` its numbers. The functions are in `reading`
-//! (a setup, and giving up), `naming` (objects), `opening` (a desk), `calls` (the six calls), `glancing`,
-//! `closing` (passes put together, a desk ended, a book gone on with), `saving` (states saved and gone on
-//! from, checks that are out), `history` and `texts`.
+//! The modules: `status` has the statuses of the functions, `laws` their numbers. The functions are in
+//! `reading` (a setup, and freeing), `naming` (objects), `opening` (a desk), `calls` (the six calls),
+//! `glancing`, `closing` (passes gathered, a desk closed, a book renewed), `saving` (states saved and resumed,
+//! running checks), `history` and `texts`.
 
 ghost use Rattle.std.specs.Prelude.{◌≡◌};
 
@@ -26,7 +27,7 @@ mod saving;
 mod status;
 mod texts;
 
-/// The number of the surface that `nagsched.h` describes.
+/// The version of the interface in `nagsched.h`.
 #[unsafe(no_mangle)]
 pub extern "C" fn nagsched_version() -> u32
     ensures { result ≡ 2 }

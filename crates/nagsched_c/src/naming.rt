@@ -1,20 +1,19 @@
 //! Objects by number and by name, of a setup, a pass or a book.
 
-ghost use Rattle.std.specs.Prelude.{◌≡◌, ◌<◌, ◌≤◌, ◌++◌, ℕ, ⊤, length, drop, option_map, Some};
+ghost use Rattle.std.specs.Prelude.{◌≡◌, ◌<◌, ◌≤◌, ◌++◌, ℕ, ⊤, length, drop, Some};
 ghost use Rattle.check_objects.specs.Configuration.{host_count, object_count};
-ghost use Rattle.check_handles.specs.Handles.{boxed, contents_of, named_in, MatchNamed};
+ghost use Rattle.check_handles.specs.Handles.{contents_of, named_in, MatchNamed};
 ghost use Rattle.nagsched_c.specs.Names.{HasHostOf, HasName, HasNumber, IsPut};
 
 use crate::status::{MISSING, OK, WRONG};
-use check_handles::{Handle, Lodged};
+use check_handles::Handle;
 use check_objects::Setup;
 use std::alloc::Global;
 use std::str::from_utf8;
 
-/// How many objects there are, 0 to 4,096, and how many of them are hosts: these have the numbers from
-/// 0 on.
+/// The number of objects, 0 to 4,096, and the number of hosts among them. Hosts have the numbers from 0 on.
 ///
-/// Wrong, exactly where the handle is neither a setup, a pass nor a book: nothing is written then.
+/// Wrong exactly if the handle has neither a setup, a pass nor a book. Then nothing is written.
 #[unsafe(no_mangle)]
 pub extern "C" fn nagsched_count(
     alloc: Global,
@@ -27,23 +26,30 @@ pub extern "C" fn nagsched_count(
         (λ setup. (result ≡ OK) × (objects.new ≡ object_count setup) × (hosts.new ≡ host_count setup))
         ((result ≡ WRONG) × (objects.new ≡ objects.old) × (hosts.new ≡ hosts.old)) }
 {
-    let lodged = named.take(alloc);
-    let status = match names_in(&lodged) {
-        Some(setup) => {
-            *objects = setup.len() as u32;
-            *hosts = setup.hosts() as u32;
-            OK
-        }
+    let Some(target) = named.take(alloc) else {
+        return WRONG;
+    };
+    let status = match target.setup() {
+        Some(setup) => count_objects(setup, objects, hosts),
         None => WRONG,
     };
-    named.put_back(lodged);
+    *named = Handle::of(target);
     status
+}
+
+/// Writes the number of objects of the setup, and the number of hosts among them.
+fn count_objects(setup: &Setup, objects: &mut u32, hosts: &mut u32) -> u32
+    ensures { (result ≡ OK) × (objects.new ≡ object_count setup.now) × (hosts.new ≡ host_count setup.now) }
+{
+    *objects = setup.len() as u32;
+    *hosts = setup.hosts() as u32;
+    OK
 }
 
 /// The number of the object with this full name.
 ///
-/// Missing, exactly where there is no such object; wrong, exactly where the handle is neither a setup,
-/// a pass nor a book. The number is written only where it was found.
+/// Missing exactly if there is no such object; wrong exactly if the handle has neither a setup, a pass nor a
+/// book. The number is written only if it was found.
 #[unsafe(no_mangle)]
 pub extern "C" fn nagsched_number(
     alloc: Global,
@@ -56,16 +62,18 @@ pub extern "C" fn nagsched_number(
         (λ setup. HasNumber setup name.now number.old result number.new)
         ((result ≡ WRONG) × (number.new ≡ number.old)) }
 {
-    let lodged = named.take(alloc);
-    let status = match names_in(&lodged) {
+    let Some(target) = named.take(alloc) else {
+        return WRONG;
+    };
+    let status = match target.setup() {
         Some(setup) => find_number(setup, name, number),
         None => WRONG,
     };
-    named.put_back(lodged);
+    *named = Handle::of(target);
     status
 }
 
-/// Writes the number of the object with this full name, where there is one.
+/// Writes the number of the object with this full name, if there is one.
 fn find_number(setup: &Setup, name: &[u8], number: &mut u32) -> u32
     ensures { HasNumber setup.now name.now number.old result number.new }
 {
@@ -83,8 +91,8 @@ fn find_number(setup: &Setup, name: &[u8], number: &mut u32) -> u32
 
 /// The full name of the object with this number, into the room at `name`; `bytes` is its length.
 ///
-/// Wrong where the handle is neither a setup, a pass nor a book, where it has no such object, or
-/// where the name is longer than the room: nothing is written then, but in the last case its length.
+/// Wrong if the handle has neither a setup, a pass nor a book, if there is no such object, or if the name is
+/// longer than the room. Then nothing is written, except in the last case its length.
 #[unsafe(no_mangle)]
 pub extern "C" fn nagsched_name(
     alloc: Global,
@@ -98,22 +106,29 @@ pub extern "C" fn nagsched_name(
         (λ setup. HasName setup number name.old bytes.old result name.new bytes.new)
         ((result ≡ WRONG) × (name.new ≡ name.old) × (bytes.new ≡ bytes.old)) }
 {
-    let lodged = named.take(alloc);
-    let status = match names_in(&lodged) {
-        Some(setup) => {
-            if (number as usize) < setup.len() {
-                put(setup.name(number).as_bytes(), name, bytes)
-            } else {
-                WRONG
-            }
-        }
+    let Some(target) = named.take(alloc) else {
+        return WRONG;
+    };
+    let status = match target.setup() {
+        Some(setup) => put_name(setup, number, name, bytes),
         None => WRONG,
     };
-    named.put_back(lodged);
+    *named = Handle::of(target);
     status
 }
 
-/// Writes a text at the beginning of the room, where it fits, and its length in any case.
+/// Puts the full name of the object with this number, if there is one.
+fn put_name(setup: &Setup, number: u32, name: &mut [u8], bytes: &mut usize) -> u32
+    ensures { HasName setup.now number name.old bytes.old result name.new bytes.new }
+{
+    if (number as usize) < setup.len() {
+        put(setup.name(number).as_bytes(), name, bytes)
+    } else {
+        WRONG
+    }
+}
+
+/// Writes a text at the beginning of the room, if it fits, and its length in any case.
 pub(crate) fn put(text: &[u8], room: &mut [u8], bytes: &mut usize) -> u32
     ensures { IsPut text.now room.old result room.new bytes.new }
 {
@@ -128,8 +143,8 @@ pub(crate) fn put(text: &[u8], room: &mut [u8], bytes: &mut usize) -> u32
 
 /// The number of the service's host.
 ///
-/// Missing, exactly where the object is a host; wrong, exactly where the handle is neither a setup, a
-/// pass nor a book, or has no object of this number. The number is written only where there is one.
+/// Missing exactly if the object is a host; wrong exactly if the handle has neither a setup, a pass nor a
+/// book, or if there is no object of this number. The number is written only if there is one.
 #[unsafe(no_mangle)]
 pub extern "C" fn nagsched_host_of(
     alloc: Global,
@@ -142,16 +157,18 @@ pub extern "C" fn nagsched_host_of(
         (λ setup. HasHostOf setup number host.old result host.new)
         ((result ≡ WRONG) × (host.new ≡ host.old)) }
 {
-    let lodged = named.take(alloc);
-    let status = match names_in(&lodged) {
+    let Some(target) = named.take(alloc) else {
+        return WRONG;
+    };
+    let status = match target.setup() {
         Some(setup) => find_host(setup, number, host),
         None => WRONG,
     };
-    named.put_back(lodged);
+    *named = Handle::of(target);
     status
 }
 
-/// Writes the number of the service's host, where the object is a service.
+/// Writes the number of the service's host, if the object is a service.
 fn find_host(setup: &Setup, number: u32, host: &mut u32) -> u32
     ensures { HasHostOf setup.now number host.old result host.new }
 {
@@ -164,17 +181,5 @@ fn find_host(setup: &Setup, number: u32, host: &mut u32) -> u32
             OK
         }
         None => MISSING,
-    }
-}
-
-/// The setup whose objects are meant by a handle, of which this was taken out. None of a handle that
-/// is empty, or leads to a history.
-pub(crate) fn names_in(lodged: &Option<Box<Lodged>>) -> Option<&Setup>
-    ensures { option_map (λ setup. setup.now) result
-        ≡ named_in (boxed lodged.now) }
-{
-    match lodged {
-        Some(lodged) => lodged.names(),
-        None => None,
     }
 }

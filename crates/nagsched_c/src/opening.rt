@@ -1,4 +1,4 @@
-//! A desk opened, on a setup or on a book without entries.
+//! Desks opened on a setup, or on a book without entries.
 
 ghost use Rattle.std.specs.Prelude.{◌≡◌, ◌↔◌, ◌<◌, true};
 ghost use Rattle.check_handles.specs.Handles.{contents_of};
@@ -6,13 +6,13 @@ ghost use Rattle.nagsched_c.specs.Opening.{are_empty, terms_of, ArePlaces, HasOp
 
 use crate::status::{NO_MEMORY, OK, WRONG};
 use check_handles::opening::{Terms, is_source, open_source};
-use check_handles::{Handle, Lodged};
+use check_handles::{Handle, HandleTarget};
 use std::alloc::Global;
 use std::mem::replace;
 use ticket_steps::DRAWS;
 
-/// Opens a desk, with a pass for each of the handles, 1 to 1,024 empty ones. Each has 2^32 - 1 calls.
-/// The rest is as of [`nagsched_open_with`].
+/// Opens a desk, with a pass for each of the handles, 1 to 1,024 empty ones. Each pass has 2^32 - 1 calls.
+/// The rest is as for [`nagsched_open_with`].
 #[unsafe(no_mangle)]
 pub extern "C" fn nagsched_open(
     alloc: Global,
@@ -36,18 +36,18 @@ pub extern "C" fn nagsched_open(
     open_desk(alloc, source, terms, passes)
 }
 
-/// Opens a desk, with a pass for each of the handles, 1 to 1,024 empty ones. Each has so many calls, 1
-/// to 2^32 - 1, has made none and seen nothing; the first has the number 0, and so on. The handle that
-/// is given is empty then.
+/// Opens a desk, with a pass for each of the handles, 1 to 1,024 empty ones. Each pass has `calls` calls, 1
+/// to 2^32 - 1, and has made no call and seen nothing. The first has the number 0, and so on. The handle of
+/// the source is empty afterwards.
 ///
-/// The mark is one that no other desk has: by it passes of two desks are kept apart. The guard in C gives
-/// each desk another.
+/// No other desk has the mark, which keeps the passes of two desks apart. The guard in C gives each desk
+/// another mark.
 ///
-/// It is a setup: scheduling starts at the moment `start`, at most 2^60, and the history has memory for
-/// `room` entries at once. Or it is a book without entries and refusals, which goes on with its start
-/// and its room: then both are 0 here. All else is `WRONG`, and nothing else is: nothing was done then.
-/// Where memory is refused (`NO_MEMORY`) all handles are as they were. (No clause excludes that the setup's
-/// is the desk's one pass then: a count of owners would have to be at 2^63.)
+/// The source is a setup: scheduling starts at the moment `start`, in milliseconds, at most 2^60, and the
+/// history has memory for `room` entries at once. Or the source is a book without entries and refusals, which
+/// keeps its start and its room: then both are 0 here. It is `WRONG` exactly in all other cases, and then
+/// nothing was done. If memory is refused (`NO_MEMORY`), all handles are as they were. (No clause excludes
+/// that the source's handle then has the desk's only pass: that would need a count of 2^63 owners.)
 #[unsafe(no_mangle)]
 pub extern "C" fn nagsched_open_with(
     alloc: Global,
@@ -85,19 +85,19 @@ fn open_desk(alloc: Global, source: &mut Handle, terms: Terms, passes: &mut [Han
     if !are_places(passes) {
         return WRONG;
     }
-    let Some(mut lodged) = source.take(alloc) else {
+    let Some(mut target) = source.take(alloc) else {
         return WRONG;
     };
-    if !is_source(&lodged, terms) {
-        *source = Handle::of(lodged);
+    if !is_source(&target, terms) {
+        *source = Handle::of(target);
         return WRONG;
     }
-    let taken = replace(&mut *lodged, Lodged::Nothing);
+    let taken = replace(&mut *target, HandleTarget::Nothing);
     match open_source(alloc, taken, terms, passes) {
         Ok(()) => OK,
         Err(back) => {
-            *lodged = back;
-            *source = Handle::of(lodged);
+            *target = back;
+            *source = Handle::of(target);
             NO_MEMORY
         }
     }

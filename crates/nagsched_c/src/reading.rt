@@ -1,4 +1,4 @@
-//! A setup read from a document, and what is given up.
+//! A setup read from a document, and handles that are freed.
 
 ghost use Rattle.std.specs.Prelude.{◌≡◌, ◌≢◌, ◌⊎◌, ◌↔◌, true, is_some, None};
 ghost use Rattle.check_handles.specs.Handles.{contents_of};
@@ -12,12 +12,12 @@ use check_handles::reading::{prepare, waits};
 use check_records::{PlainRefusal, plain_refusal};
 use std::alloc::Global;
 
-/// Reads a setup of a JSON document into an empty handle. The document is read twice: passes keep the
-/// names of the objects beside the desk.
+/// Reads a setup from a JSON document into an empty handle. The document is read twice, since the passes of a
+/// desk need the names of its objects outside its lock.
 ///
-/// Refused, where the document is no setup: the struct says why and where. Wrong, exactly where the
-/// handle isn't empty. Where memory is refused the status says so; nothing is said of the document.
-/// But where the setup was made the handle is as it was, and except for a refusal the struct is.
+/// Refused if the document is no setup: the struct says why and where. Wrong exactly if the handle isn't
+/// empty. If memory is refused, the status says so, and says nothing of the document. The handle changes only
+/// if the setup was made, and the struct only with a refusal.
 #[unsafe(no_mangle)]
 pub extern "C" fn nagsched_read(
     alloc: Global,
@@ -36,8 +36,8 @@ pub extern "C" fn nagsched_read(
         return WRONG;
     }
     match prepare(alloc, document) {
-        Ok(lodged) => {
-            *setup = Handle::of(lodged);
+        Ok(target) => {
+            *setup = Handle::of(target);
             OK
         }
         Err(LoadError::Memory) => NO_MEMORY,
@@ -48,20 +48,20 @@ pub extern "C" fn nagsched_read(
     }
 }
 
-/// Gives up what the handle leads to, and makes it empty; an empty one stays so.
+/// Frees what the handle leads to, and makes the handle empty. An empty handle stays empty.
 ///
-/// Wrong, exactly where it is a pass that waits for its turn: then it is as it was, since its ticket
-/// would stop all others.
+/// Wrong exactly if it is a pass that waits for its turn. Then the handle is as it was, since the lost ticket
+/// would stop all other passes.
 #[unsafe(no_mangle)]
 pub extern "C" fn nagsched_free(alloc: Global, handle: &mut Handle) -> u32
     ensures freed { (result ≡ OK) × (contents_of handle.new ≡ None)
         ⊎ (result ≡ WRONG) × (contents_of handle.new ≡ contents_of handle.old) }
     ensures wrong { (result ≡ WRONG) ↔ IsTurnWaitingIn (contents_of handle.old) }
 {
-    let lodged = handle.take(alloc);
-    if let Some(lodged) = lodged {
-        if waits(&lodged) {
-            *handle = Handle::of(lodged);
+    let target = handle.take(alloc);
+    if let Some(target) = target {
+        if waits(&target) {
+            *handle = Handle::of(target);
             return WRONG;
         }
     }

@@ -1,28 +1,28 @@
-//! What is saved of a book's scheduler, a book that goes on from it, and the checks that are out.
+//! The saved state of a book's scheduler, a book that resumes it, and the running checks.
 
 ghost use Rattle.std.specs.Prelude.{◌≡◌, ◌≢◌, ◌⊎◌, ◌↔◌, ◌≤◌};
 ghost use Rattle.check_book.specs.Books.{sched_of};
 ghost use Rattle.check_handles.specs.Handles.{contents_of};
 ghost use Rattle.check_handles.specs.Resuming.{IsSetup};
-ghost use Rattle.nagsched_c.specs.Histories.{MatchKept};
+ghost use Rattle.nagsched_c.specs.Histories.{book_in, MatchKept};
 ghost use Rattle.nagsched_c.specs.Texts.{IsUntold};
-ghost use Rattle.nagsched_c.specs.Saving.{sched_in, HasResumedFrom, HasRun, HasSavedText, IsFaultOf, IsLeft, IsLeftIn, IsResumedFrom, MayResume};
+ghost use Rattle.nagsched_c.specs.Saving.{HasResumedFrom, HasRun, HasSavedText, IsFaultOf, IsLeft, IsLeftIn, IsResumedFrom, MayResume};
 
 use crate::naming::put;
 use crate::status::{MISSING, NO_MEMORY, OK, REFUSED, WRONG};
 use check_book::Book;
 use check_handles::resuming::{is_setup, resume};
-use check_handles::{Handle, Lodged};
+use check_handles::{Handle, HandleTarget};
 use check_records::{PlainRefusal, plain_fault};
 use check_saved::{Saved, SavedFault};
 use check_sched::{LAST_MOMENT, Sched};
 use std::alloc::Global;
 
-/// The text of what is saved of a book's scheduler, into the room at `text`; `bytes` is its length, at
-/// most 16,777,216. It is one line of JSON, without a line feed.
+/// The text of the saved state of a book's scheduler, into the room at `text`; `bytes` is its length, at most
+/// 16,777,216. It is one line of JSON, without a line feed.
 ///
-/// Wrong, exactly where the handle has no book, or where the text is longer than the room: nothing is
-/// written then, but in the last case its length. Where memory is refused nothing is written.
+/// Wrong exactly if the handle has no book, or if the text is longer than the room. Then nothing is written,
+/// except in the last case its length. If memory is refused, nothing is written.
 #[unsafe(no_mangle)]
 pub extern "C" fn nagsched_save(
     alloc: Global,
@@ -31,22 +31,22 @@ pub extern "C" fn nagsched_save(
     bytes: &mut usize,
 ) -> u32
     ensures handle { contents_of book.new ≡ contents_of book.old }
-    ensures told { MatchKept (sched_in (contents_of book.old))
-        (λ sched. HasSavedText sched text.old bytes.old result text.new bytes.new)
+    ensures told { MatchKept (book_in (contents_of book.old))
+        (λ kept. HasSavedText (sched_of kept) text.old bytes.old result text.new bytes.new)
         (IsUntold WRONG text.old bytes.old result text.new bytes.new) }
 {
-    let Some(lodged) = book.take(alloc) else {
+    let Some(target) = book.take(alloc) else {
         return WRONG;
     };
-    let status = match &*lodged {
-        Lodged::Book(ledger) => put_saved(alloc, &ledger.book, text, bytes),
-        _ => WRONG,
+    let status = match target.book() {
+        Some(book) => put_saved(alloc, book, text, bytes),
+        None => WRONG,
     };
-    *book = Handle::of(lodged);
+    *book = Handle::of(target);
     status
 }
 
-/// Puts the text of what is saved of a book's scheduler.
+/// Puts the text of the saved state of a book's scheduler.
 fn put_saved(alloc: Global, book: &Book, text: &mut [u8], bytes: &mut usize) -> u32
     ensures { HasSavedText (sched_of book.now) text.old bytes.old result text.new bytes.new }
 {
@@ -59,14 +59,14 @@ fn put_saved(alloc: Global, book: &Book, text: &mut [u8], bytes: &mut usize) -> 
     }
 }
 
-/// Makes the book that goes on over a setup from what a text says was saved, from the moment `start` on,
-/// at most 2^60, with memory for `room` entries at once. It has no entries. The setup's handle is empty
-/// then.
+/// Makes the book over a setup that resumes the saved state of a text, from the moment `start` on, in
+/// milliseconds, at most 2^60, with memory for `room` entries at once. It has no entries. The setup's handle
+/// is empty afterwards.
 ///
-/// Refused, where the text is no saved state: the struct says why and where. Wrong, exactly where the
-/// first handle has no setup, the other isn't empty, or the start is later. Where memory is refused the
-/// status says so; nothing is known of the text. But where a book was made the handles are as they were,
-/// and except for a refusal the struct is.
+/// Refused if the text is no saved state: the struct says why and where. Wrong exactly if the first handle
+/// has no setup, the other isn't empty, or the start is later. If memory is refused, the status says so, and
+/// nothing is known of the text. The handles change only if a book was made, and the struct only with a
+/// refusal.
 #[unsafe(no_mangle)]
 pub extern "C" fn nagsched_resume(
     alloc: Global,
@@ -93,43 +93,43 @@ pub extern "C" fn nagsched_resume(
     if LAST_MOMENT < start {
         return WRONG;
     }
-    let Some(mut lodged) = setup.take(alloc) else {
+    let Some(mut target) = setup.take(alloc) else {
         return WRONG;
     };
-    if !is_setup(&lodged) {
-        *setup = Handle::of(lodged);
+    if !is_setup(&target) {
+        *setup = Handle::of(target);
         return WRONG;
     }
-    let status = go_on(alloc, &mut lodged, text, start, room, refusal);
+    let status = resume_text(alloc, &mut target, text, start, room, refusal);
     if status == OK {
-        *book = Handle::of(lodged);
+        *book = Handle::of(target);
         OK
     } else {
-        *setup = Handle::of(lodged);
+        *setup = Handle::of(target);
         status
     }
 }
 
-/// Makes a setup the book that goes on over it from what the text says, or leaves it.
-fn go_on(
+/// Replaces a setup by the book over it that resumes the saved state of the text, or leaves it.
+fn resume_text(
     alloc: Global,
-    lodged: &mut Lodged,
+    target: &mut HandleTarget,
     text: &[u8],
     start: u64,
     room: usize,
     refusal: &mut PlainRefusal,
 ) -> u32
-    requires setup { IsSetup lodged.old }
+    requires setup { IsSetup target.old }
     requires start { start ≤ LAST_MOMENT }
     ensures status { (result ≡ OK) ⊎ ((result ≡ NO_MEMORY) ⊎ (result ≡ REFUSED)) }
-    ensures resumed { result ≡ OK → IsResumedFrom start room text.now lodged.old lodged.new }
+    ensures resumed { result ≡ OK → IsResumedFrom start room text.now target.old target.new }
     ensures refused { result ≡ REFUSED → IsFaultOf text.now refusal.new }
-    ensures left { result ≢ OK → IsLeft lodged.old lodged.new }
+    ensures left { result ≢ OK → IsLeft target.old target.new }
     ensures refusal { result ≢ REFUSED → refusal.new ≡ refusal.old }
 {
     match Saved::read(alloc, text) {
         Ok(saved) => {
-            if resume(alloc, lodged, &saved, start, room) {
+            if resume(alloc, target, &saved, start, room) {
                 OK
             } else {
                 NO_MEMORY
@@ -143,11 +143,11 @@ fn go_on(
     }
 }
 
-/// The check of an object of a book that is out: the number of its run, and the moment at which it was
-/// handed out, in milliseconds.
+/// The running check of an object of a book: the number of its run, and the moment at which it was handed
+/// out, in milliseconds.
 ///
-/// Missing, exactly where the object isn't being checked; wrong, exactly where the handle has no book or
-/// the book no object of this number. The two are written only where the check is out.
+/// Missing exactly if the object isn't being checked; wrong exactly if the handle has no book or the book no
+/// object of this number. The two are written only if the check is running.
 #[unsafe(no_mangle)]
 pub extern "C" fn nagsched_running(
     alloc: Global,
@@ -157,23 +157,23 @@ pub extern "C" fn nagsched_running(
     start: &mut u64,
 ) -> u32
     ensures handle { contents_of book.new ≡ contents_of book.old }
-    ensures told { MatchKept (sched_in (contents_of book.old))
-        (λ sched. HasRun sched object run.old start.old result run.new start.new)
+    ensures told { MatchKept (book_in (contents_of book.old))
+        (λ kept. HasRun (sched_of kept) object run.old start.old result run.new start.new)
         ((result ≡ WRONG) × (run.new ≡ run.old) × (start.new ≡ start.old)) }
 {
-    let Some(lodged) = book.take(alloc) else {
+    let Some(target) = book.take(alloc) else {
         return WRONG;
     };
-    let status = match &*lodged {
-        Lodged::Book(ledger) => tell_run(ledger.book.sched(), object, run, start),
-        _ => WRONG,
+    let status = match target.book() {
+        Some(book) => put_run(book.sched(), object, run, start),
+        None => WRONG,
     };
-    *book = Handle::of(lodged);
+    *book = Handle::of(target);
     status
 }
 
-/// Writes the run of the object's check and its moment, where it is out.
-fn tell_run(sched: &Sched, object: u32, run: &mut u64, start: &mut u64) -> u32
+/// Writes the run of the object's check and its moment, if the check is running.
+fn put_run(sched: &Sched, object: u32, run: &mut u64, start: &mut u64) -> u32
     ensures { HasRun sched.now object run.old start.old result run.new start.new }
 {
     if sched.setup().len() <= object as usize {

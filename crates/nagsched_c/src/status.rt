@@ -1,6 +1,6 @@
-//! What each function gives C. The header says when each comes.
+//! The statuses of the functions. The header says when each comes.
 
-/// It was done.
+/// The function did its work.
 pub(crate) const OK: u32 = 0;
 
 /// The turn hasn't come.
@@ -9,13 +9,13 @@ pub(crate) const WAIT: u32 = 1;
 /// The pass has no call left.
 pub(crate) const SPENT: u32 = 2;
 
-/// Memory was refused.
+/// Out of memory.
 pub(crate) const NO_MEMORY: u32 = 3;
 
 /// The document is no setup, or the text no saved state.
 pub(crate) const REFUSED: u32 = 4;
 
-/// Passes that aren't gathered, no object of that name, no host of a host, no check that is out.
+/// Passes aren't gathered, no object has that name, the object is a host, or no check of it is running.
 pub(crate) const MISSING: u32 = 5;
 
 /// A mistake of the caller's.

@@ -1,11 +1,11 @@
-//! The texts that the program writes, of a refusal, a reply and an entry.
+//! The lines that the program writes for a refusal, a reply and an entry.
 
 ghost use Rattle.check_handles.specs.Handles.{contents_of, named_in, MatchNamed};
 ghost use Rattle.std.specs.Prelude.{◌≡◌};
 ghost use Rattle.check_text.specs.Text.{refusal_line};
 ghost use Rattle.nagsched_c.specs.Texts.{HasEntryText, HasRefusalText, HasReplyText, IsTold};
 
-use crate::naming::{names_in, put};
+use crate::naming::put;
 use crate::status::{NO_MEMORY, WRONG};
 use check_handles::Handle;
 use check_objects::Setup;
@@ -17,11 +17,10 @@ use check_script::InputRefusal;
 use check_text::{push_entry, push_refusal, push_reply};
 use std::alloc::Global;
 
-/// The text of a refusal of a document or of a saved state, into the room at `text`; `bytes` is its
-/// length.
+/// The text of a refusal of a document or of a saved state, into the room at `text`; `bytes` is its length.
 ///
-/// Wrong, exactly where neither is refused so, or where the text is longer than the room: nothing is
-/// written then, but in the last case its length. Where memory is refused nothing is written.
+/// Wrong exactly if no such refusal has this struct, or if the text is longer than the room. Then nothing is
+/// written, except in the last case its length. If memory is refused, nothing is written.
 #[unsafe(no_mangle)]
 pub extern "C" fn nagsched_refusal_text(
     alloc: Global,
@@ -51,12 +50,12 @@ fn put_refusal(alloc: Global, refusal: InputRefusal, text: &mut [u8], bytes: &mu
     }
 }
 
-/// The text of the reply to a call, into the room at `text`; `bytes` is its length. The objects are
-/// those of a setup, a pass or a book; one that it doesn't have has no name in the text.
+/// The text of the reply to a call, into the room at `text`; `bytes` is its length. The objects are those of
+/// a setup, a pass or a book. A number without an object has no name in the text.
 ///
-/// Wrong, exactly where the handle is none of these, where no call or no reply has such a struct, or where
-/// the text is longer than the room: nothing is written then, but in the last case its length. Where
-/// memory is refused nothing is written.
+/// Wrong exactly if the handle has none of these, if no call or no reply has such a struct, or if the text is
+/// longer than the room. Then nothing is written, except in the last case its length. If memory is refused,
+/// nothing is written.
 #[unsafe(no_mangle)]
 pub extern "C" fn nagsched_reply_text(
     alloc: Global,
@@ -71,12 +70,14 @@ pub extern "C" fn nagsched_reply_text(
         (λ setup. HasReplyText setup call.now reply.now text.old bytes.old result text.new bytes.new)
         ((result ≡ WRONG) × (text.new ≡ text.old) × (bytes.new ≡ bytes.old)) }
 {
-    let lodged = named.take(alloc);
-    let status = match names_in(&lodged) {
+    let Some(target) = named.take(alloc) else {
+        return WRONG;
+    };
+    let status = match target.setup() {
         Some(setup) => put_reply(alloc, setup, call, reply, text, bytes),
         None => WRONG,
     };
-    named.put_back(lodged);
+    *named = Handle::of(target);
     status
 }
 
@@ -104,7 +105,7 @@ fn put_reply(
     }
 }
 
-/// The text of an entry of a history, into the room at `text`; `bytes` is its length. The rest is as of
+/// The text of an entry of a history, into the room at `text`; `bytes` is its length. The rest is as for
 /// [`nagsched_reply_text`].
 #[unsafe(no_mangle)]
 pub extern "C" fn nagsched_entry_text(
@@ -119,12 +120,14 @@ pub extern "C" fn nagsched_entry_text(
         (λ setup. HasEntryText setup entry.now text.old bytes.old result text.new bytes.new)
         ((result ≡ WRONG) × (text.new ≡ text.old) × (bytes.new ≡ bytes.old)) }
 {
-    let lodged = named.take(alloc);
-    let status = match names_in(&lodged) {
+    let Some(target) = named.take(alloc) else {
+        return WRONG;
+    };
+    let status = match target.setup() {
         Some(setup) => put_entry(alloc, setup, entry, text, bytes),
         None => WRONG,
     };
-    named.put_back(lodged);
+    *named = Handle::of(target);
     status
 }
 

@@ -1,1 +1,1 @@
-"""What a monitor does in a turn: it plans, stores and makes calls, and acts on the answers."""
+"""The work of a turn: a monitor plans, stores and makes calls, and acts on the answers."""

@@ -1,4 +1,4 @@
-"""Moments, which the scheduler goes by, and the wall clock, which people go by."""
+"""Moments, for the scheduler, and the wall clock, for people."""
 import time
 from typing import Protocol
 
@@ -6,17 +6,14 @@ MILLISECOND = 1_000_000
 
 
 class Clock(Protocol):
-    """What the monitor asks of a clock."""
+    """A clock, as the monitor uses it."""
 
-    def moment(self) -> int:
-        """Milliseconds, which never go back."""
-
-    def wall(self) -> float:
-        """Seconds since 1970 by the wall clock."""
+    def moment(self) -> int: ...  # in milliseconds, which never go back
+    def wall(self) -> float: ...  # in seconds since 1970
 
 
 class SystemClock:
-    """The machine's clock. Moments begin at the wall clock, or at the last moment that was kept where that is greater, and go on by the time since
+    """The machine's clock. Moments begin at the wall clock, or at the last stored moment if that is greater, and continue by the time since
     the machine was started, also while it sleeps. So no clock that is set stops checks or hurries them."""
 
     def __init__(self, last_kept: int = 0) -> None:

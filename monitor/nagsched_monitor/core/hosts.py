@@ -12,7 +12,7 @@ def state_of(standing: Optional[Standing]) -> str:
 
 
 def hosts_of(known: Known, before: Optional[Standing], now: Standing, objects: Mapping[str, Known], children: Sequence[str]) -> List[Known]:
-    """The hosts that a result of an object makes matter; `children` are the hosts behind it."""
+    """The hosts that have to be checked after a result of an object; `children` are the hosts that have it as a parent."""
     was, host = state_of(before), known.watched.host
     if host is None:
         return of_host(was in WELL, now, [objects[name] for name in known.watched.parents if name in objects], [objects[name] for name in children])

@@ -1,4 +1,4 @@
-"""Results that are reported to mirrors: to each mirror of an object what is reported to it, in one order for all parts.
+"""Mirrors: each result of an object is reported to its mirrors too, in the same order in all parts.
 
 Every mirror is running all the time: it is taken again after each of its results, by a check that is forced and comes before all others. So a result and those
 of its mirrors are calls of one turn, which are stored together.
@@ -70,11 +70,11 @@ class Mirrors:
         return Mirrors(names, self._running)
 
     def left_over(self) -> List[Place]:
-        """The mirrors that were to be taken, and weren't, since it was asked last: none, while nothing stands before them."""
+        """The mirrors that should have been taken since the last call, and weren't: none, unless another object came before them."""
         left, self._asked_for = sorted(self._asked_for), set()
         return left
 
-    # ---- what is asked
+    # ---- calls
 
     def takes(self, moment: int) -> List[AskedOf]:
         """The calls by which those mirrors are taken that aren't running."""

@@ -1,4 +1,4 @@
-"""What the answers of the scheduler say of each object, and which are due."""
+"""The state of each object by the scheduler's answers, and the due objects."""
 import heapq
 from dataclasses import dataclass, field, replace
 from typing import Any, Dict, Iterable, List, Mapping, Optional, Set, Tuple
@@ -11,7 +11,7 @@ from .running import Place, Run, Running
 
 @dataclass
 class Past:
-    """Since when an object is what it is, in seconds since 1970 of the wall clock; None where that isn't known."""
+    """How long an object has been in its state, in seconds since 1970 of the wall clock; None if that isn't known."""
 
     # The state that it has had since then, and the hard one.
     state: Optional[str] = None
@@ -26,7 +26,7 @@ class Past:
 
 @dataclass
 class Known:
-    """What is known of an object."""
+    """The known state of an object."""
 
     watched: Watched
     running: Running
@@ -37,7 +37,7 @@ class Known:
     # The time for which its last run waited.
     due: Optional[int] = None
     standing: Optional[Standing] = None
-    # A moment at which it is checked by itself: the others are whole intervals away from it.
+    # A moment of its own rhythm: the others are whole intervals away from it.
     phase: Optional[int] = None
     # The time to which an operator set its next check, and whether it is forced, until that check is made.
     asked: Optional[Tuple[int, bool]] = None
@@ -104,19 +104,19 @@ class Due:
         return self._due
 
     def first(self) -> Optional[int]:
-        """The least time that lies behind the last moment that was asked for."""
+        """The earliest time after the last moment that was asked for."""
         while self._heap and self._times.get(self._heap[0][1]) != self._heap[0][0]:
             heapq.heappop(self._heap)
         return self._heap[0][0] if self._heap else None
 
     def second(self) -> Optional[int]:
-        """The time behind the first one, where it is at hand."""
+        """The time after the first one, if it is known without a search."""
         times = [time for time, name in self._heap[1:3] if self._times.get(name) == time]
         return min(times) if times else None
 
 
 class AllKnown:
-    """What is known of all objects of a site."""
+    """The known state of all objects of a site."""
 
     def __init__(self) -> None:
         self.objects: Dict[str, Known] = {}
@@ -128,7 +128,7 @@ class AllKnown:
         self._due.setdefault(watched.part, Due())
 
     def become(self, objects: Mapping[str, Watched], now: int) -> None:
-        """Takes another site over: of an object that stays what is known stays. A check of one that moves to another part is given up there."""
+        """Takes over another site; the state of objects that stay is kept. A check of an object that moves to another part is abandoned there."""
         before, self.objects, self._due = self.objects, {}, {}
         for watched in objects.values():
             kept = before.pop(watched.name, None)
@@ -143,7 +143,7 @@ class AllKnown:
             self._set_due(known)
 
     def _moved(self, kept: Known, watched: Watched, now: int) -> Known:
-        """What is known of an object that stays."""
+        """The state of an object that stays."""
         if kept.watched.part != watched.part:
             self.leave(kept)
         on = kept.on if kept.watched.enabled == watched.enabled else watched.enabled
@@ -154,13 +154,13 @@ class AllKnown:
         return replace(kept, watched=watched, on=on, awaited_since=since, phase=phase)
 
     def leave(self, known: Known) -> None:
-        """Ends an object's run; its plugin, if one runs, isn't anybody's any more, and the next run of the object waits for it."""
+        """Ends an object's run. Its plugin, if one runs, has no owner any more, and the next run of the object waits for it."""
         run = self.running.end(known.place)
         if run is not None and run.job is not None:
             self.running.left[known.name] = run.job
 
     def read_saved(self, members: Iterable[Mapping[str, Any]]) -> List[str]:
-        """Takes in objects as their scheduler was saved. Returns the names of those of which something else was known."""
+        """Takes in objects as their scheduler was saved. Returns the names of the objects whose known state was different."""
         others = []
         for it in members:
             known = self.objects.get(it["name"])
@@ -200,7 +200,7 @@ class AllKnown:
         return first
 
     def second(self) -> Optional[int]:
-        """The time behind the first one, where it is at hand."""
+        """The time after the first one, if it is known without a search."""
         times = [time for due in self._due.values() for time in (due.first(), due.second()) if time is not None]
         return sorted(times)[1] if len(times) > 1 else None
 

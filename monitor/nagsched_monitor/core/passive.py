@@ -1,17 +1,27 @@
-"""The passive results that wait to be reported: each as the result of a check that is taken for it."""
+"""Passive results that wait to be reported: each as the result of a check that is taken for it."""
 import collections
+from functools import partial
 from typing import Container, Deque, Dict, Iterable, List
 
+from ..scheduler.protocol import Report, Reschedule, Take
+from ..scheduler.scheduling import Scheduling
 from ..store.rows import KeptResult
+from ..store.writes import drop_result
+from .mirroring import AskedOf
+from .object_state import Known
+from .plan import Plan
+from .rhythm import RESULT_FIRST
+from .running import Owner
 
-# So many may wait.
+# The greatest number of results that may wait.
 MOST_WAITING = 10_000
 
 
-class Waiting:
+class Passive:
     """Passive results, those of one object in the order in which they came. All are stored."""
 
-    def __init__(self, results: Iterable[KeptResult]) -> None:
+    def __init__(self, results: Iterable[KeptResult], scheduling: Scheduling) -> None:
+        self._scheduling = scheduling
         self._results: Dict[str, Deque[KeptResult]] = {}
         self.count = 0
         for result in results:
@@ -24,18 +34,41 @@ class Waiting:
     def __contains__(self, name: object) -> bool:
         return name in self._results
 
-    def names(self) -> List[str]:
-        return list(self._results)
-
     def first(self, name: str) -> KeptResult:
         return self._results[name][0]
 
-    def has_more(self, name: str) -> bool:
-        """Whether two results of an object wait, or more."""
-        return len(self._results[name]) > 1
+    def is_deliverable(self) -> bool:
+        """Whether an object can be taken for its result now."""
+        return any(self._is_takeable(name) for name in self._results)
 
-    def reported(self, result: KeptResult) -> None:
-        """The first result of its object is reported."""
+    def _is_takeable(self, name: str) -> bool:
+        known = self._scheduling.known.objects.get(name)
+        return known is not None and known.run is None and known.next != RESULT_FIRST and self._scheduling.is_known_open(known)
+
+    def plan_takes(self, plan: Plan, now: int) -> None:
+        """Takes each object that has a result and isn't running."""
+        for name in self._results:
+            known = self._scheduling.known.objects[name]
+            if self._is_takeable(name):
+                plan.calls += taken_for_result(known, now)
+            elif known.next == RESULT_FIRST and known.run is None and self._scheduling.is_known_open(known):
+                plan.calls.append((known.watched.part, Take(now), None))  # as many checks ran as may when it was to be taken
+                plan.later.add(name)
+
+    def plan_reports(self, plan: Plan, now: int) -> None:
+        """Reports the results for which their objects were taken."""
+        for run in self._scheduling.known.running.of_owner(Owner.RESULT):
+            part, name = run.place
+            known, result = self._scheduling.known.objects.get(name), run.result
+            if result is None or known is None or not self._scheduling.is_reportable(run.place):
+                continue
+            plan.calls += self._scheduling.reports(part, Report(name, run.number, result.code), result.words, now)
+            plan.writes.append(drop_result(result.id))
+            plan.then.append(partial(self._reported, result))
+            if len(self._results[name]) > 1:
+                plan.calls += taken_for_result(known, now)
+
+    def _reported(self, result: KeptResult) -> None:
         results = self._results[result.name]
         assert results[0].id == result.id
         results.popleft()
@@ -49,3 +82,8 @@ class Waiting:
         self._results = {name: results for name, results in self._results.items() if name in names}
         self.count -= len(gone)
         return gone
+
+
+def taken_for_result(known: Known, now: int) -> List[AskedOf]:
+    part = known.watched.part
+    return [(part, Reschedule(known.name, RESULT_FIRST, True), None), (part, Take(now), None)]

@@ -1,4 +1,4 @@
-"""What a turn is to store and make, before anything is done."""
+"""The plan of a turn: everything that it will store and make."""
 from dataclasses import dataclass, field
 from typing import Callable, List, Set
 

@@ -3,11 +3,10 @@ import collections
 from functools import partial
 from typing import Callable, Counter, Deque, Dict, List, Optional
 
-from ..run.runners import Event, Finished, Gone, Job, Lost, Runners
+from ..run.jobs import Event, Finished, Gone, Job, Lost, Runners
 from ..scheduler.protocol import Abandon, Report, Reschedule
 from ..scheduler.scheduling import Scheduling
 from ..site.command_lines import Command
-from ..site.site import Site
 from ..store.counters import Counters
 from .clock import Clock
 from .mirroring import AskedOf
@@ -22,9 +21,9 @@ MOST_LOST = 2
 UNKNOWN = 3
 # How long after its limit a result may come, in milliseconds.
 MARGIN = 15_000
-# A check that this machine couldn't start is tried again after so many milliseconds, twice as many each time, up to the longest.
+# The pause before a check that this machine couldn't start is tried again, in milliseconds: twice as long each time, up to the longest.
 RETRY, LONGEST_RETRY = 1_000, 60_000
-# Runs are looked over every so many milliseconds.
+# The time between two sweeps of all runs, in milliseconds.
 SWEEP = 1_000
 
 
@@ -44,11 +43,11 @@ class PluginRuns:
 
     # ---- the beginning
 
-    def start(self, known: Known, run: Run, command: Command, site: Site) -> None:
+    def start(self, known: Known, run: Run, command: Command) -> None:
         """Runs the plugin of a check that was taken; one that still runs for a run before ends this one."""
         left = self._scheduling.known.running.left.pop(known.name, None)
         if left is not None:
-            self._own(run, left, site)
+            self._own(run, left)
             return
         time = on_time(known.due)
         late = 0
@@ -57,16 +56,17 @@ class PluginRuns:
             self.latest_start = max(self.latest_start, late)
             self._counters.started(late)
         known.past.late = max(0, late) / 1000
-        job = Job(known.name, run.number, command.words, command.limit, known.watched.queue)
-        self._own(run, job, site)
+        job = Job(known.name, run.number, command.words, command.limit, known.watched.runner)
+        self._own(run, job)
         if known.name in self._stuck:
             self._events.append(Finished(job, "limit", 0, "the plugin of an earlier check still runs and can't be killed"))
         else:
             self._runners.start(job)
 
-    def _own(self, run: Run, job: Job, site: Site) -> None:
-        wait = site.queues.wait if job.queue is not None and site.queues is not None else 0.0
-        run.owner, run.job, run.deadline = Owner.PLUGIN, job, self._clock.moment() + round((job.limit + wait) * 1000) + MARGIN * (2 if wait else 1)
+    def _own(self, run: Run, job: Job) -> None:
+        remote = None if job.runner is None else self._scheduling.site.runners.get(job.runner)
+        wait = 0 if remote is None else round(2 * remote.wait * 1000) + MARGIN  # for the runner, and for what is behind it
+        run.owner, run.job, run.deadline = Owner.PLUGIN, job, self._clock.moment() + round(job.limit * 1000) + wait + MARGIN
 
     # ---- the end
 
@@ -101,16 +101,16 @@ class PluginRuns:
         run = None if known is None else known.run
         return run if run is not None and run.job is event.job else None
 
-    def plan(self, plan: Plan, site: Site, now: int) -> None:
-        """Reports what plugins gave. What can't be reported now stays."""
+    def plan(self, plan: Plan, now: int) -> None:
+        """Reports what plugins gave. Events that can't be reported now stay."""
         left: Deque[Event] = collections.deque()
         for event in self._events:
             run = self._run_of(event)
             if isinstance(event, Gone) or run is None:
                 plan.then.append(partial(self._forget, event))
             elif self._scheduling.is_reportable(run.place):
-                plan.calls += self._ended(run, event, site, now)
-                plan.freed += 1
+                plan.calls += self._ended(run, event, now)
+                plan.freed += event.job.runner is None
                 plan.then.append(partial(self._count, event))
             else:
                 left.append(event)
@@ -136,12 +136,12 @@ class PluginRuns:
                 del left[name]
             self._log(f"{name}: the result of run {event.job.run} is dropped: it was given up, or the object isn't part of the site any more")
 
-    def _ended(self, run: Run, event: Event, site: Site, now: int) -> List[AskedOf]:
-        """The calls by which a run ends. What was lost is made again; a service's check whose runner ended is UNKNOWN the third time."""
+    def _ended(self, run: Run, event: Event, now: int) -> List[AskedOf]:
+        """The calls by which a run ends. A lost check is made again; a service's check whose runner ended is UNKNOWN the third time."""
         part, name = run.place
         known = self._scheduling.known.objects[name]
         if isinstance(event, Finished):
-            code, words = verdict(event, known.watched.is_host(), site.options.timeout_code)
+            code, words = verdict(event, known.watched.is_host(), self._scheduling.site.options.timeout_code)
             return self._scheduling.reports(part, Report(name, run.number, code), words, now)
         if self._is_put_off(event):
             again = min(LONGEST_RETRY, RETRY << min(self._put_off[name], 16))

@@ -1,13 +1,13 @@
-"""The times at which an object is checked by itself: its phase, to which it returns after whatever made a check early or late."""
+"""The rhythm of an object's checks: its phase, to which it returns after any early or late check."""
 import zlib
 from typing import List, Optional, Sequence, Tuple
 
-# An overdue check is made within so many milliseconds, or within its interval if that is shorter.
+# The time within which overdue checks are made, in milliseconds, unless their interval is shorter.
 WINDOW = 15_000
-# A next check that is off by no more than so many milliseconds stays as it is.
+# The greatest difference from the phase that a next check may keep, in milliseconds.
 TOLERANCE = 250
-# The times of checks that are asked for at once: a mirror comes before a passive result's object, that before a host that matters now, and all come before
-# what is due.
+# The times of checks that are asked for at once, in their order: a mirror, the object of a passive result, a host that has to be checked now. All are before
+# the times of due checks.
 MIRROR_FIRST, RESULT_FIRST, HOST_FIRST = 0, 1, 2
 # Any time from this one on is a time by the clock.
 FIRST_TIME = 3

@@ -1,9 +1,9 @@
-"""The one table of what is running: each run with its owner and its deadline. Whatever isn't in it doesn't run."""
+"""The one table of running checks: each run with its owner and its deadline. A check that isn't in it doesn't run."""
 import enum
 from dataclasses import dataclass
 from typing import Dict, Iterator, List, Optional, Tuple
 
-from ..run.runners import Job
+from ..run.jobs import Job
 from ..store.rows import KeptResult
 
 # A part and the full name of an object in it.
@@ -36,7 +36,7 @@ class Run:
     result: Optional[KeptResult] = None
     # Whether the check was forced: so is the next try.
     forced: bool = False
-    # Where it is abandoned, the moment at which its check is made again; None for at once.
+    # The moment at which its check is made again if it is abandoned; None for at once.
     again: Optional[int] = None
     # When it was taken, in seconds since 1970 of the wall clock.
     began: Optional[float] = None
@@ -47,7 +47,7 @@ class Running:
 
     def __init__(self) -> None:
         self._runs: Dict[Place, Run] = {}
-        # Plugins that run for no run any more, by the names of their objects: no second one is started beside them.
+        # Plugins whose runs are over, by the names of their objects: no second one is started while they run.
         self.left: Dict[str, Job] = {}
 
     def begin(self, run: Run) -> None:
@@ -65,6 +65,11 @@ class Running:
     def plugins(self) -> int:
         """How many plugins run."""
         return sum(run.owner is Owner.PLUGIN for run in self._runs.values()) + len(self.left)
+
+    def here(self) -> int:
+        """How many plugins run on this machine."""
+        jobs = [run.job for run in self._runs.values() if run.owner is Owner.PLUGIN] + list(self.left.values())
+        return sum(job is not None and job.runner is None for job in jobs)
 
     def of_owner(self, owner: Owner) -> List[Run]:
         return [run for run in self._runs.values() if run.owner is owner]

@@ -1,14 +1,14 @@
-"""Words of plugins and clients, cleaned in this one place: what is stored, logged and shown has no control characters but line feeds."""
+"""Texts of plugins and clients, cleaned in this one place: stored, logged and shown texts have no control characters except line feeds."""
 import re
 
-# So many bytes are kept of a plugin's standard output, and of its standard error.
+# The number of bytes that are kept of a plugin's standard output, and of its standard error.
 KEPT_BYTES = 4_096
 # Control characters, and characters that turn the direction of what follows. A tab is a space.
 CONTROLS = re.compile("[\x00-\x08\x0b-\x1f\x7f-\x9f\u2028\u2029\u202a-\u202e\u2066-\u2069\ufeff]")
 
 
 def plain(text: str, most: int = KEPT_BYTES) -> str:
-    """A text without control characters, cut at so many bytes of UTF-8."""
+    """A text without control characters, cut to a number of bytes of UTF-8."""
     cleaned = CONTROLS.sub(" ", text.replace("\r\n", "\n").replace("\t", " "))
     return cleaned.encode(errors="replace")[:most].decode(errors="ignore").rstrip("\n")
 

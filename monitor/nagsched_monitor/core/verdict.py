@@ -1,7 +1,7 @@
-"""What the end of a plugin counts as, as in Nagios: its exit code, and CRITICAL (DOWN of a host) where it gave none that a plugin may give."""
+"""The result of a plugin's end, as in Nagios: its exit code, or CRITICAL (DOWN for a host) if that isn't a plugin's code."""
 from typing import Tuple
 
-from ..run.runners import Finished
+from ..run.jobs import Finished
 from ..scheduler.protocol import GREATEST_CODE
 from .text import plain
 
@@ -28,5 +28,5 @@ def words_of(event: Finished) -> str:
 
 
 def with_words(what: str, words: str) -> str:
-    """What happened, and what the plugin said if it said something."""
+    """An explanation, and the plugin's output if there is some."""
     return f"{what}: {words}" if words else what

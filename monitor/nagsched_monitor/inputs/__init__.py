@@ -1,1 +1,1 @@
-"""What can be asked of a monitor: its socket, and Nagios's pipe."""
+"""Requests to a monitor: through its socket, and through Nagios's pipe."""

@@ -1,28 +1,28 @@
 """The socket in the folder of a site, through which its monitor is asked: lines of JSON there, and as many back.
 
-No client holds up the monitor or another client: of each so many lines are handed on in one turn, and what it doesn't read waits, up to a limit.
+No client holds up the monitor or another client: a limited number of its lines is handed on in one turn, and answers that it doesn't read wait, up to a
+limit.
 """
 import os
 import pathlib
 import socket
 import time
-from dataclasses import dataclass, field
+from dataclasses import dataclass
 from functools import partial
 from typing import Callable, Dict, List, Sequence
 
 from ..faults import MonitorFault
+from ..program.turn_timer import Watch
 from .requests import Request
 
 NAME = "monitor.socket"
 LONGEST_LINE = 262_144
 READ_BYTES = 65_536
-# Lines of one client in one turn, answers of one client that may wait to be read, clients at once, and for how many seconds one may say nothing.
+# Lines of one client in one turn, bytes of answers that it may leave unread, clients at once, and for how many seconds one may say nothing.
 LINES_IN_TURN = 64
-UNREAD_BYTES = 64 * 1024 * 1024
+UNREAD_BYTES = 1024 * 1024
 MOST_CLIENTS = 200
 IDLE = 300.0
-# A line with this may take long: it is the last one of its client in a turn.
-LONG_REQUEST = b'"status"'
 
 
 @dataclass
@@ -31,7 +31,7 @@ class Client:
 
     connection: socket.socket
     unread: bytes = b""
-    unsent: List[bytes] = field(default_factory=list)
+    unsent: bytes = b""
     # Requests that have no answer yet, when it was heard last, and whether it sends no more.
     asked: int = 0
     heard: float = 0.0
@@ -39,9 +39,9 @@ class Client:
 
 
 class Control:
-    """The socket of a monitor. The caller waits for its files to be readable, calls `read` then, and `work` in each turn."""
+    """The socket of a monitor. The caller watches its files, and calls `work` in each turn."""
 
-    def __init__(self, folder: pathlib.Path, ask: Callable[[Request], None], watch: Callable[[int], None], unwatch: Callable[[int], None]) -> None:
+    def __init__(self, folder: pathlib.Path, ask: Callable[[Request], None], watch: Watch, unwatch: Callable[[int], None]) -> None:
         self._ask, self._watch, self._unwatch = ask, watch, unwatch
         self._path = folder / NAME
         self._path.unlink(missing_ok=True)
@@ -56,10 +56,7 @@ class Control:
         self._socket.listen(16)
         self._socket.setblocking(False)
         self._clients: Dict[int, Client] = {}
-        watch(self._socket.fileno())
-
-    def owns(self, file: int) -> bool:
-        return file == self._socket.fileno() or file in self._clients
+        watch(self._socket.fileno(), self.read)
 
     def read(self, file: int) -> None:
         """Takes a new connection, or reads what a client sent."""
@@ -96,7 +93,7 @@ class Control:
             return
         connection.setblocking(False)
         self._clients[connection.fileno()] = Client(connection, heard=time.monotonic())
-        self._watch(connection.fileno())
+        self._watch(connection.fileno(), self.read)
 
     def work(self) -> bool:
         """Hands on the lines that have come, sends what can be sent, and forgets who is gone. Whether more lines wait."""
@@ -116,35 +113,30 @@ class Control:
 
     def _hand_on(self, file: int, client: Client) -> None:
         *lines, rest = client.unread.split(b"\n", LINES_IN_TURN)
-        long = next((place for place, line in enumerate(lines, 1) if LONG_REQUEST in line), len(lines))
-        client.unread = b"\n".join([*lines[long:], rest])
-        for line in lines[:long]:
+        client.unread = rest
+        for line in lines:
             client.asked += 1
             self._ask(Request(line, partial(self._reply, file, client)))
         if len(rest) > LONGEST_LINE and b"\n" not in rest:
-            client.unsent.append(b'{"error": "the line is too long"}\n')
+            client.unsent += b'{"error": "the line is too long"}\n'
             client.unread = b""
             self._hear_no_more(file, client)
 
     def _reply(self, file: int, client: Client, answer: bytes) -> None:
         client.asked -= 1
-        client.unsent.append(answer)
-        if sum(map(len, client.unsent)) > UNREAD_BYTES:
+        client.unsent += answer
+        if len(client.unsent) > UNREAD_BYTES:
             self._forget(file)
 
     def _send(self, file: int, client: Client) -> None:
         """Sends as much as its reader takes now."""
         try:
             while client.unsent:
-                sent = client.connection.send(client.unsent[0])
-                if sent < len(client.unsent[0]):
-                    client.unsent[0] = client.unsent[0][sent:]
-                else:
-                    client.unsent.pop(0)
+                client.unsent = client.unsent[client.connection.send(client.unsent) :]
         except BlockingIOError:
             pass
         except OSError:
-            client.unsent.clear()  # whoever asked reads no more
+            client.unsent = b""  # whoever asked reads no more
             self._hear_no_more(file, client)
 
     def _forget(self, file: int) -> None:
@@ -154,7 +146,7 @@ class Control:
             client.connection.close()
 
     def close(self) -> None:
-        """Sends what is left, and closes all connections."""
+        """Sends the remaining answers, and closes all connections."""
         for file, client in list(self._clients.items()):
             self._send(file, client)
             self._forget(file)
@@ -164,42 +156,28 @@ class Control:
 
 
 def short_path(path: pathlib.Path) -> str:
-    """The path of a socket, whose length is limited: below the current folder where it lies there."""
+    """The path of a socket, whose length is limited: relative to the current folder if that is shorter."""
     return os.path.relpath(path) if len(os.path.relpath(path)) < len(str(path)) else str(path)
 
 
 def ask(folder: pathlib.Path, request: bytes, seconds: float = 30) -> bytes:
-    """The answer of the monitor of a folder; nothing where it ended meanwhile."""
-    return b"".join(answer + b"\n" for answer in ask_all(folder, [request], seconds))
+    """The answer of the monitor of a folder; nothing if it ended meanwhile."""
+    return b"".join(ask_all(folder, [request], seconds))
 
 
 def ask_all(folder: pathlib.Path, requests: Sequence[bytes], seconds: float = 30) -> List[bytes]:
-    """The answers to requests that are made together. Where the monitor ends meanwhile they are those that came before."""
-    with socket.socket(socket.AF_UNIX, socket.SOCK_STREAM) as connection:
-        connection.settimeout(seconds)
-        try:
+    """The answers to requests that are made together. If the monitor ends meanwhile, they are those that came before: these requests were obeyed."""
+    answers: List[bytes] = []
+    try:
+        with socket.socket(socket.AF_UNIX, socket.SOCK_STREAM) as connection, connection.makefile("rb") as lines:
+            connection.settimeout(seconds)
             connection.connect(short_path(folder / NAME))
             connection.sendall(b"".join(request + b"\n" for request in requests))
-            return answers_from(connection, len(requests))
-        except (FileNotFoundError, ConnectionRefusedError):
-            raise MonitorFault(f"no monitor runs on {folder}") from None
-        except OSError as error:
+            while len(answers) < len(requests) and (line := lines.readline()).endswith(b"\n"):
+                answers.append(line)
+    except (FileNotFoundError, ConnectionRefusedError):
+        raise MonitorFault(f"no monitor runs on {folder}") from None
+    except OSError as error:
+        if not answers:
             raise MonitorFault(f"the monitor of {folder} doesn't answer: {error.strerror or error}") from None
-
-
-def answers_from(connection: socket.socket, count: int) -> List[bytes]:
-    """So many answers, or fewer where the connection ends before."""
-    parts: List[bytes] = []
-    missing = count
-    while missing > 0:
-        try:
-            data = connection.recv(READ_BYTES)
-        except OSError:
-            if missing == count:
-                raise
-            data = b""  # what came before was obeyed
-        if not data:
-            break
-        parts.append(data)
-        missing -= data.count(b"\n")
-    return b"".join(parts).split(b"\n")[:-1]
+    return answers

@@ -7,7 +7,7 @@ import os
 import pathlib
 import re
 import stat
-from typing import Any, Callable, Dict, List, Mapping, Sequence, Tuple
+from typing import Any, Dict, List, Mapping, Sequence, Tuple
 
 from ..faults import MonitorFault, RequestFault
 
@@ -15,7 +15,7 @@ NAME = "nagios.cmd"
 MODE = 0o660
 LONGEST_LINE = 65_536
 READ_BYTES = 65_536
-# So many letters are shown of a line that is no command.
+# The number of characters that are shown of a line that isn't a command.
 SHOWN = 80
 
 LINE = re.compile(r"\[\d{1,20}\] ([A-Z][A-Z0-9_]*)(?:;(.*))?")
@@ -43,7 +43,7 @@ class Pipe:
         self._is_skipping = False
 
     def read(self) -> List[bytes]:
-        """The lines that are whole by now. Of one that is too long there is a byte more than a line may have."""
+        """The lines that are whole by now. A line that is too long is cut one byte after the longest length."""
         try:
             data = os.read(self.file, READ_BYTES)
         except BlockingIOError:
@@ -65,107 +65,70 @@ class Pipe:
         self._path.unlink(missing_ok=True)
 
 
+# Each command: the request's word, the object that it names, the other members of the line, and whether it is forced. A service is a host and its description.
+AT, RESULT = ("at",), ("code", "output")
+HOST, SERVICE, SERVICES = 1, 2, 0
+COMMANDS: Mapping[str, Tuple[str, int, Tuple[str, ...], bool]] = {
+    "SCHEDULE_HOST_CHECK": ("reschedule", HOST, AT, False),
+    "SCHEDULE_FORCED_HOST_CHECK": ("reschedule", HOST, AT, True),
+    "SCHEDULE_SVC_CHECK": ("reschedule", SERVICE, AT, False),
+    "SCHEDULE_FORCED_SVC_CHECK": ("reschedule", SERVICE, AT, True),
+    "SCHEDULE_HOST_SVC_CHECKS": ("reschedule", SERVICES, AT, False),
+    "SCHEDULE_FORCED_HOST_SVC_CHECKS": ("reschedule", SERVICES, AT, True),
+    "ENABLE_HOST_CHECK": ("enable", HOST, (), False),
+    "DISABLE_HOST_CHECK": ("disable", HOST, (), False),
+    "ENABLE_SVC_CHECK": ("enable", SERVICE, (), False),
+    "DISABLE_SVC_CHECK": ("disable", SERVICE, (), False),
+    "PROCESS_HOST_CHECK_RESULT": ("result", HOST, RESULT, False),
+    "PROCESS_SERVICE_CHECK_RESULT": ("result", SERVICE, RESULT, False),
+}
+
+
 def requests_of(line: bytes, services: Services) -> Tuple[str, List[Request]]:
-    """The name of the command of a line, and the requests that obey it. `RequestFault` where it isn't obeyed here, or is no command."""
+    """The name of the command of a line, and the requests that obey it. `RequestFault` if it isn't obeyed here, or is no command."""
     text = line.decode(errors="replace")
     if len(line) > LONGEST_LINE:
         raise RequestFault(f"a line is longer than {LONGEST_LINE} bytes: {text[:SHOWN]!r}..")
     found = LINE.fullmatch(text.rstrip("\r"))
     if found is None:
         raise RequestFault(f"no command: {text[:SHOWN]!r}")
-    name, rest = found.group(1), found.group(2) or ""
-    make = COMMANDS.get(name)
-    if make is None:
-        raise RequestFault(f"{name} isn't obeyed here")
+    command, rest = found.group(1), found.group(2) or ""
+    if command not in COMMANDS:
+        raise RequestFault(f"{command} isn't obeyed here")
     try:
-        return name, make(rest, services)
+        return command, made(rest, services, *COMMANDS[command])
     except ValueError as error:
-        raise RequestFault(f"{name}: {error}") from None
+        raise RequestFault(f"{command}: {error}") from None
 
 
-# ---- the commands
+def made(rest: str, services: Services, do: str, of: int, members: Sequence[str], forced: bool) -> List[Request]:
+    """The requests of a command; `ValueError` says what is wrong with its line."""
+    count = max(of, 1)
+    total = count + len(members)
+    words = rest.split(";", total - 1)  # the last one may have semicolons in it
+    if members == RESULT and len(words) == total - 1:
+        words.append("")  # the output may be left out
+    if len(words) < total:
+        raise ValueError(f"it has {total} words after it, and no {len(words)}")
+    name = ";".join(words[:count])
+    if do == "result":
+        return [{"do": do, "name": name, **result(words[count], words[count + 1], of == HOST)}]
+    if do != "reschedule":
+        return [{"do": do, "name": name}]
+    if of == SERVICES and name not in services:
+        raise ValueError(f"there is no host {name[:SHOWN]!r}")
+    names = [f"{name};{description}" for description in services[name]] if of == SERVICES else [name]
+    return [{"do": do, "name": each, "at": number(words[count]), "force": forced} for each in names]
 
 
-def words(rest: str, count: int) -> List[str]:
-    """So many words, of which the last may have semicolons in it."""
-    split = rest.split(";", count - 1)
-    if len(split) < count:
-        raise ValueError(f"it has {count} words behind it, and no {len(split)}")
-    return split
+def result(code: str, output: str, is_host: bool) -> Request:
+    """A host's code is a state here, of which the scheduler makes DOWN or UNREACHABLE by itself. Line feeds of the output are two letters in the pipe."""
+    if is_host and number(code) > 2:
+        raise ValueError(f"no state of a host: {code}")
+    return {"code": (2 if number(code) else 0) if is_host else number(code), "output": output.replace("\\n", "\n")}
 
 
 def number(word: str) -> int:
     if not re.fullmatch("[0-9]{1,15}", word.strip()):
         raise ValueError(f"no number: {word[:SHOWN]!r}")
     return int(word)
-
-
-def lines(output: str) -> str:
-    """An output, whose line feeds are two letters in the pipe."""
-    return output.replace("\\n", "\n")
-
-
-def schedule(name: str, time: str, forced: bool) -> Request:
-    return {"do": "reschedule", "name": name, "at": number(time), "force": forced}
-
-
-def schedule_host(forced: bool) -> Callable[[str, Services], List[Request]]:
-    def make(rest: str, services: Services) -> List[Request]:
-        host, time = words(rest, 2)
-        return [schedule(host, time, forced)]
-
-    return make
-
-
-def schedule_service(forced: bool) -> Callable[[str, Services], List[Request]]:
-    def make(rest: str, services: Services) -> List[Request]:
-        host, description, time = words(rest, 3)
-        return [schedule(f"{host};{description}", time, forced)]
-
-    return make
-
-
-def schedule_services(forced: bool) -> Callable[[str, Services], List[Request]]:
-    def make(rest: str, services: Services) -> List[Request]:
-        host, time = words(rest, 2)
-        if host not in services:
-            raise ValueError(f"there is no host {host[:SHOWN]!r}")
-        return [schedule(f"{host};{description}", time, forced) for description in services[host]]
-
-    return make
-
-
-def switch(word: str, count: int) -> Callable[[str, Services], List[Request]]:
-    def make(rest: str, services: Services) -> List[Request]:
-        return [{"do": word, "name": ";".join(words(rest, count))}]
-
-    return make
-
-
-def host_result(rest: str, services: Services) -> List[Request]:
-    """A host's code is a state here, of which the scheduler makes DOWN or UNREACHABLE by itself."""
-    host, code, output = words(f"{rest};" if rest.count(";") == 1 else rest, 3)
-    if number(code) > 2:
-        raise ValueError(f"no state of a host: {code}")
-    return [{"do": "result", "name": host, "code": 2 if number(code) else 0, "output": lines(output)}]
-
-
-def service_result(rest: str, services: Services) -> List[Request]:
-    host, description, code, output = words(f"{rest};" if rest.count(";") == 2 else rest, 4)
-    return [{"do": "result", "name": f"{host};{description}", "code": number(code), "output": lines(output)}]
-
-
-COMMANDS: Mapping[str, Callable[[str, Services], List[Request]]] = {
-    "SCHEDULE_HOST_CHECK": schedule_host(False),
-    "SCHEDULE_FORCED_HOST_CHECK": schedule_host(True),
-    "SCHEDULE_SVC_CHECK": schedule_service(False),
-    "SCHEDULE_FORCED_SVC_CHECK": schedule_service(True),
-    "SCHEDULE_HOST_SVC_CHECKS": schedule_services(False),
-    "SCHEDULE_FORCED_HOST_SVC_CHECKS": schedule_services(True),
-    "ENABLE_HOST_CHECK": switch("enable", 1),
-    "DISABLE_HOST_CHECK": switch("disable", 1),
-    "ENABLE_SVC_CHECK": switch("enable", 2),
-    "DISABLE_SVC_CHECK": switch("disable", 2),
-    "PROCESS_HOST_CHECK_RESULT": host_result,
-    "PROCESS_SERVICE_CHECK_RESULT": service_result,
-}

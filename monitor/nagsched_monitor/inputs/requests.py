@@ -1,15 +1,15 @@
-"""What can be asked of a monitor that runs: one JSON object there, and one back.
+"""Requests to a monitor that runs: one JSON object there, and one back.
 
-    {"do":"status","pattern":"web-*"}                     how objects stand
+    {"do":"signs"}                                        signs of life of the monitor
     {"do":"reschedule","name":N,"at":T,"force":true}      the next check of an object: now without `at`, which is in seconds since 1970
     {"do":"enable","name":N}    {"do":"disable","name":N} an operator's switch
+    {"do":"default","name":N}                             the setup's switch counts again
     {"do":"result","name":N,"code":0,"output":"..."}      a passive result
     {"do":"reload"}   {"do":"save"}   {"do":"stop"}
 
 An answer with `error` is a refusal that changed nothing; with `"again":true` the same request may be obeyed later. A request may have a `number`, a text: the
 same number isn't obeyed twice, and gets the answer of the first time.
 """
-import fnmatch
 import json
 import traceback
 from dataclasses import dataclass
@@ -25,7 +25,7 @@ from ..core.text import KEPT_BYTES, plain
 from ..faults import AskAgain, ConversationEnded, MonitorFault, NotStored, RequestFault
 from ..scheduler.protocol import Reschedule
 from ..store.rows import KeptResult
-from ..store.writes import MOST_REQUESTS, KeepRequest, KeepResult, SetSwitch
+from ..store.writes import MOST_REQUESTS, keep_request, keep_result, set_switch
 
 if TYPE_CHECKING:
     from ..core.engine import Engine
@@ -38,17 +38,18 @@ Reply = Callable[[bytes], None]
 
 @dataclass
 class Request:
-    """A line of a client, and where its answer goes."""
+    """A line of a client, with the receiver of its answer."""
 
     line: bytes
     reply: Reply
-    # Its answer, once it is known; None if it comes later.
+    # Its answer, once it is known; None if it comes later. One that only reads is answered although nothing could be stored.
     answer: Optional[Dict[str, Any]] = None
+    only_reads: bool = False
 
 
 @dataclass
 class Step(Plan):
-    """What a request adds to the plan of a turn."""
+    """The part of a turn's plan that a request adds."""
 
     answer: Optional[Dict[str, Any]] = None
     # The line of the log, if something changes.
@@ -60,7 +61,7 @@ class Requests:
 
     def __init__(self, engine: "Engine", clock: Clock) -> None:
         self.engine, self._clock = engine, clock
-        # What the loop does in its own time; each is handed the request, which it answers.
+        # Actions of the loop; the one for a reload is handed the request, and answers it later.
         self.reload: Callable[[Request], None] = lambda request: None
         self.stop: Callable[[], None] = lambda: None
         self.log: Callable[[str], None] = lambda line: None
@@ -68,10 +69,11 @@ class Requests:
         self._planned: Set[str] = set()
         self._results = 0
         self._words: Dict[str, Callable[[Members, Request], Step]] = {
-            "status": self._status,
+            "signs": self._signs,
             "reschedule": self._reschedule,
             "enable": partial(self._switch, on=True),
             "disable": partial(self._switch, on=False),
+            "default": partial(self._switch, on=None),
             "result": self._result,
             "reload": self._reload,
             "save": self._save,
@@ -83,7 +85,7 @@ class Requests:
         self._results = 0
 
     def plan(self, request: Request) -> Step:
-        """What a request adds to the plan. One that is refused adds nothing, and has its answer."""
+        """The step of a request. A refused request has an empty step and its answer."""
         try:
             members = read_request(request.line, self._words)
             number = members.pop("number", None)
@@ -106,7 +108,7 @@ class Requests:
             step.then.append(partial(self.log, f"asked: {step.said}"))
         if number is not None and step.answer is not None and (step.calls or step.writes):
             answer = json.dumps(step.answer, ensure_ascii=False)
-            step.writes.append(KeepRequest(number, answer))
+            step.writes.append(keep_request(number, answer))
             step.then.append(partial(self._remember, number, answer))
             self._planned.add(number)
         return step
@@ -135,8 +137,8 @@ class Requests:
     def refuse(self, asked: Sequence[Request], why: str) -> None:
         """Nothing of a turn was stored."""
         for request in asked:
-            is_refused = request.answer is not None and "error" in request.answer
-            request.reply(encoded(request.answer if is_refused and request.answer is not None else {"error": why, "again": True}))
+            is_known = request.answer is not None and ("error" in request.answer or request.only_reads)
+            request.reply(encoded(request.answer if is_known and request.answer is not None else {"error": why, "again": True}))
 
     # ---- reading a request
 
@@ -151,43 +153,25 @@ class Requests:
 
     def _callable(self, members: Members) -> Known:
         known = self._named(members)
-        if not self.engine.is_open(known):
+        if not self.engine.scheduling.is_known_open(known):
             raise AskAgain("the scheduler of this object is being started again")
         return known
 
     # ---- the words
 
-    def _status(self, members: Members, request: Request) -> Step:
-        only(members, "pattern")
-        pattern = members.get("pattern", "*")
-        if not isinstance(pattern, str):
-            raise RequestFault("pattern is a text")
-        known = self.engine.objects
-        names = [pattern] if pattern in known else sorted(name for name in known if fnmatch.fnmatchcase(name, pattern))
-        engine = self.engine
-        step = Step()
-
-        def told() -> None:
-            request.answer = {"objects": [self._told(known[name]) for name in names if name in known], "out": engine.out(), "made": engine.made,
-                              "latest_start": engine.plugins.latest_start}
-
-        step.last.append(told)
-        return step
-
-    def _told(self, known: Known) -> Dict[str, Any]:
-        standing = known.standing
-        late = self._clock.moment() - self._clock.wall() * 1000
-        return {
-            "name": known.name,
-            "state": None if standing is None else standing.state,
-            "kind": None if standing is None else standing.kind,
-            "attempt": None if standing is None else standing.attempt,
-            "flapping": standing is not None and standing.flapping,
-            "next": None if known.next is None else round((known.next - late) / 1000, 3),
-            "out": known.run is not None,
-            "on": known.on,
-            "output": known.words,
-        }
+    def _signs(self, members: Members, request: Request) -> Step:
+        only(members)
+        request.only_reads = True
+        engine, wall = self.engine, self._clock.wall()
+        try:
+            changes, first = engine.store.waiting_changes()
+        except NotStored:
+            changes, first = 0, None
+        return Step(answer={
+            "turn": wall - engine.since_turn() / 1000, "is_stuck": engine.is_stuck, "passive_waiting": engine.passive.count, "changes_waiting": changes,
+            "oldest_change": 0.0 if first is None else max(0.0, wall - first), "runners": engine.runners.signs(), "out": engine.out(), "made": engine.made,
+            "latest_start": engine.plugins.latest_start,
+        })
 
     def _reschedule(self, members: Members, request: Request) -> Step:
         only(members, "name", "at", "force")
@@ -211,16 +195,16 @@ class Requests:
         step.then.append(partial(setattr, known, "asked", (time, forced)))
         return step
 
-    def _switch(self, members: Members, request: Request, on: bool) -> Step:
+    def _switch(self, members: Members, request: Request, on: Optional[bool]) -> Step:
         only(members, "name")
         known = self._callable(members)
         if on and known.watched.command is None:
             raise RequestFault(f"{known.name} has no command")
-        word = "enable" if on else "disable"
-        calls = self.engine.switch(known, on)
-        answer = {"done": word, "name": known.name, "on": self.engine.is_wanted_on(known.watched, on)}
-        step = Step([(known.watched.part, call, None) for call in calls], [SetSwitch(known.name, on)], answer=answer, said=f"{word} {known.name}")
-        step.then.append(partial(self.engine.switched, known, on))
+        word, will_be = members["do"], known.watched.enabled if on is None else on
+        calls = self.engine.checks.switch(known, will_be)
+        answer = {"done": word, "name": known.name, "on": self.engine.checks.is_wanted_on(known.watched, will_be)}
+        step = Step([(known.watched.part, call, None) for call in calls], [set_switch(known.name, on)], answer=answer, said=f"{word} {known.name}")
+        step.then.append(partial(self.engine.checks.switched, known, on))
         return step
 
     def _result(self, members: Members, request: Request) -> Step:
@@ -231,19 +215,19 @@ class Requests:
             raise RequestFault(f"no code from 0 to 3: {code!r}")
         if not isinstance(output, str):
             raise RequestFault("output is a text")
-        if self.engine.waiting.count + self._results >= MOST_WAITING:
+        if self.engine.passive.count + self._results >= MOST_WAITING:
             raise AskAgain(f"{MOST_WAITING} results wait to be reported")
         self._results += 1
         words = plain(output, KEPT_BYTES)
         number = self.engine.store.last_result + self._results
         result = KeptResult(number, known.name, code, words)
-        step = Step(writes=[KeepResult(known.name, code, words, number)], answer={"done": "result", "name": known.name}, said=f"result {known.name} {code}")
+        step = Step(writes=[keep_result(known.name, code, words, number)], answer={"done": "result", "name": known.name}, said=f"result {known.name} {code}")
         step.then.append(partial(self._accepted, result))
         return step
 
     def _accepted(self, result: KeptResult) -> None:
         self.engine.store.last_result = max(self.engine.store.last_result, result.id)
-        self.engine.expect(result)
+        self.engine.passive.expect(result)
 
     def _reload(self, members: Members, request: Request) -> Step:
         only(members)

@@ -1,1 +1,1 @@
-"""What a monitor tells: changes, pages, figures, Nagios's status file, the service manager."""
+"""The outputs of a monitor: changes, alerts, pages, figures, Nagios's status file, the service manager."""

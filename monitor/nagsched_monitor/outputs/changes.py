@@ -6,7 +6,6 @@ import signal
 import subprocess
 import tempfile
 import time
-from dataclasses import dataclass
 from typing import IO, Callable, List, Optional, Sequence, Tuple
 
 from ..core.text import first_line
@@ -14,10 +13,9 @@ from ..faults import NotStored
 from ..scheduler.protocol import Standing
 from ..store.rows import KeptChange
 from ..store.store import Store
-from ..store.writes import DropDocument
+from ..store.writes import drop_documents
 
-# How long the command may take, how long it is waited between two tries, twice as long each time up to the longest, and after which time a change is given up;
-# in seconds.
+# How long the command may take, the pause between two tries, twice as long each time up to the longest, and the age at which a change is dropped; in seconds.
 LIMIT = 30.0
 PAUSE, LONGEST_PAUSE = 5.0, 60.0
 MOST_AGE = 86_400.0
@@ -33,7 +31,7 @@ def is_change(before: Optional[Standing], now: Standing) -> bool:
 
 
 def is_important(before: Optional[Standing], now: Standing) -> bool:
-    """Whether the command is run for a change: hard ones and flapping. A recovery counts where the problem was hard."""
+    """Whether the command is run for a change: hard ones and flapping. A recovery counts if the problem was hard."""
     was_hard = before is None or before.kind == "HARD"
     flapping_changed = (before is not None and before.flapping) != now.flapping
     return now.kind == "HARD" and (now.is_problem() or was_hard) or flapping_changed
@@ -47,7 +45,7 @@ def line_of(change: KeptChange, zone: Optional[datetime.tzinfo]) -> str:
 
 
 def document_of(change: KeptChange, before: Optional[Standing]) -> str:
-    """A change as the JSON object that the command reads."""
+    """A change as the line of JSON that the command reads."""
     members = {
         "time": change.time,
         "name": change.name,
@@ -63,27 +61,20 @@ def document_of(change: KeptChange, before: Optional[Standing]) -> str:
     return json.dumps(members, ensure_ascii=False)
 
 
-@dataclass
-class Try:
-    """The command as it runs for one document."""
-
-    document: int
-    process: "subprocess.Popen[bytes]"
-    deadline: float
-
-
 class Notifier:
-    """Runs the command for changes, one after another in their order. A document that the command doesn't take is tried again, until it is too old."""
+    """Runs the command for changes, and hands it all waiting changes, in their order. If it fails they are handed over again, until they are too old."""
 
     def __init__(self, command: Optional[str], store: Store, log: Callable[[str], None], clock: Callable[[], float] = time.monotonic,
                  wall: Callable[[], float] = time.time) -> None:
         self._command, self._store, self._log, self._clock, self._wall = command, store, log, clock, wall
-        self._running: Optional[Try] = None
+        self._process: Optional["subprocess.Popen[bytes]"] = None
+        # The number of the last change that it was handed, and when it is killed.
+        self._handed, self._deadline = 0, 0.0
         self._pause = PAUSE
         self._not_before = 0.0
-        # Why the command couldn't be run or a document not be read or dropped when it was tried last.
+        # Why the command couldn't be run, or the database not be read or written, when it was tried last.
         self._trouble: Optional[str] = None
-        # The document that was taken or given up, where that couldn't be stored yet: the command isn't run for it again.
+        # The last change that was taken or is too old, if that couldn't be stored yet: it isn't handed over again.
         self._ended: Optional[int] = None
 
     def is_wanted(self) -> bool:
@@ -91,29 +82,34 @@ class Notifier:
 
     def is_busy(self) -> bool:
         """Whether there is something to come back for soon."""
-        return self._running is not None
+        return self._process is not None
 
     def work(self) -> None:
-        """Sees to the command that runs, and begins the next."""
+        """Sees to the command that runs, and begins it for what waits."""
         if self._command is None:
             return
-        if self._running is not None:
-            self._see_to(self._running)
-        if self._running is None and self._clock() >= self._not_before:
+        if self._process is not None:
+            self._see_to(self._process)
+        if self._process is None and self._clock() >= self._not_before:
             try:
-                self._next()
+                self._next(self._command)
             except (OSError, NotStored) as error:  # there is no room for a file or a process now, or the database can't be read or written
                 self._wait(f"the command for changes waits: {error}")
 
-    def _next(self) -> None:
+    def _next(self, command: str) -> None:
         if self._ended is not None:
             self._drop(self._ended)
-        for number, document in self._store.outbox(1):
-            if self._wall() - float(json.loads(document).get("time", 0.0)) > MOST_AGE:
-                self._log(f"a change is given up, since the command took it not within {MOST_AGE / 3600:g} hours: {document}")
-                self._drop(number)
-            else:
-                self._begin(number, document)
+        waiting = self._store.outbox()
+        old = [each for each in waiting if self._wall() - float(json.loads(each[1]).get("time", 0.0)) > MOST_AGE]
+        for _, document in old:
+            self._log(f"a change is dropped, since the command didn't take it within {MOST_AGE / 3600:g} hours: {document}")
+        if old:
+            self._drop(old[-1][0])
+            waiting = [each for each in waiting if each[0] > old[-1][0]]
+        if waiting:
+            with file_with("".join(f"{document}\n" for _, document in waiting).encode()) as given:
+                self._process = subprocess.Popen(["/bin/sh", "-c", command], stdin=given, start_new_session=True)
+            self._handed, self._deadline = waiting[-1][0], self._clock() + LIMIT
 
     def _wait(self, why: str) -> None:
         """Tries again after a pause; the log says why, once."""
@@ -123,42 +119,36 @@ class Notifier:
             self._log(f"{why}; it is tried again")
         self._trouble = why
 
-    def _begin(self, number: int, document: str) -> None:
-        given = file_with(document.encode() + b"\n")
-        with given:
-            process = subprocess.Popen(["/bin/sh", "-c", str(self._command)], stdin=given, start_new_session=True)
-        self._running = Try(number, process, self._clock() + LIMIT)
-
-    def _see_to(self, running: Try) -> None:
-        status = running.process.poll()
-        if status is None and self._clock() < running.deadline:
+    def _see_to(self, process: "subprocess.Popen[bytes]") -> None:
+        status = process.poll()
+        if status is None and self._clock() < self._deadline:
             return
         if status is None:
-            kill_group(running.process)
-        self._running = None
+            kill_group(process)
+        self._process = None
         if status != 0:
             self._wait(f"the command for changes {f'took longer than {LIMIT:g} seconds' if status is None else f'ended with {status}'}")
             return
-        self._pause, self._trouble, self._ended = PAUSE, None, running.document
+        self._pause, self._trouble = PAUSE, None
         try:
-            self._drop(running.document)
+            self._drop(self._handed)
         except NotStored as error:
             self._wait(str(error))
 
     def _drop(self, number: int) -> None:
-        """Lets go of a document that was taken or is too old."""
+        """Lets go of the changes up to this one, which were taken or are too old."""
         self._ended = number
-        self._store.write(DropDocument(number))
+        self._store.write(drop_documents(number))
         self._ended = None
 
     def close(self) -> None:
-        """Waits for the command that runs; its document is kept where it fails."""
-        if self._running is not None:
+        """Waits for the command that runs; what it was handed stays if it fails."""
+        if self._process is not None:
             try:
-                self._running.process.wait(timeout=LIMIT)
+                self._process.wait(timeout=LIMIT)
             except subprocess.TimeoutExpired:
-                kill_group(self._running.process)
-            self._see_to(self._running)
+                kill_group(self._process)
+            self._see_to(self._process)
 
 
 def kill_group(process: "subprocess.Popen[bytes]") -> None:
@@ -179,5 +169,5 @@ def file_with(data: bytes) -> IO[bytes]:
 
 
 def standing_problems(standings: Sequence[Tuple[str, Standing]]) -> List[str]:
-    """A line for each problem that stands when the monitor starts."""
+    """A line for each problem at the monitor's start."""
     return [f"{name} is {standing.state} {standing.kind} {standing.attempt}" for name, standing in standings if standing.is_problem()]

@@ -1,12 +1,14 @@
-"""The pages of a site, as HTML. What comes from a site, names and words, is escaped, and each character that is none of a text is replaced."""
+"""The pages of a site, as HTML. Names and texts of a site are escaped, and control characters are replaced."""
 import datetime
 import html
 import urllib.parse
-from typing import Dict, List, Optional, Sequence, Tuple
+from typing import Dict, List, Mapping, Optional, Sequence, Set, Tuple
 
 from ..core.text import first_line
+from ..site.groups_file import Groups
+from ..store.rows import KeptChange, KeptStanding
 from .picture import day_of, stretches
-from .status_query import Change, OneObject, Picture, Shown
+from .status_query import OneObject, Picture
 from .style import CLASSES, STYLE
 
 # How often a page renews itself, in seconds.
@@ -45,7 +47,7 @@ class Times:
         self._texts: Dict[int, str] = {}
 
     def of(self, time: float) -> str:
-        """The time of day, with the date where it isn't today."""
+        """The time of day, with the date if it isn't today."""
         if not 0 <= time <= LAST_TIME:
             return "never" if time > 0 else "long ago"
         second = int(time)
@@ -77,7 +79,7 @@ def link(name: str) -> str:
     return f'<a href="/object?name={urllib.parse.quote(name, safe="")}">{text(name)}</a>'
 
 
-def next_of(it: Shown, times: Times) -> str:
+def next_of(it: KeptStanding, times: Times) -> str:
     """When an object is checked next, or why it isn't."""
     if it.out_since is not None:
         return f"runs since {times.ago(it.out_since)}"
@@ -91,10 +93,10 @@ def next_of(it: Shown, times: Times) -> str:
     return "due" if times.now - it.next_check > YEAR else f"due since {times.of(it.next_check)}"
 
 
-def row(it: Shown, times: Times, since: Optional[float]) -> str:
+def row(it: KeptStanding, times: Times, since: Optional[float]) -> str:
     flapping = " FLAPPING" if it.flapping else ""
     attempt = "" if it.attempt is None else str(it.attempt)
-    cells = (badge(it.state, it.kind) + flapping, link(it.name), attempt, times.ago(since), next_of(it, times), text(first_line(it.words)))
+    cells = (badge(str(it.state), it.kind) + flapping, link(it.name), attempt, times.ago(since), next_of(it, times), text(first_line(it.words)))
     return f"<tr><td>{'</td><td>'.join(cells)}</td></tr>"
 
 
@@ -145,7 +147,7 @@ def figures_of(picture: Picture) -> str:
 
 
 def silence_of(picture: Picture) -> List[str]:
-    """A line where the monitor isn't at work, so that what follows is old."""
+    """A line if the monitor isn't working, since the rest is old then."""
     silent = picture.silence()
     if silent is None:
         return []
@@ -153,28 +155,46 @@ def silence_of(picture: Picture) -> List[str]:
     return [f'<p class="silent">The monitor has written nothing {since}: what is shown is how things stood then.</p>']
 
 
-def page(picture: Picture, site: str, zone: Optional[datetime.tzinfo]) -> str:
-    """What is wrong, what is out, and all hosts and services."""
+def groups_of(objects: Sequence[KeptStanding], groups: Mapping[str, Groups]) -> List[str]:
+    """A line for each host and service group: how many of its objects are wrong, of how many."""
+    wrong: Dict[str, int] = {}
+    count: Dict[str, int] = {}
+    for it in objects:
+        for group in names_of(groups.get(it.name, {})):
+            count[group] = count.get(group, 0) + 1
+            wrong[group] = wrong.get(group, 0) + it.is_problem()
+    rows = [f'<tr><td><a href="/?group={urllib.parse.quote(group, safe="")}">{text(group)}</a></td><td>{wrong[group]}</td><td>{count[group]}</td></tr>'
+            for group in sorted(count)]
+    return [f"<h2>Groups: {len(rows)}</h2>", table(rows, ("Group", "Wrong", "Objects"), "g")] if rows else []
+
+
+def names_of(groups: Groups) -> Set[str]:
+    """The host and service groups of an object."""
+    return {*groups.get("host_groups", ()), *groups.get("service_groups", ())}
+
+
+def page(picture: Picture, groups: Mapping[str, Groups], group: str, site: str, zone: Optional[datetime.tzinfo]) -> str:
+    """Problems, running checks, and all hosts and services; those of a group, if one is named."""
     times = Times(picture.now, zone)
+    if group:
+        picture = Picture(picture.now, [it for it in picture.objects if group in names_of(groups.get(it.name, {}))], picture.figures)
     wrong, out = picture.wrong(), picture.out()
-    body = [*silence_of(picture), figures_of(picture), f"<h2>Wrong now: {len(wrong)}</h2>"]
+    body = [*([f"<p>Group {text(group)}</p>"] if group else []), *silence_of(picture), figures_of(picture), f"<h2>Wrong now: {len(wrong)}</h2>"]
     body.append(table([row(it, times, it.wrong_since()) for it in wrong]) if wrong else "<p>Nothing is wrong.</p>")
     if out:
         body += [f"<h2>Out: {len(out)}</h2>", "<p>" + ", ".join(f"{link(it.name)} <i>{duration(times.now - (it.out_since or 0))}</i>" for it in out) + "</p>"]
-    for what, objects in (
-        ("Hosts", [it for it in picture.objects if it.is_host()]),
-        ("Services", [it for it in picture.objects if not it.is_host()]),
-    ):
-        body += [f"<h2>{what}: {len(objects)}</h2>", table([row(it, times, it.since) for it in objects]) if objects else f"<p>No {what.lower()}.</p>"]
-    return whole(f"{len(wrong)} wrong: {site}", site, times, body)
+    for what, is_host in (("Hosts", True), ("Services", False)):
+        rows = [row(it, times, it.since) for it in picture.objects if it.is_host() == is_host]
+        body += [f"<h2>{what}: {len(rows)}</h2>", table(rows) if rows else f"<p>No {what.lower()}.</p>"]
+    return whole(f"{len(wrong)} wrong: {group or site}", site, times, [*body, *groups_of(picture.objects, groups)])
 
 
 # ---- the page of an object
 
 
-def change_row(it: Change, times: Times) -> str:
+def change_row(it: KeptChange, times: Times) -> str:
     flapping = " FLAPPING" if it.flapping else ""
-    return f"<tr><td>{times.of(it.time)}</td><td>{badge(it.state, it.kind)}{flapping}</td><td>{it.attempt}</td><td>{text(first_line(it.words))}</td></tr>"
+    return f"<tr><td>{times.of(it.time)}</td><td>{badge(str(it.state), it.kind)}{flapping}</td><td>{it.attempt}</td><td>{text(first_line(it.words))}</td></tr>"
 
 
 def legend_of(one: OneObject) -> str:
@@ -186,8 +206,8 @@ def legend_of(one: OneObject) -> str:
     return f"<p>{', '.join(names)}{'; soft ones are low' if any(kind == 'SOFT' for _, kind in states) else ''}</p>"
 
 
-def object_page(one: OneObject, site: str, zone: Optional[datetime.tzinfo]) -> str:
-    """How one object stands, and its last day."""
+def object_page(one: OneObject, groups: Groups, site: str, zone: Optional[datetime.tzinfo]) -> str:
+    """One object, and its last day."""
     times, it = Times(one.now, zone), one.it
     pairs = [
         ("attempt", "none" if it.attempt is None else str(it.attempt)),
@@ -196,13 +216,14 @@ def object_page(one: OneObject, site: str, zone: Optional[datetime.tzinfo]) -> s
         ("last check", times.ago(it.last_check)),
         ("next check", next_of(it, times)),
         ("took", "" if it.took is None else f"{it.took:.3f} s"),
-        ("began behind its time", "" if it.late is None else f"{it.late:.3f} s"),
+        ("began late by", "" if it.late is None else f"{it.late:.3f} s"),
+        *((kind.replace("_", " "), text(", ".join(names))) for kind, names in groups.items()),
     ]
     changes = [change_row(each, times) for each in reversed(one.changes)]
     body = [
-        f"<h2>{text(it.name)} {badge(it.state, it.kind)}{' FLAPPING' if it.flapping else ''}</h2>",
+        f"<h2>{text(it.name)} {badge(str(it.state), it.kind)}{' FLAPPING' if it.flapping else ''}</h2>",
         tiles([pair for pair in pairs if pair[1]]),
-        f"<pre>{text(one.words) or 'no words'}</pre>",
+        f"<pre>{text(it.words) or 'no words'}</pre>",
         "<h2>The last day</h2>",
         day_of(one, times.of),
         legend_of(one),

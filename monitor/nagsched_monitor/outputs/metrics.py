@@ -1,11 +1,22 @@
 """The figures of a site in the text format of Prometheus, and as data."""
-from typing import Any, Dict, List, Mapping, Optional, Sequence, Tuple
+import json
+import pathlib
+from typing import Any, Dict, List, Mapping, Sequence, Tuple
 
+from ..faults import MonitorFault
+from ..inputs import control
+from ..site.groups_file import Groups, labels_of
 from ..store.counters import BOUNDS, BUCKETS, RESULTS
+from .nagios_blocks import HOST_STATES, SERVICE_STATES
 from .status_query import Picture
 
-# A sample: what stands behind the name of its family, its labels, and its value.
+# How long a monitor may take to say how it is, in seconds.
+PATIENCE = 3.0
+STATES = {**HOST_STATES, **SERVICE_STATES}
+
+# A sample: the suffix of its name, its labels, and its value.
 Sample = Tuple[str, Mapping[str, str], float]
+Signs = Mapping[str, Any]
 
 
 def escaped(text: str) -> str:
@@ -17,12 +28,12 @@ def number(value: float) -> str:
     return str(int(value)) if value == int(value) and abs(value) < 2**53 else repr(value)
 
 
-def family(name: str, kind: str, help_text: str, samples: Sequence[Sample]) -> List[str]:
-    """The lines of a family."""
+def family(name: str, kind: str, help_text: str, samples: Sequence[Sample], site: str) -> List[str]:
+    """The lines of a family. Each sample has the label `site`."""
     lines = [f"# HELP {name} {help_text}", f"# TYPE {name} {kind}"]
-    for behind, labels, value in samples:
-        inner = ",".join(f'{label}="{escaped(text)}"' for label, text in labels.items())
-        lines.append(f"{name}{behind}{{{inner}}} {number(value)}" if inner else f"{name}{behind} {number(value)}")
+    for suffix, labels, value in samples:
+        inner = ",".join(f'{label}="{escaped(text)}"' for label, text in {"site": site, **labels}.items())
+        lines.append(f"{name}{suffix}{{{inner}}} {number(value)}")
     return lines
 
 
@@ -36,34 +47,85 @@ def latency(figures: Mapping[str, float]) -> List[Sample]:
     return [*samples, ("_sum", {}, figures.get("late.sum", 0)), ("_count", {}, count)]
 
 
-def since_save(picture: Picture) -> Optional[float]:
-    """Seconds since the state was saved; None where it never was."""
-    saved = picture.figures.get("saved_at")
-    return None if saved is None else round(max(0.0, picture.now - saved), 3)
+def signs_of(folder: pathlib.Path) -> Signs:
+    """The monitor's own signs of life; nothing if it gives no answer."""
+    try:
+        signs: Signs = json.loads(control.ask(folder, b'{"do":"signs"}', PATIENCE) or b"{}")
+    except (MonitorFault, ValueError):
+        return {}
+    return signs
 
 
-def metrics(picture: Picture) -> str:
+def one(value: float) -> List[Sample]:
+    return [("", {}, value)]
+
+
+def signs_families(picture: Picture, signs: Signs, site: str) -> List[List[str]]:
+    """The signs of life of the monitor. Most of them are missing while it gives no answer."""
+    runners: Mapping[str, Mapping[str, int]] = signs.get("runners", {})
+    of_runners: Dict[str, List[Sample]] = {
+        what: [("", {"runner": name}, float(its[what])) for name, its in runners.items()] for what in ("running", "wanted", "stuck", "waiting")}
+    told = {name: one(float(signs[name])) if name in signs else [] for name in ("is_stuck", "passive_waiting", "changes_waiting", "oldest_change")}
+    last_turn = signs.get("turn", picture.figures.get("written_at"))
+    families: Sequence[Tuple[str, str, List[Sample]]] = (
+        ("nagsched_up", "1 if the monitor answers, 0 if it doesn't.", one(bool(signs))),
+        ("nagsched_last_turn_timestamp_seconds", "When the last turn of the monitor's loop began that could be stored.",
+         [] if last_turn is None else one(last_turn)),
+        ("nagsched_stuck", "1 while nothing can be stored, so that no check is made.", told["is_stuck"]),
+        ("nagsched_passive_waiting", "Passive results that wait to be reported.", told["passive_waiting"]),
+        ("nagsched_changes_waiting", "Changes that the command for changes hasn't taken.", told["changes_waiting"]),
+        ("nagsched_oldest_change_seconds", "How long the oldest of these has waited.", told["oldest_change"]),
+        ("nagsched_runners", "Runner processes that run.", of_runners["running"]),
+        ("nagsched_runners_wanted", "Runner processes that there should be.", of_runners["wanted"]),
+        ("nagsched_runners_stuck", "Runner processes that stand still: a result is later than its limit allows.", of_runners["stuck"]),
+        ("nagsched_runner_waiting", "Checks that wait for their runner.", of_runners["waiting"]),
+    )
+    return [family(name, "gauge", help_text, samples, site) for name, help_text, samples in families]
+
+
+def object_families(picture: Picture, groups: Mapping[str, Groups], site: str) -> List[List[str]]:
+    """The state of each object that was checked. Soft problems and flapping objects have one more series."""
+    states: List[Sample] = []
+    soft: List[Sample] = []
+    flapping: List[Sample] = []
+    for it in picture.objects:
+        labels = labels_of(it.name, groups)
+        if it.state in STATES:
+            states.append(("", labels, STATES[str(it.state)]))
+        if it.is_problem() and it.kind == "SOFT":
+            soft.append(("", labels, 1))
+        if it.flapping:
+            flapping.append(("", labels, 1))
+    return [
+        family("nagsched_state", "gauge", "Of a service 0 OK, 1 WARNING, 2 CRITICAL, 3 UNKNOWN; of a host 0 UP, 1 DOWN, 2 UNREACHABLE.", states, site),
+        family("nagsched_soft", "gauge", "1 for each object whose problem is soft.", soft, site),
+        family("nagsched_flapping", "gauge", "1 for each object that flaps.", flapping, site),
+    ]
+
+
+def metrics(picture: Picture, groups: Mapping[str, Groups], signs: Signs, site: str) -> str:
     """All families."""
     figures = picture.figures
     results: List[Sample] = [("", {"result": result}, figures.get(f"checks.{result}", 0)) for result in RESULTS]
     objects: List[Sample] = [("", {"state": state, "kind": kind}, count) for (state, kind), count in sorted(picture.counts().items())]
-    since = since_save(picture)
-    saved: List[Sample] = [] if since is None else [("", {}, since)]
-    families = [
-        family("nagsched_checks_total", "counter", "Results that were reported, by the state of the object or why there is none.", results),
-        family("nagsched_check_latency_seconds", "histogram", "How far behind their times checks began.", latency(figures)),
-        family("nagsched_due", "gauge", "Objects whose time has come and whose check hasn't begun.", [("", {}, picture.due())]),
-        family("nagsched_out", "gauge", "Objects whose plugins run.", [("", {}, len(picture.out()))]),
-        family("nagsched_objects", "gauge", "Objects by state and kind.", objects),
-        family("nagsched_calls_total", "counter", "Calls that were made of the scheduler.", [("", {}, figures.get("calls", 0))]),
-        family("nagsched_saves_total", "counter", "States of the scheduler that were saved.", [("", {}, figures.get("saves", 0))]),
-        family("nagsched_seconds_since_save", "gauge", "Seconds since the state was saved last.", saved),
-    ]
-    return "".join(f"{line}\n" for lines in families for line in lines)
+    saved = figures.get("saved_at")
+    since = [] if saved is None else one(round(max(0.0, picture.now - saved), 3))
+    families = [family(name, kind, help_text, samples, site) for name, kind, help_text, samples in (
+        ("nagsched_checks_total", "counter", "Results that were reported, by the state of the object or why there is none.", results),
+        ("nagsched_check_latency_seconds", "histogram", "How late checks began.", latency(figures)),
+        ("nagsched_due", "gauge", "Objects whose time has come and whose check hasn't begun.", one(picture.due())),
+        ("nagsched_out", "gauge", "Objects whose plugins run.", one(len(picture.out()))),
+        ("nagsched_objects", "gauge", "Objects by state and kind.", objects),
+        ("nagsched_calls_total", "counter", "Calls that were made of the scheduler.", one(figures.get("calls", 0))),
+        ("nagsched_saves_total", "counter", "States of the scheduler that were saved.", one(figures.get("saves", 0))),
+        ("nagsched_seconds_since_save", "gauge", "Seconds since the state was saved last.", since),
+        ("nagsched_faults_total", "counter", "Turns that ended with a fault of the monitor's own.", one(figures.get("faults", 0))),
+    )]
+    return "".join(f"{line}\n" for lines in (*families, *signs_families(picture, signs, site), *object_families(picture, groups, site)) for line in lines)
 
 
-def status(picture: Picture, site: str) -> Dict[str, Any]:
-    """What the page shows, as data."""
+def status(picture: Picture, groups: Mapping[str, Groups], site: str) -> Dict[str, Any]:
+    """The content of the page, as data."""
     figures = picture.figures
     lately = ("checks_a_second", "latest_start", "latest_start_lately", "begun_at", "written_at", "calls", "saves", "saved_at")
     return {
@@ -74,5 +136,5 @@ def status(picture: Picture, site: str) -> Dict[str, Any]:
         "due": picture.due(),
         "out": len(picture.out()),
         "wrong": [it.name for it in picture.wrong()],
-        "objects": [vars(it) for it in picture.objects],
+        "objects": [{**it._asdict(), **groups.get(it.name, {})} for it in picture.objects],
     }

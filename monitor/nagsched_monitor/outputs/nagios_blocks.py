@@ -13,35 +13,26 @@ PLAIN = {**{code: " " for code in (*range(32), 127)}, 10: "\\n"}
 # The checks of the last minute, of five and of fifteen, in seconds.
 SPANS = (60, 300, 900)
 
-# What every object has alike: the monitor has no event handlers, downtime, acknowledgements or notifications of its own.
-SAME = """\tlast_event_id=0
-\tcurrent_event_id=0
-\tcurrent_problem_id=0
-\tlast_problem_id=0
-\tlast_notification=0
-\tnext_notification=0
-\tno_more_notifications=0
-\tcurrent_notification_number=0
-\tcurrent_notification_id=0
-\tproblem_has_been_acknowledged=0
-\tacknowledgement_type=0
-\tpassive_checks_enabled=1
-\tevent_handler_enabled=0
-\tflap_detection_enabled=1
-\tprocess_performance_data=0
-\tobsess=0
-\tpercent_state_change=0.00
-\tscheduled_downtime_depth=0
-\tmodified_attributes=0
-\tnotification_period=
-\timportance=0
-\tevent_handler=
-"""
+# Members that are the same for every object, and for the program: the monitor has no event handlers, downtime, acknowledgements or notifications of its own.
+ZEROS = (
+    "last_event_id", "current_event_id", "current_problem_id", "last_problem_id", "last_notification", "next_notification", "no_more_notifications",
+    "current_notification_number", "current_notification_id", "problem_has_been_acknowledged", "acknowledgement_type", "event_handler_enabled",
+    "process_performance_data", "obsess", "scheduled_downtime_depth", "modified_attributes", "importance", "check_options",
+)
+OF_PROGRAM = {
+    **dict.fromkeys(("modified_host_attributes", "modified_service_attributes", "last_log_rotation", "enable_event_handlers", "obsess_over_services",
+                     "obsess_over_hosts", "process_performance_data"), 0),
+    **dict.fromkeys(("daemon_mode", "active_service_checks_enabled", "passive_service_checks_enabled", "active_host_checks_enabled",
+                     "passive_host_checks_enabled", "check_service_freshness", "check_host_freshness", "enable_flap_detection", "next_comment_id",
+                     "next_downtime_id", "next_event_id", "next_problem_id", "next_notification_id"), 1),
+}
+NO_STATS = ("active_ondemand_host_check", "active_ondemand_service_check", "cached_host_check", "cached_service_check", "parallel_host_check",
+            "serial_host_check", "external_command")
 
 
 @dataclass
 class Settings:
-    """What a site's files say of an object."""
+    """The settings of an object, by the site's files."""
 
     check_interval: float = 0.0
     retry_interval: float = 0.0
@@ -53,7 +44,7 @@ class Settings:
 
 @dataclass
 class Program:
-    """What is said of the monitor itself."""
+    """The monitor itself."""
 
     process: int
     started: int
@@ -64,7 +55,7 @@ class Program:
 
 
 def settings_of(setup: Mapping[str, Any]) -> Dict[str, Settings]:
-    """What a setup says of its objects, by their full names."""
+    """The settings of a setup's objects, by their full names."""
     settings = {host["name"]: settings_from(host) for host in setup.get("hosts", ())}
     settings.update((f"{it['host']};{it['description']}", settings_from(it)) for it in setup.get("services", ()))
     return settings
@@ -81,7 +72,7 @@ def plain(text: str) -> str:
 
 
 def seconds(time: Optional[float]) -> int:
-    """A time in whole seconds, as Nagios has it: 0 where there is none."""
+    """A time in whole seconds, as Nagios has it: 0 if there is none."""
     return 0 if time is None else int(time)
 
 
@@ -105,6 +96,11 @@ def counts(standings: List[KeptStanding], now: float) -> str:
     return ",".join(str(sum(time > now - span for time in times)) for span in SPANS)
 
 
+def block(kind: str, members: Mapping[str, object]) -> str:
+    lines = "".join(f"\t{name}={value}\n" for name, value in members.items())
+    return f"{kind} {{\n{lines}\t}}\n"
+
+
 def program_block(program: Program, hosts: List[KeptStanding], services: List[KeptStanding], settings: Mapping[str, Settings], now: float) -> str:
     nothing = Settings()
     checked = {
@@ -112,38 +108,9 @@ def program_block(program: Program, hosts: List[KeptStanding], services: List[Ke
         for what, all_of in (("host", hosts), ("service", services))
         for how, passive in (("active_scheduled", False), ("passive", True))
     }
-    none = ("active_ondemand_host", "active_ondemand_service", "cached_host", "cached_service", "parallel_host", "serial_host")
-    members = {
-        "modified_host_attributes": 0,
-        "modified_service_attributes": 0,
-        "nagios_pid": program.process,
-        "daemon_mode": 1,
-        "program_start": program.started,
-        "last_log_rotation": 0,
-        "enable_notifications": int(program.notifies),
-        "active_service_checks_enabled": 1,
-        "passive_service_checks_enabled": 1,
-        "active_host_checks_enabled": 1,
-        "passive_host_checks_enabled": 1,
-        "enable_event_handlers": 0,
-        "obsess_over_services": 0,
-        "obsess_over_hosts": 0,
-        "check_service_freshness": 1,
-        "check_host_freshness": 1,
-        "enable_flap_detection": 1,
-        "process_performance_data": 0,
-        "global_host_event_handler": "",
-        "global_service_event_handler": "",
-        "next_comment_id": 1,
-        "next_downtime_id": 1,
-        "next_event_id": 1,
-        "next_problem_id": 1,
-        "next_notification_id": 1,
-        **checked,
-        **{f"{each}_check_stats": "0,0,0" for each in none},
-        "external_command_stats": "0,0,0",
-    }
-    return "programstatus {\n" + "".join(f"\t{name}={value}\n" for name, value in members.items()) + "\t}\n"
+    own = {"nagios_pid": program.process, "program_start": program.started, "enable_notifications": int(program.notifies), "global_host_event_handler": "",
+           "global_service_event_handler": ""}
+    return block("programstatus", {**OF_PROGRAM, **own, **checked, **{f"{each}_stats": "0,0,0" for each in NO_STATS}})
 
 
 def outputs(words: str) -> Tuple[str, str, str]:
@@ -161,38 +128,21 @@ def object_block(program: Program, its: Settings, kept: KeptStanding, now: float
     state = states.get(kept.state or "", 0)
     output, long_output, performance = outputs(kept.words)
     left = program.left.get(kept.name, {})
-    begin = f"servicestatus {{\n\thost_name={host}\n\tservice_description={description}\n" if is_service else f"hoststatus {{\n\thost_name={host}\n"
-    last_times = "".join(
-        f"\tlast_time_{word.lower()}={seconds(kept.last_check if word == kept.state else left.get(word))}\n" for word in states
-    )
-    return f"""{begin}\tcheck_command={its.command}
-\tcheck_period={its.period}
-\tcheck_interval={its.check_interval:f}
-\tretry_interval={its.retry_interval:f}
-\thas_been_checked={int(kept.state not in (None, "PENDING"))}
-\tshould_be_scheduled={int(kept.next_check is not None and bool(kept.is_on))}
-\tcheck_execution_time={kept.took or 0:.3f}
-\tcheck_latency={kept.late or 0:.3f}
-\tcheck_type={int(its.is_passive)}
-\tcurrent_state={state}
-\tlast_hard_state={state if kept.kind == "HARD" else 0}
-\tplugin_output={plain(output)}
-\tlong_plugin_output={long_output}
-\tperformance_data={plain(performance)}
-\tlast_check={seconds(kept.last_check)}
-\tnext_check={seconds(kept.next_check)}
-\tcheck_options=0
-\tcurrent_attempt={kept.attempt or 1}
-\tmax_attempts={its.max_attempts}
-\tstate_type={int(kept.kind != "SOFT")}
-\tlast_state_change={seconds(kept.since)}
-\tlast_hard_state_change={seconds(kept.hard_since)}
-{last_times}\tnotifications_enabled={int(program.notifies)}
-\tactive_checks_enabled={kept.is_on:d}
-\tlast_update={int(now)}
-\tis_flapping={kept.flapping:d}
-{SAME}\t}}
-"""
+    return block("servicestatus" if is_service else "hoststatus", {
+        "host_name": host, **({"service_description": description} if is_service else {}),
+        "check_command": its.command, "check_period": its.period, "check_interval": f"{its.check_interval:f}", "retry_interval": f"{its.retry_interval:f}",
+        "has_been_checked": int(kept.state not in (None, "PENDING")), "should_be_scheduled": int(kept.next_check is not None and bool(kept.is_on)),
+        "check_execution_time": f"{kept.took or 0:.3f}", "check_latency": f"{kept.late or 0:.3f}", "check_type": int(its.is_passive),
+        "current_state": state, "last_hard_state": state if kept.kind == "HARD" else 0,
+        "plugin_output": plain(output), "long_plugin_output": long_output, "performance_data": plain(performance),
+        "last_check": seconds(kept.last_check), "next_check": seconds(kept.next_check),
+        "current_attempt": kept.attempt or 1, "max_attempts": its.max_attempts, "state_type": int(kept.kind != "SOFT"),
+        "last_state_change": seconds(kept.since), "last_hard_state_change": seconds(kept.hard_since),
+        **{f"last_time_{word.lower()}": seconds(kept.last_check if word == kept.state else left.get(word)) for word in states},
+        "notifications_enabled": int(program.notifies), "active_checks_enabled": int(kept.is_on), "passive_checks_enabled": 1, "flap_detection_enabled": 1,
+        "last_update": int(now), "is_flapping": int(kept.flapping), "percent_state_change": "0.00", "notification_period": "", "event_handler": "",
+        **dict.fromkeys(ZEROS, 0),
+    })
 
 
 def names_of_commands(document: Mapping[str, Any]) -> Dict[str, str]:
@@ -206,7 +156,7 @@ def names_of_commands(document: Mapping[str, Any]) -> Dict[str, str]:
 
 
 def with_files(settings: Dict[str, Settings], commands: bytes, periods: bytes, passive: bytes) -> None:
-    """Adds what the other files of a site say, each of which may be empty."""
+    """Adds the settings of the other files of a site. Each file may be empty."""
     for name, command in names_of_commands(json.loads(commands or b"{}")).items():
         if name in settings:
             settings[name].command = command

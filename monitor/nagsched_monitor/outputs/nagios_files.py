@@ -1,16 +1,13 @@
 """Nagios's own files of a site: `status.dat`, by which Nagios's pages show it, and the pipe `nagios.cmd`, which commands it.
 
-    python3 -m nagsched_monitor.outputs.nagios_files SITE FOLDER [--notifies] [--every SECONDS]
-
-It is a process of its own, which the monitor begins and ends. It reads the database, and asks the monitor through its socket. It ends with its standard input.
+It is a process next to the monitor, which is handed the site's folder, the folder of the files, and `notifies` if a command is run for changes. It reads the
+database, and asks the monitor through its socket.
 """
-import argparse
 import collections
 import json
 import os
 import pathlib
 import select
-import signal
 import sqlite3
 import sys
 import time
@@ -19,8 +16,10 @@ from typing import Deque, Dict, List, Optional, Sequence, Tuple
 from ..faults import MonitorFault, RequestFault
 from ..inputs import control
 from ..inputs.nagios_pipe import Pipe, Request, requests_of
+from ..program.helper_process import ignore_signals
 from ..store.rows import KeptStanding
 from .nagios_blocks import Program, Settings, settings_of, status_file, with_files
+from .status_query import MEMBERS, NotShown, opened, standings_of
 
 # How often the status file is written, and how long it is waited for a monitor that doesn't answer, in seconds.
 EVERY = 10.0
@@ -36,7 +35,7 @@ def log(line: str) -> None:
 
 
 class Reader:
-    """What the database and the files of a site say."""
+    """The database and the files of a site, as the status file needs them."""
 
     def __init__(self, site: pathlib.Path, program: Program) -> None:
         self._site, self._program = site, program
@@ -47,19 +46,14 @@ class Reader:
         self.settings: Dict[str, Settings] = {}
 
     def read(self) -> List[KeptStanding]:
-        """The standings by name; the settings and what was before are brought up to date."""
-        database = sqlite3.connect(f"{(self._site / 'monitor.db').resolve().as_uri()}?mode=ro", uri=True, timeout=5)
-        try:
-            database.execute("BEGIN")
+        """The standings by name; the settings and the earlier states are brought up to date."""
+        with opened(self._site) as database:
             self._read_settings(database)
             self._read_changes(database)
-            rows = database.execute(f"SELECT {', '.join(KeptStanding._fields)} FROM standings ORDER BY name").fetchall()
-        finally:
-            database.close()
-        return [KeptStanding(*row) for row in rows]
+            return sorted(standings_of(database, MEMBERS))
 
     def _read_settings(self, database: sqlite3.Connection) -> None:
-        """Reads the setups over which the monitor goes, and the other files of the site; made anew only where they are others."""
+        """Reads the setups and the other files of the site, if they have changed."""
         setups = dict(database.execute("SELECT part, setup FROM generations ORDER BY id"))
         files = tuple(path.read_bytes() if path.exists() else b"" for path in (self._site / name for name in FILES))
         if setups == self._setups and files == self._files:
@@ -120,13 +114,13 @@ class NagiosFiles:
     # ---- the status file
 
     def write(self) -> None:
-        """Writes the status file anew; where that can't be, the old one stays."""
+        """Writes the status file again; if that fails, the old one stays."""
         try:
             standings = self._reader.read()
             self._services = services_of(standings)
             replaced(self._folder / "status.dat", status_file(self._program, self._reader.settings, standings, time.time()).encode(errors="replace"))
             fault = None
-        except (OSError, sqlite3.Error, ValueError) as error:
+        except (OSError, NotShown, ValueError) as error:
             fault = f"status.dat isn't written: {error}"
         if fault is not None and fault != self._fault:
             log(fault)
@@ -147,7 +141,7 @@ class NagiosFiles:
                 self._waiting.append((name, {**request, "number": f"{self._mark}-{self._count}"}))
 
     def ask(self) -> None:
-        """Has the monitor obey what waits. What it didn't answer, or can't obey now, is asked again."""
+        """Has the monitor obey what waits. Requests that it doesn't answer, or can't obey now, are sent again."""
         while self._waiting:
             some = [self._waiting[place] for place in range(min(AT_ONCE, len(self._waiting)))]
             try:
@@ -188,21 +182,12 @@ def replaced(path: pathlib.Path, data: bytes) -> None:
     new.replace(path)
 
 
-def main(given: Optional[List[str]] = None) -> int:
-    parser = argparse.ArgumentParser(prog="nagios_files", description="Keeps Nagios's own files of a site that is monitored.")
-    parser.add_argument("site", type=pathlib.Path, help="the folder of the site")
-    parser.add_argument("folder", type=pathlib.Path, help="where the files are kept")
-    parser.add_argument("--notifies", action="store_true", help="a command is run for changes")
-    parser.add_argument("--every", type=float, default=EVERY, metavar="SECONDS", help="how often status.dat is written")
-    words = parser.parse_args(given)
-    signal.signal(signal.SIGINT, signal.SIG_IGN)  # it ends with the monitor
+def main() -> int:
+    site, folder, *others = sys.argv[1:]
+    ignore_signals()
     try:
-        NagiosFiles(words.site, words.folder, words.notifies, words.every).work()
+        NagiosFiles(pathlib.Path(site), pathlib.Path(folder), "notifies" in others).work()
     except (MonitorFault, OSError) as fault:
         log(str(fault))
         return 1
     return 0
-
-
-if __name__ == "__main__":
-    sys.exit(main())

@@ -3,7 +3,7 @@ import html
 from dataclasses import dataclass
 from typing import Callable, List, Optional
 
-from .status_query import DAY, Change, OneObject
+from .status_query import DAY, OneObject
 from .style import CLASSES
 
 HOUR = 3_600
@@ -24,21 +24,20 @@ class Stretch:
 
 
 def stretches(one: OneObject) -> List[Stretch]:
-    """The day of an object, from its begin on."""
-    begin, changes = one.now - DAY, list(one.changes)
-    first: Optional[Change] = one.before
-    marks = [] if first is None else [Change(begin, first.state, first.kind, first.attempt, first.flapping, first.words)]
-    marks += changes
-    if not marks and one.it.since is not None and one.it.state != "PENDING":
-        marks = [Change(max(begin, one.it.since), one.it.state, one.it.kind or "HARD", one.it.attempt or 1, one.it.flapping, one.it.words)]
-    ends = [each.time for each in marks[1:]] + [one.now]
-    drawn = [Stretch(mark.time, end, mark.state, mark.kind, mark.words) for mark, end in zip(marks, ends)]
+    """The day of an object, from its beginning on."""
+    begin, it = one.now - DAY, one.it
+    marks = [(begin, one.before.state, one.before.kind, one.before.words)] if one.before is not None else []
+    marks += [(each.time, each.state, each.kind, each.words) for each in one.changes]
+    if not marks and it.since is not None and it.state not in (None, "PENDING"):
+        marks = [(max(begin, it.since), str(it.state), it.kind or "HARD", it.words)]
+    ends = [time for time, *_ in marks[1:]] + [one.now]
+    drawn = [Stretch(time, end, state, kind, words) for (time, state, kind, words), end in zip(marks, ends)]
     unknown_until = drawn[0].begin if drawn else one.now
     return ([Stretch(begin, unknown_until, None, None, "")] if unknown_until > begin else []) + drawn
 
 
 def day_of(one: OneObject, time_text: Callable[[float], str]) -> str:
-    """The picture. Places across are parts of its width, so that its words keep their size where it is narrow."""
+    """The picture. Places across are parts of its width, so that its texts keep their size on a narrow page."""
     begin = one.now - DAY
 
     def across(time: float) -> float:
@@ -62,7 +61,7 @@ def day_of(one: OneObject, time_text: Callable[[float], str]) -> str:
 
 
 def named(it: Stretch) -> str:
-    """What a stretch is, in words."""
+    """A stretch as a text."""
     if it.state is None:
         return "no change is known"
     return f"{it.state} {it.kind.lower()}" if it.kind is not None and it.state not in ("OK", "UP", "PENDING") else it.state

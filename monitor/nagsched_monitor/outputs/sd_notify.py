@@ -1,4 +1,4 @@
-"""What a service manager such as systemd hears: that the monitor is ready, that it is alive, and that it ends. Each is a datagram to its socket."""
+"""Messages to a service manager such as systemd: the monitor is ready, is alive, or ends. Each is a datagram to its socket."""
 import os
 import socket
 import time
@@ -8,7 +8,7 @@ MICROSECOND = 1e-6
 
 
 class Service:
-    """The service manager that started the monitor; nothing is sent where there is none."""
+    """The service manager that started the monitor; nothing is sent if there is none."""
 
     def __init__(self, environment: MutableMapping[str, str] = os.environ, clock: Callable[[], float] = time.monotonic) -> None:
         """Takes the names of the socket out of the environment, so that no plugin has them."""
@@ -16,7 +16,7 @@ class Service:
         self._address = environment.pop("NOTIFY_SOCKET", None)
         watched, of = environment.pop("WATCHDOG_USEC", ""), environment.pop("WATCHDOG_PID", str(os.getpid()))
         is_mine = watched.isdigit() and of == str(os.getpid())
-        # Half of the time behind which the monitor counts as stuck, in seconds.
+        # Half of the time after which the monitor counts as stuck, in seconds.
         self._interval: Optional[float] = int(watched) * MICROSECOND / 2 if is_mine else None
         self._said = clock()
 
@@ -36,7 +36,7 @@ class Service:
     def _send(self, lines: str) -> None:
         if not self._address:
             return
-        # A name that begins with @ is none of a file.
+        # A name that begins with @ isn't the name of a file.
         address = f"\0{self._address[1:]}" if self._address.startswith("@") else self._address
         with socket.socket(socket.AF_UNIX, socket.SOCK_DGRAM | socket.SOCK_CLOEXEC) as there:
             there.setblocking(False)

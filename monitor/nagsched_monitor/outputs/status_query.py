@@ -1,21 +1,26 @@
-"""What a page shows of a site: read from its database, which is opened for reading alone."""
+"""A site as other processes show it: read from its database, which is opened for reading only."""
 import pathlib
 import sqlite3
 import time
-from contextlib import closing
+from contextlib import closing, contextmanager
 from dataclasses import dataclass
-from typing import Dict, List, Mapping, Optional, Sequence, Tuple
+from typing import Dict, Iterator, List, Mapping, Optional, Sequence, Tuple
+
+from ..store.rows import KeptChange, KeptStanding
 
 DAY = 86_400
 # How long a database that is locked is waited for, in seconds.
 PATIENCE = 2.0
-# Words in lists are cut behind so many characters; so many changes of an object are drawn at most.
+# The length at which texts in lists are cut, and the greatest number of changes of an object that are drawn.
 LONGEST_WORDS = 500
 MOST_CHANGES = 2_000
-# A monitor that wrote nothing for so many seconds isn't at work.
+# The time after which a monitor that wrote nothing counts as silent, in seconds.
 SILENCE = 20
 
-MEMBERS = "name, state, kind, attempt, flapping, since, hard_since, last_check, next_check, is_on, out_since, took, late"
+MEMBERS = ", ".join(KeptStanding._fields).replace("state,", "coalesce(state, 'PENDING'),", 1)
+CUT = MEMBERS.replace("words", f"CASE WHEN length(words) > {LONGEST_WORDS} THEN substr(words, 1, {LONGEST_WORDS}) || '…' ELSE words END")
+CHANGE = "id, time, name, state, kind, attempt, flapping, words"
+PROBLEMS = "WHERE flapping OR state NOT IN ('PENDING', 'OK', 'UP')"
 
 
 class NotShown(Exception):
@@ -23,70 +28,20 @@ class NotShown(Exception):
 
 
 @dataclass(frozen=True)
-class Shown:
-    """An object as it stands. Times are seconds since 1970."""
-
-    name: str
-    state: str
-    kind: Optional[str]
-    attempt: Optional[int]
-    flapping: bool
-    since: Optional[float]
-    hard_since: Optional[float]
-    last_check: Optional[float]
-    next_check: Optional[float]
-    is_on: bool
-    out_since: Optional[float]
-    # How long its last check took, and how far behind its time it began, in seconds.
-    took: Optional[float]
-    late: Optional[float]
-    words: str
-
-    def is_host(self) -> bool:
-        return ";" not in self.name
-
-    def is_problem(self) -> bool:
-        return self.state not in ("PENDING", "OK", "UP")
-
-    def is_hard_problem(self) -> bool:
-        return self.is_problem() and self.kind == "HARD"
-
-    def wrong_since(self) -> Optional[float]:
-        """Since when a problem is as hard as it is."""
-        return self.hard_since if self.is_hard_problem() and self.hard_since is not None else self.since
-
-    def is_due(self, now: float) -> bool:
-        """Whether its time has come and it isn't checked yet."""
-        return self.is_on and self.out_since is None and self.next_check is not None and self.next_check <= now
-
-
-@dataclass(frozen=True)
-class Change:
-    """A change of state that was kept."""
-
-    time: float
-    state: str
-    kind: str
-    attempt: int
-    flapping: bool
-    words: str
-
-
-@dataclass(frozen=True)
 class Picture:
     """A site at one moment."""
 
     now: float
-    objects: Sequence[Shown]
+    objects: Sequence[KeptStanding]
     figures: Mapping[str, float]
 
-    def wrong(self) -> List[Shown]:
-        """What is wrong: hard problems before soft ones, each by how long it is, the longest first."""
+    def wrong(self) -> List[KeptStanding]:
+        """The problems: hard ones before soft ones, each by its age, the oldest first."""
         wrong = [it for it in self.objects if it.is_problem()]
         return sorted(wrong, key=lambda it: (not it.is_hard_problem(), it.wrong_since() or self.now, it.name))
 
-    def out(self) -> List[Shown]:
-        """The objects whose plugins run, the longest first."""
+    def out(self) -> List[KeptStanding]:
+        """The objects whose checks run, the longest first."""
         return sorted((it for it in self.objects if it.out_since is not None), key=lambda it: (it.out_since or 0, it.name))
 
     def due(self) -> int:
@@ -96,55 +51,14 @@ class Picture:
         """How many objects there are of each state and kind."""
         counts: Dict[Tuple[str, str], int] = {}
         for it in self.objects:
-            counts[it.state, it.kind or "NONE"] = counts.get((it.state, it.kind or "NONE"), 0) + 1
+            key = str(it.state), it.kind or "NONE"
+            counts[key] = counts.get(key, 0) + 1
         return counts
 
     def silence(self) -> Optional[float]:
-        """For how many seconds the monitor has written nothing, where that is long; None while it is at work."""
+        """For how many seconds the monitor has written nothing, if that is long; None while it is at work."""
         silent = self.now - self.figures.get("written_at", 0.0)
         return silent if silent > SILENCE else None
-
-
-def by_host(it: Shown) -> Tuple[str, str]:
-    """Services in the order of their hosts."""
-    host, _, description = it.name.partition(";")
-    return host, description
-
-
-def opened(folder: pathlib.Path) -> sqlite3.Connection:
-    """The database of a site, which can't be written by this connection."""
-    address = (folder / "monitor.db").resolve().as_uri() + "?mode=ro"
-    database = sqlite3.connect(address, uri=True, timeout=PATIENCE, isolation_level=None)
-    database.text_factory = lambda data: data.decode(errors="replace")
-    return database
-
-
-def read_picture(folder: pathlib.Path) -> Picture:
-    """All objects of a site at one moment, in the order of hosts and of services on them."""
-    try:
-        with closing(opened(folder)) as database:
-            database.execute("BEGIN")
-            figures = dict(database.execute("SELECT name, value FROM figures"))
-            rows = database.execute(f"SELECT {MEMBERS}, substr(words, 1, {LONGEST_WORDS + 1}) FROM standings").fetchall()
-    except sqlite3.Error as error:
-        raise NotShown(f"monitor.db can't be read: {error}") from None
-    return Picture(time.time(), sorted((shown(row) for row in rows), key=by_host), figures)
-
-
-def shown(row: Sequence[object]) -> Shown:
-    """The object of a row."""
-    name, state, kind, attempt, flapping, since, hard_since, last_check, next_check, is_on, out_since, took, late, words = row
-    text = str(words or "")
-    text = text if len(text) <= LONGEST_WORDS else text[:LONGEST_WORDS] + "…"
-    return Shown(
-        str(name), "PENDING" if state is None else str(state), None if kind is None else str(kind), None if attempt is None else int(str(attempt)),
-        bool(flapping), time_of(since), time_of(hard_since), time_of(last_check), time_of(next_check), bool(is_on), time_of(out_since), time_of(took),
-        time_of(late), text,
-    )
-
-
-def time_of(cell: object) -> Optional[float]:
-    return float(cell) if isinstance(cell, (int, float)) else None
 
 
 @dataclass(frozen=True)
@@ -152,36 +66,49 @@ class OneObject:
     """An object with the changes of its last day, the earliest first."""
 
     now: float
-    it: Shown
-    # All of its last words.
-    words: str
-    # The last change before the day, where one is kept.
-    before: Optional[Change]
-    changes: Sequence[Change]
+    it: KeptStanding
+    # The last change before the day, if one is kept.
+    before: Optional[KeptChange]
+    changes: Sequence[KeptChange]
     # Whether there were more changes than are drawn.
     is_cut: bool
 
 
-def read_object(folder: pathlib.Path, name: str) -> Optional[OneObject]:
-    """An object of a site; None where there is none of this name."""
-    now = time.time()
-    members = "time, state, kind, attempt, flapping, words"
+@contextmanager
+def opened(folder: pathlib.Path) -> Iterator[sqlite3.Connection]:
+    """The database of a site as it is at one moment. It can't be written."""
+    address = (folder / "monitor.db").resolve().as_uri() + "?mode=ro"
     try:
-        with closing(opened(folder)) as database:
+        with closing(sqlite3.connect(address, uri=True, timeout=PATIENCE, isolation_level=None)) as database:
+            database.text_factory = lambda data: data.decode(errors="replace")
             database.execute("BEGIN")
-            row = database.execute(f"SELECT {MEMBERS}, words FROM standings WHERE name = ?", (name,)).fetchone()
-            rows = database.execute(
-                f"SELECT {members} FROM changes WHERE name = ? AND time >= ? ORDER BY id DESC LIMIT {MOST_CHANGES + 1}", (name, now - DAY)
-            ).fetchall()
-            before = database.execute(f"SELECT {members} FROM changes WHERE name = ? AND time < ? ORDER BY id DESC LIMIT 1", (name, now - DAY)).fetchone()
+            yield database
     except sqlite3.Error as error:
         raise NotShown(f"monitor.db can't be read: {error}") from None
-    if row is None:
-        return None
-    changes = [change(each) for each in reversed(rows[:MOST_CHANGES])]
-    return OneObject(now, shown(row), str(row[-1] or ""), None if before is None else change(before), changes, len(rows) > MOST_CHANGES)
 
 
-def change(row: Sequence[object]) -> Change:
-    moment, state, kind, attempt, flapping, words = row
-    return Change(time_of(moment) or 0.0, str(state), str(kind), int(str(attempt)), bool(flapping), str(words or ""))
+def standings_of(database: sqlite3.Connection, members: str, condition: str = "", *cells: str) -> List[KeptStanding]:
+    """Objects with their states, in the order of hosts and of services on them."""
+    found = [KeptStanding(*row) for row in database.execute(f"SELECT {members} FROM standings {condition}", cells)]
+    return sorted(found, key=lambda it: it.name.partition(";"))
+
+
+def read_picture(folder: pathlib.Path, condition: str = "", *cells: str) -> Picture:
+    """The objects of a site that a condition fits, at one moment; their words are cut."""
+    with opened(folder) as database:
+        figures = dict(database.execute("SELECT name, value FROM figures"))
+        return Picture(time.time(), standings_of(database, CUT, condition, *cells), figures)
+
+
+def read_object(folder: pathlib.Path, name: str) -> Optional[OneObject]:
+    """An object of a site; None if no object has this name."""
+    now = time.time()
+    with opened(folder) as database:
+        found = standings_of(database, MEMBERS, "WHERE name = ?", name)
+        rows = [
+            [KeptChange(*row) for row in database.execute(f"SELECT {CHANGE} FROM changes WHERE name = ? AND time {side} ? ORDER BY id DESC LIMIT {most}",
+                                                          (name, now - DAY))]
+            for side, most in ((">=", MOST_CHANGES + 1), ("<", 1))
+        ]
+    lately, before = rows
+    return OneObject(now, found[0], before[0] if before else None, lately[:MOST_CHANGES][::-1], len(lately) > MOST_CHANGES) if found else None

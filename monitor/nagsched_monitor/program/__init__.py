@@ -1,1 +1,1 @@
-"""The program: its words, its loop, and the processes beside it."""
+"""The program: its options, its loop, and the processes next to it."""

@@ -1,6 +1,10 @@
-"""A process of its own beside the monitor: it is begun with it, begun again where it ends, and ended with it. It reads its end from its standard input."""
+"""A process next to the monitor: it is started with it, started again if it ends, and ended with it. It ends when its standard input does."""
 import contextlib
+import os
+import select
+import signal
 import subprocess
+import sys
 import time
 from typing import Callable, Optional, Sequence
 
@@ -12,8 +16,19 @@ PAUSE, LONGEST_PAUSE = 5.0, 60.0
 GRACE = 5.0
 
 
+def ignore_signals() -> None:
+    """For such a process: Ctrl-C and SIGTERM are for the monitor, with which it ends."""
+    for number in (signal.SIGINT, signal.SIGTERM):
+        signal.signal(number, signal.SIG_IGN)
+
+
+def is_ended(seconds: Optional[float]) -> bool:
+    """For such a process: whether the monitor has ended. It is waited for so long, or until then."""
+    return bool(select.select([sys.stdin], [], [], seconds)[0]) and not os.read(sys.stdin.fileno(), 4_096)
+
+
 class Beside:
-    """One process beside the monitor."""
+    """One process next to the monitor."""
 
     def __init__(self, module: str, words: Sequence[str], log: Callable[[str], None], clock: Callable[[], float] = time.monotonic) -> None:
         self._module, self._words, self._log, self._clock = module, words, log, clock
@@ -23,7 +38,7 @@ class Beside:
         self._pause = PAUSE
 
     def work(self) -> None:
-        """Begins the process, where it doesn't run."""
+        """Starts the process if it doesn't run."""
         if self._process is not None:
             status = self._process.poll()
             if status is None:

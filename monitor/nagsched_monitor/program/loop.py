@@ -1,4 +1,4 @@
-"""The loop of a monitor: one turn after another, what has to be seen to every second, and the catching of whatever a turn raises."""
+"""The loop of a monitor: one turn after another, the chores of every second, and the handling of a turn's exceptions."""
 import traceback
 from typing import Callable, List, Optional, Sequence
 
@@ -18,7 +18,7 @@ class Loop:
 
     def __init__(self, engine: Engine, pace: Pace, clock: Clock, log: Callable[[str], None]) -> None:
         self._engine, self._pace, self._clock, self._log = engine, pace, clock, log
-        # What is done before each turn, after it, and every second. Of the first two each returns the moment at which it wants the next turn, or None.
+        # Actions before each turn, after it, and every second. Those before and after a turn return the moment at which they want the next turn, or None.
         self.before: List[Callable[[], Optional[int]]] = []
         self.after: List[Callable[[], Optional[int]]] = []
         self.chores: List[Callable[[], None]] = []

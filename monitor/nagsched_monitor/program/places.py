@@ -1,5 +1,6 @@
 """Addresses at which something is served."""
 import ipaddress
+import urllib.parse
 from typing import Tuple
 
 from ..faults import MonitorFault
@@ -8,7 +9,7 @@ LAST_PORT = 65_535
 
 
 def place_of(given: str, of: str = "--page") -> Tuple[str, int]:
-    """Address and port of `ADDRESS:PORT`; an IPv6 address stands in brackets. A `MonitorFault` where `of` names no such place."""
+    """Address and port of `ADDRESS:PORT`; an IPv6 address is in brackets. A `MonitorFault` if `given` isn't such a place."""
     address, colon, port = given.rpartition(":")
     is_bracketed = address.startswith("[") and address.endswith("]")
     if not colon or not port.isascii() or not port.isdigit() or len(port) > 5 or int(port) > LAST_PORT or ":" in address and not is_bracketed:
@@ -23,3 +24,10 @@ def place_of(given: str, of: str = "--page") -> Tuple[str, int]:
 def is_own(given: str) -> bool:
     """Whether a place is reached by the machine itself alone."""
     return ipaddress.ip_address(place_of(given)[0]).is_loopback
+
+
+def test_url(given: str, of: str) -> None:
+    """A `MonitorFault` if an address isn't one of a web server."""
+    url = urllib.parse.urlsplit(given)
+    if url.scheme not in ("http", "https") or not url.hostname:
+        raise MonitorFault(f"{of}: it has to be an address such as http://localhost:9093, not {given!r}")

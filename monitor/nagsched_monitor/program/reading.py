@@ -1,25 +1,22 @@
-"""A site that is read and tested in a process of its own, while the monitor goes on.
+"""A site that is read and tested in a process of its own, while the monitor works.
 
 The process writes the site to its standard output, as Python's `pickle` has it, or why it is refused.
 """
-import os
 import pathlib
 import pickle
 import signal
 import subprocess
 import sys
-import time
-from typing import Callable, List, Optional, Tuple, Union
+import threading
+from typing import List, Optional, Tuple, Union
 
 from ..faults import MonitorFault
 from ..inputs.requests import Request
 from ..run.runner_program import FOLDER
 from ..site.site import Site, read_site
 
-READ_BYTES = 1 << 20
 # How long a site may take to be read, in seconds.
 LIMIT = 300.0
-GRACE = 5.0
 
 Read = Union[Site, str]
 
@@ -31,16 +28,13 @@ def process_words(module: str, words: List[str]) -> List[str]:
 
 
 class Reading:
-    """The reading of a site, on account of those who asked for it."""
+    """The reading of a site, for those who asked for it: a thread waits for the process."""
 
-    def __init__(self, folder: pathlib.Path, program: str, watch: Callable[[int], None], unwatch: Callable[[int], None],
-                 clock: Callable[[], float] = time.monotonic) -> None:
+    def __init__(self, folder: pathlib.Path, program: str) -> None:
         self._words = process_words("program.reading", [str(folder), program])
-        self._watch, self._unwatch, self._clock = watch, unwatch, clock
         self._process: Optional["subprocess.Popen[bytes]"] = None
-        self._data = b""
-        self._is_over = False
-        self._deadline = 0.0
+        self._thread: Optional[threading.Thread] = None
+        self._read: Read = ""
         # Who asked before it began, and since: the files may be others for these.
         self._asked: List[Optional[Request]] = []
         self._next: List[Optional[Request]] = []
@@ -49,62 +43,41 @@ class Reading:
         """Has the site read; who asks while it is read waits for the next time."""
         self._next.append(request)
 
-    def owns(self, file: int) -> bool:
-        return self._process is not None and self._process.stdout is not None and file == self._process.stdout.fileno()
+    def is_busy(self) -> bool:
+        return self._thread is not None
 
     def work(self) -> Optional[Tuple[Read, List[Optional[Request]]]]:
-        """Begins it where somebody asked. Returns what was read, once, and who asked for it."""
-        if self._process is None:
-            if not self._next:
-                return None
+        """Begins it if somebody asked. Returns the result, once, and the requests for it."""
+        if self._thread is None and self._next:
             self._asked, self._next = self._next, []
-            try:
-                self._process = subprocess.Popen(self._words, stdin=subprocess.DEVNULL, stdout=subprocess.PIPE, bufsize=0, start_new_session=True)
-            except OSError as error:
-                return f"the site can't be read: {error}", self._asked
-            assert self._process.stdout is not None
-            os.set_blocking(self._process.stdout.fileno(), False)
-            self._watch(self._process.stdout.fileno())
-            self._data, self._is_over, self._deadline = b"", False, self._clock() + LIMIT
-            return None
-        if not self._is_over and self._clock() <= self._deadline:
-            return None
-        why = "the site can't be read" if self._is_over else f"the site wasn't read within {LIMIT:g} seconds"
-        self.close()
-        try:
-            read: Read = pickle.loads(self._data) if self._is_over else why
-        except Exception:  # the process ended in the middle of it
-            read = why
-        return read, self._asked
+            self._thread = threading.Thread(target=self._run, daemon=True)
+            self._thread.start()
+        elif self._thread is not None and not self._thread.is_alive():
+            self._thread = None
+            return self._read, self._asked
+        return None
 
-    def read(self, file: int) -> None:
-        """Reads what has come."""
+    def _run(self) -> None:
         try:
-            data = os.read(file, READ_BYTES)
-        except BlockingIOError:
-            return
-        self._data += data
-        if not data:
-            self._unwatch(file)
-            self._is_over = True
+            self._process = subprocess.Popen(self._words, stdin=subprocess.DEVNULL, stdout=subprocess.PIPE, start_new_session=True)
+            with self._process as process:
+                try:
+                    self._read = pickle.loads(process.communicate(timeout=LIMIT)[0])
+                except subprocess.TimeoutExpired:
+                    process.kill()
+                    self._read = f"the site wasn't read within {LIMIT:g} seconds"
+        except OSError as error:
+            self._read = f"the site can't be read: {error}"
+        except Exception:  # the process ended in the middle of it
+            self._read = "the site can't be read"
 
     def close(self) -> None:
-        """Ends the process."""
-        process, self._process = self._process, None
-        if process is None or process.stdout is None:
-            return
-        if not self._is_over:
-            self._unwatch(process.stdout.fileno())
-        process.stdout.close()
-        process.kill()
-        try:
-            process.wait(timeout=GRACE)
-        except subprocess.TimeoutExpired:
-            pass  # it is left to itself
+        if self._process is not None:
+            self._process.kill()
 
 
 def read_now(folder: pathlib.Path, program: str) -> Read:
-    """The site of a folder, or why it is refused: whatever is wrong with it doesn't end a monitor that runs."""
+    """The site of a folder, or why it is refused: no fault of it ends a running monitor."""
     try:
         return read_site(folder, program)
     except MonitorFault as fault:

@@ -1,7 +1,7 @@
 """When the next turn of a monitor begins. A turn costs far more than one more check in it, so that what comes soon one after another shares one."""
 import select
 import time
-from typing import Callable, Optional, Protocol
+from typing import Callable, Dict, Optional, Protocol
 
 from ..core.clock import Clock
 
@@ -12,34 +12,37 @@ MOST_SHARED = 0.08
 LONGEST_UNREPORTED = 2 * MOST_SHARED
 SECOND = 1_000
 
+# Has a file read when it can be.
+Watch = Callable[[int, Callable[[int], None]], None]
+
 
 class Poller(Protocol):
-    """What waits for files, and for time to pass."""
+    """Waits for files, and for time to pass."""
 
-    def wait(self, milliseconds: float) -> bool:
-        """Waits so long for something to come, and reads what came; False if nothing did."""
-
-    def sleep(self, milliseconds: float) -> None:
-        """Waits so long, whatever comes."""
+    def wait(self, milliseconds: float) -> bool: ...  # until something comes, which is read; False if nothing did
+    def sleep(self, milliseconds: float) -> None: ...  # whatever comes
 
 
 class FilePoller:
-    """The files of a process. Those that can be read are handed to `read`."""
+    """The files of a process, and what each is handed to when it can be read."""
 
-    def __init__(self, read: Callable[[int], None]) -> None:
-        self._read = read
+    def __init__(self) -> None:
         self._poll = select.epoll()
+        self._readers: Dict[int, Callable[[int], None]] = {}
 
-    def watch(self, file: int) -> None:
+    def watch(self, file: int, read: Callable[[int], None]) -> None:
         self._poll.register(file, select.EPOLLIN)
+        self._readers[file] = read
 
     def unwatch(self, file: int) -> None:
         self._poll.unregister(file)
+        del self._readers[file]
 
     def wait(self, milliseconds: float) -> bool:
         ready = self._poll.poll(max(0.0, milliseconds) / SECOND)
         for file, _ in ready:
-            self._read(file)
+            if file in self._readers:  # the one before may have ended it
+                self._readers[file](file)
         return bool(ready)
 
     def sleep(self, milliseconds: float) -> None:
@@ -54,7 +57,7 @@ class Pace:
         self._clock, self._poller = clock, poller
 
     def rest(self, begun: int, wanted: int, second: Optional[int]) -> None:
-        """Waits for the next turn, and reads what has come until then.
+        """Waits for the next turn, and has files read until then.
 
         `begun` is when the last turn began, `wanted` when the next one is to begin at the latest, 0 for at once, and `second` when the check after that one is
         due; all are moments."""
@@ -74,7 +77,7 @@ class Pace:
 
 
 def turn_at(begun: float, wanted: float, second: Optional[float]) -> Optional[float]:
-    """The time of the next turn, whatever comes before it; None if `wanted` is so far off that a result has a turn of its own.
+    """The time of the next turn, even if something comes before it; None if `wanted` is so far off that a result has a turn of its own.
 
     A check that is due waits for the next one if that is due soon. The two are due together from then on, as far as their phases allow it."""
     rested = begun + BETWEEN_TURNS

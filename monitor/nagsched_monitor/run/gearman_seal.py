@@ -1,4 +1,4 @@
-"""Signed messages between the monitor and its workers: a document, and in front of it the HMAC-SHA256 of a key that both have in a file."""
+"""Signed messages between the monitor and its workers: a document, preceded by its HMAC-SHA256 with a key that both have in a file."""
 import hashlib
 import hmac
 import json
@@ -9,7 +9,7 @@ from typing import Any, Dict, Optional
 
 from ..faults import MonitorFault
 
-# What a message is for: a result can't be taken for a job.
+# The purpose of a message: a result can't be used as a job.
 JOB, RESULT = b"nagsched job\0", b"nagsched result\0"
 LEAST_KEY, MOST_BYTES = 16, 1 << 20
 SIZE = hashlib.sha256().digest_size * 2
@@ -44,7 +44,7 @@ class Seal:
         return body if self._key is None else self._signature(self._key, purpose, body) + b" " + body
 
     def open(self, purpose: bytes, data: bytes) -> Optional[Dict[str, Any]]:
-        """The document of a message; None if it isn't signed for this purpose with this key, or is none. Nothing else of it is looked at before."""
+        """The document of a message; None if it isn't signed for this purpose with this key, or isn't a document. Nothing else of it is looked at before."""
         if len(data) > MOST_BYTES:
             return None
         if self._key is not None:
@@ -63,7 +63,7 @@ class Seal:
 
 
 def seal_of(key: Optional[pathlib.Path], unsigned: bool) -> Seal:
-    """The seal of a key file, or none where the site says that messages are unsigned. A `MonitorFault` unless it says one of the two."""
+    """The seal of a key file, or no signatures if the site says so. A `MonitorFault` unless it says one of the two."""
     if (key is not None) == unsigned:
         raise MonitorFault("say --key FILE, or --unsigned: one of the two")
     return Seal(None if key is None else read_key(key))

@@ -2,185 +2,188 @@
 import argparse
 import os
 import pathlib
-import resource
 import signal
 import subprocess
 import sys
-import threading
 import time
-from typing import Any, Callable, Dict, List, NamedTuple, Optional, Sequence, Set
+from typing import Any, Callable, Dict, List, NamedTuple, Optional, Sequence
 
 from ..faults import MonitorFault
 from ..program.places import place_of
-from .gearman import Connection, Library, LibraryConnection, ServerFault
+from ..program.turn_timer import FilePoller
+from .gearman import Code, Connection, Packet, ServerFault
+from .gearman_door import Door, Refusal
 from .gearman_seal import JOB, RESULT, Seal, seal_of
-from .runner_link import RunnerLink, lost
+from .jobs import Event, Finished, Gone, Job
+from .pool import Pool
 from .runner_program import runner_words
+from .runners import raise_file_limit
 
-# When a lost server is tried again, and from one sign of life to the next where nothing comes, in seconds.
-RETRY, SIGN = 1.0, 10.0
-# How long plugins that run may take to end when the worker is to stop, in seconds.
-STOPPING = 10.0
-LONGEST = 86_400.0
-# How far the clocks of the two machines may be apart, and how often the log says that jobs are refused, in seconds.
-SKEW, SAYING = 60.0, 60.0
-SLOTS = 32
-# The files that a slot's connection takes, and all else.
-FILES_OF_A_SLOT, FEW_FILES = 8, 64
+# The pause before a lost server is tried again, the time between two signs of life of it, the delay after its limit at which a result is late, and the time
+# that running plugins have to end when the worker stops; in seconds.
+RETRY, SIGN, GRACE, STOPPING = 1.0, 10.0, 10.0, 10.0
+# How often the log says that jobs are refused, in seconds, and the longest time from one turn to the next, in milliseconds.
+SAYING, TURN = 60.0, 500
+SLOTS, MOST_SLOTS = 32, 1_000
 NOT_SIGNED = b"it isn't signed with this worker's key, or is no job"
 
-Connect = Callable[[Callable[[bytes], bytes]], Connection]
-# What has a plugin run: its words and its limit, and the members of its result.
-Run = Callable[[List[str], float], Dict[str, Any]]
 
+class Running(NamedTuple):
+    """A job whose plugin runs, with the receiver of its answer and the time at which it is late."""
 
-class Job(NamedTuple):
-    """A job that a worker takes."""
-
-    words: List[str]
-    limit: float
-
-
-class Refusal(Exception):
-    """Why a job isn't taken."""
-
-
-class Door:
-    """Which jobs a worker takes. If it has a key: those that are signed with it, of its queues, in their time, and each once."""
-
-    def __init__(self, seal: Seal, queues: Sequence[str], clock: Callable[[], float] = time.time) -> None:
-        self._seal, self._queues, self._clock = seal, queues, clock
-        self._lock = threading.Lock()
-        # The jobs that were taken, each with the time from which it is refused anyway.
-        self._taken: Dict[str, float] = {}
-        self._swept = clock()
-
-    def job_of(self, document: Dict[str, Any]) -> Job:
-        """The job that a document describes. A `Refusal` if it isn't taken."""
-        words, limit = document.get("words"), number_in(document, "limit")
-        if not isinstance(words, list) or not words or not all(isinstance(word, str) and "\0" not in word for word in words):
-            raise Refusal("it has no command")
-        if not 0 < limit <= LONGEST:
-            raise Refusal("it has no limit")
-        if self._seal.is_signing():
-            self._take(document)
-        return Job(words, limit)
-
-    def _take(self, document: Dict[str, Any]) -> None:
-        number, begin, end, now = document.get("job"), number_in(document, "time"), number_in(document, "until"), self._clock()
-        if not isinstance(number, str) or not begin <= end <= begin + LONGEST:
-            raise Refusal("it has no number or no time")
-        if document.get("queue") not in self._queues:
-            raise Refusal("it is of another queue")
-        if not begin - SKEW <= now <= end + SKEW:
-            raise Refusal(f"its time is {now - begin:.0f} seconds from this machine's")
-        with self._lock:
-            if now - self._swept >= SKEW:
-                self._taken = {each: until for each, until in self._taken.items() if until >= now}
-                self._swept = now
-            if number in self._taken:
-                raise Refusal("it was taken before")
-            self._taken[number] = end + SKEW
-
-
-def number_in(document: Dict[str, Any], member: str) -> float:
-    """A number of a document. A `Refusal` if it is none that can be reckoned with."""
-    value = document.get(member)
-    if isinstance(value, bool) or not isinstance(value, (int, float)) or not abs(value) < 1e12:
-        raise Refusal(f"its {member} is no number")
-    return float(value)
+    job: Job
+    number: Any
+    connection: Connection
+    handle: bytes
+    late: float
 
 
 class Worker:
-    """A process with several slots, each a thread with a connection of its own and one plugin at a time."""
+    """One connection, which has as many jobs at once as there are slots. Its runner is handed in."""
 
-    def __init__(self, connect: Connect, slots: int, seal: Seal, door: Door, run: Run, log: Callable[[str], None]) -> None:
-        self._connect, self._seal, self._door, self._run, self._log = connect, seal, door, run, log
-        self._lock = threading.Lock()
-        self._is_stopping = threading.Event()
-        # The slots that don't reach the server.
-        self._cut_off: Set[int] = set()
-        self._refused = 0
-        self._said = -SAYING
-        self._slots = [threading.Thread(target=self._serve, args=(number,), daemon=True) for number in range(slots)]
+    def __init__(self, connect: Callable[[], Connection], queues: Sequence[str], slots: int, seal: Seal, door: Door, runner: Pool, log: Callable[[str], None],
+                 clock: Callable[[], float] = time.monotonic) -> None:
+        self._connect, self._queues, self._slots, self._seal, self._door, self._runner = connect, queues, slots, seal, door, runner
+        self._log, self._clock = log, clock
+        self.connection: Optional[Connection] = None
+        self._not_before = 0.0
+        self._trouble: Optional[str] = None
+        # When the server was asked for a sign of life, whether it has given it, how many jobs it is asked for, and how many more are to be asked for.
+        self._asked, self._is_alive, self._grabbing, self._wanted = 0.0, True, 0, 0
+        self._running: Dict[int, Running] = {}
+        # The command lines whose plugins were killed and are still there, by the identities of their jobs.
+        self._stuck: Dict[int, Sequence[str]] = {}
+        self._refused, self._said = 0, -SAYING
+        self.is_stopping = False
 
-    def stop(self) -> None:
-        self._is_stopping.set()
+    def is_idle(self) -> bool:
+        return not self._running
 
-    def work(self) -> None:
-        """Works until it is asked to stop; plugins that run then may end."""
-        for slot in self._slots:
-            slot.start()
-        while not self._is_stopping.wait(1):
-            pass
-        end = time.monotonic() + STOPPING
-        for slot in self._slots:
-            slot.join(max(0.0, end - time.monotonic()))
-
-    # ---- one slot
-
-    def _serve(self, slot: int) -> None:
-        """A slot's life: one connection after another."""
-        while not self._is_stopping.is_set():
-            connection: Optional[Connection] = None
+    def turn(self) -> None:
+        """Does all that there is to do now."""
+        now = self._clock()
+        for step in (self._listen, self._end_jobs, self._ask_for_jobs):
             try:
-                connection = self._connect(self.make)
-                self._follow(connection, slot)
-            except ServerFault as fault:
-                self._note(slot, str(fault))
-            except Exception as error:  # no fault of one connection may end its slot
-                self._note(slot, f"{type(error).__name__}: {error}")
-            finally:
-                if connection is not None:
-                    connection.close()
-            self._is_stopping.wait(RETRY)
+                step(now)
+            except (ServerFault, OSError) as fault:  # there may be no room for a socket
+                self._lose(str(fault), now)
+        self._runner.flush()
 
-    def _follow(self, connection: Connection, slot: int) -> None:
-        asked: Optional[float] = None
-        while not self._is_stopping.is_set():
-            if asked is None or time.monotonic() - asked >= SIGN:
-                connection.echo()
-                asked = time.monotonic()
-                self._note(slot, None)
-            connection.work()
+    # ---- the server
 
-    def _note(self, slot: int, trouble: Optional[str]) -> None:
-        """Logs that the server isn't reached by the first slot, and that it is again by all."""
-        with self._lock:
-            before = bool(self._cut_off)
-            (self._cut_off.discard if trouble is None else self._cut_off.add)(slot)
-            if bool(self._cut_off) != before:
-                self._log("the server is reached again" if trouble is None else f"the server isn't reached: {trouble}")
+    def _listen(self, now: float) -> None:
+        if self.connection is None:
+            if now < self._not_before:
+                return
+            self.connection = self._connect()
+            for queue in self._queues:
+                self.connection.send(Code.CAN_DO, queue.encode())
+            self._is_alive, self._asked, self._grabbing, self._wanted = True, now - SIGN, 0, 1
+        if now - self._asked >= SIGN:
+            if not self._is_alive:
+                raise ServerFault("it gives no answer")
+            self.connection.send(Code.ECHO_REQ, b"?")
+            self._is_alive, self._asked = False, now
+        for packet in self.connection.read():
+            self._hear(self.connection, packet)
 
-    # ---- one job
+    def _ask_for_jobs(self, now: float) -> None:
+        if self.connection is None:
+            return
+        while not self.is_stopping and self._wanted > 0 and self._grabbing + len(self._running) < self._slots:
+            self._wanted -= 1
+            self._grabbing += 1
+            self.connection.send(Code.GRAB_JOB)
+        self.connection.flush()
 
-    def make(self, workload: bytes) -> bytes:
-        """Makes a job, and returns its answer, whatever it is handed."""
+    def _hear(self, connection: Connection, packet: Packet) -> None:
+        if packet.code == Code.ECHO_RES:
+            self._is_alive = True
+            if self._trouble is not None:
+                self._log("the server is reached again")
+            self._trouble = None
+        elif packet.code == Code.NOOP:
+            self._wanted = max(1, self._wanted)
+        elif packet.code == Code.NO_JOB:
+            self._grabbing -= 1
+            self._wanted = 0
+            if self._grabbing == 0:
+                connection.send(Code.PRE_SLEEP)
+        elif packet.code == Code.JOB_ASSIGN:
+            self._grabbing -= 1
+            self._wanted += 2  # where one was there are more
+            handle, _, workload = packet.parts
+            connection.send(Code.WORK_STATUS, handle, b"0", b"1")
+            answer = self.begin(connection, handle, workload)
+            if answer is not None:
+                connection.send(Code.WORK_COMPLETE, handle, answer)
+
+    def _lose(self, why: str, now: float) -> None:
+        """The server hands what this worker has to another one; what runs here ends without an answer."""
+        if self._trouble is None:
+            self._log(f"the server isn't reached: {why}")
+        self._trouble = why
+        if self.connection is not None:
+            self.connection.close()
+        self.connection, self._not_before = None, now + RETRY
+
+    # ---- jobs
+
+    def begin(self, connection: Connection, handle: bytes, workload: bytes) -> Optional[bytes]:
+        """Has a job run. Returns the answer to a job that isn't run."""
         try:
             document = self._seal.open(JOB, workload)
             if document is None:
                 self._refuse(NOT_SIGNED.decode())
                 return NOT_SIGNED
-            return self._seal.sign(RESULT, {**self._result(document), "job": document.get("job")})
-        except Exception as error:  # the slot goes on, and the job is made again elsewhere
+            number = document.get("job")
+            try:
+                words, limit = self._door.job_of(document)
+            except Refusal as refusal:
+                self._refuse(str(refusal))
+                return self._answer(number, {"lost": f"its worker refused it: {refusal}"})
+            if words in self._stuck.values():
+                return self._answer(number, {"end": "limit", "code": 9, "output": "the plugin before it can't be killed"})
+            job = Job("a job", 0, words, limit)
+            self._runner.start(job)
+            self._running[id(job)] = Running(job, number, connection, handle, self._clock() + limit + GRACE)
+            return None
+        except Exception as error:  # the worker goes on, and the job is made again elsewhere
             self._refuse(f"{type(error).__name__}: {error}")
             return NOT_SIGNED
 
-    def _result(self, document: Dict[str, Any]) -> Dict[str, Any]:
-        try:
-            job = self._door.job_of(document)
-        except Refusal as refusal:
-            self._refuse(str(refusal))
-            return lost(f"its worker refused it: {refusal}")
-        return self._run(job.words, job.limit)
+    def _answer(self, number: Any, result: Dict[str, Any]) -> bytes:
+        return self._seal.sign(RESULT, {**result, "job": number})
+
+    def _end_jobs(self, now: float) -> None:
+        """Answers the jobs that have ended. A runner that gives no result in time is killed."""
+        for running in list(self._running.values()):
+            if now > running.late:
+                self._runner.kill(running.job)
+        for event in self._runner.events():
+            self._end(event)
+
+    def _end(self, event: Event) -> None:
+        if isinstance(event, Gone):
+            self._stuck.pop(id(event.job), None)
+            return
+        running = self._running.pop(id(event.job))
+        if isinstance(event, Finished):
+            result: Dict[str, Any] = {"end": event.end, "code": event.code, "output": event.output, "stderr": event.stderr}
+            if event.is_stuck:
+                self._stuck[id(event.job)] = event.job.words
+        else:
+            result = {"lost": event.why}
+        self._wanted = max(1, self._wanted)
+        if running.connection is self.connection:
+            self.connection.send(Code.WORK_COMPLETE, running.handle, self._answer(running.number, result))
 
     def _refuse(self, why: str) -> None:
         """Logs once a minute how many jobs were refused."""
-        with self._lock:
-            self._refused += 1
-            if time.monotonic() - self._said >= SAYING:
-                self._log(f"{self._refused} jobs were refused; the last one: {why}")
-                self._refused, self._said = 0, time.monotonic()
+        self._refused += 1
+        if self._clock() - self._said >= SAYING:
+            self._log(f"{self._refused} jobs were refused; the last one: {why}")
+            self._refused, self._said = 0, self._clock()
 
 
 def words_of(given: Optional[List[str]]) -> argparse.Namespace:
@@ -206,15 +209,6 @@ def runner_of(only: Optional[pathlib.Path]) -> List[str]:
     return words
 
 
-def raise_files(slots: int) -> None:
-    """Has the process open as many files as so many connections take. A `MonitorFault` if it may not."""
-    wanted, (soft, hard) = FEW_FILES + FILES_OF_A_SLOT * slots, resource.getrlimit(resource.RLIMIT_NOFILE)
-    if soft != resource.RLIM_INFINITY and soft < wanted:
-        if hard != resource.RLIM_INFINITY and hard < wanted:
-            raise MonitorFault(f"--slots {slots}: it takes {wanted} open files, and {hard} are allowed")
-        resource.setrlimit(resource.RLIMIT_NOFILE, (wanted, hard))
-
-
 def log(line: str) -> None:
     """Writes a line to standard output, which doesn't block: a line that isn't read is lost."""
     try:
@@ -226,21 +220,37 @@ def log(line: str) -> None:
 def main(given: Optional[List[str]] = None) -> int:
     words = words_of(given)
     os.set_blocking(sys.stdout.fileno(), False)
+    poller = FilePoller()
     try:
-        place, library, seal = place_of(words.server, "server"), Library(), seal_of(words.key, words.unsigned)
-        if not 1 <= words.slots <= 1000:
-            raise MonitorFault("--slots: 1 to 1000")
-        raise_files(words.slots)
-        link = RunnerLink(runner_of(words.only), log)
+        place, seal = place_of(words.server, "server"), seal_of(words.key, words.unsigned)
+        if not 1 <= words.slots <= MOST_SLOTS:
+            raise MonitorFault(f"--slots: it has to be a number from 1 to {MOST_SLOTS}")
+        raise_file_limit()
+        runner = Pool("worker", runner_of(words.only), 1, None, 0.0, log, poller.watch, poller.unwatch, time.monotonic)
     except MonitorFault as fault:
         print(f"nagsched-gearman-worker: {fault}", file=sys.stderr)
         return 1
-    worker = Worker(lambda make: LibraryConnection(library, place, words.queues, make), words.slots, seal, Door(seal, words.queues), link.ran, log)
+    worker = Worker(lambda: Connection(place), words.queues, words.slots, seal, Door(seal, words.queues), runner, log)
     for number in (signal.SIGINT, signal.SIGTERM):
-        signal.signal(number, lambda *_: worker.stop())
+        signal.signal(number, lambda *_: setattr(worker, "is_stopping", True))
     log(f"begins: {words.slots} slots, queues {', '.join(words.queues)}")
-    worker.work()
-    link.close()
+    work(worker, poller)
+    runner.end()
     log("ends")
-    # Threads that are inside the library are not waited for: the server hands on what they had.
-    os._exit(0)
+    return 0
+
+
+def work(worker: Worker, poller: FilePoller) -> None:
+    """Works until it is asked to stop; plugins that run then may end."""
+    stop_at: Optional[float] = None
+    watched: Optional[Connection] = None
+    while stop_at is None or time.monotonic() < stop_at and not worker.is_idle():
+        worker.turn()
+        if worker.is_stopping and stop_at is None:
+            stop_at = time.monotonic() + STOPPING
+        if worker.connection is not watched:
+            watched = worker.connection
+            if watched is not None:
+                poller.watch(watched.fileno(), lambda file: None)
+        poller.wait(20 if watched is None or watched.is_sending() else TURN)
+    worker.turn()

@@ -1,28 +1,25 @@
 """The commands of runners: nagsched-runner, which starts plugins, and nagsched-gearman-runner, which hands jobs to a Gearman server."""
 import os
 import pathlib
-import sys
-from typing import List, Sequence
+import shutil
+from typing import List, Optional
 
 from ..faults import MonitorFault
 
-# The folder of the package, and where the program is that starts plugins: installed beside the package, or built in the tree.
+# The folder of the package, and the folders of its programs: installed next to the package, or built in the tree.
 FOLDER = pathlib.Path(__file__).resolve().parent.parent.parent
-PLACES = (FOLDER / "nagsched-runner", FOLDER / "out/nagsched-runner")
-QUEUE_RUNNER = FOLDER / "nagsched-gearman-runner"
+PLACES = (FOLDER, FOLDER / "out")
+
+
+def program_of(name: str) -> Optional[str]:
+    """The path of a program: of this package, or one on the path. None if it isn't found."""
+    beside = [str(place / name) for place in PLACES if "/" not in name and name.startswith("nagsched-") and os.access(place / name, os.X_OK)]
+    return beside[0] if beside else shutil.which(name)
 
 
 def runner_words() -> List[str]:
-    """The command of a runner: what the variable NAGSCHED_RUNNER names, or the program that was built. A `MonitorFault` if there is none."""
-    given = os.environ.get("NAGSCHED_RUNNER")
-    if given:
-        return [given]
-    for place in PLACES:
-        if os.access(place, os.X_OK):
-            return [str(place)]
-    raise MonitorFault(f"there is no {PLACES[0]}: build it with monitor/build_runner.sh, or name one in the variable NAGSCHED_RUNNER")
-
-
-def queue_runner_words(server: str, wait: float, options: Sequence[str]) -> List[str]:
-    """The command of the runner for the queues of a server. No variable and no folder of its caller says what it imports, and it leaves nothing beside it."""
-    return [sys.executable, "-IB", str(QUEUE_RUNNER), server, str(wait), *options]
+    """The command of a runner of this machine: what the variable NAGSCHED_RUNNER names, or the program that was built. A `MonitorFault` if it isn't found."""
+    program = os.environ.get("NAGSCHED_RUNNER") or program_of("nagsched-runner")
+    if program is None:
+        raise MonitorFault(f"there is no {FOLDER}/nagsched-runner: build it with monitor/build_runner.sh, or name one in the variable NAGSCHED_RUNNER")
+    return [program]

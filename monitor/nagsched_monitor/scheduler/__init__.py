@@ -1,1 +1,1 @@
-"""The schedulers of a site: processes of `nagsched live`, and what their answers say."""
+"""The schedulers of a site: processes of `nagsched live`, and their answers."""

@@ -6,7 +6,6 @@ import time
 from typing import List, Optional, Sequence
 
 from ..faults import ConversationEnded
-from .protocol import Answer, Call, read_answer
 
 READ_BYTES = 65_536
 # How long a scheduler may be silent while an answer is due, the first one, which comes after the setup and the saved state were read, and any other one;
@@ -33,17 +32,6 @@ class Conversation:
         self._unsent = setup + b"\n" + (b"" if saved is None else saved + b"\n")
         self._missing = 0
         self._patience = OPENING
-
-    def ask(self, calls: Sequence[Call]) -> List[Answer]:
-        """Makes these calls, and returns their answers."""
-        lines = [call.line() for call in calls]
-        answers: List[Answer] = []
-        for line, said in zip(lines, self.ask_lines(lines)):
-            answer = read_answer(said)
-            if answer is None:
-                raise ConversationEnded(f"the scheduler answered {said!r} to {line}")
-            answers.append(answer)
-        return answers
 
     def ask_lines(self, lines: Sequence[str]) -> List[str]:
         """Sends these lines, and returns the lines that answer them."""
@@ -89,7 +77,7 @@ class Conversation:
         return self._process.pid
 
     def close(self, grace: float = GRACE) -> None:
-        """Ends the scheduler's process; it is killed if it doesn't end by itself within so many seconds."""
+        """Ends the scheduler's process; it is killed if it hasn't ended after a number of seconds."""
         for pipe in (self._process.stdin, self._process.stdout):
             if pipe is not None:
                 pipe.close()

@@ -1,12 +1,10 @@
-"""The states of all schedulers of a site put together, and what each part of another site goes on from."""
+"""The states of all schedulers of a site put together, and the state from which each part of another site continues."""
 import json
 import subprocess
-from dataclasses import dataclass
 from typing import AbstractSet, Any, Dict, List, Mapping, Tuple
 
 from ..faults import MonitorFault
 from ..site.site import Site
-from ..store.store import Store, Write
 
 Member = Dict[str, Any]
 # The states of schedulers by their parts.
@@ -18,7 +16,7 @@ LIMIT = 60.0
 def put_together(states: States, mirrored: Mapping[int, AbstractSet[str]], site: Site, moment: int) -> Dict[int, bytes]:
     """From which state each part of a site begins, by the states of the parts that there are, and the names of their mirrors.
 
-    A mirror stands as its original does. Runs go on from the greatest number of all parts, so that no late result fits a run of another part."""
+    A mirror has the state of its original. Run numbers continue from the greatest number of all parts, so that no late result fits a run of another part."""
     found: Dict[str, Tuple[int, Member]] = {}
     runs = 0
     for part, state in states.items():
@@ -36,14 +34,14 @@ def put_together(states: States, mirrored: Mapping[int, AbstractSet[str]], site:
 
 
 def ended(member: Member, moment: int) -> Member:
-    """An object whose run, where one is out, is given up at a moment."""
+    """An object whose run, if there is one, is abandoned at a moment."""
     if member["run"] is None:
         return member
     return {**member, "run": None, "next_check": moment if member["next_check"] is None else member["next_check"]}
 
 
 def as_mirror(member: Member) -> Member:
-    """An object as its mirror has it: it stands alike, and is never checked."""
+    """An object as its mirror has it: in the same state, and never checked."""
     return {**member, "run": None, "forced": False, "next_check": None, "enabled": False, "enabled_in_setup": False, "check_interval": 0}
 
 
@@ -53,9 +51,9 @@ def saved(members: List[Member], runs: int, start: int) -> bytes:
 
 
 def carried(program: str, site: Site, part: int, state: bytes) -> List[str]:
-    """What the setup of a part changes of the saved objects that it keeps, a line each; mirrors change as their originals do.
+    """The changes that the setup of a part makes to saved objects, a line each; mirrors change as their originals do.
 
-    Where one of the two is refused it is a fault, and nothing has changed."""
+    If the setup or the state is refused, it is a fault, and nothing has changed."""
     given = site.setups[part] + b"\n" + state + b"\n"
     try:
         ran = subprocess.run([program, "check", "--resume"], input=given, stdout=subprocess.PIPE, check=False, timeout=LIMIT)
@@ -69,17 +67,6 @@ def carried(program: str, site: Site, part: int, state: bytes) -> List[str]:
 
 
 def is_change(line: str, mirrors: AbstractSet[str]) -> bool:
-    """Whether a line of a check is a change of an object that is no mirror, or has runs that are given up."""
+    """Whether a line of a check names a change of an object that isn't a mirror, or abandoned runs."""
     word, _, rest = line.partition(" ")
     return word == "changed" and rest.partition(" ")[2] not in mirrors or word == "given_up" and rest != "0"
-
-
-@dataclass(frozen=True)
-class EndGeneration(Write):
-    """A part that the site has no more."""
-
-    part: int
-
-    def carry_out(self, store: Store) -> None:
-        for table in ("generations", "mirrors", "calls"):
-            store.delete(table, "part = ?", self.part)

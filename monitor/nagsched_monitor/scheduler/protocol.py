@@ -1,9 +1,6 @@
 """The calls that are made of the scheduler, each a line of JSON, and its answers, each a line of words."""
-import functools
 import json
-from dataclasses import dataclass
 from typing import NamedTuple, Optional, Union
-
 
 # The greatest moment and run number of a scheduler, and the greatest code of a plugin.
 GREATEST = 2**60
@@ -13,17 +10,11 @@ GREATEST_CODE = 3
 class Take(NamedTuple):
     now: int
 
-    def line(self) -> str:
-        return f'["take",{self.now}]'
-
 
 class Report(NamedTuple):
     name: str
     run: int
     code: int
-
-    def line(self) -> str:
-        return f'["report",{quoted(self.name)},{self.run},{self.code}]'
 
 
 class Abandon(NamedTuple):
@@ -31,61 +22,44 @@ class Abandon(NamedTuple):
     run: int
     now: int
 
-    def line(self) -> str:
-        return f'["abandon",{quoted(self.name)},{self.run},{self.now}]'
-
 
 class Reschedule(NamedTuple):
     name: str
     time: int
     forced: bool
 
-    def line(self) -> str:
-        return f'["reschedule",{quoted(self.name)},{self.time},{switch(self.forced)}]'
-
 
 class Enable(NamedTuple):
     name: str
     on: bool
 
-    def line(self) -> str:
-        return f'["enable",{quoted(self.name)},{switch(self.on)}]'
-
 
 class Status(NamedTuple):
     name: str
 
-    def line(self) -> str:
-        return f'["status",{quoted(self.name)}]'
-
 
 Call = Union[Take, Report, Abandon, Reschedule, Enable, Status]
+KINDS = {"take": Take, "report": Report, "abandon": Abandon, "reschedule": Reschedule, "enable": Enable, "status": Status}
+WORDS = {kind: word for word, kind in KINDS.items()}
+ENCODER = json.JSONEncoder(ensure_ascii=False, separators=(",", ":"))
 
 
-@functools.lru_cache(maxsize=None)
-def quoted(name: str) -> str:
-    """A name as JSON has it. The names of a site are few, and each comes with every call."""
-    return json.dumps(name, ensure_ascii=False)
-
-
-def switch(on: bool) -> str:
-    return "true" if on else "false"
+def line_of(call: Call) -> str:
+    return ENCODER.encode((WORDS[type(call)], *call))
 
 
 def read_call(line: str) -> Call:
     """The call of a line that was kept."""
     word, *members = json.loads(line)
-    kinds = {"take": Take, "report": Report, "abandon": Abandon, "reschedule": Reschedule, "enable": Enable, "status": Status}
-    call: Call = kinds[word](*members)
+    call: Call = KINDS[word](*members)
     return call
 
 
 def is_sound(call: Call) -> bool:
     """Whether a scheduler can read a call: its code is a plugin's, and its numbers are within their limits."""
-    numbers = [value for value in call if isinstance(value, int) and not isinstance(value, bool)]
     if isinstance(call, Report) and not 0 <= call.code <= GREATEST_CODE:
         return False
-    return all(0 <= value <= GREATEST for value in numbers)
+    return all(0 <= value <= GREATEST for value in call if isinstance(value, int))
 
 
 # ---- answers
@@ -105,8 +79,7 @@ class Idle(NamedTuple):
     next: Optional[int]
 
 
-@dataclass(frozen=True)
-class AtLimit:
+class AtLimit(NamedTuple):
     pass
 
 
@@ -149,7 +122,7 @@ def time_of(word: str) -> Optional[int]:
 
 
 def read_answer(line: str) -> Optional[Answer]:
-    """What an answer says; None where it is none of the answers to a call."""
+    """An answer; None if it isn't an answer to a call."""
     word, _, rest = line.partition(" ")
     if word == "standing":
         state, kind, attempt, changed, flapping, time, name = rest.split(" ", 6)

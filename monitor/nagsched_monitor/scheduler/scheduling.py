@@ -1,4 +1,4 @@
-"""The schedulers of a site and what their answers say: calls are stored together, then made together, and then heard."""
+"""The schedulers of a site and their answers: calls are stored together, then made together, and then heard."""
 import json
 from dataclasses import replace
 from typing import AbstractSet, Callable, List, NamedTuple, Optional, Sequence
@@ -15,15 +15,15 @@ from ..site.site import Site, objects_of
 from ..store.rows import Generation, KeptChange
 from ..store.status_table import Standings
 from ..store.store import Store, Write
-from ..store.writes import BeginGeneration, KeepCalls, KeepChange
+from ..store.writes import begin_generation, end_generation, keep_calls, keep_change
 from . import moving
 from .live_process import Conversation
-from .protocol import Answer, Call, Report, Standing, Status, is_sound
+from .protocol import Answer, Call, Report, Standing, Status, is_sound, line_of
 from .schedulers import Converse, Kept, Made, Schedulers
 
 
 class Heard(NamedTuple):
-    """What an answer changed: the object that it speaks of, how it was before, and the run that it had then."""
+    """An answer with the object that it is about, its state before, and the run that it had then."""
 
     call: Call
     answer: Answer
@@ -43,11 +43,11 @@ class Scheduling:
         self.known = AllKnown()
         self.mirrors = Mirrors({}, self.known.running)
         self.schedulers = Schedulers(program, store, clock, log, converse)
-        # What is to be written with the next calls.
+        # Writes that wait for the next calls.
         self._later: List[Write] = []
         self._standings = Standings(store, clock)
         self._printed: List[KeptChange] = []
-        # Whether there are objects of which it isn't known yet how they stand.
+        # Whether there are objects whose states aren't known yet.
         self._has_unknown = False
         # The changes that were stored before this monitor started: answers that are heard again are no changes.
         self._stored_changes: AbstractSet[int] = frozenset()
@@ -55,7 +55,7 @@ class Scheduling:
     # ---- opening
 
     def open(self) -> None:
-        """Opens the scheduler of each part: over what was stored, if something was."""
+        """Opens the scheduler of each part, with its stored calls."""
         kept = self._store.generations()
         for watched in self.site.objects.values():
             self.known.add(watched, watched.enabled)
@@ -63,7 +63,7 @@ class Scheduling:
         self.mirrors = Mirrors({part: generation.mirrors for part, generation in kept.items()}, self.known.running)
         self._stored_changes = self._store.changes_after(min((generation.last_call for generation in kept.values()), default=0))
         self.schedulers.open(kept)
-        # Parts that the site has no more come first: what is known of an object is what its own part says.
+        # Parts that the site has no longer come first, so that an object's own part has the last word.
         for part in sorted(kept, key=lambda part: part < len(self.site.setups)):
             self._resume(kept[part])
         for line in self._go_over(self.site):
@@ -76,7 +76,7 @@ class Scheduling:
         part = generation.part
         if generation.saved is not None:
             self._read_state(part, generation.saved)
-            # How each object stands is known before calls are made again: a result that is as the one before is no change.
+            # The states of objects are known before calls are made again: a result with the same state isn't a change.
             self._ask(part, [it.name for it in objects_of(json.loads(generation.setup), part) if it.name not in self.mirrors.of(part)])
         self.schedulers.read_pending(part)
         self._hear(self.schedulers.exchange(), is_again=True)
@@ -84,7 +84,7 @@ class Scheduling:
             raise ConversationEnded(f"the scheduler of part {part + 1} can't be opened: {self.schedulers.parts[part].trouble}")
 
     def _ask_unknown(self) -> None:
-        """Asks for the standing of each object of which none is known yet, and takes its first time as its phase."""
+        """Asks for the standing of each object whose standing isn't known yet, and takes its first time as its phase."""
         for part in self.schedulers.parts:
             self._ask(part, [known.name for known in self.known.objects.values() if known.watched.part == part])
         for known in self.known.objects.values():
@@ -92,14 +92,14 @@ class Scheduling:
                 known.phase = known.next
 
     def _ask(self, part: int, names: Sequence[str]) -> None:
-        """Asks how these objects of a part stand, if that isn't known. It isn't stored, since it changes nothing."""
+        """Asks for the standings of these objects of a part that aren't known. The calls aren't stored, since they change nothing."""
         calls = [Status(name) for name in names if name in self.known.objects and self.known.objects[name].standing is None]
         if calls:
             for call, answer in zip(calls, self.schedulers.ask(part, calls)):
                 self.known.hear(call, answer)
 
     def reload(self, site: Site) -> List[str]:
-        """Goes on with another site; if that can't be, nothing has changed. Returns what the setups change of objects that stay, a line each."""
+        """Takes over another site; if it is refused, nothing has changed. Returns the changes of objects that stay, a line each."""
         changed = self._go_over(site)
         self._has_unknown = True
         self._ask_new()
@@ -115,7 +115,7 @@ class Scheduling:
             self._log(f"how new objects stand isn't known yet: {error}")
 
     def _go_over(self, site: Site) -> List[str]:
-        """Goes on with a site: if its parts are others than those that are open, from the states of all of them, put together."""
+        """Takes over a site. Parts with another setup begin from the states of all parts, put together."""
         open_parts = {part: made.generation for part, made in self.schedulers.parts.items()}
         others = {
             part for part, setup in enumerate(site.setups)
@@ -145,7 +145,7 @@ class Scheduling:
             for part, setup in enumerate(site.setups)
         }
         gone = [part for part in self.schedulers.parts if part not in generations]
-        self._store.write(*self._later, *map(moving.EndGeneration, gone), *map(BeginGeneration, generations.values()))
+        self._store.write(*self._later, *map(end_generation, gone), *map(begin_generation, generations.values()))
         self._later = []
         self.mirrors = self.mirrors.become(site.mirrors, others)
         self.schedulers.open(generations)
@@ -164,6 +164,9 @@ class Scheduling:
     def is_open(self, part: int) -> bool:
         """Whether calls of a part can be made now: its scheduler has answered all before."""
         return not self.schedulers.is_down(part)
+
+    def is_known_open(self, known: Known) -> bool:
+        return not self.schedulers.is_down(known.watched.part)
 
     def is_reportable(self, place: Place) -> bool:
         """Whether a result of an object can be reported now, to it and to its mirrors."""
@@ -185,21 +188,21 @@ class Scheduling:
             raise ValueError(f"no scheduler reads these calls: {bad}")
         if asked or writes or self.has_more():
             standings, number = self._standings.writes(), self._store.last_call
-            calls = [(part, call.line(), words) for part, call, words in asked]
-            self._store.write(*self._later, *writes, *standings, *([KeepCalls(calls)] if calls else []))
+            calls = [(part, line_of(call), words) for part, call, words in asked]
+            self._store.write(*self._later, *writes, *standings, *([keep_calls(calls)] if calls else []))
             self._later = []
             if standings:
                 self._standings.written()
             self.schedulers.make([Kept(number + place, *each) for place, each in enumerate(asked, 1)])
 
     def make(self) -> List[Heard]:
-        """Makes the calls that were stored, and returns what is heard. Those of a scheduler that can't be had now are made when it is there again."""
-        if self._has_unknown and not self.schedulers.down():
+        """Makes the stored calls, and returns the answers. Calls of a scheduler that can't be started now are made later."""
+        if self._has_unknown and self.schedulers.are_all_up():
             self._ask_new()
         return self._hear(self.schedulers.exchange())
 
     def _hear(self, made: Sequence[Made], is_again: bool = False) -> List[Heard]:
-        """Takes in what answers say; those of mirrors aren't returned. Of those that were heard before, the times are stored."""
+        """Takes in answers; those of mirrors aren't returned. Answers that were heard by an earlier monitor change no times."""
         heard: List[Heard] = []
         for kept, answer in made:
             if not self.mirrors.names or not self.mirrors.owns(kept.part, kept.call, answer):
@@ -226,7 +229,7 @@ class Scheduling:
             return
         change = KeptChange(number, self._clock.wall(), known.name, answer.state, answer.kind, answer.attempt, answer.flapping, known.words)
         document = changes.document_of(change, before) if self._notified and changes.is_important(before, answer) else None
-        self._later.append(KeepChange(change, document))
+        self._later.append(keep_change(change, document))
         self._printed.append(change)
 
     def changed(self) -> List[KeptChange]:
@@ -249,14 +252,14 @@ class Scheduling:
         self._standings.hurry()
         standings, last_call = self._standings.writes(), self._store.last_call
         opened = {part: replace(self.schedulers.parts[part].generation, saved=state, last_call=last_call) for part, state in states.items()}
-        self._store.write(*self._later, *standings, *map(BeginGeneration, opened.values()))
+        self._store.write(*self._later, *standings, *map(begin_generation, opened.values()))
         self._later = []
         self._standings.written()
         self.schedulers.open(opened)
         return True
 
     def _compare(self, states: "moving.States") -> None:
-        """Holds what is known of each object to what its scheduler saved, which counts."""
+        """Compares the known state of each object with its scheduler's, which counts."""
         for part, state in states.items():
             for name in self.known.read_saved(self.mirrors.read_saved(part, json.loads(state)["objects"])):
                 self._log(f"{name}: its scheduler has it otherwise than the monitor had; the scheduler counts")

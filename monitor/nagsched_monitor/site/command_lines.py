@@ -1,4 +1,4 @@
-"""The command lines of a site: each can be split, and has a program that is there, unless a worker elsewhere runs it."""
+"""The command lines of a site: each can be split, and has a program that is there, unless a runner elsewhere runs it."""
 import functools
 import pathlib
 import re
@@ -21,15 +21,15 @@ LIMIT = 30.0
 
 @dataclass(frozen=True)
 class Command:
-    """A command line, split where no shell runs it."""
+    """A command line, split unless a shell runs it."""
 
     words: Sequence[str]
     # How long the plugin may take, in seconds.
     limit: float
 
 
-def read_commands(folder: pathlib.Path, objects: Container[str], queue_of: Container[str]) -> Dict[str, Command]:
-    """The command of each object. Each line can be split, and has a program that is there, unless a worker elsewhere runs it."""
+def read_commands(folder: pathlib.Path, objects: Container[str], runner_of: Container[str]) -> Dict[str, Command]:
+    """The command of each object. Each line can be split, and has a program that is there, unless a runner elsewhere runs it."""
     commands = {}
     is_program.cache_clear()
     for name, members in read_object(folder, "commands.json", required=True).items():
@@ -45,7 +45,7 @@ def read_commands(folder: pathlib.Path, objects: Container[str], queue_of: Conta
         if not is_whole(line):
             raise SiteFault(f"{place}: its line has half a character")
         limit = seconds(members.get("limit", 60), f"{place}: limit")
-        commands[name] = Command(shell_words(line, place) if shell else plain_words(line, place, name not in queue_of), limit)
+        commands[name] = Command(shell_words(line, place) if shell else plain_words(line, place, name not in runner_of), limit)
     return commands
 
 
@@ -59,7 +59,7 @@ def is_whole(line: str) -> bool:
 
 
 def plain_words(line: str, place: str, is_here: bool) -> List[str]:
-    """The words of a line that no shell runs; the first is a program that is there, where it is run here."""
+    """The words of a line that no shell runs; the first is a program that exists, if it is run here."""
     words, signs = (line.split(), []) if PLAIN.fullmatch(line) else split_words(line, place)
     if not words:
         raise SiteFault(f"{place}: its line is empty")
@@ -72,7 +72,7 @@ def plain_words(line: str, place: str, is_here: bool) -> List[str]:
 
 @functools.lru_cache(maxsize=None)
 def is_program(name: str) -> bool:
-    """Whether a program is there; what was found is forgotten when a site is read anew."""
+    """Whether a program exists; the answers are forgotten when a site is read again."""
     return shutil.which(name) is not None
 
 
@@ -85,7 +85,7 @@ def split_words(line: str, place: str) -> Tuple[List[str], List[str]]:
 
 
 def shell_signs(line: str) -> List[str]:
-    """What stands in a line outside of quotes that only a shell takes for more than letters."""
+    """The signs in a line, outside of quotes, that only a shell gives a meaning."""
     signs = ";|&<>()"
     lexer = shlex.shlex(line, posix=True, punctuation_chars=signs)
     lexer.whitespace_split, lexer.commenters = True, ""

@@ -1,4 +1,4 @@
-"""Reading the JSON files of a site: what is wrong in one is a `SiteFault` that names the place."""
+"""Reading the JSON files of a site: an error in one is a `SiteFault` that names the place."""
 import json
 import pathlib
 from typing import Any, Dict, Sequence

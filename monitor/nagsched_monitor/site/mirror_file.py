@@ -1,4 +1,4 @@
-"""Mirrors: objects of one part that stand in another part too, where its objects need them as a parent, as their host or as a master.
+"""Mirrors: objects of one part that are in another part too, because its objects need them as a parent, as their host or as a master.
 
     {"part-2": {"gateway": "part-1", "gateway;ping": "part-1"}}
 
@@ -14,7 +14,7 @@ from .json_files import only_object, read_object
 
 FILE = "mirrors.json"
 NEVER = {"enabled": False, "check_interval": 0, "retry_interval": 0}
-# The options by which results are judged, with what they are where a setup doesn't say.
+# The options by which results are judged, with their default values.
 JUDGING: Mapping[str, Any] = {
     "soft_state_dependencies": False, "use_aggressive_host_checking": False, "low_service_flap_threshold": 20, "high_service_flap_threshold": 30,
     "low_host_flap_threshold": 20, "high_host_flap_threshold": 30,
@@ -26,7 +26,7 @@ Dependency = Tuple[str, FrozenSet[str], bool]
 
 @dataclass(frozen=True)
 class Part:
-    """What is compared of the setup of a part."""
+    """The setup of a part, as far as it is compared."""
 
     stem: str
     options: Mapping[str, Any]
@@ -36,7 +36,7 @@ class Part:
     handing_on: FrozenSet[str]
 
     def differs(self, name: str, other: "Part") -> str:
-        """What an object has here that it hasn't there; nothing where it is judged alike."""
+        """The first difference of an object between two parts; nothing if results are judged in the same way."""
         here, there = self.objects[name], other.objects[name]
         if here["max_check_attempts"] != there["max_check_attempts"]:
             return "max_check_attempts"
@@ -62,7 +62,7 @@ def part_of(stem: str, setup: Mapping[str, Any]) -> Part:
 
 
 def read_mirrors(folder: pathlib.Path, setups: Mapping[str, Mapping[str, Any]]) -> Dict[int, AbstractSet[str]]:
-    """The names of the mirrors of each part that has some, by its number. The setups stand by the names of their files, without the ending."""
+    """The names of the mirrors of each part that has some, by its number. The keys of the setups are the names of their files, without the ending."""
     document = read_object(folder, FILE, required=False)
     for stem, homes in document.items():
         if stem not in setups:
@@ -77,7 +77,7 @@ def read_mirrors(folder: pathlib.Path, setups: Mapping[str, Mapping[str, Any]]) 
 
 
 def test_mirror(name: str, part: Part, home: object, parts: Mapping[str, Part], document: Mapping[str, Mapping[str, Any]]) -> None:
-    """A mirror is never checked, and has its original in another part, by whose results it is judged alike."""
+    """A mirror is never checked, and has its original in another part, where results are judged in the same way."""
     place = f"{FILE}: {part.stem}: {name}"
     if name not in part.objects:
         raise SiteFault(f"{place}: {part.stem}.json has no such object")
@@ -97,7 +97,7 @@ def test_mirror(name: str, part: Part, home: object, parts: Mapping[str, Part], 
 
 
 def test_options(part: Part, homes: Sequence[Part]) -> None:
-    """Where there are mirrors, no take waits for a limit, and results are judged alike."""
+    """With mirrors, no take waits for a limit, and results are judged in the same way in all parts."""
     if homes and part.options.get("max_concurrent_checks", 0) != 0:
         raise SiteFault(f"{FILE}: {part.stem}: max_concurrent_checks of a part with mirrors is 0: slots in monitor.json is the limit of all parts")
     for home in homes:

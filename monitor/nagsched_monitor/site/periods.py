@@ -1,6 +1,6 @@
 """Time periods: the times at which an object is checked, by the local time of the site.
 
-A period has times for weekdays and for dates, and may exclude other periods. Where a date of a period fits, its times hold in place of the weekday's, as in
+A period has times for weekdays and for dates, and may exclude other periods. If a date of a period fits, its times replace those of the weekday, as in
 Nagios: first those with a year, then those of a month, of a day of any month, of a weekday of one month, of a weekday of any month.
 """
 import calendar
@@ -20,7 +20,7 @@ Minutes = Tuple[int, int]
 
 @dataclass(frozen=True)
 class Dates:
-    """Days that are named otherwise than by their weekday alone. A member that is None fits every day."""
+    """Days that are named otherwise than by their weekday alone. The value None fits every day."""
 
     first: Optional[datetime.date]
     last: Optional[datetime.date]
@@ -31,7 +31,7 @@ class Dates:
     times: Sequence[Minutes]
 
     def rank(self) -> int:
-        """Which dates come first where several fit."""
+        """The order of dates if several fit."""
         if self.first is not None:
             return 0
         if self.day is not None:
@@ -61,7 +61,7 @@ class Period:
     excluded: Sequence[str]
 
     def times_of(self, day: datetime.date) -> Sequence[Minutes]:
-        """The times of a day, but for what other periods exclude."""
+        """The times of a day, before other periods are excluded."""
         for dates in self.dates:
             if dates.fit(day):
                 return dates.times
@@ -173,7 +173,7 @@ def read_day(text: object, place: str) -> datetime.date:
 
 
 def limited(value: object, least: int, most: int, place: str) -> Optional[int]:
-    """A number within its limits that isn't 0; None where there is none."""
+    """A number within its limits that isn't 0; None if there is none."""
     if value is None:
         return None
     if isinstance(value, bool) or not isinstance(value, int) or not least <= value <= most or value == 0:

@@ -1,11 +1,12 @@
-"""A site: the folder that says what is monitored and how. It is read and tested whole before anything runs.
+"""A site: the folder that says which objects are monitored, and how. It is read and tested as a whole before anything runs.
 
     setup.json        the setup of the scheduler, or several: part-1.json, part-2.json and on
     mirrors.json      which objects of a part are mirrors of those of another (may be left out)
     commands.json     the command of each object by its full name
     periods.json      time periods, and which objects go by which (may be left out)
     passive.json      which objects are passive, and how fresh their results have to be (may be left out)
-    queues.json       which checks are made by workers on other machines (may be left out)
+    runners.json      which checks are made by runners elsewhere (may be left out)
+    groups.json       the groups and contacts of objects (may be left out)
     monitor.json      options of the monitor (may be left out)
 """
 import datetime
@@ -13,15 +14,16 @@ import json
 import pathlib
 import subprocess
 import zoneinfo
-from dataclasses import dataclass, replace
+from dataclasses import dataclass, field, replace
 from typing import AbstractSet, Any, Dict, List, Mapping, Optional, Sequence, Tuple
 
 from ..faults import SiteFault
 from .command_lines import Command, read_commands
+from .groups_file import read_groups
 from .json_files import MOST_FRESH, MOST_SECONDS, only_known, only_object, read_object, seconds
 from .mirror_file import read_mirrors
 from .periods import Periods, read_periods
-from .queue_file import Queues, queue_of_each, read_queues
+from .runner_file import Remote, read_runners
 from .whole_site import reading
 
 # How long a setup may take to be tested, in seconds.
@@ -44,10 +46,10 @@ class Watched:
     command: Optional[Command] = None
     period: Optional[str] = None
     passive_only: bool = False
-    # Milliseconds within which a result has to come; None where it may take its time.
+    # Milliseconds within which a result has to come; None without a limit.
     freshness: Optional[int] = None
-    # The queue of the worker that makes its checks; None where they are made here.
-    queue: Optional[str] = None
+    # The runner elsewhere that makes its checks; None if they are made here.
+    runner: Optional[str] = None
 
     def is_host(self) -> bool:
         return self.host is None
@@ -80,11 +82,11 @@ class Site:
     with_freshness: Sequence[str]
     # The names of the mirrors of each part that has some.
     mirrors: Mapping[int, AbstractSet[str]]
-    queues: Optional[Queues] = None
+    runners: Mapping[str, Remote] = field(default_factory=dict)
 
 
 def read_site(folder: pathlib.Path, program: str) -> Site:
-    """The site of a folder, or a `SiteFault` that names the file and what is wrong there."""
+    """The site of a folder, or a `SiteFault` that names the file and the error."""
     with reading(folder):
         return read_files(folder, program)
 
@@ -96,18 +98,17 @@ def read_files(folder: pathlib.Path, program: str) -> Site:
     mirrors = read_mirrors(folder, documents)
     objects = originals_of(documents, mirrors)
     options, zone = read_options(folder)
-    queues = read_queues(folder, objects)
-    queue_of = queue_of_each(queues, objects)
-    commands = read_commands(folder, objects, queue_of)
+    runners, runner_of = read_runners(folder, objects, read_groups(folder, objects))
+    commands = read_commands(folder, objects, runner_of)
     periods, period_of = read_period_file(folder, objects, zone)
     passive = read_passive(folder, objects)
     for name, watched in objects.items():
         only, freshness = passive.get(name, (False, None))
-        command, period, queue = commands.get(name), period_of.get(name), queue_of.get(name)
-        objects[name] = replace(watched, command=command, period=period, queue=queue, passive_only=only, freshness=freshness)
+        command, period, runner = commands.get(name), period_of.get(name), runner_of.get(name)
+        objects[name] = replace(watched, command=command, period=period, runner=runner, passive_only=only, freshness=freshness)
         test_command(objects[name])
     with_freshness = [name for name, watched in objects.items() if watched.freshness is not None]
-    return Site(folder, setups, objects, periods, options, children_of(objects), zone, with_freshness, mirrors, queues)
+    return Site(folder, setups, objects, periods, options, children_of(objects), zone, with_freshness, mirrors, runners)
 
 
 # ---- setups
@@ -205,7 +206,7 @@ def read_period_file(folder: pathlib.Path, objects: Mapping[str, Watched], zone:
 
 
 def read_passive(folder: pathlib.Path, objects: Mapping[str, Watched]) -> Dict[str, Tuple[bool, Optional[int]]]:
-    """Of each object that is named: whether it is passive only, and its freshness in milliseconds."""
+    """For each object in the file, whether it is passive only, and its freshness in milliseconds."""
     passive = {}
     for name, members in read_object(folder, "passive.json", required=False).items():
         place = f"passive.json: {name}"
@@ -220,7 +221,7 @@ def read_passive(folder: pathlib.Path, objects: Mapping[str, Watched]) -> Dict[s
 
 
 def read_options(folder: pathlib.Path) -> Tuple[Options, Optional[zoneinfo.ZoneInfo]]:
-    """The options, and the zone of the site: the machine's where none is named."""
+    """The options, and the zone of the site: the machine's if none is named."""
     members = only_known(
         read_object(folder, "monitor.json", required=False),
         ("slots", "cached_host_check_horizon", "service_check_timeout_state", "keep_days", "zone"),

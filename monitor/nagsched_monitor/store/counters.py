@@ -1,4 +1,4 @@
-"""What the monitor counts of itself: results, how far checks start behind their times, saves. What is counted goes on over a restart.
+"""The figures of the monitor itself: results, delays of checks, saves. They continue after a restart.
 
 The names of the figures that are kept, and what each is:
 
@@ -19,11 +19,9 @@ The names of the figures that are kept, and what each is:
 """
 import bisect
 import collections
-from dataclasses import dataclass
 from typing import DefaultDict, Deque, Dict, Mapping, Optional, Tuple
 
 from ..core.clock import Clock
-from .store import Store, Write
 
 # How often figures are written, and over how long a rate is taken, in milliseconds.
 EVERY = 5_000
@@ -33,18 +31,6 @@ BOUNDS = (0.05, 0.1, 0.25, 0.5, 1.0, 2.5, 5.0, 10.0, 30.0, 60.0)
 BUCKETS = tuple(f"late.{bound:g}" for bound in BOUNDS) + ("late.more",)
 RESULTS = ("OK", "WARNING", "CRITICAL", "UNKNOWN", "UP", "DOWN", "UNREACHABLE", "given_up", "refused", "not_started")
 GONE_ON_WITH = tuple(f"checks.{result}" for result in RESULTS) + BUCKETS + ("late.sum", "saves", "saved_at", "faults")
-
-
-@dataclass(frozen=True)
-class KeepFigures(Write):
-    """Figures by their names."""
-
-    values: Mapping[str, float]
-
-    def carry_out(self, store: Store) -> None:
-        for name, value in self.values.items():
-            store.delete("figures", "name = ?", name)
-            store.insert("figures", None, (name, float(value)))
 
 
 class Counters:
@@ -73,7 +59,7 @@ class Counters:
         self._values["faults"] += 1
 
     def started(self, late: int) -> None:
-        """A check began so many milliseconds behind its time."""
+        """A check began late, by a number of milliseconds."""
         seconds = max(0, late) / 1000
         self._values[BUCKETS[bisect.bisect_left(BOUNDS, seconds)]] += 1
         self._values["late.sum"] += seconds
@@ -84,21 +70,21 @@ class Counters:
         self._values["saves"] += 1
         self._values["saved_at"] = self._clock.wall()
 
-    # ---- what is written
+    # ---- writing
 
     def are_due(self, now: int) -> bool:
         """Whether it is time to write them: every five seconds."""
         return self._written_at is None or now - self._written_at >= EVERY
 
-    def write(self, calls: int) -> KeepFigures:
+    def changed(self, calls: int) -> Dict[str, float]:
         """The figures that aren't what they were when they were written last. `calls` is how many calls were made."""
         values = self._all(self._clock.moment(), calls)
-        return KeepFigures({name: value for name, value in values.items() if self._written.get(name) != value})
+        return {name: value for name, value in values.items() if self._written.get(name) != value}
 
-    def written(self, figures: KeepFigures) -> None:
+    def written(self, figures: Mapping[str, float]) -> None:
         """These were written."""
         self._written_at = self._clock.moment()
-        self._written.update(figures.values)
+        self._written.update(figures)
 
     def _all(self, now: int, calls: int) -> Dict[str, float]:
         lately = self._latest_lately(now)

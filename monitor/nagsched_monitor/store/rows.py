@@ -22,7 +22,7 @@ TABLES: Dict[str, str] = {
     "damaged": "source TEXT, was TEXT",
 }
 INDEXES = ("changes_by_name ON changes (name, id)", "changes_by_time ON changes (time)")
-# What is told to people alone: a row of these that is damaged is set aside, and the monitor goes on.
+# Tables that only people read: a damaged row of them is set aside, and the monitor continues.
 FOR_PEOPLE = ("changes", "figures", "standings")
 # The version of these tables; the first one had no phases.
 VERSION = 2
@@ -82,7 +82,7 @@ class KeptChange:
 
 
 class KeptStanding(NamedTuple):
-    """How an object stands. Times are seconds since 1970 of the wall clock, None where there is none."""
+    """The state of an object. Times are seconds since 1970 of the wall clock, None if there is none."""
 
     name: str
     state: Optional[str]
@@ -96,19 +96,39 @@ class KeptStanding(NamedTuple):
     last_check: Optional[float]
     next_check: Optional[float]
     is_on: bool
-    # When the run was taken that is out.
+    # Since when a check of it runs.
     out_since: Optional[float]
-    # How long the last check took, and how long behind its time the last one began, in seconds.
+    # How long the last check took, and how late the last one began, in seconds.
     took: Optional[float]
     late: Optional[float]
     words: str
-    # A moment at which it is checked by itself.
+    # A moment of its own rhythm.
     phase: Optional[int] = None
+
+    def is_host(self) -> bool:
+        return ";" not in self.name
+
+    def host(self) -> str:
+        return self.name.partition(";")[0]
+
+    def is_problem(self) -> bool:
+        return self.state not in (None, "PENDING", "OK", "UP")
+
+    def is_hard_problem(self) -> bool:
+        return self.is_problem() and self.kind == "HARD"
+
+    def wrong_since(self) -> Optional[float]:
+        """Since when a problem is as hard as it is."""
+        return self.hard_since if self.is_hard_problem() and self.hard_since is not None else self.since
+
+    def is_due(self, now: float) -> bool:
+        """Whether its time has come and it isn't checked yet."""
+        return bool(self.is_on) and self.out_since is None and self.next_check is not None and self.next_check <= now
 
 
 @dataclass
 class LastChanges:
-    """What the kept changes of an object say: its last state and its last hard one, each with the time at which it began."""
+    """The stored changes of an object: its last state and its last hard one, each with the time at which it began."""
 
     state: str
     since: float
@@ -120,11 +140,16 @@ def checksum_of(table: str, number: int, cells: Sequence[Cell]) -> str:
     return hashlib.blake2b(ascii((table, number, *cells)).encode(), digest_size=8).hexdigest()
 
 
+def number_of(name: str) -> int:
+    """The number of the row of an object: one made of its name, so that it is the same one each time."""
+    return int.from_bytes(hashlib.blake2b(name.encode(errors="replace"), digest_size=7).digest(), "big")
+
+
 def text_of(names: AbstractSet[str]) -> str:
     """Names as one cell."""
     return json.dumps(sorted(names), ensure_ascii=False)
 
 
 def names_of(text: Optional[str]) -> AbstractSet[str]:
-    """The names of a cell; none where there is none."""
+    """The names of a cell; none if it is empty."""
     return frozenset() if text is None else frozenset(json.loads(text))

@@ -1,9 +1,9 @@
-"""The table of standings: how each object stands, for those that read the database beside the monitor, and for the monitor's next start.
+"""The table of standings: the state of each object, for other processes that read the database, and for the monitor's next start.
 
 An object that an answer spoke of is marked. Marked objects are written with the next calls, those of half a second together; one that has waited for more than
-a second is written by itself. Times in the table are seconds since 1970 of the wall clock.
+a second is written alone. Times in the table are seconds since 1970 of the wall clock.
 """
-from typing import Dict, Iterable, List, Mapping, Optional, Sequence, Tuple
+from typing import Dict, List, Mapping, Optional, Sequence
 
 from ..core.clock import Clock
 from ..core.object_state import Known, Past
@@ -12,9 +12,9 @@ from ..core.running import Run
 from ..scheduler.protocol import Answer, Call, Report, Standing, Taken
 from .rows import KeptStanding
 from .store import Store, Write
-from .writes import DropStandings, KeepStandings
+from .writes import drop_standings, keep_standings
 
-# How long a marked object waits for others, and behind what it is written by itself, in milliseconds.
+# How long a marked object waits for others, and after which time it is written alone, in milliseconds.
 TOGETHER = 500
 LONGEST = 1_000
 
@@ -24,31 +24,26 @@ class Standings:
 
     def __init__(self, store: Store, clock: Clock) -> None:
         self._store, self._clock = store, clock
-        # The row of each object, and the greatest number of one.
-        self._numbers: Dict[str, int] = {}
-        self._greatest = 0
         self._marked: Dict[str, Known] = {}
         self._marked_at: Optional[int] = None
         self._dropped: List[str] = []
         self._is_settled = False
 
-    # ---- at a start and behind a reload
+    # ---- at a start and after a reload
 
     def read(self, objects: Mapping[str, Known]) -> None:
-        """Takes in what was kept of these objects; what was kept of others is let go. Nothing is written before `settle`."""
+        """Takes in the stored states of these objects; the states of others are dropped. Nothing is written before `settle`."""
         self._is_settled = False
         self._marked.clear()
-        self._numbers = {}
-        for number, kept in self._store.standings():
-            self._numbers[kept.name] = number
+        kept_of_all = self._store.standings()
+        for kept in kept_of_all:
             if kept.name in objects:
                 known = objects[kept.name]
                 known.words, known.phase, known.past = kept.words, kept.phase, past_of(kept)
-        self._greatest = max(self._numbers.values(), default=0)
-        self._dropped = [name for name in self._numbers if name not in objects]
+        self._dropped = [kept.name for kept in kept_of_all if kept.name not in objects]
 
     def settle(self, objects: Mapping[str, Known]) -> None:
-        """The objects stand as they are known now. Where the table had another state, the kept changes say since when it is."""
+        """The states of the objects are known now. If the table had another state, the stored changes say when the new one began."""
         for known in [known for known in objects.values() if not is_settled(known)]:
             since = self._store.last_changes(known.name)
             assert known.standing is not None
@@ -64,7 +59,7 @@ class Standings:
     def become(self, objects: Mapping[str, Known]) -> None:
         """Another site is monitored: the rows of objects that are gone go."""
         self._marked.clear()
-        self._dropped += [name for name in self._numbers if name not in objects]
+        self._dropped += [kept.name for kept in self._store.standings() if kept.name not in objects]
         self.settle(objects)
 
     # ---- while it runs
@@ -88,7 +83,7 @@ class Standings:
             self._marked_at = self._clock.moment()
 
     def hurry(self) -> None:
-        """What is marked is written with the next flush."""
+        """Marked objects are written with the next flush."""
         if self._marked or self._dropped:
             self._marked_at = self._clock.moment() - LONGEST - 1
 
@@ -97,34 +92,23 @@ class Standings:
         return self._marked_at is not None and self._is_settled and self._clock.moment() - self._marked_at > LONGEST
 
     def writes(self) -> Sequence[Write]:
-        """What is to be written with the next calls."""
+        """The writes for the next calls."""
         if self._marked_at is None or not self._is_settled or self._clock.moment() - self._marked_at < TOGETHER:
             return ()
-        for name in self._dropped:
-            self._numbers.pop(name, None)
-        dropped = [DropStandings(self._dropped)] if self._dropped else []
-        return [*dropped, KeepStandings(self._rows(self._marked.values()))]
+        wall = self._clock.wall()
+        ahead = self._clock.moment() / 1000 - wall
+        dropped = [drop_standings(self._dropped)] if self._dropped else []
+        return [*dropped, keep_standings([kept_of(known, wall, ahead) for known in self._marked.values()])]
 
     def written(self) -> None:
-        """What was to be written was."""
+        """The marked objects were written."""
         self._marked.clear()
         self._dropped = []
         self._marked_at = None
 
-    def _rows(self, marked: Iterable[Known]) -> List[Tuple[int, KeptStanding]]:
-        wall = self._clock.wall()
-        ahead = self._clock.moment() / 1000 - wall
-        return [(self._number(known.name), kept_of(known, wall, ahead)) for known in marked]
-
-    def _number(self, name: str) -> int:
-        number = self._numbers.get(name)
-        if number is None:
-            number = self._numbers[name] = self._greatest = self._greatest + 1
-        return number
-
 
 def is_settled(known: Known) -> bool:
-    """Whether what is known of an object's past fits how it stands."""
+    """Whether the known past of an object fits its state."""
     standing, past = known.standing, known.past
     if standing is None or standing.state == "PENDING":
         return True
@@ -148,7 +132,7 @@ def past_of(kept: KeptStanding) -> Past:
 
 
 def kept_of(known: Known, wall: float, ahead: float) -> KeptStanding:
-    """The row of an object; moments are so many seconds ahead of the wall clock."""
+    """The row of an object; `ahead` is how many seconds moments are ahead of the wall clock."""
     standing, past = known.standing, known.past
     state, kind, attempt, flapping = (None, None, None, False)
     if standing is not None:

@@ -17,6 +17,7 @@ Each row has a checksum over its table and its members, so that a row that was c
 """
 import contextlib
 import fcntl
+import json
 import os
 import pathlib
 import sqlite3
@@ -27,6 +28,9 @@ from ..scheduler.protocol import Abandon, Take, read_call
 from .rows import (
     FOR_PEOPLE, GENERATIONS, INDEXES, INSERTS, TABLES, VERSION, Cell, Generation, KeptCall, KeptResult, KeptStanding, LastChanges, checksum_of, names_of,
 )
+
+# Something that is written together with others, or not at all.
+Write = Callable[["Store"], object]
 
 
 class Store:
@@ -92,7 +96,7 @@ class Store:
     # ---- reading
 
     def _verify(self) -> None:
-        """Tests each row's checksum but for those of the history, and that no call is missing between two."""
+        """Tests each row's checksum, except those of the history, and that no call is missing between two."""
         for table in TABLES:
             if table not in ("changes", "damaged"):
                 self._sound(table, self._database.execute(f"SELECT * FROM {table} ORDER BY id").fetchall())
@@ -118,7 +122,7 @@ class Store:
 
     @contextlib.contextmanager
     def _reading(self) -> Iterator[None]:
-        """What can't be read now is told as what can't be stored."""
+        """A failed read raises `NotStored`, as a failed write does."""
         try:
             yield
         except sqlite3.Error as error:
@@ -133,7 +137,7 @@ class Store:
         return {row[0]: Generation(*(*row[:-1], names_of(row[-1]))) for row in self._database.execute(GENERATIONS)}
 
     def calls_since(self, part: int, number: int) -> List[KeptCall]:
-        """The calls of a part after the call with this number, but for those that were set aside."""
+        """The calls of a part after the call with this number, except those that were set aside."""
         return self.calls_between(part, number, self.last_call)
 
     def calls_between(self, part: int, number: int, last: int) -> List[KeptCall]:
@@ -143,7 +147,7 @@ class Store:
             return [KeptCall(*row) for row in self._database.execute(rows, (part, number, last))]
 
     def last_moment(self) -> int:
-        """The greatest moment that was kept. Behind a save no call may have one, so that the figures have one as well."""
+        """The greatest moment that was kept. After a save there may be no calls, so the figures have a moment too."""
         moments = [0, int(self.figures().get("moment", 0)), *(generation.start for generation in self.generations().values())]
         for (line,) in self._database.execute("SELECT line FROM calls ORDER BY id DESC"):
             call = read_call(line)
@@ -162,10 +166,16 @@ class Store:
         """The answers to requests that had numbers."""
         return dict(self._database.execute("SELECT number, answer FROM requests ORDER BY id"))
 
-    def outbox(self, count: int = -1) -> List[Tuple[int, str]]:
-        """The documents that the command for changes hasn't taken, the oldest first; so many of them at most."""
+    def outbox(self) -> List[Tuple[int, str]]:
+        """The documents that the command for changes hasn't taken, the oldest first."""
         with self._reading():
-            return list(self._database.execute("SELECT id, document FROM outbox ORDER BY id LIMIT ?", (count,)))
+            return list(self._database.execute("SELECT id, document FROM outbox ORDER BY id"))
+
+    def waiting_changes(self) -> Tuple[int, Optional[float]]:
+        """How many documents the command for changes hasn't taken, and the time of the first."""
+        with self._reading():
+            count, first = self._database.execute("SELECT count(*), (SELECT document FROM outbox ORDER BY id LIMIT 1) FROM outbox").fetchone()
+        return count, None if first is None else float(json.loads(first)["time"])
 
     def changes_after(self, number: int) -> Set[int]:
         """The numbers of the stored changes after the call with this number."""
@@ -174,10 +184,10 @@ class Store:
     def figures(self) -> Dict[str, float]:
         return {name: float(value) for name, value in self._database.execute("SELECT name, value FROM figures")}
 
-    def standings(self) -> List[Tuple[int, KeptStanding]]:
-        """The standings that were kept, each with the number of its row."""
-        rows = self._database.execute(f"SELECT id, {', '.join(KeptStanding._fields)} FROM standings")
-        return [(number, KeptStanding(*cells)) for number, *cells in rows]
+    def standings(self) -> List[KeptStanding]:
+        """The standings that were kept."""
+        with self._reading():
+            return [KeptStanding(*cells) for cells in self._database.execute(f"SELECT {', '.join(KeptStanding._fields)} FROM standings")]
 
     def last_changes(self, name: str) -> Optional[LastChanges]:
         """Since when an object is in its last state, and in its last hard one, by the stored changes; None if it has none."""
@@ -193,13 +203,13 @@ class Store:
 
     # ---- writing
 
-    def write(self, *writes: "Write") -> None:
-        """Writes all of these or nothing, and syncs it. `NotStored` where the disk is full or the file can't be written."""
+    def write(self, *writes: Write) -> None:
+        """Writes all of these or nothing, and syncs it. `NotStored` if the disk is full or the file can't be written."""
         last_call = self.last_call
         try:
             self._database.execute("BEGIN IMMEDIATE")
             for write in writes:
-                write.carry_out(self)
+                write(self)
             self._database.execute("COMMIT")
         except sqlite3.Error as error:
             self.last_call = last_call
@@ -212,6 +222,11 @@ class Store:
         """Writes a row; without a number it has the next one."""
         number = self._greatest(table) + 1 if number is None else number
         self.insert_all(table, [(number, cells)])
+
+    def insert_calls(self, calls: Sequence[Tuple[int, str, Optional[str]]]) -> None:
+        """Writes calls, with the next numbers."""
+        self.insert_all("calls", list(enumerate(calls, self.last_call + 1)))
+        self.last_call += len(calls)
 
     def insert_all(self, table: str, rows: Sequence[Tuple[int, Sequence[Cell]]]) -> None:
         """Writes rows, each with its number."""
@@ -231,10 +246,3 @@ def locked(folder: pathlib.Path) -> int:
         os.close(lock)
         raise MonitorFault(f"another monitor runs on {folder}") from None
     return lock
-
-
-class Write:
-    """Something that is written together with others, or not at all."""
-
-    def carry_out(self, store: Store) -> None:
-        raise NotImplementedError

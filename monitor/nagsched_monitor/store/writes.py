@@ -1,151 +1,106 @@
-"""What is written to the database of a site."""
-from dataclasses import dataclass
-from typing import Optional, Sequence, Tuple
+"""Writes to the database of a site. Each function returns a write that is carried out together with others, or not at all."""
+from typing import Iterable, Mapping, Optional, Sequence, Tuple
 
-from .rows import Generation, KeptChange, KeptStanding, text_of
+from .rows import Cell, Generation, KeptChange, KeptStanding, number_of, text_of
 from .store import Store, Write
 
 # How many answers to numbered requests are kept.
 MOST_REQUESTS = 1_000
 
 
-@dataclass(frozen=True)
-class KeepCalls(Write):
+def insert(table: str, number: Optional[int], *cells: Cell) -> Write:
+    return lambda store: store.insert(table, number, cells)
+
+
+def delete(table: str, condition: str, *cells: Cell) -> Write:
+    return lambda store: store.delete(table, condition, *cells)
+
+
+def all_of(writes: Iterable[Write]) -> Write:
+    several = list(writes)
+
+    def carry_out(store: Store) -> None:
+        for write in several:
+            write(store)
+
+    return carry_out
+
+
+def replace(table: str, name: str, value: Cell) -> Write:
+    """A row in place of the one with the same name."""
+    return all_of([delete(table, "name = ?", name), insert(table, None, name, value)])
+
+
+def keep_calls(calls: Sequence[Tuple[int, str, Optional[str]]]) -> Write:
     """Calls that are about to be made: the part, the line and the plugin's words of each."""
-
-    calls: Sequence[Tuple[int, str, Optional[str]]]
-
-    def carry_out(self, store: Store) -> None:
-        first = store.last_call + 1
-        store.insert_all("calls", list(enumerate(self.calls, first)))
-        store.last_call += len(self.calls)
+    return lambda store: store.insert_calls(calls)
 
 
-@dataclass(frozen=True)
-class SetAside(Write):
+def set_aside(number: int, part: int, line: str) -> Write:
     """A call after which its scheduler ends: it isn't made again."""
-
-    number: int
-    part: int
-    line: str
-
-    def carry_out(self, store: Store) -> None:
-        store.insert("aside", self.number, (self.part, self.line))
+    return insert("aside", number, part, line)
 
 
-@dataclass(frozen=True)
-class KeepRequest(Write):
-    """The answer to a request that has a number: it isn't obeyed twice. The last thousand are kept."""
-
-    number: str
-    answer: str
-
-    def carry_out(self, store: Store) -> None:
-        store.insert("requests", None, (self.number, self.answer))
-        store.delete("requests", f"id <= (SELECT max(id) FROM requests) - {MOST_REQUESTS}")
+def keep_request(number: str, answer: str) -> Write:
+    """The answer to a request that has a number: it isn't obeyed twice."""
+    return all_of([insert("requests", None, number, answer), delete("requests", f"id <= (SELECT max(id) FROM requests) - {MOST_REQUESTS}")])
 
 
-@dataclass(frozen=True)
-class BeginGeneration(Write):
+def begin_generation(made: Generation) -> Write:
     """A scheduler that is opened: what came before of its part isn't needed any more."""
-
-    generation: Generation
-
-    def carry_out(self, store: Store) -> None:
-        made = self.generation
-        store.delete("generations", "part = ?", made.part)
-        store.delete("calls", "part = ? AND id <= ?", made.part, made.last_call)
-        store.delete("aside", "part = ? AND id <= ?", made.part, made.last_call)
-        store.insert("generations", None, (made.part, made.setup, made.start, made.saved, made.last_call))
-        store.delete("mirrors", "part = ?", made.part)
-        if made.mirrors:
-            store.insert("mirrors", None, (made.part, text_of(made.mirrors)))
+    gone = [delete(table, "part = ? AND id <= ?", made.part, made.last_call) for table in ("calls", "aside")]
+    old = [delete(table, "part = ?", made.part) for table in ("generations", "mirrors")]
+    mirrors = [insert("mirrors", None, made.part, text_of(made.mirrors))] if made.mirrors else []
+    return all_of([*gone, *old, insert("generations", None, made.part, made.setup, made.start, made.saved, made.last_call), *mirrors])
 
 
-@dataclass(frozen=True)
-class SetSwitch(Write):
-    name: str
-    on: bool
-
-    def carry_out(self, store: Store) -> None:
-        store.delete("switches", "name = ?", self.name)
-        store.insert("switches", None, (self.name, int(self.on)))
+def end_generation(part: int) -> Write:
+    """A part that the site has no more."""
+    return all_of(delete(table, "part = ?", part) for table in ("generations", "mirrors", "calls"))
 
 
-@dataclass(frozen=True)
-class KeepResult(Write):
-    """A passive result that came."""
-
-    name: str
-    code: int
-    words: str
-    # Its number; the next one without it.
-    id: Optional[int] = None
-
-    def carry_out(self, store: Store) -> None:
-        store.insert("passive", self.id, (self.name, self.code, self.words))
+def set_switch(name: str, on: Optional[bool]) -> Write:
+    """An operator's switch; None takes it away."""
+    return delete("switches", "name = ?", name) if on is None else replace("switches", name, int(on))
 
 
-@dataclass(frozen=True)
-class DropResult(Write):
+def keep_result(name: str, code: int, words: str, number: Optional[int] = None) -> Write:
+    """A passive result that came; without a number it has the next one."""
+    return insert("passive", number, name, code, words)
+
+
+def drop_result(number: int) -> Write:
     """A passive result that is reported with this."""
-
-    id: int
-
-    def carry_out(self, store: Store) -> None:
-        store.delete("passive", "id = ?", self.id)
+    return delete("passive", "id = ?", number)
 
 
-@dataclass(frozen=True)
-class KeepChange(Write):
+def keep_change(made: KeptChange, document: Optional[str]) -> Write:
     """A change of state, and the document for the command that is run for it, if it is run for this one."""
-
-    change: KeptChange
-    document: Optional[str]
-
-    def carry_out(self, store: Store) -> None:
-        made = self.change
-        store.insert("changes", made.id, (made.time, made.name, made.state, made.kind, made.attempt, int(made.flapping), made.words))
-        if self.document is not None:
-            store.insert("outbox", None, (self.document,))
+    change = insert("changes", made.id, made.time, made.name, made.state, made.kind, made.attempt, int(made.flapping), made.words)
+    return change if document is None else all_of([change, insert("outbox", None, document)])
 
 
-@dataclass(frozen=True)
-class KeepStandings(Write):
-    """How objects stand, each with the number of its row."""
-
-    standings: Sequence[Tuple[int, KeptStanding]]
-
-    def carry_out(self, store: Store) -> None:
-        store.insert_all("standings", [(number, (*kept[:4], int(kept.flapping), *kept[5:9], int(kept.is_on), *kept[10:])) for number, kept in self.standings])
+def drop_documents(last: int) -> Write:
+    """The documents up to this one were taken, or are dropped."""
+    return delete("outbox", "id <= ?", last)
 
 
-@dataclass(frozen=True)
-class DropStandings(Write):
-    """Objects that aren't part of the site any more."""
-
-    names: Sequence[str]
-
-    def carry_out(self, store: Store) -> None:
-        for name in self.names:
-            store.delete("standings", "name = ?", name)
-
-
-@dataclass(frozen=True)
-class DropDocument(Write):
-    """A document that was taken, or is given up."""
-
-    id: int
-
-    def carry_out(self, store: Store) -> None:
-        store.delete("outbox", "id = ?", self.id)
-
-
-@dataclass(frozen=True)
-class DropChangesBefore(Write):
+def drop_changes_before(time: float) -> Write:
     """Changes before a time of the wall clock aren't kept any more; the last one stays, since its number is looked at."""
+    return delete("changes", "time < ? AND id < (SELECT max(id) FROM changes)", time)
 
-    time: float
 
-    def carry_out(self, store: Store) -> None:
-        store.delete("changes", "time < ? AND id < (SELECT max(id) FROM changes)", self.time)
+def keep_standings(standings: Sequence[KeptStanding]) -> Write:
+    """The states of objects."""
+    rows = [(number_of(kept.name), (*kept[:4], int(kept.flapping), *kept[5:9], int(kept.is_on), *kept[10:])) for kept in standings]
+    return lambda store: store.insert_all("standings", rows)
+
+
+def drop_standings(names: Sequence[str]) -> Write:
+    """Objects that aren't part of the site any more."""
+    return all_of(delete("standings", "name = ?", name) for name in names)
+
+
+def keep_figures(values: Mapping[str, float]) -> Write:
+    """The figures of the monitor itself."""
+    return all_of(replace("figures", name, float(value)) for name, value in values.items())

@@ -10,19 +10,20 @@ ghost use Rattle.check_sched.specs.Step.{eligible, is_forced, is_held_back, is_o
 ghost use Rattle.check_sched.specs.Report.{put_off_until};
 ghost use Rattle.check_sched.specs.Reply.{NamesObjectOf, TellsTimesUpTo, reply_of};
 
-use super::{MAX_RUNS, Sched};
+use super::Sched;
 use crate::call::{Call, Refusal, Reply};
 use crate::candidate::{Candidate, if_due};
 use crate::intervals::{next_by, next_past};
-use crate::object_state::{Change, Run};
+use crate::object_state::Change;
 use crate::report::{flap_thresholds, is_changed, judged, put_off_until, state_found};
 use crate::results::Results;
 use check_rules::{Code, Standing, State, blocked};
+use check_saved::{MAX_RUNS, SavedRun};
 use check_spread::{LAST_MOMENT, LAST_TIME};
 
 impl Sched {
-    /// Begins the check of the least object that is due and may be checked, or puts it off; or tells
-    /// why there is none.
+    /// Begins the check of the least object that is due and may be checked, or puts it off. If there is
+    /// no such object, the reply says why.
     #[inline(never)]
     pub(super) fn take(&mut self, now: u64) -> Result<Reply, Refusal>
         ensures state { self.new ≡ (step self.old (Call.Take now)).0 }
@@ -44,8 +45,8 @@ impl Sched {
         }
     }
 
-    /// The least object that is due and whose check may begin. Where there is no room for one
-    /// service more, that is a host.
+    /// The least object that is due and whose check may begin. If there is no room for one more
+    /// service, it is a host.
     fn least_eligible(&self, now: u64) -> Option<Candidate>
         ensures value { result ≡ least (eligible now self.now) }
         ensures there { IfSome result (λ c. c.1 < object_count self.now.setup) }
@@ -58,7 +59,7 @@ impl Sched {
         }
     }
 
-    /// Whether the check of one service more may begin.
+    /// Whether the check of one more service may begin.
     fn has_room(&self) -> bool
         ensures { result ≡ has_room self.now }
     {
@@ -77,7 +78,7 @@ impl Sched {
         if self.roster.at(object).is_forced() {
             return false;
         }
-        // Of an object that depends on nothing no standing is read.
+        // For an object without dependencies, no standing is read.
         if self.setup.dependencies(object).is_empty() {
             return false;
         }
@@ -109,7 +110,7 @@ impl Sched {
         ensures reply { result ≡ Reply.Taken object (self.old.runs + 1) }
     {
         self.runs += 1;
-        let run = Run {
+        let run = SavedRun {
             number: self.runs,
             start: now,
         };
@@ -120,7 +121,7 @@ impl Sched {
         }
     }
 
-    /// The reply where no check may begin: what is due then is a service, and the limit is reached.
+    /// The reply if no check may begin. An object that is due then is a service, and the limit is reached.
     #[inline(never)]
     fn waiting(&self, now: u64) -> Reply
         requires { least (eligible now self.now) ≡ None }
@@ -134,7 +135,7 @@ impl Sched {
         }
     }
 
-    /// Takes the result of a run, which ends: the object's standing and next time follow from it.
+    /// Takes the result of a run, and ends the run. The object's standing and next time follow from it.
     #[inline(never)]
     pub(super) fn report(&mut self, object: u32, run: u64, code: Code) -> Result<Reply, Refusal>
         ensures state { self.new ≡ (step self.old (Call.Report object run code)).0 }
@@ -143,7 +144,7 @@ impl Sched {
     {
         let state = self.object(object)?;
         let running = state.run_under(run)?;
-        let start = running.start();
+        let start = running.start;
         let already = state.next();
         if code == Code::Ok && self.is_steady(object) {
             Ok(self.stay(object, start, already))
@@ -152,7 +153,7 @@ impl Sched {
         }
     }
 
-    /// Whether it is known that an OK leaves the object with this number as it stands.
+    /// Whether it is known that an OK leaves the object with this number unchanged.
     fn is_steady(&self, object: u32) -> bool
         requires { object < object_count self.now.setup }
         ensures { result ≡ true → IsSteadyIn self.now object }
@@ -160,7 +161,7 @@ impl Sched {
         self.steady[object as usize]
     }
 
-    /// Ends a run that began at `start` by an OK that leaves the object as it stands, except for its next
+    /// Ends a run that began at `start` by an OK that leaves the object unchanged, except for its next
     /// time, which may be set already.
     fn stay(&mut self, object: u32, start: u64, already: Option<u64>) -> Reply
         requires there { object < object_count self.old.setup }
@@ -183,9 +184,9 @@ impl Sched {
         }
     }
 
-    /// Ends a run that began at `start` by the rules: standing and next time, which may be set already,
-    /// follow from what its code means.
-    // A call of its own, so that an OK which changes nothing doesn't pay for what this one keeps.
+    /// Ends a run that began at `start` by the rules: the standing, and the next time, which may be set
+    /// already, follow from its code.
+    // A separate call, so that an OK which changes nothing doesn't pay for the values that this one keeps.
     #[inline(never)]
     fn judge(&mut self, object: u32, code: Code, start: u64, already: Option<u64>) -> Reply
         requires there { object < object_count self.old.setup }
@@ -200,8 +201,8 @@ impl Sched {
         let thresholds = flap_thresholds(&self.setup, object);
         let was = self.standings[object as usize];
         let flapping = self.results.add(object, found, was.flapping, thresholds);
-        // The standing is read again, and put back before the queue is asked: so little of it has to be
-        // kept over a call.
+        // The standing is read again, and stored before the queue changes, so that little of it has to be
+        // saved over a call.
         let before = self.standings[object as usize];
         let standing = judged(&self.setup, &self.standings, object, found, flapping);
         let changed = is_changed(before, standing);
@@ -240,8 +241,8 @@ impl Sched {
     }
 }
 
-/// Whether the OK that made this standing of the one before leaves the object as it stands when it comes
-/// again: it did now, and all results that are kept are the state that it means.
+/// Whether the next OK will leave the object unchanged, after an OK that led from `before` to `after`. It
+/// will if this OK left the standing unchanged, and all stored results are the state that was found.
 fn is_steady_after(
     results: &Results,
     number: u32,
@@ -258,8 +259,8 @@ fn is_steady_after(
     code == Code::Ok && is_same(before, after) && results.are_all(number, found)
 }
 
-/// Puts the standing of an object in its place. One that stands there already isn't written again, so
-/// that callers on other cores keep what they have read of it.
+/// Stores the standing of an object. An equal standing isn't written again, so that it stays in the caches
+/// of callers on other cores.
 fn put_standing(standings: &mut Vec<Standing>, number: u32, standing: Standing)
     requires { number < length standings.old.items }
     ensures { standings.new.items ≡ slice_set standings.old.items number standing }
@@ -270,9 +271,9 @@ fn put_standing(standings: &mut Vec<Standing>, number: u32, standing: Standing)
     }
 }
 
-/// Whether two standings are the same. Field by field, since the proof search knows what `==` says of a
-/// field and not what a derived one says of two fields of the same enum. The state by itself and first,
-/// since where it differs no other field needs to be compared.
+/// Whether two standings are equal. The fields are compared one by one, since the proof search knows the
+/// meaning of `==` on a field, but not of a derived `==` with two fields of the same enum. The state comes
+/// first: if it differs, no other field needs to be compared.
 fn is_same(one: Standing, other: Standing) -> bool
     ensures { result ≡ true → one ≡ other }
 {

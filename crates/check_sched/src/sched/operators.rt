@@ -1,4 +1,4 @@
-//! What operators ask for: another time, a check turned on or off, what is known.
+//! The calls of operators: another time, checks turned on or off, the status of an object.
 
 ghost use Rattle.std.specs.Prelude.{◌≡◌};
 ghost use Rattle.check_sched.specs.Step.{step};
@@ -11,8 +11,8 @@ use crate::object_state::Change;
 use check_rules::Standing;
 use check_spread::LAST_TIME;
 
-// Each is a call of its own in `Sched::apply`, so that takes and reports, which are most calls, don't pay
-// for what these keep.
+// Each is a separate call in `Sched::apply`, so that takes and reports, which are most calls, don't pay
+// for the values that these keep.
 impl Sched {
     /// Sets the next check of an object.
     #[inline(never)]
@@ -42,7 +42,7 @@ impl Sched {
         Ok(Reply::Done)
     }
 
-    /// Tells what is known of an object.
+    /// Replies with the standing of an object.
     #[inline(never)]
     pub(super) fn status(&self, object: u32) -> Result<Reply, Refusal>
         ensures state { self.now ≡ (step self.now (Call.Status object)).0 }

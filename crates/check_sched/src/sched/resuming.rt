@@ -1,15 +1,16 @@
-//! A scheduler that goes on from what was saved of another.
+//! Making a scheduler from a saved state.
 
 ghost use Rattle.std.specs.Prelude.{◌≡◌, ◌≤◌, ◌++◌, IfErr, IfOk, IfSome, OnOk, drop, false, length, map, option_map, replicate, take};
 ghost use Rattle.check_objects.specs.Configuration.{IsSetup, host_count, object_count};
 ghost use Rattle.check_saved.specs.Saved.{IsSaved};
 ghost use Rattle.check_spread.specs.Spread.{initial_times};
-ghost use Rattle.check_sched.specs.Intervals.{intervals_of};
 ghost use Rattle.check_sched.specs.Places.{ArePlaces};
+ghost use Rattle.check_sched.specs.Sched.{AreParts, state_with};
+ghost use Rattle.check_sched.specs.State.{IsState};
 ghost use Rattle.check_sched.specs.Saved.{given_up, objects_kept, objects_resumed, results_of, results_resumed, resumed, standings_resumed, within_limit};
 
-use super::Sched;
-use crate::intervals::{Intervals, intervals_by_number};
+use super::{Parts, Sched};
+use crate::intervals::intervals_by_number;
 use crate::object_state::ObjectState;
 use crate::places::{kept, places};
 use crate::results::Results;
@@ -21,70 +22,47 @@ use check_saved::{Saved, SavedObject};
 use check_spread::{LAST_MOMENT, initial_times};
 use std::alloc::{AllocError, Global};
 
-/// What a scheduler has beside its setup and its counts.
-#[derive(Drop)]
-struct Parts {
-    marks: Vec<bool>,
-    steady: Vec<bool>,
-    intervals: Vec<Intervals>,
-    results: Results,
-    standings: Vec<Standing>,
-    roster: Roster,
-}
-
 impl Sched {
-    /// A scheduler that goes on from what was saved of another, over this setup, which may be another
-    /// one too, with `start`, in milliseconds, as the moment at which scheduling starts. An object whose
-    /// full name was saved is kept, and any other begins as at an opening from `start` on; what the setup
-    /// doesn't have is dropped. (Our own profile; Nagios does the like by its retention files at a
-    /// restart and a reload.)
+    /// Makes a scheduler from a saved state, over this setup, which may be the one that it was saved with
+    /// or another. Scheduling starts at the moment `start`, in milliseconds. An object of the setup whose
+    /// full name was saved is kept. Any other begins as at an opening from `start` on. A saved object that
+    /// the setup doesn't have is dropped. (Our own profile; Nagios uses its retention files in the same way
+    /// at a restart and a reload.)
     ///
-    /// Of a kept object the results, the check that is out, whether the next check is forced, state, last
-    /// hard state, flapping and whether it was ever checked are as saved. By the maximum of attempts that
-    /// it has now, a hard problem stands at the maximum, a soft one stays soft below it, or is hard where
-    /// that is 1, and OK and UP keep their attempt up to it. Whether it is enabled is as saved where both
-    /// setups say the same of it, and else as this one says. The next time is as saved where the check
-    /// interval and the setup's switch are as they were, or a check is out, or the next one is forced;
-    /// else it is the earlier of the saved one and the first time that the spread from `start` on gives.
-    /// Where more services are out than the option `max_concurrent_checks` allows, the runs of all
-    /// services are given up at `start`. The numbers of runs go on from those that were handed out.
+    /// For a kept object:
     ///
-    /// Over the same setup it is as if the scheduler had never been put down, except for the start, by
-    /// which no call goes ([`resumed_over_the_same`](crate::laws::resumed_over_the_same)).
+    /// - As saved: the results, the check that is out, whether the next check is forced, the state, the last
+    ///   hard state, flapping, and whether it was ever checked.
+    /// - The attempt follows the maximum of attempts in this setup. A hard problem gets the maximum. A soft
+    ///   problem stays soft with an attempt below the maximum, and becomes hard if the maximum is 1. OK and
+    ///   UP keep their attempt, up to the maximum.
+    /// - It is enabled as saved if both setups have the same switch for it, else as in this setup.
+    /// - The next time is as saved if the check interval and the setup's switch are unchanged, or a check is
+    ///   out, or the next check is forced. Else it is the earlier of the saved time and the first time by
+    ///   the spread from `start` on.
+    ///
+    /// If more services are out than the option `max_concurrent_checks` allows, the runs of all services
+    /// are abandoned at `start`. The numbers of runs continue those that were handed out.
+    ///
+    /// Over the same setup, the scheduler is in the state that was saved, except for the start, which no
+    /// call reads ([`resumed_over_the_same`](crate::laws::resumed_over_the_same)).
     ///
     /// An Err means out of memory, and hands the setup back as it was.
     pub fn resume(alloc: Global, setup: Setup, saved: &Saved, start: u64) -> Result<Sched, Setup>
         requires { start ≤ LAST_MOMENT }
         ensures ok { IfOk result (λ scheduler. scheduler ≡ resumed setup saved.now start) }
+        ensures state { IfOk result IsState }
         ensures valid_setup { OnOk result (IsSetup setup) }
         ensures err { IfErr result (λ handed_back. handed_back ≡ setup) }
     {
-        let Ok(parts) = resumed_parts(alloc, &setup, saved, start) else {
-            return Err(setup);
-        };
-        let Parts {
-            marks,
-            steady,
-            intervals,
-            results,
-            standings,
-            roster,
-        } = parts;
-        Ok(Sched {
-            setup,
-            start,
-            roster,
-            standings,
-            results,
-            steady,
-            intervals,
-            runs: saved.runs(),
-            marks,
-        })
+        match resumed_parts(alloc, &setup, saved, start) {
+            Ok(parts) => Ok(Sched::of(setup, start, saved.runs(), parts)),
+            Err(_refused) => Err(setup),
+        }
     }
 }
 
-/// What a scheduler has beside its setup and its counts, when it goes on from what was saved.
+/// The fields of a resumed scheduler, without its setup and its counts. An Err means out of memory.
 fn resumed_parts(
     alloc: Global,
     setup: &Setup,
@@ -94,18 +72,10 @@ fn resumed_parts(
     requires { start ≤ LAST_MOMENT }
     ensures valid_setup { OnOk result (IsSetup setup.now) }
     ensures saved { OnOk result (IsSaved saved.now) }
-    ensures roster { IfOk result (λ parts. parts.roster ≡ record {
-      hosts = host_count setup.now;
-      objects = objects_resumed setup.now saved.now start;
-    }) }
-    ensures standings { IfOk result (λ parts. parts.standings.items ≡ standings_resumed setup.now saved.now) }
-    ensures results { IfOk result (λ parts. parts.results ≡ results_resumed setup.now saved.now) }
-    ensures marks { IfOk result (λ parts. length parts.marks.items ≡ object_count setup.now) }
-    ensures intervals { IfOk result (λ parts. parts.intervals.items ≡ intervals_of setup.now) }
-    ensures steady { IfOk result (λ parts. parts.steady.items ≡ replicate (object_count setup.now) false) }
+    ensures parts { IfOk result (AreParts setup.now) }
+    ensures resumed { IfOk result (λ parts.
+        state_with setup.now start saved.now.runs parts ≡ resumed setup.now saved.now start) }
 {
-    // for the proof: what is true of everything that is saved
-    saved.is_saved();
     let places = places(alloc, setup, saved)?;
     let objects = resumed_objects(alloc, setup, saved, &places, start)?;
     Ok(Parts {
@@ -136,7 +106,7 @@ fn resumed_objects(
     Ok(objects)
 }
 
-/// The scheduling of each object, by number, kept or new, where the spread gives these first times.
+/// The scheduling of each object, by number, kept or new. `times` are the first times by the spread.
 fn kept_objects(
     alloc: Global,
     setup: &Setup,
@@ -157,7 +127,7 @@ fn kept_objects(
     Ok(objects)
 }
 
-/// Gives up the runs of all services at this moment, where more are out than the limit allows.
+/// Abandons the runs of all services at this moment, if more are out than the limit allows.
 fn keep_limit(setup: &Setup, objects: &mut Vec<ObjectState>, now: u64)
     requires { host_count setup.now ≤ length objects.old.items }
     ensures { objects.new.items ≡ within_limit setup.now now objects.old.items }
@@ -169,7 +139,7 @@ fn keep_limit(setup: &Setup, objects: &mut Vec<ObjectState>, now: u64)
     give_up_from(objects, setup.hosts(), now);
 }
 
-/// Gives up the runs of the objects with the numbers from `from` on, at this moment.
+/// Abandons the runs of the objects with the numbers from `from` on, at this moment.
 fn give_up_from(objects: &mut Vec<ObjectState>, from: usize, now: u64)
     requires { from ≤ length objects.old.items }
     ensures { objects.new.items ≡ take from objects.old.items ++ map (given_up now) (drop from objects.old.items) }
@@ -179,7 +149,7 @@ fn give_up_from(objects: &mut Vec<ObjectState>, from: usize, now: u64)
     }
 }
 
-/// What is known of each object, by number.
+/// The standing of each object, by number.
 fn resumed_standings(
     alloc: Global,
     setup: &Setup,
@@ -199,7 +169,7 @@ fn resumed_standings(
     Ok(standings)
 }
 
-/// The results that are kept of each object, by number.
+/// The stored results of each object, by number.
 fn resumed_results(
     alloc: Global,
     setup: &Setup,
@@ -220,8 +190,8 @@ fn resumed_results(
     Ok(Results::of(by_number))
 }
 
-/// The results that are kept of an object: those that were saved, or none of a new one. An Err means out
-/// of memory.
+/// The stored results of an object: the saved ones, or none if the object is new. An Err means out of
+/// memory.
 fn last_results(alloc: Global, kept: Option<&SavedObject>) -> Result<LastResults, AllocError>
     requires { IfSome (option_map (λ o. o.now) kept) (λ o. length o.results ≤ KEPT_RESULTS) }
     ensures { IfOk result (λ results. results ≡ results_of (option_map (λ o. o.now) kept.entry)) }

@@ -1,29 +1,27 @@
-//! A scheduler that is put down: what is saved of it.
+//! Saving the state of a scheduler.
 
 ghost use Rattle.std.specs.Prelude.{◌≡◌, ◌<◌, IfOk, Some, slice_get};
 ghost use Rattle.check_objects.specs.Configuration.{Named, object_count, objects_of};
 ghost use Rattle.check_sched.specs.Saved.{saved_object, saved_of};
 
 use super::Sched;
-use crate::report::milliseconds;
 use check_saved::{Saved, SavedObject};
+use check_spread::milliseconds;
 use std::alloc::{AllocError, Global};
 
 impl Sched {
-    /// What is saved of the scheduler, which stays as it is: everything but its setup, object by object.
-    /// [`Sched::resume`] goes on from it. (Our own profile; Nagios keeps its own by retention files.)
+    /// Saves the scheduler's state: everything but its setup, object by object. The scheduler stays as it
+    /// is. [`Sched::resume`] makes a scheduler from it. (Our own profile; Nagios uses retention files.)
     ///
     /// An Err means out of memory.
     pub fn save(&self, alloc: Global) -> Result<Saved, AllocError>
         ensures { IfOk result (λ saved. saved ≡ saved_of self.now) }
     {
-        // for the proof: what is saved of a state that a scheduler can be in is well formed
-        self.is_state();
         let objects = self.saved_objects(alloc)?;
         Ok(Saved::of(self.start, self.runs, objects))
     }
 
-    /// What is saved of each object, by number.
+    /// Saves each object, by number.
     fn saved_objects(&self, alloc: Global) -> Result<Vec<SavedObject>, AllocError>
         ensures { IfOk result (λ objects. objects.items ≡ (saved_of self.now).objects) }
     {
@@ -35,7 +33,7 @@ impl Sched {
         Ok(objects)
     }
 
-    /// What is saved of the object with this number.
+    /// Saves the object with this number.
     fn saved_object(&self, alloc: Global, number: u32) -> Result<SavedObject, AllocError>
         requires { number < object_count self.now.setup }
         ensures { IfOk result (λ made. (o : Named) → slice_get (objects_of self.now.setup) number ≡ Some o
@@ -50,7 +48,7 @@ impl Sched {
             standing: self.standings[number as usize],
             results,
             next: state.next(),
-            run: state.saved_run(),
+            run: state.run(),
             enabled: state.is_enabled(),
             forced: state.is_forced(),
             interval: milliseconds(&self.setup, object.check_interval),

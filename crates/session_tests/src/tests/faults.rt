@@ -4,8 +4,8 @@ use super::devices::{FailingReader, KINDS, ShortWriter};
 use super::with_host;
 use check_drive::drive::{Outcome, drive};
 use check_drive::live::live;
-use check_script::DriveError;
-use check_session::check::check;
+use check_script::{DriveError, Start};
+use check_session::check::{check, write_setup_line};
 use check_session::drill::drill;
 use std::alloc::Global;
 use std::io::ErrorKind;
@@ -121,19 +121,21 @@ fn each_job_reports_which_device_failed(rt: HostRuntime) -> Result<(), Fail> {
     let input = with_host(alloc, LINES)?;
     let bytes = input.as_bytes();
     let good = &mut ShortWriter::new(alloc, 100);
-    let talked = live(alloc, 0, &mut failing_reader(bytes), good);
+    let fresh = Start::Fresh(0);
+    let talked = live(alloc, fresh, &mut failing_reader(bytes), good);
     assert_eq!(rt; talked, Err(DriveError::Read));
-    let talked = live(alloc, 0, &mut input.as_bytes(), &mut failing_writer(alloc));
-    assert_eq!(rt; talked, Err(DriveError::Write));
-    let told = check(alloc, 0, false, &mut failing_reader(b"{}"), good);
-    assert_eq!(rt; told, Err(DriveError::Read));
-    let told = check(
+    let talked = live(
         alloc,
-        0,
-        true,
-        &mut b"{}".as_slice(),
+        fresh,
+        &mut input.as_bytes(),
         &mut failing_writer(alloc),
     );
+    assert_eq!(rt; talked, Err(DriveError::Write));
+    for start in [fresh, Start::Resumed(None)] {
+        let told = check(alloc, start, &mut failing_reader(b"{}"), good);
+        assert_eq!(rt; told, Err(DriveError::Read));
+    }
+    let told = write_setup_line(alloc, &mut b"{}".as_slice(), &mut failing_writer(alloc));
     assert_eq!(rt; told, Err(DriveError::Write));
     let drilled = drill(&rt, alloc, 0, 1, 100, &mut failing_reader(b"{}"), good);
     assert_eq!(rt; drilled, Err(DriveError::Read));

@@ -3,6 +3,7 @@
 use super::with_host;
 use check_drive::drive::Outcome;
 use check_drive::live::live;
+use check_script::Start;
 use std::cell::Cell;
 use std::io;
 use std::io::{Read, Write};
@@ -102,7 +103,7 @@ fn flushes_before_it_asks(rt: HostRuntime) -> Result<(), Fail> {
             lines: 0,
             notes: &notes,
         };
-        let ended = live(alloc, 0, &mut reader, &mut writer);
+        let ended = live(alloc, Start::Fresh(0), &mut reader, &mut writer);
         assert_eq!(rt; ended, Ok(Outcome::Ran));
         assert!(rt; !notes.late.get());
         assert_eq!(rt; notes.flushed.get(), 4);

@@ -1,4 +1,5 @@
 use Rattle.check_book.proofs.BoardLaws.{few_words, opened_read, opened_words, state_read, state_words}
+use Rattle.check_book.proofs.GenerationLaws.{book_is_state}
 use Rattle.check_book.proofs.laws.board_shows_standings.Goals as goal
 
 pub returns-clause-words : goal.returns-clause-words
@@ -18,3 +19,6 @@ returns-clause-read_from c = λ opened history object is there. state_read opene
 
 pub returns-clause-opened : goal.returns-clause-opened
 returns-clause-opened c = λ book. book.opened
+
+pub returns-clause-state : goal.returns-clause-state
+returns-clause-state c = λ book. book_is_state book

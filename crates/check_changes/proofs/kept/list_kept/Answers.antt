@@ -35,7 +35,7 @@ loop-place-preserved c =
 pub returns-clause-kept : goal.returns-clause-kept
 returns-clause-kept c =
     let objects = c.objects-objects.result.now in
-    let same = c.objects-objects.ensures in
+    let same = c.objects-objects.ensures.value in
     let first : c.loop-place.place ≡ 0 = omega (arith, c.loop-place-test.false) in
     let all = subst (λ k. AreFound c.args.setup.now (drop k objects) c.loop-place.kept.items) first c.loop-place.invariant in
     found_all c.args.setup.now c.args.saved.now c.loop-place.kept.items

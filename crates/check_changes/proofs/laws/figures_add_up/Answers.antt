@@ -1,8 +1,5 @@
-use Rattle.check_changes.proofs.FigureLaws.{kept_or_new, out_or_given_up}
+use Rattle.check_changes.proofs.FigureLaws.{ended_counted, kept_or_new, out_or_given_up}
 use Rattle.check_changes.proofs.laws.figures_add_up.Goals as goal
 
-pub returns-clause-setup : goal.returns-clause-setup
-returns-clause-setup c = kept_or_new
-
-pub returns-clause-runs : goal.returns-clause-runs
-returns-clause-runs c = out_or_given_up
+pub returns : goal.returns
+returns c = record { setup = kept_or_new; runs = out_or_given_up; given_up = ended_counted }

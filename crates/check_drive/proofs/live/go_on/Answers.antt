@@ -8,87 +8,87 @@ use Rattle.check_text.proofs.WrittenLemmas.{Keeps-same}
 use Rattle.check_drive.proofs.WentOnLemmas.{answered_later, gone_answered, gone_opened, gone_refused, gone_unwritten, memory_later, opened_later, saved_ends}
 use Rattle.check_drive.proofs.live.go_on.Goals as goal
 
--- ---- from the opening on
+-- ---- a fresh scheduler
 
-pub returns-in_err-open-in-Opened-clause-went_on : goal.returns-in_err-open-in-Opened-clause-went_on
-returns-in_err-open-in-Opened-clause-went_on g c =
+pub returns-in_err-open-in-Fresh-clause-went_on : goal.returns-in_err-open-in-Fresh-clause-went_on
+returns-in_err-open-in-Fresh-clause-went_on g c =
     let p = err_from_is_err_and c.from_residual.result c.from_residual.ensures.1 in
     rw (p.1) (gone_unwritten _ _ _ _ [] _ _ _ _ _ (Consumes-none _) c.requires.end (Keeps-same _))
 
-pub returns-in_err-talk-in-Opened-clause-went_on : goal.returns-in_err-talk-in-Opened-clause-went_on
-returns-in_err-talk-in-Opened-clause-went_on g c =
-    let p = err_from_is_err_and c.from_residual-in_err-talk-in-Opened.result c.from_residual-in_err-talk-in-Opened.ensures.1 in
+pub returns-in_err-talk-in-Fresh-clause-went_on : goal.returns-in_err-talk-in-Fresh-clause-went_on
+returns-in_err-talk-in-Fresh-clause-went_on g c =
+    let p = err_from_is_err_and c.from_residual-in_err-talk-in-Fresh.result c.from_residual-in_err-talk-in-Fresh.ensures.1 in
     rw (p.1) (gone_unwritten _ _ _ _ [] _ _ _ _ _ (Consumes-none _) c.requires.end (Keeps-same _))
 
-pub returns-in-Opened-clause-went_on : goal.returns-in-Opened-clause-went_on
-returns-in-Opened-clause-went_on g c =
-    let t = c.in_ok-talk-in-Opened.ensures in
+pub returns-in-Fresh-clause-went_on : goal.returns-in-Fresh-clause-went_on
+returns-in-Fresh-clause-went_on g c =
+    let t = c.in_ok-talk-in-Fresh.ensures in
     let a = c.answer_all.ensures in
-    rw (c.in-Opened.is)
-    (gone_opened _ _ _ _ _ _ _ _ _ c.requires.end a.outcome a.none (rw (t.sched ∙ c.in_ok-open-in-Opened.ensures, t.at_hand) at a.lines))
+    rw (c.in-Fresh.is)
+    (gone_opened _ _ _ _ _ _ _ _ _ c.requires.end a.outcome a.none (rw (t.sched ∙ c.in_ok-open-in-Fresh.ensures, t.at_hand) at a.lines))
 
-pub returns-in_err-open-in-Opened-clause-spent : goal.returns-in_err-open-in-Opened-clause-spent
-returns-in_err-open-in-Opened-clause-spent g c =
+pub returns-in_err-open-in-Fresh-clause-spent : goal.returns-in_err-open-in-Fresh-clause-spent
+returns-in_err-open-in-Fresh-clause-spent g c =
     let p = err_from_is_err_and c.from_residual.result c.from_residual.ensures.1 in
     rw (p.1) (memory_later _ _ _ _ p.2)
 
-pub returns-in_err-talk-in-Opened-clause-spent : goal.returns-in_err-talk-in-Opened-clause-spent
-returns-in_err-talk-in-Opened-clause-spent g c =
-    let p = err_from_is_err_and c.from_residual-in_err-talk-in-Opened.result c.from_residual-in_err-talk-in-Opened.ensures.1 in
+pub returns-in_err-talk-in-Fresh-clause-spent : goal.returns-in_err-talk-in-Fresh-clause-spent
+returns-in_err-talk-in-Fresh-clause-spent g c =
+    let p = err_from_is_err_and c.from_residual-in_err-talk-in-Fresh.result c.from_residual-in_err-talk-in-Fresh.ensures.1 in
     rw (p.1) (memory_later _ _ _ _ p.2)
 
-pub returns-in-Opened-clause-spent : goal.returns-in-Opened-clause-spent
-returns-in-Opened-clause-spent g c =
-    opened_later _ _ _ _ _ _ _ (rw (c.in_ok-talk-in-Opened.ensures.at_hand) at c.answer_all.ensures.spent)
+pub returns-in-Fresh-clause-spent : goal.returns-in-Fresh-clause-spent
+returns-in-Fresh-clause-spent g c =
+    opened_later _ _ _ _ _ _ _ (rw (c.in_ok-talk-in-Fresh.ensures.at_hand) at c.answer_all.ensures.spent)
 
--- ---- from what was saved on
+-- ---- one that continues from a saved state
 
-pub returns-in_err-saved-in-Saved-clause-went_on : goal.returns-in_err-saved-in-Saved-clause-went_on
-returns-in_err-saved-in-Saved-clause-went_on g c =
-    let t = c.in_err-saved-in-Saved.ensures.took in
-    let p = err_from_is_err_and c.from_residual-in_err-saved-in-Saved.result c.from_residual-in_err-saved-in-Saved.ensures.1 in
+pub returns-in_err-saved-in-Resumed-clause-went_on : goal.returns-in_err-saved-in-Resumed-clause-went_on
+returns-in_err-saved-in-Resumed-clause-went_on g c =
+    let t = c.in_err-saved-in-Resumed.ensures.took in
+    let p = err_from_is_err_and c.from_residual-in_err-saved-in-Resumed.result c.from_residual-in_err-saved-in-Resumed.ensures.1 in
     rw (p.1) (gone_unwritten _ _ _ _ t.0 _ _ _ _ _ t.1 c.requires.end (Keeps-same _))
 
 pub returns-in_err-sched-in-Ok-clause-went_on : goal.returns-in_err-sched-in-Ok-clause-went_on
 returns-in_err-sched-in-Ok-clause-went_on g c =
-    let t = c.in_ok-saved-in-Saved.ensures.took in
+    let t = c.in_ok-saved-in-Resumed.ensures.took in
     let p = err_from_is_err_and c.from_residual-in_err-sched-in-Ok.result c.from_residual-in_err-sched-in-Ok.ensures.1 in
     rw (p.1) (gone_unwritten _ _ _ _ t.0 _ _ _ _ _ t.1 c.requires.end (Keeps-same _))
 
 pub returns-in_err-talk-in-Ok-clause-went_on : goal.returns-in_err-talk-in-Ok-clause-went_on
 returns-in_err-talk-in-Ok-clause-went_on g c =
-    let t = c.in_ok-saved-in-Saved.ensures.took in
+    let t = c.in_ok-saved-in-Resumed.ensures.took in
     let p = err_from_is_err_and c.from_residual-in_err-talk-in-Ok.result c.from_residual-in_err-talk-in-Ok.ensures.1 in
     rw (p.1) (gone_unwritten _ _ _ _ t.0 _ _ _ _ _ t.1 c.requires.end (Keeps-same _))
 
 pub returns-in-Ok-clause-went_on : goal.returns-in-Ok-clause-went_on
 returns-in-Ok-clause-went_on g c =
-    let t = c.in_ok-saved-in-Saved.ensures.took in
+    let t = c.in_ok-saved-in-Resumed.ensures.took in
     let s : saved_in (c.args.at_hand ++ t.0) ≡ Ok c.in-Ok.saved = rw (c.in-Ok.is) at t.4.0 in
     let talk = c.in_ok-talk-in-Ok.ensures in
     let a = c.answer_all-in-Ok.ensures in
-    rw (c.in-Saved.is)
-    (gone_answered _ _ c.in-Ok.saved _ _ _ t.0 _ _ _ _ _ _ s t.1 t.2 c.requires.end t.4.1 (saved_ends _ c.in-Ok.saved _ _ s t.4.1 t.4.3) a.outcome a.none
-    (rw (talk.sched ∙ c.in_ok-sched-in-Ok.ensures, talk.at_hand ∙ t.4.2) at a.lines))
+    rw (c.in-Resumed.is)
+    (gone_answered _ _ c.in-Ok.saved _ _ _ t.0 _ _ _ _ _ _ s t.1 t.2 c.requires.end t.4.1.follows (saved_ends _ c.in-Ok.saved _ _ s t.4.1.follows t.4.1.ended) a.outcome a.none
+    (rw (talk.sched ∙ c.in_ok-sched-in-Ok.ensures, talk.at_hand ∙ t.4.1.hand_is) at a.lines))
 
 pub returns-in-Err-Refused-clause-went_on : goal.returns-in-Err-Refused-clause-went_on
 returns-in-Err-Refused-clause-went_on g c =
-    let t = c.in_ok-saved-in-Saved.ensures.took in
+    let t = c.in_ok-saved-in-Resumed.ensures.took in
     let s : saved_in (c.args.at_hand ++ t.0) ≡ Err c.in-Err-Refused.why =
-    gives_refused _ c.in_ok-saved-in-Saved.saved _ c.in-Err-Refused.why _ t.4.0 c.in-Err-Refused.is
+    gives_refused _ c.in_ok-saved-in-Resumed.saved _ c.in-Err-Refused.why _ t.4.0 c.in-Err-Refused.is
     (rw (c.in-Err-Refused.is) at c.in-Err-Refused.field-0-is) in
     let r = c.refuse.ensures in
-    rw (c.in-Saved.is)
-    (gone_refused _ _ _ _ _ t.0 _ _ _ _ c.in-Err-Refused.why _ _ s t.1 t.2 t.3 c.requires.end t.4.1 t.4.3 r.outcome r.written r.fault c.as_written.ensures)
+    rw (c.in-Resumed.is)
+    (gone_refused _ _ _ _ _ t.0 _ _ _ _ c.in-Err-Refused.why _ _ s t.1 t.2 t.3 c.requires.end t.4.1.follows t.4.1.ended r.outcome r.written r.fault c.as_written.ensures)
 
 pub returns-clause-went_on : goal.returns-clause-went_on
 returns-clause-went_on g c =
-    let t = c.in_ok-saved-in-Saved.ensures.took in
+    let t = c.in_ok-saved-in-Resumed.ensures.took in
     gone_unwritten _ _ _ _ t.0 _ _ _ _ _ t.1 c.requires.end (Keeps-same _)
 
 pub returns-in-Ok-clause-spent : goal.returns-in-Ok-clause-spent
 returns-in-Ok-clause-spent g c =
-    let t = c.in_ok-saved-in-Saved.ensures.took in
+    let t = c.in_ok-saved-in-Resumed.ensures.took in
     let a = c.answer_all-in-Ok.ensures in
-    answered_later _ outcome.Ran _ _ t.0 _ _ _ _ _ c.in_ok-saved-in-Saved.follow t.4.1 t.1 (λ f. (a.none f).0)
-    (rw (c.in_ok-talk-in-Ok.ensures.at_hand ∙ t.4.2) at a.spent)
+    answered_later _ outcome.Ran _ _ t.0 _ _ _ _ _ c.in_ok-saved-in-Resumed.follow t.4.1.follows t.1 (λ f. (a.none f).0)
+    (rw (c.in_ok-talk-in-Ok.ensures.at_hand ∙ t.4.1.hand_is) at a.spent)

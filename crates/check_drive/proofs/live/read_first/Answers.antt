@@ -25,4 +25,4 @@ returns g c =
     let most : c.new-document.result.most ≡ KEPT_SETUP_BYTES = ap (λ (x : LineFront). x.most) c.new-document.ensures in
     let kept = t.2.line_is ∙ ap (λ i. front_of i (first_line_of t.0)) most in
     let setup = ap (λ l. in_setup (setup_of l)) (c.bytes.ensures ∙ ap (λ (x : LineFront). x.bytes) kept) ∙ ap in_setup (kept_setup (first_line_of t.0)) in
-    (t.0, t.1, rw most at t.3, (rw setup at c.read_setup.ensures, t.2.whole_is, t.2.rest_is, rw most at t.2.ended), tt)
+    (t.0, t.1, rw most at t.3, (rw setup at c.read_setup.ensures, record { follows = t.2.whole_is; hand_is = t.2.rest_is; ended = rw most at t.2.ended }), tt)

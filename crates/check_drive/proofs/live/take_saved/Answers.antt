@@ -3,7 +3,7 @@ use Rattle.std.proofs.lemmas.Result.{err_from_is_err_and}
 use Rattle.check_saved.specs.Text.{saved_of_text}
 use Rattle.check_script.specs.Input.{first_line_of}
 use Rattle.check_script.specs.LiveInput.{LineFront, front_of}
-use Rattle.check_script.specs.ResumedScript.{in_saved}
+use Rattle.check_script.specs.Script.{in_saved}
 use Rattle.check_script.specs.declared.live_input.TheConstants.{KEPT_SAVED_BYTES}
 use Rattle.check_script.proofs.LiveInputLemmas.{Consumes-none, if_ok_never}
 use Rattle.check_drive.proofs.WentOnLemmas.{kept_saved, unfollowed, unread}
@@ -32,6 +32,6 @@ returns-clause-took g c =
       t.1,
       λ f. (let k = c.if-not-may_follow.false in cc),
       rw most at t.3,
-      (rw same at c.read_saved-2.ensures, t.2.whole_is, t.2.rest_is, rw most at t.2.ended),
+      (rw same at c.read_saved-2.ensures, record { follows = t.2.whole_is; hand_is = t.2.rest_is; ended = rw most at t.2.ended }),
       tt,
     )

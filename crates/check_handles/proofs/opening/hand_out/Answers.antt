@@ -1,64 +1,57 @@
-use Rattle.std.proofs.Common.{◌≡◌, ◌+◌, ◌-◌, ◌<◌, ◌∙◌, sym, ap, subst, arith, length, length-set, drop}
+use Rattle.std.proofs.Common.{◌≡◌, ◌<◌, ◌≤◌, ◌+◌, ◌++◌, ◌∷◌, [], ◌∙◌, sym, ap, subst, arith, length, length-append, length-set, drop}
+use Rattle.std.proofs.lemmas.List.{append_assoc, append-nil, drop_all}
 use Rattle.std_alloc.specs.Arc.{arc_value}
-use Rattle.check_desk.specs.Desks.{opened_with, passes_of, IsPassOf}
-use Rattle.check_desk.specs.Passes.{new_pass_with, pass_of}
-use Rattle.check_handles.specs.declared.shared.Shared.{Shared}
-use Rattle.check_handles.specs.Handles.{contents_of}
-use Rattle.check_handles.specs.Opening.{ArePassesFrom, IsNewPass}
-use Rattle.check_handles.proofs.Fresh.{last_too, left_all, new_popped, seated, shorter}
+use Rattle.check_handles.specs.declared.target.HandleTarget.{HandleTarget}
+use Rattle.check_handles.specs.Opening.{IsFreshPassOf}
+use Rattle.check_handles.specs.Seats.{HasPass, HavePasses, IsSeatFor, IsSeatOf, IsTaken}
+use Rattle.check_handles.proofs.Fresh.{handed, last_too, left_all, seat_for, seated, shorter}
 use Rattle.check_handles.proofs.opening.hand_out.Goals as goal
 
-pub resting-requires-clause-pass : goal.resting-requires-clause-pass
-resting-requires-clause-pass c =
-    let desk = (arc_value c.args.shared.now).desk in
-    let is_desk : arc_value c.in-Some-pop-3.shared ≡ arc_value c.args.shared.now = last_too (λ one. arc_value one ≡ arc_value c.args.shared.now)
-    c.loop-done.desks.items c.pop-in-loop-done-3.new.self.items c.in-Some-pop-3.shared c.in-Some-pop-3.ensures.items c.loop-done.invariant.6 in
-    let new = new_popped c.args.calls desk c.loop-done.passes.items c.pop.new.self.items c.in-Some.pass c.in-Some.ensures.items c.loop-done.invariant.7 in
-    subst (λ (s : Shared). IsPassOf s.desk c.in-Some.pass) (sym is_desk) new.1
+pub loop-pass-init : goal.loop-pass-init
+loop-pass-init c =
+    let desk = arc_value c.args.shared in
+    let ends : length c.args.handles.now ≤ length c.args.passes.items = omega (arith, c.requires.handles) in (
+      c.requires.handles,
+      c.requires.count,
+      c.requires.fresh,
+      c.requires.seats,
+      ([], sym (append-nil c.args.passes.items), rw (drop_all (length c.args.passes.items) c.args.handles.now ends) tt),
+    )
 
-pub resting-requires-clause-all : goal.resting-requires-clause-all
-resting-requires-clause-all c =
-    let is_desk : arc_value c.in-Some-pop-3.shared ≡ arc_value c.args.shared.now = last_too (λ one. arc_value one ≡ arc_value c.args.shared.now)
-    c.loop-done.desks.items c.pop-in-loop-done-3.new.self.items c.in-Some-pop-3.shared c.in-Some-pop-3.ensures.items c.loop-done.invariant.6 in
-    ap (λ (s : Shared). passes_of s.desk) is_desk ∙ sym c.requires.count.0
+pub take_seat-requires : goal.take_seat-requires
+take_seat-requires c =
+    let desk = arc_value c.args.shared in
+    let was = c.loop-pass.invariant in
+    let pass = c.in-Some.pass in
+    let seat = c.in-Some-pop.seat in
+    let fresh = last_too (IsFreshPassOf desk.desk) c.loop-pass.passes.items c.pop.new.self.items pass c.in-Some.ensures.items was.2 in
+    let of = last_too (λ s. IsSeatOf desk s.value) c.loop-pass.seats.items c.pop-in-Some.new.self.items seat c.in-Some-pop.ensures.items was.3 in
+    subst (IsSeatFor pass) (sym c.deref_mut.ensures.value) (seat_for desk pass seat.value of fresh.own)
 
-pub resting-requires-clause-names : goal.resting-requires-clause-names
-resting-requires-clause-names c =
-    let desk = (arc_value c.args.shared.now).desk in
-    let is_desk : arc_value c.in-Some-pop-3.shared ≡ arc_value c.args.shared.now = last_too (λ one. arc_value one ≡ arc_value c.args.shared.now)
-    c.loop-done.desks.items c.pop-in-loop-done-3.new.self.items c.in-Some-pop-3.shared c.in-Some-pop-3.ensures.items c.loop-done.invariant.6 in
-    let named : arc_value c.in-Some-pop-2.names ≡ (opened_with desk).sched.setup = last_too (λ one. arc_value one ≡ (opened_with desk).sched.setup)
-    c.loop-done.names.items c.pop-in-loop-done-2.new.self.items c.in-Some-pop-2.names c.in-Some-pop-2.ensures.items c.loop-done.invariant.5 in
-    named ∙ ap (λ (s : Shared). (opened_with s.desk).sched.setup) (sym is_desk)
-
-pub loop-done-preserved : goal.loop-done-preserved
-loop-done-preserved c =
-    let was = c.loop-done.invariant in
-    let desk = (arc_value c.args.shared.now).desk in
-    let count = length c.args.handles.now in
-    let done = c.loop-done.done in
-    let i = count - 1 - done in
-    let less : done < count = c.loop-done-test.true in
-    let is_desk : arc_value c.in-Some-pop-3.shared ≡ arc_value c.args.shared.now = last_too (λ one. arc_value one ≡ arc_value c.args.shared.now)
-    c.loop-done.desks.items c.pop-in-loop-done-3.new.self.items c.in-Some-pop-3.shared c.in-Some-pop-3.ensures.items was.6 in
-    let new = new_popped c.args.calls desk c.loop-done.passes.items c.pop.new.self.items c.in-Some.pass c.in-Some.ensures.items was.7 in
-    let fewer = shorter c.loop-done.passes.items c.pop.new.self.items c.in-Some.pass c.in-Some.ensures.items in
-    let last : length c.pop.new.self.items ≡ i = omega (arith, fewer, was.1, less) in
-    let is : pass_of c.in-Some.pass ≡ new_pass_with c.args.calls i = new.2 ∙ ap (new_pass_with c.args.calls) last in
-    let pass : IsNewPass c.args.calls (arc_value c.args.shared.now) i (contents_of c.of.result) = rw (c.of.ensures, c.resting.ensures.stage)
-    (ap arc_value c.resting.ensures.shared.0 ∙ is_desk, is) in
-    let up : count - done ≡ i + 1 = omega (arith, less) in
-    let down : count - (done + 1) ≡ i = omega arith in
-    let behind : ArePassesFrom c.args.calls (arc_value c.args.shared.now) (i + 1) (drop (i + 1) c.loop-done.handles) = rw (← up) was.8 in (
-      length-set c.loop-done.handles i c.of.result ∙ was.0,
-      omega (arith, fewer, was.1),
-      omega (arith, shorter c.loop-done.places.items c.pop-in-loop-done.new.self.items c.in-Some-pop.place c.in-Some-pop.ensures.items, was.2),
-      omega (arith, shorter c.loop-done.names.items c.pop-in-loop-done-2.new.self.items c.in-Some-pop-2.names c.in-Some-pop-2.ensures.items, was.3),
-      omega (arith, shorter c.loop-done.desks.items c.pop-in-loop-done-3.new.self.items c.in-Some-pop-3.shared c.in-Some-pop-3.ensures.items, was.4),
-      left_all (λ one. arc_value one ≡ (opened_with desk).sched.setup) c.loop-done.names.items c.pop-in-loop-done-2.new.self.items c.in-Some-pop-2.names
-          c.in-Some-pop-2.ensures.items was.5,
-      left_all (λ one. arc_value one ≡ arc_value c.args.shared.now) c.loop-done.desks.items c.pop-in-loop-done-3.new.self.items c.in-Some-pop-3.shared
-          c.in-Some-pop-3.ensures.items was.6,
-      new.0,
-      rw down (seated c.args.calls (arc_value c.args.shared.now) i c.of.result c.loop-done.handles (omega (arith, less, was.0)) pass behind),
+pub loop-pass-preserved : goal.loop-pass-preserved
+loop-pass-preserved c =
+    let desk = arc_value c.args.shared in
+    let was = c.loop-pass.invariant in
+    let passes = c.loop-pass.passes.items in
+    let rest = c.pop.new.self.items in
+    let pass = c.in-Some.pass in
+    let seat = c.in-Some-pop.seat in
+    let given = was.4.0 in
+    let popped = c.in-Some.ensures.items in
+    let fewer = shorter passes rest pass popped in
+    let less : length rest < length c.loop-pass.handles = omega (arith, fewer, was.0, ap length was.4.1, length-append passes given) in
+    let of = last_too (λ s. IsSeatOf desk s.value) c.loop-pass.seats.items c.pop-in-Some.new.self.items seat c.in-Some-pop.ensures.items was.3 in
+    let taken = subst (λ (b : HandleTarget). IsTaken pass b c.take_seat.new.seat) c.deref_mut.ensures.value c.take_seat.ensures in
+    let has = subst (HasPass desk pass) (sym c.of.ensures) (seated desk pass seat.value c.take_seat.new.seat of taken) in
+    let at : c.len.result ≡ length rest = omega (arith, c.len.ensures, c.in-Some.ensures.len, fewer) in
+    let behind : HavePasses desk given (drop (length rest + 1) c.loop-pass.handles) = rw (← fewer) was.4.2 in (
+      length-set c.loop-pass.handles c.len.result c.of.result ∙ was.0,
+      omega (arith, fewer, shorter c.loop-pass.seats.items c.pop-in-Some.new.self.items seat c.in-Some-pop.ensures.items, was.1),
+      left_all (IsFreshPassOf desk.desk) passes rest pass popped was.2,
+      left_all (λ s. IsSeatOf desk s.value) c.loop-pass.seats.items c.pop-in-Some.new.self.items seat c.in-Some-pop.ensures.items was.3,
+      (
+        pass ∷ given,
+        was.4.1 ∙ ap (λ xs. xs ++ given) popped ∙ append_assoc rest (pass ∷ []) given,
+        rw at (handed desk (length rest) pass c.of.result given c.loop-pass.handles less has behind),
+      ),
     )

@@ -1,10 +1,6 @@
 use Rattle.std.proofs.Common.{◌≡◌, ◌≤◌, length}
 use Rattle.std.specs.Prelude.{vec_capacity}
-use Rattle.std.specs.List.{All}
-use Rattle.std_alloc.specs.Arc.{arc_value}
 use Rattle.check_handles.proofs.opening.prepare_seats.Given as goal
 
-abbrev pub invariant-loop-pass : goal.invariant-loop-pass
-invariant-loop-pass l =
-    (length l.places.items ≡ l._pass) × (l.count ≤ vec_capacity l.places)
-    × (length l.all.items ≡ l._pass) × (l.count ≤ vec_capacity l.all) × All (λ one. arc_value one ≡ arc_value l.names) l.all.items
+abbrev pub invariant-loop-seat : goal.invariant-loop-seat
+invariant-loop-seat l = (length l.seats.items ≡ l._seat) × (l.count ≤ vec_capacity l.seats)

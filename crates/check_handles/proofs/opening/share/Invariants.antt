@@ -1,8 +1,9 @@
-use Rattle.std.proofs.Common.{◌≡◌, ◌≤◌, length}
-use Rattle.std.specs.Prelude.{vec_capacity}
-use Rattle.std.specs.List.{All}
+use Rattle.std.proofs.Common.{◌≡◌, length}
+use Rattle.std.specs.List.{AllWithin}
 use Rattle.std_alloc.specs.Arc.{arc_value}
+use Rattle.check_handles.specs.Seats.{IsSeatOf}
 use Rattle.check_handles.proofs.opening.share.Given as goal
 
-abbrev pub invariant-loop-pass : goal.invariant-loop-pass
-invariant-loop-pass l = (length l.desks.items ≡ l._pass) × (l.count ≤ vec_capacity l.desks) × All (λ one. arc_value one ≡ arc_value l.shared) l.desks.items
+abbrev pub invariant-loop-at : goal.invariant-loop-at
+invariant-loop-at l =
+    (length l.seats.items ≡ length l.fn.seats.items) × AllWithin (λ seat. IsSeatOf (arc_value l.shared) seat.value) l.seats.items 0 l.at

@@ -1,4 +1,4 @@
-use Rattle.std.proofs.Common.{◌≡◌, ◌∙◌, ◌-◌, ap, arith, None, drop, length, replicate, subst, sym}
+use Rattle.std.proofs.Common.{◌≡◌, ◌∙◌, ◌-◌, ap, arith, rules, None, drop, length, replicate, subst, sym}
 use Rattle.std.proofs.lemmas.List.{drop_all}
 use Rattle.check_objects.specs.Configuration.{number_of}
 use Rattle.check_saved.specs.Saved.{SavedObject}
@@ -10,7 +10,8 @@ pub loop-place-init : goal.loop-place-init
 loop-place-init c =
     let c0 = c.args.setup.now in
     let objects = c.objects-objects.result.now in
-    let none = c.in_ok-places.ensures ∙ ap (λ n. replicate n None) c.len.ensures.count in
+    let empties = c.in_ok-places.ensures.items_if_clones_equal (search rules) in
+    let none = empties ∙ ap (λ n. replicate n None) c.len.ensures.count in
     let empty = drop_all (length objects) objects (omega arith) in
     rw (empty, none) (places_none c0 objects)
 
@@ -31,9 +32,9 @@ loop-place-preserved c =
     let none = ap (number_of c.args.setup.now) (sym name) ∙ sym c.number.ensures ∙ c.in_default.is in
     places_past c.args.setup.now (l.place - 1) _ c.index-objects-place.result l.places.items c.len.ensures.setup one.there c.index-objects-place.is none one.was
 
-pub returns : goal.returns
-returns c =
-    let same = c.objects-objects.ensures in
+pub returns-clause-places : goal.returns-clause-places
+returns-clause-places c =
+    let same = c.objects-objects.ensures.value in
     let first : c.loop-place.place ≡ 0 = omega (arith, c.loop-place-test.false) in
     let kept = c.loop-place.invariant in
     subst (λ os. ArePlaces c.args.setup.now os os c.loop-place.places.items) same

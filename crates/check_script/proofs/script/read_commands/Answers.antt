@@ -2,19 +2,20 @@ use Rattle.std.proofs.Common.{sym, ◌∙◌, arith, ap, length, map, [], ◌∷
 use Rattle.std.proofs.lemmas.List.{map-append}
 use Rattle.check_script.specs.Input.{lines_of}
 use Rattle.check_script.specs.Script.{commands_behind}
-use Rattle.check_script.proofs.ScriptLemmas.{blank_passed, command_read, commands_by_number, commands_from, with_front-nothing}
+use Rattle.check_script.proofs.ScriptLemmas.{blank_passed, command_read, commands_by_number, commands_from, few_lines, with_front-nothing}
 use Rattle.check_script.proofs.script.read_commands.Goals as goal
 use Rattle.check_script.proofs.script.read_commands.Goals.{then-not-is_blank+in_ok-command+in-Ok, else-not-is_blank}
 
 pub loop-line-init : goal.loop-line-init
 loop-line-init g c =
     let same = c.into_iter-line-iterator.ensures.into_iter_gives in
-    let few = c.requires.few in
+    let begun = c.new-lines.ensures.bytes in
+    let few = few_lines c.args.bytes.now c.requires.few in
     let first = c.requires.first in
     let meaning = g.C.Command.meaning c.args.setup.now in
-    let lines = lines_of c.args.lines.rest.now in (
-      rw (c.new-commands.ensures.items, same) (commands_by_number meaning c.args.first lines ∙ sym (with_front-nothing (commands_from meaning c.args.first lines))),
-      rw same
+    let lines = lines_of c.args.bytes.now in (
+      rw (c.new-commands.ensures.items, same, begun) (commands_by_number meaning c.args.first lines ∙ sym (with_front-nothing (commands_from meaning c.args.first lines))),
+      rw (same, begun)
           (omega (arith, few, first)),
     )
 
@@ -31,7 +32,7 @@ loop-line-preserved g c =
     let line = c.in-Some.line.now in
     let fewer = ap length lines in
     let few = before.1 in
-    let all = commands_behind c.args.first meaning (lines_of c.args.lines.rest.now) in
+    let all = commands_behind c.args.first meaning (lines_of c.args.bytes.now) in
     elim c.if-not-is_blank.branch [
       | then-not-is_blank+in_ok-command+in-Ok w ↦ (
         rw (w.commands-is, w.in-Ok.ensures.items, map-append g.C.Command.seen c.loop-line.commands.items (w.in_ok-command.command ∷ []))

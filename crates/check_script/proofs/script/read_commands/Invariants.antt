@@ -8,6 +8,6 @@ use Rattle.check_script.proofs.script.read_commands.Given as goal
 
 abbrev pub invariant-loop-line : goal.invariant-loop-line
 invariant-loop-line g l =
-    (commands_behind l.first (g.C.Command.meaning l.setup) (lines_of l.fn.lines.rest.now)
+    (commands_behind l.first (g.C.Command.meaning l.setup) (lines_of l.fn.bytes)
     ≡ with_front (map g.C.Command.seen l.commands.items) (commands_from (g.C.Command.meaning l.setup) l.number (lines_of l.line-iterator.rest.now)))
     × (l.number + length (lines_of l.line-iterator.rest.now) ≤ MAX_INPUT_BYTES + 3)

@@ -8,7 +8,7 @@ div_ceil-requires c =
     let parts = count_parts c.args.setup.now in
     let some : c.len.result - c.hosts.result ≢ 0 = c.if-services-eq0.false in
     let services : 0 < length c.args.setup.now.services = grind (arith, some, c.len.ensures.count, c.hosts.ensures.count, parts) in
-    let hosts = some_host c.args.setup.now c.requires services in
+    let hosts = some_host c.args.setup.now c.len.ensures.setup services in
     omega (arith, hosts, c.hosts-in-Smart-2.ensures.count)
 
 pub returns-in-Smart-2-clause-factor : goal.returns-in-Smart-2-clause-factor

@@ -4,6 +4,7 @@ use Rattle.check_desk.specs.declared.passes.Pass.{Pass}
 use Rattle.check_workers.specs.declared.tally.Tally.{Tally}
 use Rattle.check_workers.specs.Crews.{IsTallied}
 use Rattle.check_workers.proofs.GatherLemmas.{all_front, all_last, gathered_more, gathered_one, tallied_few}
+use Rattle.check_desk.proofs.PublicLaws.{few_calls, few_numbers}
 use Rattle.check_workers.proofs.crews.gather_all.Goals as goal
 
 pub loop-other-init : goal.loop-other-init
@@ -28,11 +29,10 @@ pub plus-tally-requires : goal.plus-tally-requires
 plus-tally-requires c =
     let desk = c.args.desk.now in
     let w : Pass × Tally = (c.in-Some.other, c.in-Some.more) in
-    let law = c.every_pass.ensures in
     let all = subst (λ l. All (λ v. IsTallied desk v.0 v.1) l) c.in-Some.ensures.items c.loop-other.invariant.3 in (
-      tallied_few desk c.in-Some.other c.in-Some.more (law.few_calls c.in-Some.other) (law.few c.in-Some.other)
+      tallied_few desk c.in-Some.other c.in-Some.more (few_calls c.in-Some.other) (few_numbers c.in-Some.other)
           (all_last (λ v. IsTallied desk v.0 v.1) c.pop-in-loop-other.new.self.items w all),
-      tallied_few desk c.loop-other.pass c.loop-other.tally (law.few_calls c.loop-other.pass) (law.few c.loop-other.pass)
+      tallied_few desk c.loop-other.pass c.loop-other.tally (few_calls c.loop-other.pass) (few_numbers c.loop-other.pass)
           c.loop-other.invariant.2.tallied,
     )
 

@@ -5,6 +5,7 @@ use Rattle.check_workers.specs.Tallies.{IsSum}
 use Rattle.check_workers.proofs.SumLemmas.{report_sum}
 use Rattle.check_sched.specs.declared.call.Call.TheVariants as call
 use Rattle.check_workers.proofs.CallerLemmas.{made_reply}
+use Rattle.check_book.proofs.PublicLaws.{report_reply}
 use Rattle.check_workers.proofs.round.report.Goals as goal
 
 pub returns-in-Reply-clause-came : goal.returns-in-Reply-clause-came
@@ -20,6 +21,6 @@ returns-in-Reply-clause-came g c = record {
 
 pub returns-in-Reply-clause-sums : goal.returns-in-Reply-clause-sums
 returns-in-Reply-clause-sums g c = subst IsSum (sym (c.of_report.ensures 0 c.args.object c.args.run c.check-code.result))
-    (report_sum c.replies.ensures.report (opened_with c.args.desk.now) c.args.object c.args.run c.check-code.result c.in-Reply.reply (pass_of c.args.pass)
+    (report_sum report_reply (opened_with c.args.desk.now) c.args.object c.args.run c.check-code.result c.in-Reply.reply (pass_of c.args.pass)
     (pass_of c.ask-pass.result.0) c.requires.taken
     (rw c.in-Reply.is at c.ask-pass.ensures.answer) c.ask-pass.ensures.legal 0)

@@ -8,6 +8,7 @@ use Rattle.check_workers.specs.Tallies.{IsFew, IsSum}
 use Rattle.check_workers.proofs.SumLemmas.{sum_plus, take_sum}
 use Rattle.check_workers.proofs.RoundLemmas.{came_other, came_taken, reported_few}
 use Rattle.check_workers.proofs.TallyLemmas.{few_tally}
+use Rattle.check_book.proofs.PublicLaws.{take_reply}
 use Rattle.check_workers.proofs.round.round.Goals as goal
 
 pub plus-requires : goal.plus-requires
@@ -32,14 +33,14 @@ returns-in_default g c = record {
       (c.of_take-in_default.ensures (pass_of c.args.pass).own c.args.now);
   sums =
       subst IsSum (sym (c.of_take-in_default.ensures 0 0))
-      (take_sum c.replies.ensures.take (opened_with c.args.desk.now) c.args.now c.in-Reply.reply (pass_of c.args.pass) (pass_of c.ask-pass.result.0)
+      (take_sum take_reply (opened_with c.args.desk.now) c.args.now c.in-Reply.reply (pass_of c.args.pass) (pass_of c.ask-pass.result.0)
       (rw c.in-Reply.is at c.ask-pass.ensures.answer) c.ask-pass.ensures.legal 0 0);
 }
 
 pub returns-in-Taken-clause-sums : goal.returns-in-Taken-clause-sums
 returns-in-Taken-clause-sums g c = rw c.plus.ensures (sum_plus c.of_take.result c.report-pass.result.1
     (subst IsSum (sym (c.of_take.ensures 0 0))
-    (take_sum c.replies.ensures.take (opened_with c.args.desk.now) c.args.now (reply.Taken c.in-Taken.object c.in-Taken.run')
+    (take_sum take_reply (opened_with c.args.desk.now) c.args.now (reply.Taken c.in-Taken.object c.in-Taken.run')
     (pass_of c.args.pass) (pass_of c.ask-pass.result.0)
     (rw c.in-Taken.is at rw c.in-Reply.is at c.ask-pass.ensures.answer) c.ask-pass.ensures.legal 0 0))
     c.report-pass.ensures.sums)

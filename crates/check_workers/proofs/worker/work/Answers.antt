@@ -8,6 +8,7 @@ use Rattle.check_workers.proofs.ShiftLemmas.{IsWorking, both_few, came_counted, 
 use Rattle.check_workers.proofs.ShiftLemmas.{working_few, working_more, working_none, working_stopped}
 use Rattle.check_workers.proofs.SumLemmas.{sum_plus}
 use Rattle.check_workers.proofs.TallyLemmas.{few_tally}
+use Rattle.check_desk.proofs.PublicLaws.{few_calls}
 use Rattle.check_workers.proofs.worker.work.Goals as goal
 
 -- the moments done, the one at work, and those to come
@@ -84,11 +85,11 @@ returns-clause-left g c =
 pub plus-tally-requires : goal.plus-tally-requires
 plus-tally-requires g c = (
   working_few (g.P.Plugin.allows c.args.plugin.now) (take c.loop-now.now-index c.args.moments.now) (pass_of c.args.pass)
-      (pass_of c.loop-now.pass) c.loop-now.tally c.loop-now.invariant.1 (c.every_pass.ensures.few_calls c.loop-now.pass),
+      (pass_of c.loop-now.pass) c.loop-now.tally c.loop-now.invariant.1 (few_calls c.loop-now.pass),
   counted_few (pass_of c.loop-now.pass) (pass_of c.round-back.result.0) c.round-back.result.1
       (came_counted (g.P.Plugin.allows c.args.plugin.now) _ (opened_with c.args.desk.now).room (pass_of c.loop-now.pass)
       (pass_of c.round-back.result.0) c.round-back.result.1 c.round-back.result.2 c.round-back.ensures.came)
-      (c.every_pass.ensures.few_calls c.round-back.result.0),
+      (few_calls c.round-back.result.0),
 )
 
 pub plus-requires : goal.plus-requires
@@ -98,6 +99,6 @@ plus-requires g c = (
       c.loop-now.tally c.round-back.result.1 c.loop-now.invariant.1
       (came_counted (g.P.Plugin.allows c.args.plugin.now) _ (opened_with c.args.desk.now).room (pass_of c.loop-now.pass)
       (pass_of c.round-back.result.0) c.round-back.result.1 c.round-back.result.2 c.round-back.ensures.came)
-      (c.every_pass.ensures.few_calls c.round-back.result.0)),
+      (few_calls c.round-back.result.0)),
   subst IsFew (sym c.of_stop.ensures) (few_tally [] (c.in-Stopped.stop ∷ []) (omega arith) (omega arith)),
 )

@@ -1,6 +1,8 @@
-use Rattle.std.proofs.Common.{ap, ◌∙◌}
+use Rattle.std.proofs.Common.{ap, subst, sym, ◌∙◌}
+use Rattle.check_sched.specs.State.{IsState}
 use Rattle.check_book.specs.BookState.{book_at}
 use Rattle.check_book.specs.declared.book.Log.{Log}
+use Rattle.check_book.proofs.GenerationLaws.{book_is_state}
 use Rattle.check_book.proofs.book.Book.renew.Goals as goal
 
 pub returns-clause-opening : goal.returns-clause-opening
@@ -23,3 +25,8 @@ returns-clause-empty c =
 pub returns-clause-entries : goal.returns-clause-entries
 returns-clause-entries c =
     ap (λ entries. entries.items) (c.begin_anew-earlier.ensures.given ∙ ap (λ (log : Log). log.entries) c.deref_mut.ensures.value)
+
+pub invariant_of-result-clause-opened : goal.invariant_of-result-clause-opened
+invariant_of-result-clause-opened c =
+    let opened = c.begin_anew-earlier.ensures.opened ∙ ap (λ (log : Log). log.sched) c.deref_mut.ensures.value in
+    subst IsState (sym opened) (book_is_state c.args.self)

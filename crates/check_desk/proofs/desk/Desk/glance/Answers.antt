@@ -5,6 +5,7 @@ use Rattle.ticket_lock.specs.Tokens.{seat_of, start_of, words_of}
 use Rattle.check_desk.specs.Desks.{objects_of, standing_after}
 use Rattle.check_desk.proofs.BoardLemmas.{words_opened}
 use Rattle.check_desk.proofs.desk.Desk.glance.Goals.{After-decode, Else-self-object}
+use Rattle.check_book.proofs.PublicLaws.{state_read}
 use Rattle.check_desk.proofs.desk.Desk.glance.Goals as goal
 
 -- the object is there
@@ -18,7 +19,7 @@ read c =
     let book = (start_of desk.lock).book in
     let opened = opening_of book in
     c.decode.ensures ∙ (ap decoded c.glance-seat.ensures.word
-    ∙ c.board_shows_standings.ensures.read_from opened (seat_of c.glance-seat.result.0).seen c.args.object book.opened
+    ∙ state_read opened (seat_of c.glance-seat.result.0).seen c.args.object book.opened
     (there (goal.at.returns-clause-missing c).Else-self-object))
 
 pub glance-seat-requires-clause-place : goal.glance-seat-requires-clause-place

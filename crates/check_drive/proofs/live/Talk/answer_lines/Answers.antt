@@ -12,7 +12,7 @@ loop-number-preserved g c =
     let k = c.loop-number.invariant in
     let a = c.in_ok-answer_next.ensures in
     let t = a.took in
-    (talk_goes_on _ _ _ _ _ _ _ t.0 _ _ _ _ _ _ _ k.0 t.1 (sym t.2.0 ∙ c.if-not-branch.false) t.2.2 t.2.3 t.2.4, a.line, a.room)
+    (talk_goes_on _ _ _ _ _ _ _ t.0 _ _ _ _ _ _ _ k.0 t.1 (sym t.2.follows ∙ c.if-not-branch.false) t.2.hand_is t.2.state_is t.2.wrote, a.line, a.room)
 
 pub returns-in_err-answer_next-clause-lines : goal.returns-in_err-answer_next-clause-lines
 returns-in_err-answer_next-clause-lines g c =
@@ -32,7 +32,7 @@ pub returns-then-not-branch-clause-lines : goal.returns-then-not-branch-clause-l
 returns-then-not-branch-clause-lines g c =
     let k = c.loop-number.invariant in
     let t = c.in_ok-answer_next.ensures.took in
-    talk_ends _ _ _ _ _ t.0 _ _ _ _ _ _ _ _ _ _ k.0 t.1 (sym t.2.0 ∙ c.if-not-branch.true) (t.2.1 c.if-not-branch.true) t.2.4 c.flush.ensures.kept c.as_written.ensures
+    talk_ends _ _ _ _ _ t.0 _ _ _ _ _ _ _ _ _ _ k.0 t.1 (sym t.2.follows ∙ c.if-not-branch.true) (t.2.ended c.if-not-branch.true) t.2.wrote c.flush.ensures.kept c.as_written.ensures
     c.flush.ensures.kind
 
 pub returns-then-not-branch-clause-spent : goal.returns-then-not-branch-clause-spent

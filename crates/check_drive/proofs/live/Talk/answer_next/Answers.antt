@@ -43,8 +43,18 @@ returns-clause-took g c =
     let t = c.in_ok-whole.ensures.took in
     let line = first_line_of (c.args.self.now.at_hand ++ t.0) in
     let kept = t.2.line_is ∙ ap (λ i. front_of i line) c.requires.0 in
-    let a = written_ok _ _ c.in_ok-as_written.ensures (c.answer.ensures.answered line kept) in
-    (t.0, t.1, (t.2.whole_is, t.2.ended, c.answer.ensures.at_hand ∙ t.2.rest_is, a.0, wrote_behind _ _ _ _ c.in_ok-whole.ensures.kept a.1), tt)
+    let a = written_ok _ _ c.in_ok-as_written.ensures (c.answer.ensures.answered line kept) in (
+      t.0,
+      t.1,
+      record {
+        follows = t.2.whole_is;
+        ended = t.2.ended;
+        hand_is = c.answer.ensures.at_hand ∙ t.2.rest_is;
+        state_is = a.0;
+        wrote = wrote_behind _ _ _ _ c.in_ok-whole.ensures.kept a.1;
+      },
+      tt,
+    )
 
 pub returns-clause-line : goal.returns-clause-line
 returns-clause-line g c =

@@ -9,14 +9,17 @@ use Rattle.check_handles.proofs.Books.{book_setup}
 use Rattle.check_handles.proofs.desk_pass.DeskPass.close.Goals as goal
 
 pub invariant_of-result : goal.invariant_of-result
-invariant_of-result c =
-    let opened : opening_of c.in-Ok-close.book ≡ opened_with (arc_value c.args.self.shared).desk =
-    c.in-Ok-close.ensures.opening ∙ ap (λ (s : Shared). opened_with s.desk) c.in-Ok.ensures.ok in
-    record { same = c.args.self.named ∙ sym (book_setup c.in-Ok-close.book ∙ ap (λ (s : BookState). s.sched.setup) opened) }
+invariant_of-result c = record {
+  same = c.in-Ok.field-0.named
+      ∙ sym (book_setup c.in-Ok-close.book ∙ ap (λ (s : BookState). s.sched.setup) c.in-Ok-close.ensures.opening);
+}
 
 pub returns-in-Ok-close-clause-closed : goal.returns-in-Ok-close-clause-closed
 returns-in-Ok-close-clause-closed c =
-    let all : passes_of (arc_value c.args.self.shared).desk ≤ length (pass_of c.in-Resting.pass).numbers =
-    omega (arith, c.args.self.all_are, c.gathered.ensures.numbers, c.if-gathered-all.false) in
-    rw c.in-Resting.is
-    (c.in-Ok-close.ensures.opening ∙ ap (λ (s : Shared). opened_with s.desk) c.in-Ok.ensures.ok, all, c.in-Ok-close.ensures.history, c.in-Ok-close.ensures.calls)
+    let before = arc_value c.args.self.shared in
+    let opened : opening_of c.in-Ok-close.book ≡ opened_with before.desk =
+    c.in-Ok-close.ensures.opening ∙ ap (λ (s : Shared). opened_with s.desk) c.in-Ok.ensures.ok in
+    let passes : before.passes ≡ c.deref.result.now.passes = ap (λ (s : Shared). s.passes) (sym c.deref.ensures) in
+    let all : passes_of before.desk ≤ length (pass_of c.in-Resting.pass).numbers =
+    omega (arith, before.passes_are, passes, c.gathered.ensures.numbers, c.if-gathered-deref.false) in
+    rw c.in-Resting.is (opened, all, c.in-Ok-close.ensures.history, c.in-Ok-close.ensures.calls)

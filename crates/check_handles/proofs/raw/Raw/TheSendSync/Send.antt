@@ -8,15 +8,15 @@ use denote.Param.Send.{IsSend, part_keyless, owning_send, plain_send}
 use denote.RawPtr.{Ptr, block_ptr, null_ptr}
 use Rattle.std.proofs.Crossing.{frees}
 use Rattle.check_handles.specs.Held.{heap, held}
-use Rattle.check_handles.specs.declared.lodged.Lodged.{Lodged}
-use Rattle.check_handles.specs.contracts.lodged.Lodged.{the_row as lodged_row}
-use Rattle.check_handles.proofs.lodged.Lodged.TheSendSync.{the_send as lodged_send}
+use Rattle.check_handles.specs.declared.target.HandleTarget.{HandleTarget}
+use Rattle.check_handles.specs.contracts.target.HandleTarget.{the_row as target_row}
+use Rattle.check_handles.proofs.target.HandleTarget.TheSendSync.{the_send as target_send}
 use Rattle.check_handles.specs.contracts.raw.Raw.{the_row, the_type}
 
-held_keyless : (p : Ptr) (x : Option Lodged) → Keyless (held lodged_row p x)
+held_keyless : (p : Ptr) (x : Option HandleTarget) → Keyless (held target_row p x)
 held_keyless p None = tt
-held_keyless (block_ptr b o) (Some x) = (part_keyless lodged_row lodged_send full_share x b o, frees.frees heap (raw (lone lodged_row.mir)) (block_ptr b o))
-held_keyless null_ptr (Some x) = (tt, frees.frees heap (raw (lone lodged_row.mir)) null_ptr)
+held_keyless (block_ptr b o) (Some x) = (part_keyless target_row target_send full_share x b o, frees.frees heap (raw (lone target_row.mir)) (block_ptr b o))
+held_keyless null_ptr (Some x) = (tt, frees.frees heap (raw (lone target_row.mir)) null_ptr)
 
 pub send : IsSend the_row
 send = owning_send the_type (plain_send _ _ _ _ _, tt) (λ d. held_keyless d.at d.value) (λ k d w. tt)

@@ -1,7 +1,7 @@
 -- A box is taken apart by `into_raw_with_allocator`; the parts own what it owned.
 use Rattle.std.proofs.Common.{◌≡◌, [], ◌∷◌, ◌++◌, refl, ap, ◌∙◌}
 use mir.Raw.{raw as bare}
-use mir.Val.{Val, vstruct, of_list}
+use mir.Val.{vstruct, of_list}
 use mir.MapTy.{inst_fn}
 use base.Logic.{emp, never, id⊢, fst∗}
 use types.Logic.{sem}

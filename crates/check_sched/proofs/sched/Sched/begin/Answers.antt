@@ -2,7 +2,7 @@ use Rattle.std.proofs.Common.{◌<◌, ap, arith, refl, ◌∙◌}
 use Rattle.check_sched.specs.Sched.{state_of}
 use Rattle.check_sched.specs.State.{State}
 use Rattle.check_sched.specs.Step.{is_open}
-use Rattle.check_sched.specs.declared.sched.TheConstants.{MAX_RUNS}
+use Rattle.check_saved.specs.declared.limits.TheConstants.{MAX_RUNS}
 use Rattle.check_sched.proofs.TakeLaws.{taken_is_state}
 use Rattle.check_sched.proofs.sched.Sched.begin.Goals as goal
 

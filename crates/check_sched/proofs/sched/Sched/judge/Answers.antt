@@ -1,4 +1,4 @@
-use Rattle.std.proofs.Common.{◌≡◌, ◌<◌, ◌∙◌, ap, subst, sym, arith, length, set, ℕ, Bool, List, Some, refl, true}
+use Rattle.std.proofs.Common.{◌≡◌, ◌<◌, ◌∙◌, ap, subst, sym, arith, length, set, Bool, List, Some, refl, true}
 use Rattle.std.specs.Prelude.{is_some, option_and_then, slice_get}
 use Rattle.check_objects.specs.Configuration.{object_count}
 use Rattle.check_rules.specs.declared.standing.Standing.{Standing}
@@ -7,7 +7,6 @@ use Rattle.check_rules.specs.Flapping.{is_flapping, kept_after}
 use Rattle.check_rules.specs.State.{is_another_state}
 use Rattle.check_sched.specs.Scheduling.{ended}
 use Rattle.check_saved.specs.Scheduling.{Scheduling}
-use Rattle.check_sched.specs.declared.sched.Sched.TheInside.{Inside}
 use Rattle.check_sched.specs.declared.call.Reply.{Reply}
 use Rattle.check_sched.specs.declared.call.Reply.TheVariants as reply
 use Rattle.check_sched.specs.State.{IsStandingOf, State, next_of, results_at}
@@ -18,13 +17,9 @@ use Rattle.check_sched.specs.Step.{found_in, judged_in, report_told, reported, s
 use Rattle.check_sched.proofs.FlappingLaws.{results_here}
 use Rattle.check_sched.proofs.IntervalLaws.{intervals_each, intervals_read}
 use Rattle.check_sched.proofs.ReportLaws.{is_time_holds, judged_is_standing, next_already, reported_is_state, standing_of_state, standing_read, told_answers}
-use Rattle.check_sched.proofs.SteadyLaws.{marks_after, steady_after}
+use Rattle.check_sched.proofs.SteadyLaws.{count_there, marks_after, steady_after}
 use Rattle.check_sched.proofs.UpdateLaws.{length-update_at, set_is_update}
 use Rattle.check_sched.proofs.sched.Sched.judge.Goals as goal
-
--- an object of the setup has its places
-count_there : (inside : Inside) (n : ℕ) (old : State) → state_of inside ≡ old → n < object_count old.setup → n < object_count inside.setup
-count_there inside n old e l = let count = ap (λ (s : State). object_count s.setup) e in omega (arith, l, count)
 
 pub add-flapping-requires : goal.add-flapping-requires
 add-flapping-requires c =

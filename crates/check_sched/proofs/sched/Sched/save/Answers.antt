@@ -1,7 +1,7 @@
 use Rattle.std.proofs.Common.{◌≡◌, ap, subst, sym}
 use Rattle.check_saved.specs.Saved.{IsSaved, Saved}
 use Rattle.check_sched.specs.Saved.{saved_of}
-use Rattle.check_sched.specs.State.{State}
+use Rattle.check_sched.specs.State.{IsState, State}
 use Rattle.check_sched.proofs.KeepingLaws.{saved_of_state}
 use Rattle.check_sched.proofs.sched.Sched.save.Goals as goal
 
@@ -13,4 +13,4 @@ of-requires c =
       runs = ap (λ (s : State). s.runs) (sym c.self.view_is) i;
       objects = sym c.in_ok-objects.ensures i;
     } in
-    subst IsSaved same (saved_of_state c.args.self.now c.is_state.ensures)
+    subst IsSaved same (saved_of_state c.args.self.now (subst IsState c.self.view_is c.self.invariant.state))

@@ -22,10 +22,10 @@ returns c =
     let there : n < length s.standings = omega (arith, c.requires, count, each) in
     let stands = standing_read s.standings n c.index.result.now there c.index.ensures in
     let kept = subst (λ r. IfOk r (λ copy. copy.items ≡ results_at s.results n)) c.in_ok-results.was c.copy.ensures in
-    let state : Scheduling = record { next = c.next.result; run = c.saved_run.result; enabled = c.is_enabled.result; forced = c.is_forced.result } in
+    let state : Scheduling = record { next = c.next.result; run = c.run.result; enabled = c.is_enabled.result; forced = c.is_forced.result } in
     let same : state ≡ c.at-state.result.now = λ i. record {
       next = c.next.ensures i;
-      run = c.saved_run.ensures i;
+      run = c.run.ensures i;
       enabled = c.is_enabled.ensures i;
       forced = c.is_forced.ensures i;
     } in

@@ -14,23 +14,19 @@ use Rattle.check_sched.specs.State.{State, next_of, standing_at}
 use Rattle.check_sched.specs.Steady.{IsSteadyIn}
 use Rattle.check_sched.specs.Step.{report_told, with_object}
 use Rattle.check_sched.proofs.IntervalLaws.{AreRead, intervals_each, intervals_read}
-use Rattle.check_sched.proofs.SteadyLaws.{report_timed, steady_answer, steady_next}
+use Rattle.check_sched.proofs.SteadyLaws.{count_there, report_timed, steady_answer, steady_next}
 use Rattle.check_sched.proofs.sched.Sched.stay.Goals as goal
-
--- an object of the setup
-there : (inside : Inside) (n : ℕ) (old : State) → state_of inside ≡ old → n < object_count old.setup → n < object_count inside.setup
-there inside n old e l = let count = ap (λ (s : State). object_count s.setup) e in omega (arith, l, count)
 
 pub index-intervals-requires : goal.index-intervals-requires
 index-intervals-requires c =
-    let known = there c.self.inside c.args.object _ c.self.view_is c.requires.there in
+    let known = count_there c.self.inside c.args.object _ c.self.view_is c.requires.there in
     let each = intervals_each c.self.inside.setup c.self.inside.intervals.items c.self.invariant.intervals in
     omega (arith, known, each)
 
 -- the intervals that are read are the object's
 read : (inside : Inside) (n : ℕ) (old : State) (x : Intervals) → IsKept inside → state_of inside ≡ old → n < object_count old.setup
     → x ≡ get_or inside.intervals.items n x → AreRead inside.setup n x
-read inside n old x kept e l is = intervals_read inside.setup n inside.intervals.items x kept.state.valid_setup kept.intervals (there inside n old e l) is
+read inside n old x kept e l is = intervals_read inside.setup n inside.intervals.items x kept.state.valid_setup kept.intervals (count_there inside n old e l) is
 
 -- the next time is that of the standing that stays
 next_of_steady : (inside : Inside) (n start : ℕ) (already next : Option ℕ) (old : State) (x : Intervals) → IsKept inside → state_of inside ≡ old
@@ -68,7 +64,7 @@ answer : (c : goal.After-change) → let s = state_of c.self.inside in
 answer c =
     let s = state_of c.self.inside in
     let steady = subst (λ t. IsSteadyIn t c.args.object) (sym c.self.view_is) c.requires.steady in
-    steady_answer s c.args.object c.args.start c.args.already (there c.self.inside c.args.object _ c.self.view_is c.requires.there) steady
+    steady_answer s c.args.object c.args.start c.args.already (count_there c.self.inside c.args.object _ c.self.view_is c.requires.there) steady
     ∙ (λ i. (with_object c.args.object (ended (sym (next c) i)) s, reply.Standing (standing_at s.standings c.args.object) false (sym (next c) i)))
 
 pub returns-clause-state : goal.returns-clause-state

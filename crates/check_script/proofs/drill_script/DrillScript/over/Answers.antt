@@ -7,6 +7,6 @@ use Rattle.check_script.proofs.drill_script.DrillScript.over.Goals as goal
 
 pub returns : goal.returns
 returns c =
-    drill_is c.args.read.setup c.args.read.commands.items _ _
-    (c.in_ok-codes.ensures ∙ ap (λ n. returns_below n (map drill_command c.args.read.commands.items)) c.len.ensures.count)
+    drill_is c.args.setup c.args.commands.items _ _
+    (c.in_ok-codes.ensures ∙ ap (λ n. returns_below n (map drill_command c.args.commands.items)) c.len.ensures.count)
     (c.in_ok-moments.ensures ∙ ap (filter_map (λ x. moment_of (drill_command x))) c.deref.ensures.value)

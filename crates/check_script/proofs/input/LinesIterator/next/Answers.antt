@@ -1,13 +1,13 @@
-use Rattle.std.proofs.Common.{◌≡◌, sym, ◌∙◌, ap, length, arith, ◌∷◌, take, drop, ◌-◌}
+use Rattle.std.proofs.Common.{◌≡◌, sym, ◌∙◌, ap, length, arith, ◌∷◌}
 use Rattle.check_script.proofs.InputLemmas.{lines_next}
 use Rattle.check_script.specs.Input.{lines_of}
 use Rattle.check_script.proofs.input.LinesIterator.next.Goals as goal
 
 pub returns-clause-steps : goal.returns-clause-steps
-returns-clause-steps c = lines_next _ _ _ (sym c.is_empty.ensures ∙ c.if-is_empty.false) c.first_line-line.ensures c.min-next.ensures
+returns-clause-steps c =
+    lines_next _ _ _ (sym c.is_empty.ensures ∙ c.if-is_empty.false) c.split_line.ensures.line c.split_line.ensures.rest
 
 pub returns-clause-goes : goal.returns-clause-goes
 returns-clause-goes c =
-    let e : lines_of c.args.self.now.rest.now ≡ c.first_line-line.result.now ∷ lines_of
-    (take (length c.args.self.now.rest.now - c.min-next.result) (drop c.min-next.result c.args.self.now.rest.now)) = returns-clause-steps c in
+    let e = returns-clause-steps c in
     record { on = λ _. (tt, tt, omega (arith, ap length e)); keeps = tt; rests = λ _. tt }

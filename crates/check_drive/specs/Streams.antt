@@ -1,0 +1,15 @@
+-- What a reader has left and a writer holds, before a call and after it.
+use Rattle.std.specs.Prelude.{ℕ, List, Option}
+
+-- each is None where it isn't known
+pub record Streams : Type 0 where
+  -- what the reader has left, before and after
+  pub had : Option (List ℕ)
+  pub left : Option (List ℕ)
+  -- what the writer holds, before and after
+  pub held : Option (List ℕ)
+  pub holds : Option (List ℕ)
+
+-- those of a reader, before and after, and of a writer, before and after
+abbrev pub streams : Option (List ℕ) → Option (List ℕ) → Option (List ℕ) → Option (List ℕ) → Streams
+streams had left held holds = record { had = had; left = left; held = held; holds = holds }

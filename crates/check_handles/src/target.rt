@@ -1,0 +1,90 @@
+//! What a handle leads to: a setup, a pass of a desk, the book of a closed desk, or the entries of an
+//! earlier book.
+
+ghost use Rattle.std.specs.Prelude.{◌≡◌, option_map};
+ghost use Rattle.check_book.specs.Books.{sched_of};
+
+use crate::desk_pass::DeskPass;
+use check_book::Book;
+use check_objects::Setup;
+use check_sched::{Call, Reply};
+use ticket_steps::{Entry, Kept};
+
+/// A setup for the book of a desk, and a second copy of it for the names. Passes read names while the
+/// book, which owns the first copy, is in use.
+#[derive(Drop)]
+pub struct NamedSetup {
+    pub(crate) setup: Setup,
+    pub(crate) names: Setup,
+    ghost same: { names ≡ setup },
+}
+
+/// A book, and a second copy of its setup for the names.
+#[derive(Drop)]
+pub struct NamedBook {
+    /// The book.
+    pub book: Book,
+    /// The setup of the book.
+    pub(crate) names: Setup,
+    ghost same: { names ≡ (sched_of book).setup },
+}
+
+/// What a handle leads to.
+#[derive(Drop)]
+pub enum HandleTarget {
+    /// Nothing: only while a call is made.
+    Nothing,
+    /// A setup, on which a desk can be opened.
+    Setup(NamedSetup),
+    /// A pass of a desk.
+    Pass(DeskPass),
+    /// The book of a closed desk, or a book that resumes a saved state.
+    Book(NamedBook),
+    /// The entries that a book had when it was renewed.
+    History(Vec<Entry<Call, Reply>>),
+}
+
+/// The value. Each call of this function proves that several threads may read the value at once.
+fn shared<T: Sync>(value: &T) -> &T
+    ensures { result.now ≡ value.now }
+{
+    value
+}
+
+impl HandleTarget {
+    ghost use Rattle.check_handles.specs.Handles.{book_by, named_by};
+    ghost use Rattle.check_handles.specs.Histories.{entries_by};
+
+    /// The setup that names the objects. A history has none.
+    pub fn setup(&self) -> Option<&Setup>
+        ensures { option_map (λ setup. setup.now) result ≡ named_by self.now }
+    {
+        match self {
+            HandleTarget::Setup(named) => Some(shared(&named.setup)),
+            HandleTarget::Pass(pass) => Some(&shared(&pass.shared).names),
+            HandleTarget::Book(named) => Some(shared(&named.names)),
+            HandleTarget::History(_) | HandleTarget::Nothing => None,
+        }
+    }
+
+    /// The book, if the target is one.
+    pub fn book(&self) -> Option<&Book>
+        ensures { option_map (λ book. book.now) result ≡ book_by self.now }
+    {
+        match self {
+            HandleTarget::Book(named) => Some(shared(&named.book)),
+            _ => None,
+        }
+    }
+
+    /// The entries of a book or a history, oldest first.
+    pub fn entries(&self) -> Option<&[Entry<Call, Reply>]>
+        ensures { option_map (λ entries. entries.now) result ≡ entries_by self.now }
+    {
+        match self {
+            HandleTarget::Book(named) => Some(shared(&named.book).entries()),
+            HandleTarget::History(entries) => Some(shared(entries).as_slice()),
+            _ => None,
+        }
+    }
+}

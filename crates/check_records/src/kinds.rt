@@ -1,0 +1,121 @@
+//! The numbers of calls, replies and refusals, named as in `nagsched.h`.
+
+/// A call that asks for the next check.
+pub(crate) const CALL_TAKE: u32 = 0;
+
+/// A call that reports the result of a check.
+pub(crate) const CALL_REPORT: u32 = 1;
+
+/// A call that abandons a check.
+pub(crate) const CALL_ABANDON: u32 = 2;
+
+/// A call that sets the time of a next check.
+pub(crate) const CALL_RESCHEDULE: u32 = 3;
+
+/// A call that switches active checks on or off.
+pub(crate) const CALL_ENABLE: u32 = 4;
+
+/// A call that asks for the status of an object.
+pub(crate) const CALL_STATUS: u32 = 5;
+
+/// The reply `Taken`.
+pub(crate) const REPLY_TAKEN: u32 = 0;
+
+/// The reply `PutOff`.
+pub(crate) const REPLY_PUT_OFF: u32 = 1;
+
+/// The reply `Idle`.
+pub(crate) const REPLY_IDLE: u32 = 2;
+
+/// The reply `AtLimit`.
+pub(crate) const REPLY_AT_LIMIT: u32 = 3;
+
+/// The reply `Standing`.
+pub(crate) const REPLY_STANDING: u32 = 4;
+
+/// The reply `Freed`.
+pub(crate) const REPLY_FREED: u32 = 5;
+
+/// The reply `Done`.
+pub(crate) const REPLY_DONE: u32 = 6;
+
+/// The refusal of a call that names no object of the setup.
+pub(crate) const REPLY_UNKNOWN_OBJECT: u32 = 7;
+
+/// The refusal of a call with a time past its limit.
+pub(crate) const REPLY_TIME_RANGE: u32 = 8;
+
+/// The refusal of a report or an abandon for an object that isn't being checked.
+pub(crate) const REPLY_NOT_RUNNING: u32 = 9;
+
+/// The refusal of a report or an abandon under another run's number.
+pub(crate) const REPLY_WRONG_RUN: u32 = 10;
+
+/// The refusal of a take after the last run number.
+pub(crate) const REPLY_RUNS_SPENT: u32 = 11;
+
+/// A document over the limit of its length.
+pub(crate) const REFUSAL_TOO_LONG: u32 = 0;
+
+/// A document that isn't JSON.
+pub(crate) const REFUSAL_NOT_JSON: u32 = 1;
+
+/// A value of a document with the wrong shape.
+pub(crate) const REFUSAL_SHAPE: u32 = 2;
+
+/// A document with too many objects or dependencies.
+pub(crate) const REFUSAL_TOO_MANY: u32 = 3;
+
+/// A name of a document that isn't allowed.
+pub(crate) const REFUSAL_BAD_NAME: u32 = 4;
+
+/// A name that a document has twice.
+pub(crate) const REFUSAL_DUPLICATE: u32 = 5;
+
+/// A name of a host that the document doesn't have.
+pub(crate) const REFUSAL_UNKNOWN_HOST: u32 = 6;
+
+/// A name of a master that the document doesn't have.
+pub(crate) const REFUSAL_UNKNOWN_MASTER: u32 = 7;
+
+/// A number of a document that is out of its range.
+pub(crate) const REFUSAL_RANGE: u32 = 8;
+
+/// A cycle of dependencies.
+pub(crate) const REFUSAL_DEPENDENCY_CYCLE: u32 = 9;
+
+/// A cycle of parents.
+pub(crate) const REFUSAL_PARENT_CYCLE: u32 = 10;
+
+/// A saved state over the limit of its length.
+pub(crate) const REFUSAL_SAVED_TOO_LONG: u32 = 11;
+
+/// A saved state that isn't JSON.
+pub(crate) const REFUSAL_SAVED_NOT_JSON: u32 = 12;
+
+/// A saved state of another format.
+pub(crate) const REFUSAL_SAVED_VERSION: u32 = 13;
+
+/// A value of a saved state with the wrong shape.
+pub(crate) const REFUSAL_SAVED_SHAPE: u32 = 14;
+
+/// A saved state with too many objects.
+pub(crate) const REFUSAL_SAVED_TOO_MANY: u32 = 15;
+
+/// A name of a saved state that isn't allowed.
+pub(crate) const REFUSAL_SAVED_BAD_NAME: u32 = 16;
+
+/// A name that a saved state has twice.
+pub(crate) const REFUSAL_SAVED_DUPLICATE: u32 = 17;
+
+/// A number of a saved state that is out of its range.
+pub(crate) const REFUSAL_SAVED_RANGE: u32 = 18;
+
+/// A saved state that no scheduler can be in.
+pub(crate) const REFUSAL_SAVED_UNLAWFUL: u32 = 19;
+
+/// Out of memory while a saved state is read. The header doesn't have this number: C gets a status.
+pub(crate) const REFUSAL_SAVED_MEMORY: u32 = 20;
+
+/// Out of memory while a document is read. The header doesn't have this number: C gets a status.
+pub(crate) const REFUSAL_MEMORY: u32 = 21;

@@ -1,0 +1,20 @@
+//! The whole of what a job prints, and the flush behind it.
+ghost use Rattle.std.specs.Prelude.{IsOkUnless, OnErr, OnOk};
+ghost use Rattle.std.specs.Io.KnownBytes.{Appends};
+ghost use Rattle.check_text.specs.Output.{WroteFront};
+
+use check_script::DriveError;
+use check_text::{flush, write_text};
+use std::io::Write;
+
+/// Writes a text and flushes it. An Err is `Write`, and a prefix of the text was written then.
+pub(crate) fn print_text<W: Write>(writer: &mut W, text: &[u8]) -> Result<(), DriveError>
+    ensures written { OnOk result
+        (Appends (W.contents writer.old) (W.contents writer.new) text.now) }
+    ensures fault { OnErr result
+        (WroteFront (W.contents writer.old) (W.contents writer.new) text.now) }
+    ensures only { IsOkUnless result DriveError.Write }
+{
+    write_text(writer, text)?;
+    flush(writer)
+}

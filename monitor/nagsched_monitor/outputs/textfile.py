@@ -1,0 +1,32 @@
+"""The figures of a site as a file for node_exporter's textfile collector: a process next to the monitor, which removes the file when it ends.
+
+It is handed the site's folder and the file.
+"""
+import pathlib
+import sys
+
+from ..program.helper_process import ignore_signals, is_ended
+from ..site.groups_file import GroupsFile
+from .metrics import metrics, signs_of
+from .nagios_files import replaced
+from .status_query import NotShown, read_picture
+
+# How often the file is written, in seconds.
+EVERY = 15.0
+
+
+def main() -> int:
+    folder, file = map(pathlib.Path, sys.argv[1:])
+    ignore_signals()
+    groups, site, trouble = GroupsFile(folder), folder.resolve().name, ""
+    while True:
+        try:
+            replaced(file, metrics(read_picture(folder), groups.read(), signs_of(folder), site).encode(errors="replace"))
+            trouble = ""
+        except (NotShown, OSError) as fault:
+            if not trouble:
+                print(f"textfile: {file} isn't written: {fault}", flush=True)
+            trouble = str(fault)
+        if is_ended(EVERY):
+            file.unlink(missing_ok=True)
+            return 0

@@ -1,0 +1,57 @@
+"""Which jobs a worker takes."""
+import time
+from typing import Any, Callable, Dict, List, Sequence, Tuple
+
+from .gearman_seal import Seal
+
+LONGEST = 86_400.0
+# How far the clocks of the two machines may be apart, in seconds.
+SKEW = 60.0
+
+
+class Refusal(Exception):
+    """Why a job isn't taken."""
+
+
+class Door:
+    """Which jobs a worker takes. If it has a key: those that are signed with it, of its queues, in their time, and each once."""
+
+    def __init__(self, seal: Seal, queues: Sequence[str], clock: Callable[[], float] = time.time) -> None:
+        self._seal, self._queues, self._clock = seal, queues, clock
+        # The jobs that were taken, each with the time from which it is refused anyway.
+        self._taken: Dict[str, float] = {}
+        self._swept = clock()
+
+    def job_of(self, document: Dict[str, Any]) -> Tuple[List[str], float]:
+        """The command line and the limit of the job that a document describes. A `Refusal` if it isn't taken."""
+        words, limit = document.get("words"), number_in(document, "limit")
+        if not isinstance(words, list) or not words or not all(isinstance(word, str) and "\0" not in word for word in words):
+            raise Refusal("it has no command")
+        if not 0 < limit <= LONGEST:
+            raise Refusal("it has no limit")
+        if self._seal.is_signing():
+            self._take(document)
+        return words, limit
+
+    def _take(self, document: Dict[str, Any]) -> None:
+        number, begin, end, now = document.get("job"), number_in(document, "time"), number_in(document, "until"), self._clock()
+        if not isinstance(number, str) or not begin <= end <= begin + LONGEST:
+            raise Refusal("it has no number or no time")
+        if document.get("queue") not in self._queues:
+            raise Refusal("it is of another queue")
+        if not begin - SKEW <= now <= end + SKEW:
+            raise Refusal(f"its time is {now - begin:.0f} seconds from this machine's")
+        if now - self._swept >= SKEW:
+            self._taken = {each: until for each, until in self._taken.items() if until >= now}
+            self._swept = now
+        if number in self._taken:
+            raise Refusal("it was taken before")
+        self._taken[number] = end + SKEW
+
+
+def number_in(document: Dict[str, Any], member: str) -> float:
+    """A number of a document. A `Refusal` if it isn't a number of reasonable size."""
+    value = document.get(member)
+    if isinstance(value, bool) or not isinstance(value, (int, float)) or not abs(value) < 1e12:
+        raise Refusal(f"its {member} is no number")
+    return float(value)

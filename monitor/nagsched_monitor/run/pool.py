@@ -1,0 +1,236 @@
+"""The runner processes of one name: those of this machine, or the one that reaches a runner elsewhere. One that ends is started again."""
+import collections
+import os
+import subprocess
+from dataclasses import dataclass, field
+from typing import Callable, Deque, Dict, List, Optional, Sequence, Tuple
+
+from ..core.text import plain
+from ..program.turn_timer import Watch
+from .jobs import Event, Finished, Gone, Job, Lost, command_line, number_of, read_line, result_of
+
+READ_BYTES = 65_536
+# The longest line of a runner. One that is longer ends its runner.
+LONGEST_LINE = 1_048_576
+# From one start of a runner to the next at least, in seconds: twice as long each time, up to the longest; one that ran for so long begins with the first again.
+PAUSE, LONGEST_PAUSE = 1.0, 60.0
+# How long a runner may take to end, and how much later than its limit a plugin's result comes at the latest, in seconds.
+GRACE, LATE = 5.0, 10.0
+
+
+@dataclass
+class Process:
+    """One runner process, and what it was handed: each job with the time at which its result is late."""
+
+    process: "subprocess.Popen[bytes]"
+    begun: float
+    jobs: Dict[int, Tuple[Job, float]] = field(default_factory=dict)
+    stuck: Dict[int, Job] = field(default_factory=dict)
+    unread: bytes = b""
+    unsent: bytearray = field(default_factory=bytearray)
+    # The files by which it reads jobs, and writes results.
+    reads_from: int = field(init=False)
+    writes_to: int = field(init=False)
+
+    def __post_init__(self) -> None:
+        assert self.process.stdin is not None and self.process.stdout is not None
+        self.reads_from, self.writes_to = self.process.stdin.fileno(), self.process.stdout.fileno()
+
+    def end(self, grace: float = GRACE) -> object:
+        """Its status. It is left to itself if it doesn't end. Its pipes are closed."""
+        for pipe in (self.process.stdin, self.process.stdout):
+            if pipe is not None:
+                pipe.close()
+        for seconds in (grace, GRACE):
+            try:
+                return self.process.wait(timeout=seconds)
+            except subprocess.TimeoutExpired:
+                self.process.kill()
+        return "unknown"
+
+
+class Pool:
+    """Processes of one command. Without `slots` they have any number of jobs at once, and a job waits for them as long as it takes."""
+
+    def __init__(self, name: str, words: Sequence[str], count: int, slots: Optional[int], wait: float, log: Callable[[str], None],
+                 watch: Watch, unwatch: Callable[[int], None], clock: Callable[[], float]) -> None:
+        self.name, self.words, self._count, self.slots, self.wait = name, tuple(words), count, slots, wait
+        self._log, self._watch, self._unwatch, self._clock = log, watch, unwatch, clock
+        self._called = "a runner" if slots is None else f"the runner {name}"
+        self._events: List[Event] = []
+        self._number = 0
+        # By the files to which they write.
+        self.processes: Dict[int, Process] = {}
+        # The jobs that no process was handed yet, each with the time at which it came.
+        self._waiting: Deque[Tuple[Job, float]] = collections.deque()
+        self._trouble = ""
+        self._pause, self._not_before = PAUSE, 0.0
+        self._begin_missing()
+
+    def _begin_missing(self) -> None:
+        """Begins the processes that are missing. If there is no room for one now, it is tried again at a later flush."""
+        if len(self.processes) >= self._count or self._clock() < self._not_before:
+            return
+        try:
+            while len(self.processes) < self._count:
+                process = Process(subprocess.Popen(self.words, stdin=subprocess.PIPE, stdout=subprocess.PIPE, bufsize=0, start_new_session=True), self._clock())
+                os.set_blocking(process.writes_to, False)
+                os.set_blocking(process.reads_from, False)  # what it doesn't read at once doesn't hold up the monitor
+                self.processes[process.writes_to] = process
+                self._watch(process.writes_to, self.read)
+            self._trouble = ""
+        except OSError as error:
+            if not self._trouble:
+                self._log(f"{self._called} can't be started: {error}; it is tried again")
+            self._trouble = str(error)
+            self._not_before = self._clock() + PAUSE
+
+    # ---- jobs
+
+    def start(self, job: Job) -> None:
+        self._waiting.append((job, self._clock()))
+
+    def flush(self) -> None:
+        """Hands on the jobs for which there is room, with one write for each process."""
+        self._begin_missing()
+        now = self._clock()
+        process = self._least_busy()
+        while self._waiting and process is not None:
+            job, _ = self._waiting.popleft()
+            self._number += 1
+            process.jobs[self._number] = job, now + job.limit + LATE + (0.0 if self.slots is None else self.wait)
+            process.unsent += b'{"job":%d,%s\n' % (self._number, command_line(tuple(job.words), job.limit))
+            process = self._least_busy()
+        while self.slots is not None and self._waiting and now - self._waiting[0][1] >= self.wait:
+            self._lose(Lost(self._waiting.popleft()[0], f"the runner {self.name} didn't take it"))
+        for process in list(self.processes.values()):
+            try:
+                while process.unsent:
+                    del process.unsent[: os.write(process.reads_from, process.unsent)]
+            except BlockingIOError:
+                pass  # the rest goes at the next time
+            except OSError:
+                self._restart(process)
+
+    def _least_busy(self) -> Optional[Process]:
+        """The process that has the fewest jobs, if it has room for one more."""
+        least = min(self.processes.values(), key=lambda process: len(process.jobs), default=None)
+        return least if least is None or self.slots is None or len(least.jobs) < self.slots else None
+
+    def _lose(self, event: Lost) -> None:
+        if not event.is_local:
+            self._log(f"{event.job.name}: run {event.job.run} is given up: {event.why}")
+        self._events.append(event)
+
+    # ---- results
+
+    def read(self, file: int) -> None:
+        """Reads the results of a process."""
+        process = self.processes[file]
+        try:
+            data = os.read(file, READ_BYTES)
+        except BlockingIOError:
+            return
+        if not data:
+            self._restart(process)
+            return
+        *lines, process.unread = (process.unread + data).split(b"\n")
+        for line in lines:
+            self._hear(process, line)
+        if len(process.unread) > LONGEST_LINE:
+            self._log(f"{self._called} wrote a line of more than {LONGEST_LINE} bytes; it is killed")
+            self._restart(process)
+
+    def _hear(self, process: Process, line: bytes) -> None:
+        """One line of a runner; a bad one is logged, and the run that it speaks of is lost, if that can be read."""
+        number = -1
+        try:
+            members = read_line(line)
+            if "error" in members:
+                self._log(f"{self._called}: {plain(str(members['error']))}")
+                return
+            number = number_of(members)
+            self._take(process, number, members)
+        except (ValueError, RecursionError) as error:
+            self._log(f"a line of {self._called} is no result: {error}: {plain(line[:200].decode(errors='replace'))!r}")
+            job, _ = process.jobs.pop(number, (None, 0.0))
+            if job is not None:
+                self._events.append(Lost(job, "its runner gave no result"))
+
+    def _take(self, process: Process, number: int, members: Dict[str, object]) -> None:
+        if members.get("gone") is True:
+            gone = process.stuck.pop(number, None)
+            if gone is not None:
+                self._events.append(Gone(gone))
+            return
+        job, _ = process.jobs.get(number, (None, 0.0))
+        if job is None:
+            return
+        event = result_of(job, members)
+        del process.jobs[number]
+        if isinstance(event, Finished) and event.is_stuck:
+            process.stuck[number] = job
+        if isinstance(event, Lost):
+            self._lose(event)
+        else:
+            self._events.append(event)
+
+    # ---- ends
+
+    def _restart(self, process: Process) -> None:
+        """Another process in place of one that has ended, after a pause."""
+        if process.writes_to not in self.processes:
+            return  # it was seen before
+        status, now = self._end(process), self._clock()
+        again = "another is started"
+        if now >= self._not_before and now - process.begun < self._pause:
+            again += f" in {self._pause:g} seconds"
+            self._not_before, self._pause = now + self._pause, min(LONGEST_PAUSE, 2 * self._pause)
+        elif now >= self._not_before:
+            self._pause = PAUSE
+        self._log(f"{self._called} ended with status {status}, and {len(process.jobs)} checks with it; {again}")
+        self._begin_missing()
+
+    def _end(self, process: Process) -> object:
+        """Ends a process, and returns its status; what it ran is lost."""
+        del self.processes[process.writes_to]
+        self._unwatch(process.writes_to)
+        self._events.extend(Lost(job) for job, _ in process.jobs.values())
+        self._events.extend(Gone(job) for job in process.stuck.values())
+        process.process.kill()
+        return process.end()
+
+    def kill(self, job: Job) -> bool:
+        """Kills the process that has this job, since it gives no answer. A job that no process has yet is lost. False if it isn't here."""
+        for process in list(self.processes.values()):
+            if any(job is each for each, _ in process.jobs.values()):
+                self._log(f"{self._called} gave no result in time: it is killed, and {len(process.jobs)} checks with it")
+                self._end(process)
+                self._begin_missing()
+                return True
+        waiting = [each for each in self._waiting if each[0] is job]
+        for each in waiting:
+            self._waiting.remove(each)
+            self._events.append(Lost(job, "its runner can't be started"))
+        return bool(waiting)
+
+    def end(self) -> None:
+        """Ends all processes; what they ran, and what waits, is lost."""
+        for process in list(self.processes.values()):
+            self._end(process)
+        while self._waiting:
+            self._events.append(Lost(self._waiting.popleft()[0]))
+
+    # ---- questions
+
+    def events(self) -> List[Event]:
+        events, self._events = self._events, []
+        return events
+
+    def jobs(self) -> List[Job]:
+        return [job for process in self.processes.values() for job, _ in process.jobs.values()] + [job for job, _ in self._waiting]
+
+    def signs(self) -> Dict[str, int]:
+        now = self._clock()
+        stuck = sum(any(late < now for _, late in process.jobs.values()) for process in self.processes.values())
+        return {"running": len(self.processes), "wanted": self._count, "stuck": stuck, "waiting": len(self._waiting)}

@@ -1,0 +1,58 @@
+"""The groups and contacts of objects: the file groups.json of a site.
+
+    {"web;http": {"host_groups": ["linux"], "service_groups": ["shop"], "contact_groups": ["web-team"], "contacts": ["ada"]}}
+"""
+import pathlib
+from typing import Any, Container, Dict, List, Mapping, Optional, Tuple
+
+from ..faults import SiteFault
+from .json_files import only_known, read_object
+
+FILE = "groups.json"
+KINDS = ("host_groups", "service_groups", "contact_groups", "contacts")
+
+# The names of each kind that an object has.
+Groups = Mapping[str, List[str]]
+
+
+def read_groups(folder: pathlib.Path, objects: Optional[Container[str]] = None) -> Dict[str, Groups]:
+    """The groups of each object that has some. With `objects`, a name that isn't one of them is a fault."""
+    document = read_object(folder, FILE, required=False)
+    for name, members in document.items():
+        place = f"{FILE}: {name}"
+        if objects is not None and name not in objects:
+            raise SiteFault(f"{place}: there is no such object")
+        for kind, names in only_known(members, KINDS, place).items():
+            if not isinstance(names, list) or not all(isinstance(each, str) and each and "," not in each for each in names):
+                raise SiteFault(f"{place}: {kind} has to be a list of names without commas")
+    return document
+
+
+def labels_of(name: str, groups: Mapping[str, Groups]) -> Dict[str, str]:
+    """An object as labels of an alert or a series: its host and service, and its groups between commas, such as `,linux,web,`."""
+    host, _, service = name.partition(";")
+    labels = {"host": host, **({"service": service} if service else {})}
+    labels.update((kind, f",{','.join(names)},") for kind, names in groups.get(name, {}).items() if names)
+    return labels
+
+
+class GroupsFile:
+    """The groups of a site for a process next to the monitor: read again when the file changes. A bad file changes nothing."""
+
+    def __init__(self, folder: pathlib.Path) -> None:
+        self._folder = folder
+        self._seen: Tuple[Any, ...] = ()
+        self._groups: Dict[str, Groups] = {}
+
+    def read(self) -> Dict[str, Groups]:
+        try:
+            stat = (self._folder / FILE).stat()
+            seen: Tuple[Any, ...] = (stat.st_mtime_ns, stat.st_size, stat.st_ino)
+        except OSError:
+            seen = (None,)
+        if seen != self._seen:
+            try:
+                self._groups, self._seen = read_groups(self._folder), seen
+            except SiteFault:
+                pass
+        return self._groups

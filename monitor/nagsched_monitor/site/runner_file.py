@@ -1,0 +1,101 @@
+"""Runners elsewhere, and which objects' checks go to them: the file runners.json of a site.
+
+    {"runners": {"dmz": ["ssh", "dmz", "nagsched-runner"]}, "objects": {"dmz": ["dmz-*", "hostgroup:branch"]}, "slots": {"dmz": 20}, "wait": 30}
+"""
+import fnmatch
+import pathlib
+import re
+from dataclasses import dataclass
+from typing import Any, Dict, Iterable, List, Mapping, Set, Tuple
+
+from ..faults import SiteFault
+from ..run.runner_program import program_of
+from .groups_file import Groups
+from .json_files import only_known, only_object, read_object, seconds
+
+FILE = "runners.json"
+NAME = re.compile(r"[A-Za-z0-9_.-]{1,64}")
+# The name of the runners of this machine, in figures.
+LOCAL = "local"
+# How many checks a runner has at once, and for how many seconds one waits for it, if the file doesn't say.
+SLOTS, WAIT, MOST_SLOTS = 32, 30.0, 10_000
+GROUP_KINDS = {"hostgroup": "host_groups", "servicegroup": "service_groups"}
+
+
+@dataclass(frozen=True)
+class Remote:
+    """A runner elsewhere: the command that reaches it, how many checks it has at once, and for how many seconds one waits for it."""
+
+    name: str
+    words: Tuple[str, ...]
+    slots: int = SLOTS
+    wait: float = WAIT
+
+
+def read_runners(folder: pathlib.Path, names: Iterable[str], groups: Mapping[str, Groups]) -> Tuple[Dict[str, Remote], Dict[str, str]]:
+    """The runners of a site, and the runner of each object that has one: the first with a pattern that fits it."""
+    members = only_known(read_object(folder, FILE, required=False), ("runners", "objects", "slots", "wait"), FILE)
+    commands, objects, slots = (only_object(members.get(member, {}), f"{FILE}: {member}") for member in ("runners", "objects", "slots"))
+    wait = seconds(members.get("wait", WAIT), f"{FILE}: wait")
+    for member, of in (("objects", objects), ("slots", slots)):
+        for name in of:
+            if name not in commands:
+                raise SiteFault(f"{FILE}: {member}: {name}: there is no such runner")
+    remotes = {name: Remote(name, words_of(name, words), slots_of(name, slots.get(name, SLOTS)), wait) for name, words in commands.items()}
+    by_host: Dict[str, List[str]] = {}
+    for name in names:
+        by_host.setdefault(name.partition(";")[0], []).append(name)
+    runner_of: Dict[str, str] = {}
+    for name, patterns in objects.items():
+        for fitting in names_of(name, patterns, by_host, groups):
+            runner_of.setdefault(fitting, name)
+    return remotes, runner_of
+
+
+def words_of(name: str, words: Any) -> Tuple[str, ...]:
+    place = f"{FILE}: runners: {name}"
+    if not NAME.fullmatch(name) or name == LOCAL:
+        raise SiteFault(f"{place}: the name of a runner has 1 to 64 letters, digits, dots, underscores and hyphens, and isn't {LOCAL}")
+    if not isinstance(words, list) or not words or not all(isinstance(word, str) and word and "\0" not in word for word in words):
+        raise SiteFault(f"{place}: it has to be a command, as a list of arguments")
+    program = program_of(words[0])
+    if program is None:
+        raise SiteFault(f"{place}: there is no program {words[0]}")
+    return (program, *words[1:])
+
+
+def slots_of(name: str, slots: Any) -> int:
+    if isinstance(slots, bool) or not isinstance(slots, int) or not 1 <= slots <= MOST_SLOTS:
+        raise SiteFault(f"{FILE}: slots: {name}: it has to be a number from 1 to {MOST_SLOTS}")
+    return slots
+
+
+def names_of(runner: str, patterns: Any, by_host: Mapping[str, List[str]], groups: Mapping[str, Groups]) -> List[str]:
+    """The objects that one of these patterns fits. A pattern that fits none is a fault."""
+    place = f"{FILE}: objects: {runner}"
+    if not isinstance(patterns, list) or not patterns or not all(isinstance(each, str) and each for each in patterns):
+        raise SiteFault(f"{place}: it has to be a list of patterns")
+    found: List[str] = []
+    for pattern in patterns:
+        fitting = fits(pattern, by_host, groups)
+        if not fitting:
+            raise SiteFault(f"{place}: no object fits {pattern}")
+        found += fitting
+    return found
+
+
+def fits(pattern: str, by_host: Mapping[str, List[str]], groups: Mapping[str, Groups]) -> List[str]:
+    """The objects that a pattern fits: one of full names, of a group, or of hosts with all that is on them."""
+    kind, _, rest = pattern.partition(":")
+    if kind in GROUP_KINDS and rest:
+        hosts: Set[str] = {name for name, of in groups.items() if fnmatch.filter(of.get(GROUP_KINDS[kind], ()), rest)}
+    elif ";" in pattern:
+        return [name for names in by_host.values() for name in fnmatch.filter(names, pattern)] if is_wild(pattern) else [
+            name for name in by_host.get(pattern.partition(";")[0], ()) if name == pattern]
+    else:
+        hosts = set(fnmatch.filter(by_host, pattern)) if is_wild(pattern) else {pattern}
+    return [name for found in sorted(hosts) for name in by_host.get(found, [found] if found.partition(";")[0] in by_host else [])]
+
+
+def is_wild(pattern: str) -> bool:
+    return any(sign in pattern for sign in "*?[")

@@ -1,0 +1,197 @@
+"""The alerts that are posted to Alertmanager, over a server that takes them; and that the examples are files that Prometheus's own tools accept."""
+import datetime
+import http.server
+import json
+import pathlib
+import shutil
+import subprocess
+import tempfile
+import threading
+import time
+import unittest
+from typing import Any, Dict, List, Tuple
+from unittest import mock
+
+from nagsched_monitor.outputs import alertmanager
+from nagsched_monitor.outputs.alertmanager import FLAPPING, HEARTBEAT, PROBLEM, Alerts
+
+from .shown_site import fill, standing
+from .simulated import SiteTest
+
+EXAMPLES = pathlib.Path(__file__).resolve().parent.parent.parent / "examples"
+
+
+class Posting(SiteTest):
+    def setUp(self) -> None:
+        super().setUp()
+        self.posted: List[List[Dict[str, Any]]] = []
+        self.is_refusing = False
+        test = self
+
+        class Taking(http.server.BaseHTTPRequestHandler):
+            def do_POST(self) -> None:
+                alerts = json.loads(self.rfile.read(int(self.headers["Content-Length"])))
+                if not test.is_refusing:
+                    test.posted.append(alerts)
+                self.send_response(500 if test.is_refusing or self.path != "/api/v2/alerts" else 200)
+                self.end_headers()
+
+            def log_message(self, *_: Any) -> None:
+                pass
+
+        server = http.server.HTTPServer(("127.0.0.1", 0), Taking)
+        threading.Thread(target=server.serve_forever, args=(0.05,), daemon=True).start()
+        self.addCleanup(server.server_close)
+        self.addCleanup(server.shutdown)
+        self.url = f"http://127.0.0.1:{server.server_port}/"
+        self.alerts = Alerts(self.url, self.folder, 30, 300)
+        self.said = mock.patch("builtins.print").start()
+        self.addCleanup(mock.patch.stopall)
+
+    def look(self) -> List[Tuple[str, str, str, bool]]:
+        """What is posted now: name, host and service of each alert, and whether it stands."""
+        before = len(self.posted)
+        self.alerts.look()
+        alerts = [alert for alerts in self.posted[before:] for alert in alerts if alert["labels"]["alertname"] != HEARTBEAT]
+        now = datetime.datetime.now(datetime.timezone.utc)
+        return sorted((it["labels"]["alertname"], it["labels"]["host"], it["labels"].get("service", ""), datetime.datetime.fromisoformat(it["endsAt"]) > now)
+                      for it in alerts)
+
+    def test_what_stands(self) -> None:
+        """Hard problems and what flaps, with their labels; nothing soft, nothing that is well or was never checked."""
+        self.write("groups.json", {"web;http": {"host_groups": ["linux", "dmz"], "contact_groups": ["ops"]}})
+        now = time.time()
+        fill(self.folder, [
+            standing("db", "DOWN", words="no answer\nat all", hard_since=now - 60), standing("db;disk", "CRITICAL", words="full"),
+            standing("far", "UNREACHABLE"),
+            standing("soft", "DOWN", "SOFT"), standing("soft;http", "UNKNOWN"), standing("web"), standing("web;http", "WARNING", words="slow"),
+            standing("web;load", "OK", flapping=True), standing("web;ok", "OK"), standing("web;new", "PENDING", None)])
+        self.assertEqual(self.look(), [
+            (FLAPPING, "web", "load", True), (PROBLEM, "db", "", True), (PROBLEM, "db", "disk", True), (PROBLEM, "far", "", True),
+            (PROBLEM, "soft", "http", True),
+            (PROBLEM, "web", "http", True)])
+        found = {(it["labels"]["alertname"], it["labels"].get("host"), it["labels"].get("service")): it for it in self.posted[0]}
+        site = self.folder.name
+        self.assertEqual(found[PROBLEM, "web", "http"]["labels"], {
+            "alertname": PROBLEM, "site": site, "host": "web", "service": "http", "severity": "warning", "host_state": "UP", "host_groups": ",linux,dmz,",
+            "contact_groups": ",ops,"})
+        self.assertEqual(found[PROBLEM, "db", None]["labels"], {"alertname": PROBLEM, "site": site, "host": "db", "severity": "critical", "host_state": "DOWN"})
+        self.assertEqual([found[PROBLEM, *name]["labels"]["host_state"] for name in (("db", "disk"), ("soft", "http"), ("far", None))],
+                         ["DOWN", "UP", "UNREACHABLE"])
+        self.assertEqual([found[PROBLEM, *name]["labels"]["severity"] for name in (("far", None), ("soft", "http"))], ["unreachable", "unknown"])
+        self.assertEqual(found[PROBLEM, "db", None]["annotations"], {"state": "DOWN", "summary": "db is DOWN: no answer", "output": "no answer\nat all"})
+        self.assertEqual(found[FLAPPING, "web", "load"]["annotations"]["summary"], "web load is flapping: fine")
+        started = datetime.datetime.fromisoformat(found[PROBLEM, "db", None]["startsAt"]).timestamp()
+        ends = datetime.datetime.fromisoformat(found[PROBLEM, "db", None]["endsAt"]).timestamp()
+        self.assertAlmostEqual(started, now - 60, delta=0.01)
+        self.assertAlmostEqual(ends, time.time() + 300, delta=60)
+        self.assertEqual(found[HEARTBEAT, None, None]["labels"], {"alertname": HEARTBEAT, "site": site, "severity": "none"})
+
+    def test_when_it_is_posted(self) -> None:
+        """At once when something changes, and else every so many seconds; an end is told once."""
+        fill(self.folder, [standing("web"), standing("web;http", "CRITICAL")])
+        self.assertEqual(self.look(), [(PROBLEM, "web", "http", True)])
+        self.assertEqual(self.look(), [])
+        fill(self.folder, [standing("web"), standing("web;http", "WARNING")])
+        self.assertEqual(self.look(), [(PROBLEM, "web", "http", False), (PROBLEM, "web", "http", True)])
+        fill(self.folder, [standing("web"), standing("web;http", "OK")])
+        self.assertEqual(self.look(), [(PROBLEM, "web", "http", False)])
+        self.assertEqual(self.look(), [])
+        self.alerts = Alerts(self.url, self.folder, 0, 300)
+        fill(self.folder, [standing("web", "DOWN")])
+        self.assertEqual([self.look(), self.look()], [[(PROBLEM, "web", "", True)]] * 2)
+
+    def test_one_that_takes_nothing(self) -> None:
+        """It is posted again with each look, and said once; an end that wasn't taken is told again."""
+        fill(self.folder, [standing("web", "DOWN")])
+        self.look()
+        self.is_refusing = True
+        fill(self.folder, [standing("web")])
+        self.assertEqual([self.look(), self.look()], [[], []])
+        self.assertEqual(self.said.call_count, 1)
+        self.is_refusing = False
+        self.assertEqual([self.look(), self.look()], [[(PROBLEM, "web", "", False)], []])
+        self.assertEqual(self.said.call_count, 2)
+
+    def test_a_database_that_cant_be_read(self) -> None:
+        (self.folder / "monitor.db").write_text("this is no database" * 100)
+        self.assertEqual([self.look(), self.look()], [[], []])
+        self.assertEqual(self.said.call_count, 1)
+
+    def test_a_monitor_that_writes_nothing(self) -> None:
+        """Its problems stay as they were; its heartbeat ends."""
+        fill(self.folder, [standing("web", "DOWN")])
+        self.look()
+        fill(self.folder, [standing("web", "DOWN")], {"written_at": time.time() - 60})
+        self.assertEqual(self.look(), [(PROBLEM, "web", "", True)])
+        ended = [it for it in self.posted[-1] if it["labels"]["alertname"] == HEARTBEAT]
+        self.assertLessEqual(datetime.datetime.fromisoformat(ended[0]["endsAt"]).timestamp(), time.time())
+
+    def test_many(self) -> None:
+        """They are posted in several requests."""
+        fill(self.folder, [standing(f"h{number:04}", "DOWN") for number in range(alertmanager.AT_ONCE + 5)])
+        self.assertEqual(len(self.look()), alertmanager.AT_ONCE + 5)
+        self.assertEqual([len(alerts) for alerts in self.posted], [alertmanager.AT_ONCE, 6])
+
+
+class Examples(unittest.TestCase):
+    def check(self, *words: str) -> None:
+        if shutil.which(words[0]) is None:
+            self.skipTest(f"{words[0]} isn't here")
+        ran = subprocess.run([*words[:-1], str(EXAMPLES / words[-1])], stdout=subprocess.PIPE, stderr=subprocess.STDOUT, text=True, check=False)
+        self.assertEqual(ran.returncode, 0, ran.stdout)
+
+    def test_the_configuration_of_alertmanager(self) -> None:
+        self.check("amtool", "check-config", "alertmanager.yml")
+
+    def test_the_rules(self) -> None:
+        self.check("promtool", "check", "rules", "--lint-fatal", "alert_rules.yml")
+
+    def test_the_configuration_of_prometheus(self) -> None:
+        self.check("promtool", "check", "config", "prometheus.yml")
+
+    def test_what_the_rules_tell(self) -> None:
+        """By promtool: each rule's alert after some minutes of these figures, and none of it while all is well."""
+        if shutil.which("promtool") is None:
+            self.skipTest("promtool isn't here")
+        well = {"up": "1+0x60", "last_turn_timestamp_seconds": "0+60x60", "stuck": "0+0x60", "passive_waiting": "0+0x60", "oldest_change_seconds": "0+0x60",
+                "runners_stuck": "0+0x60", "runners": "4+0x60", "runners_wanted": "4+0x60", "faults_total": "0+0x60", "state": "0+0x60"}
+        for figure, values, alert in (
+            ("up", "0+0x60", "NagschedNoAnswer"), ("last_turn_timestamp_seconds", "0+0x60", "NagschedStandsStill"), ("stuck", "1+0x60", "NagschedStuck"),
+            ("passive_waiting", "2000+0x60", "NagschedPassiveResultsWait"), ("oldest_change_seconds", "700+0x60", "NagschedChangesWait"),
+            ("runners_stuck", "1+0x60", "NagschedRunnersStuck"), ("runners", "3+0x60", "NagschedRunnersMissing"), ("faults_total", "0+1x60", "NagschedFaults"),
+            ("state", "2+0x60", "NagschedProblem"),
+        ):
+            for is_wrong in (True, False):
+                series = [{"series": f'nagsched_{name}{{site="a",host="h"}}', "values": values if name == figure and is_wrong else usual}
+                          for name, usual in well.items()]
+                expected = [{"eval_time": "30m", "alertname": alert, "exp_alerts": []}]
+                test = {"rule_files": [str(EXAMPLES / "alert_rules.yml")], "evaluation_interval": "1m",
+                        "tests": [{"interval": "1m", "input_series": series, "alert_rule_test": expected}]}
+                with tempfile.NamedTemporaryFile("w", suffix=".yml") as file:
+                    json.dump(test, file)  # which YAML reads too
+                    file.flush()
+                    ran = subprocess.run(["promtool", "test", "rules", file.name], stdout=subprocess.PIPE, stderr=subprocess.STDOUT, text=True, check=False)
+                self.assertEqual((ran.returncode == 0, "got:[" in ran.stdout.replace(" ", "").replace("\n", "")), (not is_wrong, is_wrong), (alert, ran.stdout))
+
+    def test_each_figure_of_a_rule_is_there(self) -> None:
+        told = (EXAMPLES.parent / "monitor/nagsched_monitor/outputs/metrics.py").read_text()
+        for line in (EXAMPLES / "alert_rules.yml").read_text().splitlines():
+            for word in line.replace("_bucket", "").replace("(", " ").replace("{", " ").replace("[", " ").split() if "expr:" in line else ():
+                if word.startswith("nagsched_"):
+                    self.assertIn(f'"{word.rstrip(")")}"', told)
+
+    def test_routes(self) -> None:
+        """Who is told, by the labels of an alert."""
+        if shutil.which("amtool") is None:
+            self.skipTest("amtool isn't here")
+        for labels, wanted in (
+            (f"alertname={PROBLEM} host=web severity=critical", "operators"), (f"alertname={PROBLEM} host=far severity=unreachable", "nobody"),
+            (f"alertname={HEARTBEAT} severity=none", "dead-mans-switch"),
+            (f"alertname={PROBLEM} host=web service=http severity=critical contact_groups=,ops,web-team,", "pager,web-team"),
+            (f"alertname={PROBLEM} host=web service=http severity=unknown contact_groups=,web-team,", "web-team"),
+            (f"alertname={PROBLEM} host=web service=http severity=critical contact_groups=,web-team-2,", "operators"),
+        ):
+            words = ["amtool", "config", "routes", "test", f"--config.file={EXAMPLES / 'alertmanager.yml'}", *labels.split()]
+            ran = subprocess.run(words, stdout=subprocess.PIPE, stderr=subprocess.DEVNULL, text=True, check=False)
+            self.assertEqual(ran.stdout.strip(), wanted, labels)

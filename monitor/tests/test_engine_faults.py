@@ -1,0 +1,237 @@
+"""What goes wrong around a monitor, simulated: a full disk, schedulers and runners that end, machines that lack something; and what a restart keeps."""
+import os
+import signal
+from typing import Any, List, Sequence, Set
+from unittest import mock
+
+from nagsched_monitor.faults import ConversationEnded, NotStored
+from nagsched_monitor.run.jobs import Finished, Gone, Job, Lost
+from nagsched_monitor.scheduler.live_process import Conversation
+from nagsched_monitor.scheduler.schedulers import Schedulers
+from nagsched_monitor.site.site import read_site
+
+from .simulated import BEGIN, PROGRAM, SimulatedMonitor, SiteTest, fine, host, service
+
+
+def schedulers_of(monitor: SimulatedMonitor) -> Schedulers:
+    return monitor.scheduling.schedulers
+
+
+class Faults(SiteTest):
+    def test_a_full_disk(self) -> None:
+        """No call is made while nothing can be stored; plugins that run are waited for, and then all goes on."""
+        self.write_site([host("web"), host("db")], [])
+        monitor = self.monitor(lambda name, moment: (5_000, 0, "fine"))
+        monitor.run(1)
+        full = monitor.store.write
+
+        def refuse(*writes: Any) -> None:
+            raise NotStored("database or disk is full")
+
+        setattr(monitor.store, "write", refuse)
+        monitor.run(300)
+        self.assertEqual(len(monitor.runners.started), 2)
+        self.assertEqual([line for line in monitor.lines if "full" in line], ["no call is made until it can be stored: database or disk is full"])
+        setattr(monitor.store, "write", full)
+        monitor.run(200)
+        self.assertIn("the database takes writes again", monitor.lines)
+        self.assertEqual({name: len(starts) for name, starts in monitor.starts().items()}, {"web": 5, "db": 5})
+        self.assertFalse([line for line in monitor.lines if "too late" in line])
+
+    def test_a_scheduler_that_ends(self) -> None:
+        """What runs goes on under the same run: no plugin is started a second time, and its result counts."""
+        self.write_site([host("web")], [service("web", "http")])
+        monitor = self.monitor(lambda name, moment: (20_000, 0, "fine"))
+        monitor.run(70)
+        self.assertEqual(monitor.engine.busy(), {"web", "web;http"})
+        os.kill(monitor.scheduling.process_ids()[0], signal.SIGKILL)
+        monitor.run(5)
+        monitor.ask(do="reschedule", name="web", at=monitor.clock.wall() + 100)
+        monitor.run(5)
+        self.assertEqual((monitor.engine.busy(), len(monitor.runners.started)), ({"web", "web;http"}, 4))
+        monitor.run(10)
+        self.assertEqual((monitor.engine.made, monitor.engine.busy()), (4, set()))
+        self.assertEqual(len([line for line in monitor.lines if "it is started again" in line]), 1)
+
+    def test_a_scheduler_that_cant_be_had_for_a_while(self) -> None:
+        """Results wait, whoever asks hears that it may ask again, and then all goes on."""
+        self.write_site([host("web")], [service("web", "http")])
+        monitor = self.monitor(fine)
+        monitor.run(70)
+        with mock.patch.object(schedulers_of(monitor), "_converse", side_effect=ConversationEnded("no room for a process")):
+            os.kill(monitor.scheduling.process_ids()[0], signal.SIGKILL)
+            monitor.run(120)
+            self.assertTrue(monitor.ask(do="disable", name="web")["again"])
+            self.assertLessEqual(len(monitor.starts()["web"]), 3)
+        monitor.run(200)
+        self.assertGreaterEqual(len(monitor.starts()["web"]), 5)
+        self.assertEqual(monitor.engine.made, len(monitor.runners.started))
+
+    def test_a_scheduler_that_cant_be_had_at_a_reload(self) -> None:
+        """The site is taken over as a whole, and new objects are checked as soon as their scheduler is there."""
+        self.write_site([host("web")], [])
+        monitor = self.monitor(fine)
+        monitor.run(70)
+        self.write_site([host("web"), host("new")], [])
+        with mock.patch.object(schedulers_of(monitor), "_converse", side_effect=ConversationEnded("no room for a process")):
+            monitor.engine.reload(read_site(self.folder, PROGRAM))
+            self.assertEqual((set(monitor.engine.objects), set(monitor.site.objects)), ({"web", "new"}, {"web", "new"}))
+            monitor.run(20)
+        monitor.run(120)
+        self.assertEqual([len(monitor.starts()[name]) for name in ("web", "new")], [4, 3])
+        self.assertIsNotNone(monitor.engine.objects["new"].phase)
+
+    def test_a_call_after_which_the_scheduler_ends(self) -> None:
+        """It is set aside with its number, the others go on, and a start isn't held up by it."""
+        self.write_site([host("web", max_check_attempts=5), host("db")], [])
+
+        class Poisoned(Conversation):
+            def begin(self, lines: Sequence[str]) -> None:
+                if any(line.startswith('["report","web",') and line.endswith(",2]") for line in lines):
+                    self._process.kill()
+                    self._process.wait()
+                super().begin(lines)
+
+        monitor = self.monitor(lambda name, moment: (10, 2 if name == "web" and moment > BEGIN + 50_000 else 0, ""), converse=Poisoned)
+        monitor.run(300)
+        aside = [line for line in monitor.lines if "is set aside" in line]
+        self.assertRegex(aside[0], r'call \d+ is set aside, .*\["report","web",\d+,2\]')
+        self.assertGreaterEqual(len(monitor.starts()["db"]), 5)
+        self.assertTrue(4 <= len(monitor.starts()["web"]) <= 6, monitor.starts())
+        monitor.close()
+        after = self.monitor(fine, monitor.clock, converse=Poisoned)
+        after.run(100)
+        self.assertFalse([line for line in after.lines if "started again" in line])
+        self.assertGreaterEqual(after.engine.made, 2)
+
+    def test_runners_that_end(self) -> None:
+        """A check whose runner ended is given up and made again; the third time it is UNKNOWN."""
+        self.write_site([host("web")], [service("web", "http", max_check_attempts=1)])
+        monitor = self.monitor(fine)
+        lost: Set[int] = set()
+        events = monitor.runners.events
+
+        def losing() -> List[Any]:
+            told = events()
+            lost.update(event.job.run for event in told if event.job.name == "web;http")
+            return [Lost(event.job) if event.job.name == "web;http" else event for event in told]
+
+        setattr(monitor.runners, "events", losing)
+        monitor.run(5)
+        self.assertEqual(len(monitor.starts()["web;http"]), 3)
+        self.assertEqual([(change.state, change.words) for _, change in monitor.changes], [("UNKNOWN", "its runner ended 3 times")])
+
+    def test_a_runner_that_gives_no_result(self) -> None:
+        """Behind its limit and a margin it is killed, and the check is made again."""
+        self.write_site([host("web", check_interval=600)], [])
+        monitor = self.monitor(lambda name, moment: (10**9 if moment < BEGIN + 10_000 else 10, 0, "fine"))
+        monitor.run(70)
+        self.assertEqual((len(monitor.runners.started), monitor.engine.busy()), (1, {"web"}))
+        monitor.run(20)
+        self.assertEqual((monitor.engine.made, monitor.engine.busy(), len(monitor.runners.started)), (1, set(), 2))
+        self.assertIn("web: run 1 gave no result in time", monitor.lines)
+
+    def test_a_job_that_no_runner_has(self) -> None:
+        self.write_site([host("web", check_interval=600)], [])
+        monitor = self.monitor(lambda name, moment: (5_000, 0, "fine"))
+        monitor.run(2)
+        monitor.runners._ends.clear()
+        monitor.run(10)
+        self.assertEqual((monitor.engine.made, len(monitor.runners.started)), (1, 2))
+        self.assertIn("web: no runner has run 1", monitor.lines)
+
+    def test_what_this_machine_lacks(self) -> None:
+        """A check that can't be started here says nothing of its object: it is tried again after pauses that grow, and stays forced."""
+        self.write_site([host("web", check_interval=600), host("off", enabled=False)], [])
+        monitor = self.monitor(fine)
+        events = monitor.runners.events
+        setattr(monitor.runners, "events", lambda: [Lost(event.job, "too many open files", True) for event in events()])
+        monitor.ask(do="reschedule", name="off", force=True)
+        monitor.run(100)
+        self.assertEqual((monitor.changes, monitor.engine.made), ([], 0))
+        self.assertTrue(all(6 <= len(starts) <= 8 for starts in monitor.starts().values()), monitor.starts())
+        setattr(monitor.runners, "events", events)
+        monitor.run(70)
+        self.assertEqual(monitor.engine.made, 2)
+        monitor.engine.close()
+        self.assertEqual(monitor.store.figures()["checks.not_started"], len(monitor.runners.started) - 2)
+
+    def test_a_plugin_that_cant_be_killed(self) -> None:
+        """No second one is started beside it until it has ended; its object counts as timed out."""
+        self.write_site([host("web", check_interval=20)], [])
+        monitor = self.monitor(fine)
+        events = monitor.runners.events
+        stuck: List[Job] = []
+
+        def told() -> List[Any]:
+            came = [Finished(event.job, "limit", 0, "", "", True) for event in events()]
+            stuck.extend(event.job for event in came)
+            return came
+
+        setattr(monitor.runners, "events", told)
+        monitor.run(70)
+        self.assertEqual((len(monitor.runners.started), len(stuck)), (1, 1))
+        self.assertGreaterEqual(monitor.engine.made, 4)
+        setattr(monitor.runners, "events", lambda: [Gone(stuck.pop())] if stuck else events())
+        monitor.run(35)
+        self.assertEqual(len(monitor.runners.started), 3)
+
+    def test_the_state_is_saved_while_it_runs(self) -> None:
+        """Every five minutes; the calls before it are let go, and what it has is what the monitor knows."""
+        self.write_site([host("web", check_interval=10)], [])
+        monitor = self.monitor(fine)
+        monitor.run(290)
+        self.assertGreater(len(monitor.store.calls_since(0, 0)), 50)
+        monitor.run(20)
+        self.assertLess(len(monitor.store.calls_since(0, 0)), 10)
+        self.assertIsNotNone(monitor.store.generations()[0].saved)
+        self.assertFalse([line for line in monitor.lines if "otherwise" in line])
+        monitor.engine.objects["web"].next = 7
+        monitor.engine.save()
+        said = "web: its scheduler has it otherwise than the monitor had; the scheduler counts"
+        self.assertEqual([line for line in monitor.lines if "otherwise" in line], [said])
+        self.assertGreater(monitor.engine.objects["web"].next, BEGIN)
+
+    def test_a_runner_that_nobody_reaches(self) -> None:
+        """What became of its jobs is said, and they take no slot of this machine."""
+        self.write_site([host("web")], [service("web", "http", max_check_attempts=1)], monitor={"slots": 1},
+                        runners={"runners": {"dmz": ["true"]}, "objects": {"dmz": ["web"]}})
+        monitor = self.monitor(fine)
+        events = monitor.runners.events
+        setattr(monitor.runners, "events", lambda: [Lost(event.job, f"the runner {event.job.runner} didn't take it") for event in events()])
+        monitor.run(5)
+        self.assertEqual([(change.name, change.words) for _, change in monitor.changes], [("web;http", "the runner dmz didn't take it 3 times")])
+
+    def test_a_restart_makes_the_calls_again(self) -> None:
+        self.write_site([host("web", max_check_attempts=5)], [service("web", "http")])
+        monitor = self.monitor(lambda name, moment: (10, 2, "bad"))
+        monitor.run(35)
+        before = [known.standing for known in monitor.scheduling.known.objects.values()]
+        monitor.close()
+        after = self.monitor(fine, monitor.clock)
+        self.assertEqual([known.standing for known in after.scheduling.known.objects.values()], before)
+        self.assertEqual(after.changes, [])
+        after.run(60)
+        self.assertEqual({change.state for _, change in after.changes}, {"UP", "OK"})
+
+    def test_a_restart_tells_no_problem_again(self) -> None:
+        """A result behind the saved state that is as the one before it is no change."""
+        self.write_site([host("web", max_check_attempts=1)], [])
+        monitor = self.monitor(lambda name, moment: (10, 2, "bad"))
+        monitor.run(70)
+        monitor.engine.save()
+        monitor.run(120)
+        monitor.close()
+        after = self.monitor(lambda name, moment: (10, 2, "bad"), monitor.clock)
+        after.run(1)
+        self.assertEqual(after.changes, [])
+
+    def test_another_setup_is_taken_over(self) -> None:
+        self.write_site([host("web", max_check_attempts=5)], [])
+        monitor = self.monitor(lambda name, moment: (10, 2, "bad"))
+        monitor.run(35)
+        monitor.close()
+        self.write_site([host("web", max_check_attempts=5), host("db")], [])
+        after = self.monitor(fine, monitor.clock)
+        standings = {name: known.standing for name, known in after.scheduling.known.objects.items()}
+        self.assertEqual({name: it and (it.state, it.attempt) for name, it in standings.items()}, {"web": ("DOWN", 4), "db": ("PENDING", 1)})

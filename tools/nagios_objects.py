@@ -1,0 +1,106 @@
+"""Hosts, services and dependencies of a configuration of Nagios Core 4, as a setup has them. For from_nagios.py."""
+from typing import Dict, Optional, Tuple
+
+from nagios_values import LeftOut, Members, Setup, Value, number, required, switch, whole
+
+TAKEN = {"host_name", "service_description", "parents", "check_interval", "retry_interval", "max_check_attempts", "active_checks_enabled"}
+# Members without a counterpart: the values at which they change nothing, their kind, and what that means here.
+MEMBERS: Dict[str, Tuple[Tuple[str, ...], str, str]] = {
+    "check_period": ((), "check_period", "a check is due at any time of the day"),
+    "check_command": ((), "check_command", "whoever takes a check runs its plugin"),
+    "passive_checks_enabled": (("1",), "passive_checks_enabled 0", "a passive result of it is taken all the same"),
+    "initial_state": (("o",), "initial_state", "an object begins as OK or UP, never checked"),
+    "flap_detection_enabled": (("1",), "flap_detection_enabled 0", "flapping is reported of every object"),
+    "flap_detection_options": (("a",), "flap_detection_options", "every result counts"),
+    "low_flap_threshold": (("0.000000", "0"), "flap thresholds of an object", "those of all hosts or all services hold"),
+    "high_flap_threshold": (("0.000000", "0"), "flap thresholds of an object", "those of all hosts or all services hold"),
+    "check_freshness": (("0",), "check_freshness", "nothing is checked for being stale"),
+    "freshness_threshold": (("0",), "check_freshness", "nothing is checked for being stale"),
+    "is_volatile": (("0",), "is_volatile", "a problem that comes again is no new one"),
+    "obsess": (("0", "1"), "", ""),
+    "parallelize_check": (("1",), "parallelize_check 0", "its check runs beside others"),
+    "event_handler": ((), "event_handler", "no event handler is run"),
+}
+OTHER = ("other members of hosts and services", "names, addresses, contacts, notifications, events and what is shown")
+
+
+def tell_members(members: Members, left_out: LeftOut, of: str) -> None:
+    for name, value in members.items():
+        if name in ("use", "register", "name"):
+            value.refuse("a template; let Nagios write them out: nagios4 -vp nagios.cfg")
+        if name in MEMBERS:
+            neutral, kind, meaning = MEMBERS[name]
+            if value not in neutral and not (name == "check_period" and value in left_out.always):
+                left_out.add(kind, meaning, of)
+        elif name not in TAKEN:
+            left_out.add(*OTHER, name)
+
+
+def name_of(value: Value) -> str:
+    size = len(value.encode())
+    if not 1 <= size <= 255 or ";" in value or any(ord(letter) < 32 or ord(letter) == 127 for letter in value):
+        value.refuse("a name has 1 to 255 bytes, no `;` and no control character")
+    return str(value)
+
+
+def timing(members: Members, place: str, left_out: LeftOut, of: str) -> Setup:
+    """What hosts and services have alike; intervals are still those of Nagios."""
+    tell_members(members, left_out, of)
+    attempts = required(members, "max_check_attempts", place)
+    taken: Setup = {
+        "check_interval": members.get("check_interval", Value("5", place)),
+        "retry_interval": members.get("retry_interval", Value("1", place)),
+        "max_check_attempts": whole(attempts, number(attempts), 1, 255),
+    }
+    if not switch(members.get("active_checks_enabled", Value("1", place))):
+        taken["enabled"] = False
+        left_out.add("objects without active checks", "switched off here; a passive result has no way in", of)
+    return taken
+
+
+def host_of(members: Members, place: str, left_out: LeftOut) -> Setup:
+    host: Setup = {"name": name_of(required(members, "host_name", place))}
+    parents = [parent.strip() for parent in members.get("parents", "").split(",") if parent.strip()]
+    if parents:
+        host["parents"] = parents
+    return host | timing(members, place, left_out, host["name"])
+
+
+def service_of(members: Members, place: str, left_out: LeftOut) -> Setup:
+    host = required(members, "host_name", place)
+    description = name_of(required(members, "service_description", place))
+    if members.get("parents"):
+        left_out.add("parents of services", "a service is checked whatever the services are that it names as parents", f"{host};{description}")
+    return {"host": str(host), "description": description} | timing(members, place, left_out, f"{host};{description}")
+
+
+# ---- dependencies
+
+
+def end_of(members: Members, place: str, before: str, service: bool) -> str:
+    """The full name of the dependent (before is `dependent_`) or of the master."""
+    host = required(members, before + "host_name", place)
+    return f"{host};{required(members, before + 'service_description', place)}" if service else str(host)
+
+
+def dependency_of(members: Members, place: str, service: bool, left_out: LeftOut) -> Optional[Setup]:
+    """A dependency of execution; none where it is one of notifications only."""
+    letters = "owucpn" if service else "odupn"
+    criteria = members.get("execution_failure_options", members.get("execution_failure_criteria"))
+    if "dependency_period" in members and members["dependency_period"] not in left_out.always:
+        left_out.add("dependency_period", "a dependency holds at any time", end_of(members, place, "dependent_", service))
+    if any(name.startswith("notification_failure") for name in members):
+        left_out.add("dependencies of notifications", "no notifications are sent", end_of(members, place, "dependent_", service))
+    if criteria is None:
+        return None
+    named = [letter.strip() for letter in criteria.split(",")]
+    if named == ["a"]:
+        named = list(letters.replace("n", ""))
+    for letter in named:
+        if len(letter) != 1 or letter not in letters:
+            criteria.refuse(f"no criteria: {criteria}")
+    dependency: Setup = {"dependent": end_of(members, place, "dependent_", service), "master": end_of(members, place, "", service)}
+    dependency["criteria"] = ",".join(named)
+    if switch(members.get("inherits_parent", Value("0", place))):
+        dependency["inherits_parent"] = True
+    return dependency

@@ -1,0 +1,177 @@
+"""The values of Nagios's files, read and tested; what is wrong names its file and line. For from_nagios.py."""
+import collections
+import fractions
+import functools
+import math
+import pathlib
+import sys
+from typing import Any, Callable, Collection, Counter, Dict, Iterator, List, NoReturn, Optional, Set, Tuple, Union
+
+import nagios_parts
+
+MOST_UNITS = 525_600
+MINUTES, MILLISECONDS = 525_600, 86_400_000
+# How many objects are named of each kind that is left out.
+FEW = 5
+
+
+class CannotTakeOver(Exception):
+    """Something that a setup can't say."""
+
+
+class Value(str):
+    """The text of a member, with the place where it stands."""
+
+    place: str
+
+    def __new__(cls, text: str, place: str) -> "Value":
+        value = super().__new__(cls, text)
+        value.place = place
+        return value
+
+    def refuse(self, why: str) -> NoReturn:
+        raise CannotTakeOver(f"{self.place}: {why}")
+
+
+Members = Dict[str, Value]
+# An object of a file: its kind, its place and its members.
+Definition = Tuple[str, str, Members]
+Setup = Dict[str, Any]
+
+
+class LeftOut:
+    """What has no counterpart here, by kind: how often it was met, what that means, and for which objects."""
+
+    # The kinds by harm: what changes which checks are made and what counts as a problem, then who hears of it, then the rest by name.
+    WORST = (
+        "quotes around values", "parents of services", "passive_checks_enabled 0", "is_volatile", "passive results of hosts", "dependency_period",
+        "flap thresholds of an object", "flap_detection_enabled 0",
+        "flap_detection_options", "initial_state", "event_handler", "dependencies of notifications", "hostescalation definitions",
+        "serviceescalation definitions", "contact definitions", "contactgroup definitions",
+    )
+
+    def __init__(self) -> None:
+        self.kinds: Counter[str] = collections.Counter()
+        self.meanings: Dict[str, str] = {}
+        self.names: Dict[str, List[str]] = collections.defaultdict(list)
+        # The time periods that include each time: an object that has one loses nothing.
+        self.always: Set[str] = set()
+
+    def add(self, kind: str, meaning: str, name: Optional[str] = None) -> None:
+        self.kinds[kind] += 1
+        self.meanings[kind] = meaning
+        if name is not None:
+            self.names[kind].append(name)
+
+    def tell(self, without: Collection[str] = (), named: int = 0) -> None:
+        """Names each kind that isn't one of these, the worst first, with so many of its objects."""
+        for kind in sorted(self.kinds, key=lambda kind: (self.WORST.index(kind) if kind in self.WORST else len(self.WORST), kind)):
+            if kind not in without:
+                count = len(set(self.names[kind])) or self.kinds[kind]
+                print(f"left out: {kind} ({count}): {self.meanings[kind]}{self.some(kind, named)}", file=sys.stderr)
+
+    def some(self, kind: str, named: int) -> str:
+        names = list(dict.fromkeys(self.names[kind]))
+        more = f" and {len(names) - named} more" if len(names) > named else ""
+        return f": {', '.join(names[:named])}{more}" if named and names else ""
+
+
+# ---- reading
+
+
+def lines_of(path: pathlib.Path) -> Iterator[Tuple[str, str]]:
+    """The lines of a file that say something, each with its place."""
+    try:
+        lines = path.read_bytes().split(b"\n")
+    except OSError as error:
+        raise CannotTakeOver(f"{path}: {error}") from None
+    for number, line in enumerate(lines, 1):
+        try:
+            text = line.decode("utf-8").strip()
+        except UnicodeDecodeError as error:
+            raise CannotTakeOver(f"{path}:{number}: {error}") from None
+        if text and text[0] not in "#;":
+            yield f"{path}:{number}", text
+
+
+def read_options(path: pathlib.Path) -> Members:
+    """The options of nagios.cfg; of one that stands twice the last counts."""
+    options = {}
+    for place, line in lines_of(path):
+        name, equals, value = line.partition("=")
+        if not equals:
+            raise CannotTakeOver(f"{place}: no option: {line}")
+        options[name.strip()] = Value(value.strip(), place)
+    return options
+
+
+def read_objects(path: pathlib.Path) -> List[Definition]:
+    """The definitions of an object file: the kind of each, its place and its members."""
+    objects: List[Definition] = []
+    members: Optional[Members] = None
+    for place, line in lines_of(path):
+        if members is None:
+            words = line.replace("{", " { ").split()
+            if len(words) != 3 or words[0] != "define" or words[2] != "{":
+                raise CannotTakeOver(f"{place}: no definition: {line}")
+            members = {}
+            objects.append((words[1], place, members))
+        elif line == "}":
+            members = None
+        else:
+            name, _, value = line.partition("\t") if "\t" in line else line.partition(" ")
+            members[name] = Value(value.strip(), place)
+    if members is not None:
+        raise CannotTakeOver(f"{path}: its last definition has no end")
+    return objects
+
+
+def required(members: Members, name: str, place: str) -> Value:
+    if name not in members:
+        raise CannotTakeOver(f"{place}: no {name}")
+    return members[name]
+
+
+exactly = functools.lru_cache(maxsize=1_024)(fractions.Fraction)
+
+
+def number(value: Value) -> fractions.Fraction:
+    """A number that is written with or without a point, exactly. Few are different among those of many objects."""
+    try:
+        return exactly(str(value))
+    except (ValueError, ZeroDivisionError):
+        value.refuse(f"no number: {value}")
+
+
+def whole(value: Value, of: fractions.Fraction, least: int, most: int) -> int:
+    """That number, where it is whole and within its limits."""
+    if of.denominator != 1 or not least <= of <= most:
+        value.refuse(f"{value} is {float(of):g} here; it can be a whole number from {least} to {most}")
+    return int(of)
+
+
+def switch(value: Value) -> bool:
+    if value not in ("0", "1"):
+        value.refuse(f"no switch: {value}")
+    return value == "1"
+
+
+# ---- options
+
+
+def delay(value: Value) -> Union[str, int]:
+    """A delay method: a letter, or seconds there and milliseconds here."""
+    return str(value) if value in ("n", "d", "s") else whole(value, number(value) * 1000, 0, MILLISECONDS)
+
+
+def factor(value: Value) -> Union[str, int]:
+    return "s" if value == "s" else whole(value, number(value), 1, nagios_parts.MOST_OBJECTS)
+
+
+def percent(value: Value) -> int:
+    """A percent, rounded up: they are whole here."""
+    return whole(value, fractions.Fraction(math.ceil(number(value))), 0, 100)
+
+
+def between(least: int, most: int) -> Callable[[Value], int]:
+    return lambda value: whole(value, number(value), least, most)
