@@ -26,4 +26,5 @@ abbrev pub delay_method : Data → Option DelayMethod
 delay_method d = by_text method_of_letter (whole_number d >=> λ n. Some (method.Fixed n)) (as_str d)
 
 abbrev pub interleave_factor : Data → Option InterleaveFactor
-interleave_factor d = by_text (λ text. if bytes_eq text (codes "s") then Some factor.Smart else None) (whole_number d >=> λ n. Some (factor.Fixed n)) (as_str d)
+interleave_factor d =
+    by_text (λ text. if bytes_eq text (codes "s") then Some factor.Smart else None) (whole_number d >=> λ n. Some (factor.Fixed n)) (as_str d)

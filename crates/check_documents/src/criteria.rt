@@ -6,7 +6,7 @@ ghost use Rattle.check_documents.specs.Criteria.{criteria_of, found_in, with_pie
 
 use check_drafts::Criteria;
 
-/// What the pieces of a text say, piece by piece.
+/// The letters that the pieces of a text are, so far.
 #[derive(Clone, Copy)]
 struct Found {
     /// Whether each piece so far is one of the letters.
@@ -50,7 +50,7 @@ fn find_letters(text: &str, letters: &[&str]) -> Found
         .fold(NOTHING, |found, piece| with_piece(found, piece, letters))
 }
 
-/// What is said with one more piece.
+/// The letters with one more piece.
 fn with_piece(found: Found, piece: &str, letters: &[&str]) -> Found
     ensures { result ≡ with_piece (map (λ letter. letter.now) letters.now) found piece.now }
 {

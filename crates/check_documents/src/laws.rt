@@ -11,9 +11,9 @@ ghost use Rattle.check_documents.specs.Fields.{IsDependencyBy, IsHostBy, IsOptio
 ghost use Rattle.check_documents.specs.Shapes.{wrong_object};
 ghost use Rattle.check_documents.specs.Tree.{has_only};
 
-/// Reading the document and its options goes by the table of members: each is read exactly where
-/// nothing is wrong with it by the table. So the names, the kinds and what is required are the table's;
-/// the defaults and the limits of numbers are taken from it.
+/// Reading the document and its options follows the table of members: each is read if and only if
+/// nothing is wrong with it by the table. So the names, the kinds and the required members are those of
+/// the table. Defaults and limits of numbers are taken from it.
 #[tactic(auto, using(crate::proofs::ReadingLaws::document_by_table, crate::proofs::ReadingLaws::options_by_table))]
 pub fn the_document_is_read_by_the_table()
     ensures document { (d : Data) → has_only document_members d
@@ -22,7 +22,7 @@ pub fn the_document_is_read_by_the_table()
         ≡ is_none (wrong_object members.option_members d) }
 {}
 
-/// Reading hosts and services goes by the table, as reading the document does.
+/// Reading hosts and services follows the table, as reading the document does.
 #[tactic(auto, using(crate::proofs::ReadingLaws::host_by_table, crate::proofs::ReadingLaws::service_by_table))]
 pub fn objects_are_read_by_the_table()
     ensures host { (d : Data) → is_some (host_draft d)
@@ -31,7 +31,7 @@ pub fn objects_are_read_by_the_table()
         ≡ is_none (wrong_object members.service_members d) }
 {}
 
-/// Reading dependencies goes by the table, as reading the document does.
+/// Reading dependencies follows the table, as reading the document does.
 #[tactic(auto, using(crate::proofs::ReadingLaws::service_dependency_by_table, crate::proofs::ReadingLaws::host_dependency_by_table))]
 pub fn dependencies_are_read_by_the_table()
     ensures between_services { (d : Data) → is_some (dependency_draft service_letters d)
@@ -40,7 +40,7 @@ pub fn dependencies_are_read_by_the_table()
         ≡ is_none (wrong_object (members.dependency_members kind.HostLetters) d) }
 {}
 
-/// Each field of what is read is read from the member of its name.
+/// Each field of a host, a service, a dependency or the options is read from the member of its name.
 pub fn fields_are_their_members()
     ensures host { (d : Data) (h : HostDraft) → host_draft d ≡ Some h → IsHostBy d h }
     ensures service { (d : Data) (s : ServiceDraft) → service_draft d ≡ Some s → IsServiceBy d s }

@@ -1,4 +1,4 @@
-//! What stands at the places of a document.
+//! The values at the places of a document.
 ghost use Rattle.std.specs.Prelude.{◌≡◌, option_map};
 ghost use Rattle.serde_json.specs.Find.{as_array};
 ghost use Rattle.serde_json.specs.View.{view, items_view};
@@ -7,7 +7,7 @@ ghost use Rattle.check_documents.specs.Places.{items_at, or_no_items, value_at, 
 use check_drafts::{Part, Place};
 use serde_json::Value;
 
-/// What stands at a place, or None where the document has no such place.
+/// The value at a place, or None if the document has no such place.
 pub fn value_at(tree: &Value, place: Place) -> Option<&Value>
     ensures { option_map (λ v. view v.now) result ≡ value_at (view tree.now) place }
 {
@@ -27,7 +27,7 @@ fn value_of_part(tree: &Value, part: Part) -> Option<&Value>
     }
 }
 
-/// The items of a list of the document. One that is absent or no array has none.
+/// The items of a list of the document. A list that is absent, or isn't an array, has no items.
 pub fn items(tree: &Value, part: Part) -> &[Value]
     ensures { items_view result.now ≡ items_at (view tree.now) part }
 {
@@ -37,7 +37,7 @@ pub fn items(tree: &Value, part: Part) -> &[Value]
     }
 }
 
-/// The items of an array. What is no array has none.
+/// The items of an array. Another value has no items.
 pub(crate) fn items_of(value: &Value) -> &[Value]
     ensures { items_view result.now ≡ or_no_items (as_array (view value.now)) }
 {

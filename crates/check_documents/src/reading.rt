@@ -7,7 +7,8 @@ ghost use Rattle.check_drafts.specs.Drafted.{host, service, dependency, drafts_v
 ghost use Rattle.check_drafts.specs.Place.{host_at, service_at, the_hosts, the_services};
 ghost use Rattle.check_drafts.specs.declared.place.Part.TheVariants as part;
 ghost use Rattle.check_documents.specs.Criteria.{host_letters, service_letters};
-ghost use Rattle.check_documents.specs.Reading.{dependencies_in, host_draft, list_of, service_draft, check_draft, dependency_draft, drafts_of, delay_in, factor_in, delay_by_default, factor_by_default, options_of, options_but_thresholds, with_thresholds, has_option_members, wrong_options};
+ghost use Rattle.check_documents.specs.Reading.{dependencies_in, host_draft, list_of, service_draft, check_draft, dependency_draft, drafts_of, delay_in};
+ghost use Rattle.check_documents.specs.Reading.{factor_in, delay_by_default, factor_by_default, options_of, options_but_thresholds, with_thresholds, has_option_members, wrong_options};
 ghost use Rattle.check_documents.specs.Values.{delay_method, interleave_factor};
 ghost use Rattle.check_drafts.specs.Member.{as_row};
 
@@ -33,8 +34,8 @@ use serde_json::Value;
 use std::alloc::Global;
 
 /// The drafts of a document's tree, or its first fault of shape, in the order of the document's
-/// members in [`Part`], with what is wrong there by the table of members. If memory runs out, the
-/// fault is `Memory`.
+/// members in [`Part`]. The fault names the member at fault by the table of members. If memory runs out,
+/// it is `Memory`.
 #[tactic(auto, unfolding(crate::specs::Reading::drafts_of))]
 pub fn read_drafts<'v>(alloc: Global, tree: &'v Value) -> Result<Drafts<'v>, Fault>
     ensures { Tells drafts_view result (drafts_of (view tree.now)) }
@@ -122,7 +123,7 @@ fn read_options(value: Option<&Value>) -> Result<Options, Fault>
     }
 }
 
-/// The options, or None if they have another shape. What the document doesn't name has its default.
+/// The options, or None if they have another shape. An option that isn't named has its default.
 fn options_of(value: Option<&Value>) -> Option<Options>
     ensures { result ≡ options_of (option_map (λ v. view v.now) value.entry) }
 {
@@ -154,7 +155,7 @@ fn options_but_thresholds(value: Option<&Value>) -> Option<Options>
     })
 }
 
-/// These options with the thresholds of flapping, each with its default where it isn't named.
+/// These options with the thresholds of flapping. A threshold that isn't named has its default.
 #[tactic(auto, unfolding(crate::specs::Reading::with_thresholds))]
 fn with_thresholds(value: Option<&Value>, options: Options) -> Option<Options>
     ensures { result ≡ with_thresholds (option_map (λ v. view v.now) value.entry) options }
@@ -177,8 +178,8 @@ fn has_option_members(value: Option<&Value>) -> bool
     }
 }
 
-/// The delay of a member of an object that may be absent itself. Without the member it is its default,
-/// and there is none where the member is required.
+/// The delay of a member of an object that may be absent itself. Without the member it is the default,
+/// or None if the member is required.
 fn delay_in(object: Option<&Value>, wanted: Member) -> Option<DelayMethod>
     ensures { result ≡ delay_in (as_row wanted) (option_map (λ v. view v.now) object.entry) }
 {
@@ -210,8 +211,8 @@ pub(crate) fn delay_method(value: &Value) -> Option<DelayMethod>
     }
 }
 
-/// The factor of a member of an object that may be absent itself. Without the member it is its default,
-/// and there is none where the member is required.
+/// The factor of a member of an object that may be absent itself. Without the member it is the default,
+/// or None if the member is required.
 fn factor_in(object: Option<&Value>, wanted: Member) -> Option<InterleaveFactor>
     ensures { result ≡ factor_in (as_row wanted) (option_map (λ v. view v.now) object.entry) }
 {

@@ -1,4 +1,4 @@
-//! What is wrong with the shape of a value, by the table of members.
+//! Faults of shape, by the table of members.
 ghost use Rattle.std.specs.Prelude.{◌≡◌, bytes_eq, find, is_some, map, not, option_map, position, string_bytes, true};
 ghost use Rattle.std.specs.List.{list_any};
 ghost use Rattle.std.specs.BTreeMap.{keys};
@@ -8,7 +8,8 @@ ghost use Rattle.check_drafts.specs.Fault.{seen, shape_seen};
 ghost use Rattle.check_drafts.specs.Member.{as_row};
 ghost use Rattle.check_drafts.specs.Members.{members_at};
 ghost use Rattle.check_documents.specs.Criteria.{criteria_of};
-ghost use Rattle.check_documents.specs.Shapes.{first_unknown, has_kind, is_misfit, is_missing, is_other, names, wrong_at, wrong_list, wrong_member, wrong_object, wrong_value};
+ghost use Rattle.check_documents.specs.Shapes.{first_unknown, has_kind, is_misfit, is_missing, is_other, names};
+ghost use Rattle.check_documents.specs.Shapes.{wrong_at, wrong_list, wrong_member, wrong_object, wrong_value};
 ghost use Rattle.check_documents.specs.Tree.{is_among, ◌>=>◌};
 
 use crate::criteria::read_criteria;
@@ -27,7 +28,7 @@ pub(crate) fn shape_fault(place: Place, value: &Value) -> Fault
     Fault::Shape(place, wrong_shape(place, value).unwrap())
 }
 
-/// What is wrong with the shape of the value at a place, or None if nothing is.
+/// The fault of shape of the value at a place, or None if its shape is right.
 fn wrong_shape(place: Place, value: &Value) -> Option<ShapeFault>
     ensures { option_map shape_seen result ≡ wrong_value (members_at place) (view value.now) }
 {
@@ -37,7 +38,7 @@ fn wrong_shape(place: Place, value: &Value) -> Option<ShapeFault>
     }
 }
 
-/// What is wrong with a value that has to be a list. None if nothing is.
+/// The fault of a value that has to be a list, or None if it is one.
 fn wrong_list(value: &Value) -> Option<ShapeFault>
     ensures { option_map shape_seen result ≡ wrong_list (view value.now) }
 {
@@ -48,7 +49,7 @@ fn wrong_list(value: &Value) -> Option<ShapeFault>
     }
 }
 
-/// What is wrong with a value that has to be an object with such members. None if nothing is.
+/// The fault of a value that has to be an object with such members, or None if it is one.
 fn wrong_object(value: &Value, members: &[Member]) -> Option<ShapeFault>
     ensures { option_map shape_seen result ≡ wrong_object (map as_row members.now) (view value.now) }
 {
@@ -58,7 +59,7 @@ fn wrong_object(value: &Value, members: &[Member]) -> Option<ShapeFault>
     }
 }
 
-/// Which member of an object, whose own members these are, is at fault. None if none is.
+/// The fault of the first member at fault of an object, or None if all its members are right.
 fn wrong_member(
     value: &Value,
     object: &Map<String, Value>,

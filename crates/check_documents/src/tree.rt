@@ -13,8 +13,8 @@ use check_drafts::{Fault, Member, Unread};
 use serde_json::{Error, Map, Value};
 use std::alloc::Global;
 
-/// The tree that `serde_json` reads from the bytes. `NotJson` if there is no reading, with where it
-/// stops; `Memory` if memory ran out.
+/// The tree that `serde_json` reads from the bytes. The fault is `NotJson` if there is no reading, or
+/// `Memory` if memory ran out.
 pub fn read_tree(alloc: Global, bytes: &[u8]) -> Result<Value, Fault>
     ensures { Tells view result (ok_or (tree_of bytes.now) not_json) }
 {
@@ -28,7 +28,7 @@ pub fn read_tree(alloc: Global, bytes: &[u8]) -> Result<Value, Fault>
     }
 }
 
-/// Where reading stopped.
+/// The line and the column at which reading stopped.
 fn unread(error: &Error) -> Unread {
     Unread {
         line: error.line(),
@@ -73,8 +73,8 @@ pub(crate) fn member<'v>(value: Option<&'v Value>, name: &str) -> Option<&'v Val
     }
 }
 
-/// The whole number of a member of an object that may be absent itself. Without the member it is its
-/// default, and there is none where the member is required.
+/// The whole number of a member of an object that may be absent itself. Without the member it is the
+/// default, or None if the member is required.
 pub(crate) fn number_in(object: Option<&Value>, wanted: Member) -> Option<u64>
     ensures { result ≡ number_in (as_row wanted) (option_map (λ v. view v.now) object.entry) }
 {
@@ -84,8 +84,8 @@ pub(crate) fn number_in(object: Option<&Value>, wanted: Member) -> Option<u64>
     }
 }
 
-/// The truth value of a member of an object that may be absent itself. Without the member it is its
-/// default, and there is none where the member is required.
+/// The truth value of a member of an object that may be absent itself. Without the member it is the
+/// default, or None if the member is required.
 pub(crate) fn switch_in(object: Option<&Value>, wanted: Member) -> Option<bool>
     ensures { result ≡ switch_in (as_row wanted) (option_map (λ v. view v.now) object.entry) }
 {

@@ -12,26 +12,26 @@ use Rattle.serde_json.specs.Data.{Data, Items, no_items, item}
 use Rattle.serde_json.specs.Find.{as_array, as_str, get}
 use Rattle.link_order.specs.Cycles.{has_cycle}
 use Rattle.check_drafts.specs.Agreement.{◌>>=◌, refused_as}
-use Rattle.check_drafts.specs.Fault.{Fault, load_error, not_json, too_long}
-use Rattle.check_drafts.specs.declared.error.LoadError.{LoadError}
 use Rattle.check_drafts.specs.declared.error.LoadError.TheVariants as errors
 use Rattle.check_drafts.specs.declared.place.Part.TheVariants as part
 use Rattle.check_drafts.specs.declared.place.Place.{Place}
 use Rattle.check_drafts.specs.Draft.{Drafts, HostDraft, ServiceDraft}
+use Rattle.check_drafts.specs.Fault as fault
+use Rattle.check_drafts.specs.Fault.{Fault, load_error}
 use Rattle.check_drafts.specs.Keys.{key_of}
 use Rattle.check_drafts.specs.Members as members
 use Rattle.check_drafts.specs.Name.{full_name}
-use Rattle.check_drafts.specs.Place.{host_at, service_at, the_document, the_hosts, the_options, the_services}
-use Rattle.check_documents.specs.Tree.{◌>=>◌, has_only, texts_in, tree_of}
+use Rattle.check_drafts.specs.Place.{host_at, service_at, the_document, the_hosts, the_services}
+use Rattle.check_documents.specs.Criteria.{host_letters, service_letters}
 use Rattle.check_documents.specs.Shapes.{wrong_at}
+use Rattle.check_documents.specs.Tree.{◌>=>◌, has_only, texts_in, tree_of}
 use Rattle.check_documents.specs.Reading.{check_draft, dependencies_in, document_members, drafts_of, host_draft, host_members, items_from}
 use Rattle.check_documents.specs.Reading.{list_of, options_of, service_draft, service_members, wrong_options}
-use Rattle.check_documents.specs.Criteria.{service_letters, host_letters}
 use Rattle.check_faults.specs.Verification.{is_faultless}
 use Rattle.check_numbers.specs.Configuration.{Configuration, IsSetup, Named, masters_of, named_host, named_service, objects_of, parents_by_host}
 use Rattle.check_numbers.specs.Numbering.{body_of, configuration, hosts_in_order, names_in_order, numbered_host, numbered_service, object_of, services_in_order}
 use Rattle.check_numbers.proofs.NameLemmas.{all_moved}
-use Rattle.check_objects.specs.Setup.{setup_of, setup_of_tree, without_cycles, without_parent_cycle}
+use Rattle.check_objects.specs.Setup.{document_of, setup_of, setup_of_tree, without_cycles, without_parent_cycle}
 use Rattle.check_objects.proofs.OrderLemmas.{hosts_all, services_all}
 use Rattle.check_objects.proofs.SetupLemmas.{configuration_is_setup}
 use Rattle.check_saved.proofs.Utf8Lemmas.{GoodIf, GoodItems, GoodTree, array_good, get_good, good_then, on_test, one_ascii, read_good, str_good}
@@ -196,7 +196,7 @@ setup_by_drafts ds c (Ok _) g faultless e =
 setup_by_drafts ds c (Err why) g faultless e = cc
 
 setup_by_shape : (r : Result Drafts Fault) (c : Configuration) → GoodOk GoodDrafts r
-    → (refused_as load_error (r >>= λ ds. (is_faultless ds >>= λ _. Ok ds)) >>= λ ds. without_cycles (configuration ds)) ≡ Ok c → IsRead c
+    → (refused_as load_error (r >>= λ drafts. (is_faultless drafts >>= λ _. Ok drafts)) >>= λ drafts. without_cycles (configuration drafts)) ≡ Ok c → IsRead c
 setup_by_shape (Ok ds) c g e = setup_by_drafts ds c (is_faultless ds) g refl e
 setup_by_shape (Err why) c g e = cc
 
@@ -205,10 +205,9 @@ unfolding setup_of_tree
 setup_by_tree (Ok d) c g e = setup_by_shape (drafts_of d) c (drafts_good d g) e
 setup_by_tree (Err why) c g e = cc
 
-setup_by_length : (long : Bool) (r : Result Data Fault) (c : Configuration) → GoodOk GoodTree r
-    → (refused_as load_error (cond long (Err too_long) r) >>= setup_of_tree) ≡ Ok c → IsRead c
-setup_by_length true r c g e = cc
-setup_by_length false r c g e = setup_by_tree r c g e
+short_good : (long : Bool) (r : Result Data Fault) → GoodOk GoodTree r → GoodOk GoodTree (cond long (Err fault.too_long) r)
+short_good true r g = tt
+short_good false r g = g
 
 tree_texts : (document : List ℕ) → GoodIf GoodTree (tree_of document)
 unfolding tree_of
@@ -217,5 +216,5 @@ tree_texts document = on_test (GoodIf GoodTree) (is_utf8 document) _ None (λ e.
 pub setup_by : (document : List ℕ) (c : Configuration) → setup_of document ≡ Ok c → IsRead c
 unfolding setup_of
 setup_by document c e =
-    setup_by_length (nat_lt 16777216 (length document)) (ok_or (tree_of document) not_json) c
-    (ok_good GoodTree (tree_of document) not_json (tree_texts document)) e
+    setup_by_tree (document_of document) c
+    (short_good (nat_lt 16777216 (length document)) (ok_or (tree_of document) fault.not_json) (ok_good GoodTree (tree_of document) fault.not_json (tree_texts document))) e

@@ -288,8 +288,19 @@ drafts_whole d drafts s e =
     next (list_of service_draft the_services service_at (get (codes "services") d)) _ drafts (has_other_number d ≡ false) (λ services hs rs.
     next (dependencies_in part.ServiceDependencies service_letters (get (codes "service_dependencies") d)) _ drafts (has_other_number d ≡ false) (λ between hb rb.
     next (dependencies_in part.HostDependencies host_letters (get (codes "host_dependencies") d)) _ drafts (has_other_number d ≡ false) (λ among ha ra.
-    object_whole document_members d s only
-    (options_whole (get (codes "options") d) options (sorted_get (codes "options") d s) (from_ok_or _ _ options ho), (list_whole host_draft host_whole the_hosts host_at (get (codes "hosts") d) hosts (sorted_get (codes "hosts") d s) hh, (list_whole service_draft service_whole the_services service_at (get (codes "services") d) services (sorted_get (codes "services") d s) hs, (list_whole (dependency_draft service_letters) (dependency_whole service_letters) _ _ _ between (sorted_get (codes "service_dependencies") d s) hb, (list_whole (dependency_draft host_letters) (dependency_whole host_letters) _ _ _ among (sorted_get (codes "host_dependencies") d s) ha, tt))))))
+    object_whole document_members d s only (
+      options_whole (get (codes "options") d) options (sorted_get (codes "options") d s) (from_ok_or _ _ options ho),
+      (
+        list_whole host_draft host_whole the_hosts host_at (get (codes "hosts") d) hosts (sorted_get (codes "hosts") d s) hh,
+        (
+          list_whole service_draft service_whole the_services service_at (get (codes "services") d) services (sorted_get (codes "services") d s) hs,
+          (
+            list_whole (dependency_draft service_letters) (dependency_whole service_letters) _ _ _ between (sorted_get (codes "service_dependencies") d s) hb,
+            (list_whole (dependency_draft host_letters) (dependency_whole host_letters) _ _ _ among (sorted_get (codes "host_dependencies") d s) ha, tt),
+          ),
+        ),
+      ),
+    ))
     rb) rs) rh) ro) members) e
 
 -- each number in a document that is read is a whole one

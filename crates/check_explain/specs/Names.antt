@@ -24,7 +24,8 @@ name_member part.Services = codes "description"
 name_member p = codes "name"
 
 abbrev pub bad_byte_text : ℕ → List ℕ
-bad_byte_text b = if b == 59 then codes " has a \";\" in it, which no name can have" else codes " has the byte " ++ (decimal b ++ codes " in it, which no name can have")
+bad_byte_text b = if b == 59 then codes " has a \";\" in it, which no name can have"
+    else codes " has the byte " ++ (decimal b ++ codes " in it, which no name can have")
 
 abbrev pub name_fault_text : NameFault → List ℕ
 name_fault_text name_fault.Empty = codes " is empty; it can have 1 to 255 bytes"
@@ -50,7 +51,8 @@ abbrev pub parent_name : Data → ℕ → ℕ → Option (List ℕ)
 parent_name tree host index = option_and_then as_str (option_and_then (at index) (option_and_then (get (codes "parents")) (value_at tree (host_at host))))
 
 abbrev pub unknown_parent_text : Data → ℕ → ℕ → List ℕ
-unknown_parent_text tree host index = place_text tree (host_at host) ++ (named (codes "parent ") (parent_name tree host index) ++ codes " isn't among the hosts")
+unknown_parent_text tree host index =
+    place_text tree (host_at host) ++ (named (codes "parent ") (parent_name tree host index) ++ codes " isn't among the hosts")
 
 abbrev pub unknown_host_text : Data → ℕ → List ℕ
 unknown_host_text tree service =

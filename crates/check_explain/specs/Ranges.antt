@@ -26,8 +26,10 @@ above_text m n = codes "; it can't be above " ++ (shown m.name ++ (codes ", whic
 
 abbrev pub wrong_number_text : WrongNumber → List ℕ
 wrong_number_text (fault.beyond m n) = number_text m n ++ limits_text (limits_of m.kind)
-wrong_number_text (fault.service_thresholds low high) = number_text members.low_service_flap_threshold low ++ above_text members.high_service_flap_threshold high
-wrong_number_text (fault.host_thresholds low high) = number_text members.low_host_flap_threshold low ++ above_text members.high_host_flap_threshold high
+wrong_number_text (fault.service_thresholds low high) =
+    number_text members.low_service_flap_threshold low ++ above_text members.high_service_flap_threshold high
+wrong_number_text (fault.host_thresholds low high) =
+    number_text members.low_host_flap_threshold low ++ above_text members.high_host_flap_threshold high
 
 abbrev pub range_text : Data → Place → WrongNumber → List ℕ
 range_text tree place w = place_text tree place ++ wrong_number_text w

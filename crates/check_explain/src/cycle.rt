@@ -1,4 +1,4 @@
-//! Cycles: objects each of which is linked to the next one, and the last to the first.
+//! Cycles of objects: each object is linked to the next one, and the last object to the first.
 ghost use Rattle.std.specs.Prelude.{◌≡◌, ◌++◌, OnOk, take};
 ghost use Rattle.serde_json.specs.View.{view};
 ghost use Rattle.check_explain.specs.Cycles.{cycle_text, dependencies_of, dependency_cycle_text, first_text, more_text, objects_text, parent_cycle_text};
@@ -9,10 +9,10 @@ use check_drafts::{Part, Place};
 use serde_json::Value;
 use std::alloc::AllocError;
 
-/// How many objects of a cycle are named: of a longer one the first ones, and how many more there are.
+/// How many objects of a cycle are named. The rest are only counted.
 const MOST_NAMED: usize = 8;
 
-/// Appends hosts each of which has the next one for a parent, and the last the first.
+/// Appends a cycle of hosts: each host has the next one for a parent, and the last host has the first.
 pub(crate) fn push_parent_cycle(
     line: &mut Line,
     tree: &Value,
@@ -24,7 +24,7 @@ pub(crate) fn push_parent_cycle(
     push_cycle(line, tree, Part::Hosts, cycle)
 }
 
-/// Appends objects of a part each of which depends on the next one, and the last on the first.
+/// Appends a cycle of objects of a part: each depends on the next one, and the last on the first.
 pub(crate) fn push_dependency_cycle(
     line: &mut Line,
     tree: &Value,

@@ -13,7 +13,7 @@ use serde_json::Value;
 use std::alloc::Global;
 
 /// Writes the document with this tree in JSON's compact form, without a line feed in it or at its end.
-/// What is written is read to the same tree (`same`). The clauses `text` and `too_long` are about trees
+/// The line is read to the same tree (`same`). The clauses `text` and `too_long` are about trees
 /// without a float: a good setup has none.
 ///
 /// The error is `TooLong` if the line has more than 16,777,216 bytes, or `Memory`.

@@ -1,4 +1,4 @@
-//! The explanation of a refused document: at which place the fault is, and what is wrong there.
+//! The explanation of a refused document: the place of its fault, and the reason.
 ghost use Rattle.std.specs.Prelude.{◌≡◌, ◌++◌, IfOk, OnOk, false, option_map, string_bytes};
 ghost use Rattle.serde_json.specs.View.{view};
 ghost use Rattle.check_drafts.specs.Fault.{seen};
@@ -20,8 +20,8 @@ use std::alloc::{AllocError, Global};
 /// Explains on one line why a document with this tree was refused. A document that is too long or isn't
 /// JSON has no tree.
 ///
-/// The line names the place of the fault, what stands there, the member or the name at fault, and what
-/// it can be. A cycle is named by its objects, each linked to the next one and the last to the first.
+/// The line names the place of the fault, the object there, the member or the name at fault, and the
+/// values that it can have. A cycle is shown by its objects, in their order.
 /// Texts of the document are shown as JSON strings of at most 80 characters. The one error is that
 /// memory ran out. The words are this project's own: Nagios checks its configuration in other ways.
 pub fn explain(alloc: Global, tree: Option<&Value>, fault: &Fault) -> Result<String, AllocError>
@@ -68,7 +68,7 @@ fn explanation(alloc: Global, tree: &Value, fault: &Fault) -> Result<Line, Alloc
     Ok(line)
 }
 
-/// Appends where reading a document stops that isn't JSON.
+/// Appends the place in the text at which a document stops being JSON.
 fn push_unread(line: &mut Line, unread: Unread) -> Result<(), AllocError>
     ensures { OnOk result (line.new ≡ line.old ++ unread_text unread) }
 {

@@ -96,7 +96,7 @@ impl Line {
         }
     }
 
-    /// Appends a text as it stands in a JSON string; after 80 characters dots stand for the rest.
+    /// Appends a text, escaped as in a JSON string, and dots in place of all after 80 characters.
     pub(crate) fn push_cut(&mut self, text: &str) -> Result<(), AllocError>
         ensures text { OnOk result (self.new ≡ self.old ++ cut text.now) }
     {
@@ -113,7 +113,7 @@ impl Line {
         }
     }
 
-    /// Appends a character as it stands in a JSON string, and control characters by their numbers.
+    /// Appends a character, escaped as in a JSON string, and a control character by its number.
     fn push_escaped(&mut self, character: char) -> Result<(), AllocError>
         ensures text { OnOk result (self.new ≡ self.old ++ escaped character) }
     {

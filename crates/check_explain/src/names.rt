@@ -4,7 +4,8 @@ ghost use Rattle.serde_json.specs.View.{view};
 ghost use Rattle.check_drafts.specs.Place.{service_at};
 ghost use Rattle.check_documents.specs.Places.{value_at};
 ghost use Rattle.check_explain.specs.Feeds.{has_feed};
-ghost use Rattle.check_explain.specs.Names.{bad_byte_text, bad_name_text, duplicate_text, end_member, end_of, end_role, end_words, name_fault_text, name_member};
+ghost use Rattle.check_explain.specs.Names.{bad_byte_text, bad_name_text, duplicate_text, end_member, end_of, end_role, end_words};
+ghost use Rattle.check_explain.specs.Names.{name_fault_text, name_member};
 ghost use Rattle.check_explain.specs.Names.{parent_name, repeat_words, unknown_end_text, unknown_host_text, unknown_parent_text};
 ghost use Rattle.check_explain.specs.Places.{text_in};
 

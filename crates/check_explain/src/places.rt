@@ -1,4 +1,4 @@
-//! How a place of a document is written: by its part, its index and the name that stands there.
+//! How a place of a document is written: its part, its index, and the name of the object there.
 ghost use Rattle.std.specs.Prelude.{◌≡◌, ◌++◌, OnOk, false, option_map};
 ghost use Rattle.serde_json.specs.View.{view};
 ghost use Rattle.check_drafts.specs.declared.place.Part.TheVariants as part;
@@ -30,8 +30,7 @@ pub(crate) fn texts_of<'v>(item: &'v Value, first: &str, second: &str) -> Option
     }
 }
 
-/// Appends a place, a colon and a space: the part, and for an item of a list its index and the name that
-/// stands there.
+/// Appends a place, a colon and a space: the part, and for an item of a list its index and its name.
 pub(crate) fn push_place(line: &mut Line, tree: &Value, place: Place) -> Result<(), AllocError>
     ensures { OnOk result (line.new ≡ line.old ++ place_text (view tree.now) place) }
 {
@@ -66,7 +65,7 @@ pub(crate) fn part_words(part: Part) -> &'static str
     part.name()
 }
 
-/// Appends a space and the name that stands at a place, if there is one.
+/// Appends a space and the name of the object at a place, if there is one.
 pub(crate) fn push_name_at(line: &mut Line, tree: &Value, place: Place) -> Result<(), AllocError>
     ensures { OnOk result (line.new ≡ line.old ++ name_text (view tree.now) place) }
 {

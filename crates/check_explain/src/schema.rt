@@ -17,7 +17,7 @@ use check_drafts::{
 };
 use std::alloc::{AllocError, Global};
 
-/// What a schema can't say of a setup.
+/// Rules of a setup that a schema can't express.
 const DESCRIPTION: &str = "\
 Line 1 of the program's input, written on one line. What a schema can't say: names are at most 255 bytes, \
 not characters; they are told apart by their bytes; parents, hosts and the names in dependencies have to be \

@@ -15,7 +15,7 @@ use check_drafts::{Kind, Member, Place, ShapeFault};
 use serde_json::{Map, Value};
 use std::alloc::{AllocError, Global};
 
-/// Appends what is wrong with the shape of the value at a place.
+/// Appends a fault of shape of the value at a place.
 pub(crate) fn push_shape(
     alloc: Global,
     line: &mut Line,
