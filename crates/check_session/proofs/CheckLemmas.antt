@@ -1,26 +1,13 @@
 -- A whole check of a setup, and what its faults leave.
-use Rattle.std.proofs.Common.{◌≡◌, ◌≢◌, ℕ, ◌<◌, ◌≤◌, true, List, [], length, length-take, take, Option, Some, None, Ok, Err, refl, sym, ap, subst, ◌∙◌}
-use Rattle.std.proofs.Common.{arith, inl, inr, ◌⊎◌}
-use Rattle.std.specs.Prelude.{nat_lt, IfErr, IfOk, IfSome, IsOk, Result}
+use Rattle.std.proofs.Common.{◌≡◌, ◌≢◌, ℕ, ◌<◌, ◌≤◌, ◌++◌, Bool, true, false, cond, List, [], ◌∷◌, length, take, Option, Some, None, Ok, Err, refl, sym, ap, subst, ◌∙◌}
+use Rattle.std.proofs.Common.{arith, inl, inr, ◌⊎◌, length-take}
+use Rattle.std.specs.Prelude.{nat_lt, ok_or, IfErr, IfSome, Result}
+use Rattle.check_drive.specs.declared.drive.Outcome.TheVariants as outcome
+use Rattle.check_session.specs.Check.{tree_in, HasTold, IsFaultTold, IsGood, IsLineTold, IsRefusalTold, IsSummaryTold, IsTold, IsToldBy, IsTooLong, IsWritten}
 use Rattle.std.specs.Io.KnownBytes.{Appends, Consumes}
 use Rattle.std.proofs.lemmas.List.{take_all}
 use Rattle.std.proofs.lemmas.Bool.{cases_lt}
 use Rattle.std.proofs.lemmas.Bool.Decides.{nat_tests}
-use Rattle.check_drafts.specs.declared.error.LoadError.TheVariants as load
-use Rattle.check_drafts.specs.Fault as fault
-use Rattle.check_drafts.specs.declared.fault.Fault as declared
-use Rattle.check_drafts.specs.declared.fault.Fault.TheVariants as faults
-use Rattle.check_drafts.specs.Fault.{Fault, Tells, but_memory, load_error, seen}
-use Rattle.check_drafts.specs.Agreement.{Fails}
-use Rattle.check_objects.specs.Setup.{examined, or_refusal, setup_of}
-use Rattle.check_objects.proofs.ExaminedLemmas.{refused_alike}
-use Rattle.check_numbers.specs.Configuration.{Configuration}
-use Rattle.check_explain.specs.Explanation.{place_of, IsOfFault}
-use Rattle.check_explain.specs.Rounds.{IsOfWhole, OfWhole}
-use Rattle.check_explain.proofs.HeadLemmas.{of_nowhere}
-use Rattle.check_explain.proofs.LineLemmas.{good_document}
-use Rattle.check_explain.specs.DocumentLine.{IsFault, OfTree}
-use Rattle.serde_json.specs.Written.{compact_text}
 use Rattle.check_script.specs.declared.drive_error.DriveError.{DriveError}
 use Rattle.check_script.specs.declared.drive_error.DriveError.TheVariants as errors
 use Rattle.check_script.specs.Input.{without_last_feed}
@@ -31,37 +18,50 @@ use Rattle.check_drive.specs.Streams.{streams}
 use Rattle.check_script.specs.Input.{HasBegun}
 use Rattle.check_script.specs.declared.start.Start.{Start}
 use Rattle.check_script.specs.declared.start.Start.TheVariants as start
-use Rattle.check_session.specs.Check.{HasTold, IsLineTold, IsRefusalTold, IsRefusedAs, IsSummaryTold, IsToldBy, IsTooLong, IsWritten}
 use Rattle.check_session.specs.Checked.{Checked, IsSetupLineTold, IsToldFrom, most_of}
 use Rattle.check_session.specs.declared.reading.TheConstants.{MAX_CHECKED_BYTES}
 use Rattle.check_session.proofs.CheckResumedLemmas.{resumed_told_of}
 use Rattle.check_session.proofs.ReadingLemmas.{cut_length}
 use Rattle.check_drive.proofs.DriveLemmas.{input_of, input_of-is}
 use Rattle.check_text.proofs.WrittenLemmas.{Keeps-same}
+use Rattle.serde_json.specs.Data.{Data, null}
+use Rattle.serde_json.specs.Written.{compact_text, has_float}
+use Rattle.check_documents.specs.Reading.{drafts_of}
+use Rattle.check_documents.specs.Tree.{tree_of}
+use Rattle.check_drafts.specs.Agreement.{◌>>=◌, refused_as}
+use Rattle.check_drafts.specs.Draft.{Drafts}
+use Rattle.check_drafts.specs.declared.error.LoadError.{LoadError}
+use Rattle.check_drafts.specs.declared.error.LoadError.TheVariants as load
+use Rattle.check_drafts.specs.Fault as fault
+use Rattle.check_drafts.specs.Fault.{Fault, load_error}
+use Rattle.check_objects.specs.Verification.{is_faultless}
+use Rattle.check_objects.specs.Numbering.{configuration}
+use Rattle.check_objects.specs.Setup.{document_of, setup_of, setup_of_tree, without_cycles, IsFaultIn, IsRefusedTree}
+use Rattle.check_objects.specs.Configuration.{Configuration}
+use Rattle.check_explain.specs.Explanation.{tree_or_null}
+use Rattle.check_explain.proofs.NumberLemmas.{no_float, whole_numbers}
 
 -- ---- an input of which a prefix was read
 
-examined_long : (bs : List ℕ) → 16777216 < length bs → examined bs ≡ Err fault.too_long
-unfolding examined
-examined_long bs h = let a : nat_lt 16777216 (length bs) ≡ true = grind (arith, nat_tests, h) in rw a refl
+document_long : (bs : List ℕ) → 16777216 < length bs → document_of bs ≡ Err fault.too_long
+document_long bs h = let a : nat_lt 16777216 (length bs) ≡ true = grind (arith, nat_tests, h) in rw a refl
 
-explained_long : (document : List ℕ) (f : Fault) (words : List ℕ) → examined document ≡ Err fault.too_long → examined document ≡ Err f
-    → IsOfFault document f words × IsOfWhole document f words
-explained_long document f words long is =
-    let same : f ≡ fault.too_long = cc (long, is) in
-    (of_nowhere document f words (ap place_of same), λ tree there. subst (λ g. OfWhole tree g words) (sym same) tt)
-
-refused_long : (one other text : List ℕ) (told : Outcome) → examined other ≡ Err fault.too_long
-    → IsRefusalTold one load.TooLong text told → IsRefusalTold other load.TooLong text told
-refused_long one other text told long ((words, (flat, of_one), is), out) = ((words, (flat, λ f is_f. explained_long other f words long is_f), is), out)
+refused_alike : (one other : List ℕ) (e : LoadError) (text : List ℕ) (told : Outcome) → document_of one ≡ document_of other
+    → IsRefusalTold one e text told → IsRefusalTold other e text told
+refused_alike one other e text told same r = record {
+  found = r.found;
+  is = subst (λ d. IsFaultIn d r.found) same r.is;
+  refused = r.refused;
+  explained = subst (λ d. IsFaultTold (tree_or_null (tree_in d)) r.found text told) same r.explained;
+}
 
 -- what is printed of a document by what it is; `Good` says what is of a good one
 abbrev pub IsToldAs : (List ℕ → Configuration → List ℕ → Outcome → Type 0) → List ℕ → List ℕ → Outcome → Type 0
 IsToldAs Good document = IsToldBy (Good document) document (setup_of document)
 
 told_long : (Good : List ℕ → Configuration → List ℕ → Outcome → Type 0) (one other text : List ℕ) (told : Outcome) → setup_of one ≡ Err load.TooLong
-    → setup_of other ≡ Err load.TooLong → examined other ≡ Err fault.too_long → IsToldAs Good one text told → IsToldAs Good other text told
-told_long Good one other text told e f long h = rw f (refused_long one other text told long (rw e at h))
+    → setup_of other ≡ Err load.TooLong → document_of one ≡ document_of other → IsToldAs Good one text told → IsToldAs Good other text told
+told_long Good one other text told e f same h = rw f (refused_alike one other load.TooLong text told same (rw e at h))
 
 read_by : (Good : List ℕ → Configuration → List ℕ → Outcome → Type 0) (bytes text : List ℕ) (told : Outcome)
     → (16777217 < length bytes) ⊎ (length bytes ≤ 16777217)
@@ -73,7 +73,8 @@ read_by Good bytes text told (inl long) h =
     told_long Good (without_last_feed (take MAX_CHECKED_BYTES bytes)) (without_last_feed bytes) text told
     (too_long (without_last_feed (take MAX_CHECKED_BYTES bytes)) (omega (arith, read, cut_read, long)))
     (too_long (without_last_feed bytes) (omega (arith, cut, long)))
-    (examined_long (without_last_feed bytes) (omega (arith, cut, long))) h
+    (document_long (without_last_feed (take MAX_CHECKED_BYTES bytes)) (omega (arith, read, cut_read, long))
+    ∙ sym (document_long (without_last_feed bytes) (omega (arith, cut, long)))) h
 read_by Good bytes text told (inr short) h =
     subst (λ read. IsToldAs Good (without_last_feed read) text told) (take_all MAX_CHECKED_BYTES bytes (omega (arith, short))) h
 
@@ -142,51 +143,96 @@ printed_check Can most had left held holds read text told all c can a =
 
 -- ---- a document that was examined
 
-pub examined_bad : (document : List ℕ) (f : Option Fault) → Fails f (examined document) → IsRefusedAs document f
-examined_bad document None fails = tt
-examined_bad document (Some f) fails = (refused_alike document ∙ ap or_refusal fails, λ other is. cc)
+setup_by : (document : List ℕ) (r : Result Data Fault) → document_of document ≡ r → setup_of document ≡ (refused_as load_error r >>= setup_of_tree)
+unfolding setup_of
+setup_by document r is = ap (λ d. refused_as load_error d >>= setup_of_tree) is
 
-pub good_by : (r : Result Configuration declared.Fault) (document : List ℕ) → Tells (λ c. c) r (examined document) → IfOk r (λ c. setup_of document ≡ Ok c)
-good_by (Ok c) document is = good_document document c is
-good_by (Err f) document is = tt
+-- a document that has no tree
+pub unread : (document : List ℕ) (f : Fault) (text : List ℕ) (told : Outcome) → document_of document ≡ Err f → IsFaultTold null f text told
+    → (e : LoadError) × (setup_of document ≡ Err e) × IsRefusalTold document e text told
+unread document f text told is h = (load_error f, setup_by document (Err f) is, record {
+  found = f;
+  is = subst (λ d. IsFaultIn d f) (sym is) refl;
+  refused = refl;
+  explained = subst (λ d. IsFaultTold (tree_or_null (tree_in d)) f text told) (sym is) h;
+})
 
-pub bad_by : (r : Result Configuration declared.Fault) (document : List ℕ) → Tells (λ c. c) r (examined document)
-    → IfErr r (λ f. IsRefusedAs document (but_memory (seen f)))
-bad_by (Ok c) document is = tt
-bad_by (Err f) document is = examined_bad document (but_memory (seen f)) is
+-- a document whose tree is refused
+pub refused_tree : (document : List ℕ) (tree : Data) (f : Fault) (text : List ℕ) (told : Outcome) → document_of document ≡ Ok tree
+    → IsRefusedTree tree (Some f) → IsFaultTold tree f text told → (e : LoadError) × (setup_of document ≡ Err e) × IsRefusalTold document e text told
+refused_tree document tree f text told is refused h = (load_error f, setup_by document (Ok tree) is ∙ refused.1, record {
+  found = f;
+  is = subst (λ d. IsFaultIn d f) (sym is) refused.0;
+  refused = refl;
+  explained = subst (λ d. IsFaultTold (tree_or_null (tree_in d)) f text told) (sym is) h;
+})
 
--- ---- a document of which no line was written
+pub good_tree : (document : List ℕ) (tree : Data) (c : Configuration) → document_of document ≡ Ok tree → setup_of_tree tree ≡ Ok c → IsGood document c tree
+good_tree document tree c is good = (is, setup_by document (Ok tree) is ∙ good)
 
-unwritten_by : (document : List ℕ) (f : Fault) (text : List ℕ) (told : Outcome) (r : Result Configuration Fault) → examined document ≡ r → IsFault r f
-    → but_memory f ≡ Some f → (f ≡ fault.too_long → IsOk (setup_of document) → OfTree document (λ tree. 16777216 < length (compact_text tree)))
-    → IsRefusalTold document (load_error f) text told → IsLineTold document text told
-unwritten_by document f text told (Ok c) is fails real long refused =
-    let good : setup_of document ≡ Ok c = good_document document c is in
-    let same : f ≡ fault.too_long = rw real at fails in
-    let past = long same (rw good refl) in
-    let as_long : IsRefusalTold document load.TooLong text told = rw same at refused in
-    rw good (inr (past, as_long))
-unwritten_by document f text told (Err e) is fails real long refused =
-    let bad : setup_of document ≡ Err (load_error e) = refused_alike document ∙ ap or_refusal is in
-    let same : f ≡ e = rw real at fails in
-    let as_told : IsRefusalTold document (load_error e) text told = rw same at refused in
-    rw bad as_told
+-- an error that isn't that memory ran out
+pub real_fault : (o : Option Fault) (f : Fault) (P : Option Fault → Type 0) → o ≡ Some f → P o → P (Some f)
+real_fault o f P real h = subst P real h
 
-pub unwritten : (document : List ℕ) (f : Fault) (text : List ℕ) (told : Outcome) → IsFault (examined document) f → but_memory f ≡ Some f
-    → (f ≡ fault.too_long → IsOk (setup_of document) → OfTree document (λ tree. 16777216 < length (compact_text tree)))
-    → IsRefusalTold document (load_error f) text told → IsLineTold document text told
-unwritten document f text told fails real long refused = unwritten_by document f text told (examined document) refl fails real long refused
+-- ---- the line of a good document
 
-pub seen_long : (f : declared.Fault) → seen f ≡ fault.too_long → f ≡ faults.TooLong
-seen_long faults.TooLong is = refl
-seen_long faults.NotJson is = cc
-seen_long (faults.Shape p w) is = cc
-seen_long (faults.TooMany c) is = cc
-seen_long (faults.BadName p) is = cc
-seen_long (faults.Duplicate p) is = cc
-seen_long (faults.UnknownHost p) is = cc
-seen_long (faults.UnknownMaster p) is = cc
-seen_long (faults.Range p w) is = cc
-seen_long faults.DependencyCycle is = cc
-seen_long faults.ParentCycle is = cc
-seen_long faults.Memory is = cc
+tree_found : (b : Bool) (o : Option Data) (tree : Data) → cond b (Err fault.too_long) (ok_or o fault.not_json) ≡ Ok tree → o ≡ Some tree
+tree_found true o tree e = cc
+tree_found false None tree e = cc
+tree_found false (Some d) tree e = let same : d ≡ tree = cc in ap Some same
+
+pub tree_of_document : (document : List ℕ) (tree : Data) → document_of document ≡ Ok tree → tree_of document ≡ Some tree
+tree_of_document document tree is = tree_found (nat_lt 16777216 (length document)) (tree_of document) tree is
+
+document_by : (line : List ℕ) (tree : Data) → length line ≤ 16777216 → tree_of line ≡ Some tree → document_of line ≡ Ok tree
+document_by line tree fits is =
+    let few : nat_lt 16777216 (length line) ≡ false = grind (arith, nat_tests, fits) in
+    ap (λ b. cond b (Err fault.too_long) (ok_or (tree_of line) fault.not_json)) few ∙ ap (λ o. ok_or o fault.not_json) is
+
+drafts_by : (r : Result Drafts Fault) (f : Drafts → Result Configuration LoadError) (c : Configuration)
+    → (refused_as load_error (r >>= λ ds. (is_faultless ds >>= λ _. Ok ds)) >>= f) ≡ Ok c → (ds : Drafts) × (r ≡ Ok ds)
+drafts_by (Ok ds) f c e = (ds, refl)
+drafts_by (Err x) f c e = cc
+
+drafts_found : (tree : Data) (c : Configuration) → setup_of_tree tree ≡ Ok c → (ds : Drafts) × (drafts_of tree ≡ Ok ds)
+unfolding setup_of_tree
+drafts_found tree c e = drafts_by (drafts_of tree) (λ ds. without_cycles (configuration ds)) c e
+
+-- a good document has no float
+good_floats : (document : List ℕ) (c : Configuration) (tree : Data) → IsGood document c tree → has_float tree ≡ false
+good_floats document c tree good =
+    let drafts = drafts_found tree c (sym (setup_by document (Ok tree) good.0) ∙ good.1) in
+    no_float tree (whole_numbers document tree drafts.0 (tree_of_document document tree good.0) drafts.1)
+
+same_tree : (document : List ℕ) (one other : Data) → tree_of document ≡ Some one → tree_of document ≡ Some other → one ≡ other
+same_tree document one other is there = let both : Some one ≡ Some other = sym is ∙ there in cc
+
+pub line_written : (document : List ℕ) (c : Configuration) (tree : Data) (line text : List ℕ) → IsGood document c tree
+    → ((d : List ℕ) → tree_of d ≡ Some tree → tree_of line ≡ Some tree) → (has_float tree ≡ false → line ≡ compact_text tree) → length line ≤ 16777216
+    → text ≡ line ++ 10 ∷ [] → IsLineTold document text outcome.Ran
+line_written document c tree line text good same compact fits is =
+    let read = tree_of_document document tree good.0 in
+    let setup : setup_of line ≡ setup_of document = setup_by line (Ok tree) (document_by line tree fits (same document read)) ∙ sym (setup_by document (Ok tree) good.0) in
+    rw good.1 (inl ((line, record {
+      same = setup;
+      compact = λ other there. compact (good_floats document c tree good) ∙ ap compact_text (same_tree document tree other read there);
+      fits = fits;
+    }, is), refl))
+
+pub line_too_long : (document : List ℕ) (c : Configuration) (tree : Data) (text : List ℕ) (told : Outcome) → IsGood document c tree
+    → (has_float tree ≡ false → 16777216 < length (compact_text tree)) → IsFaultTold tree fault.too_long text told → IsLineTold document text told
+line_too_long document c tree text told good long h =
+    let read = tree_of_document document tree good.0 in
+    rw good.1 (inr (λ other there.
+    subst (λ t. (16777216 < length (compact_text t)) × IsFaultTold t fault.too_long text told) (same_tree document tree other read there)
+    (long (good_floats document c tree good), h)))
+
+-- ---- what is told of a document
+
+pub summary_told : (start : ℕ) (document : List ℕ) (c : Configuration) (tree : Data) (text : List ℕ) (told : Outcome) → IsGood document c tree
+    → IsSummaryTold start c text told → IsTold start document text told
+summary_told start document c tree text told good h = rw good.1 h
+
+pub refused_told : (Good : Configuration → List ℕ → Outcome → Type 0) (document text : List ℕ) (told : Outcome)
+    → (e : LoadError) × (setup_of document ≡ Err e) × IsRefusalTold document e text told → IsToldBy Good document (setup_of document) text told
+refused_told Good document text told (e, is, h) = rw is h

@@ -1,21 +1,20 @@
 -- What a check of a setup from a reader to a writer leaves, fault or none.
-use Rattle.std.specs.Prelude.{ℕ, ◌≡◌, ◌<◌, ◌≤◌, ◌⊎◌, List, [], ◌∷◌, ◌++◌, length, Option, Some, None, Result, Ok, Err}
+use Rattle.std.specs.Prelude.{ℕ, ◌≡◌, ◌<◌, ◌≤◌, ◌⊎◌, List, ◌∷◌, [], ◌++◌, length, Option, Some, None, Result, Ok, Err}
 use Rattle.std.specs.Io.KnownBytes.{Appends, Keeps}
+use Rattle.serde_json.specs.Data.{Data}
 use Rattle.serde_json.specs.Written.{compact_text}
+use Rattle.check_documents.specs.Feeds.{HasNoFeed}
+use Rattle.check_documents.specs.Tree.{tree_of}
 use Rattle.check_drafts.specs.declared.error.LoadError.{LoadError}
-use Rattle.check_drafts.specs.declared.error.LoadError.TheVariants as errors
 use Rattle.check_objects.specs.Configuration.{Configuration}
-use Rattle.check_drafts.specs.Fault.{Fault, load_error}
-use Rattle.check_objects.specs.Setup.{examined, setup_of}
+use Rattle.check_drafts.specs.Fault.{Fault, load_error, too_long}
+use Rattle.check_objects.specs.Setup.{document_of, setup_of, IsFaultOf}
 use Rattle.check_script.specs.declared.drive_error.DriveError.{DriveError}
 use Rattle.check_script.specs.declared.drive_error.DriveError.TheVariants as fault
 use Rattle.check_script.specs.declared.refusal.InputRefusal.TheVariants as refusal
-use Rattle.check_explain.specs.DocumentLine.{OfTree}
-use Rattle.check_explain.specs.Explanation.{IsOfFault}
-use Rattle.check_explain.specs.Rounds.{IsOfWhole}
+use Rattle.check_explain.specs.Explanation.{tree_or_null, IsExplanation}
 use Rattle.check_summary.specs.Summary.{summary_of}
 use Rattle.check_summary.specs.Text.{summary_text}
-use Rattle.check_explain.specs.Feeds.{HasNoFeed}
 use Rattle.check_text.specs.Output.{WroteFront}
 use Rattle.check_text.specs.Text.{refusal_line}
 use Rattle.check_drive.specs.declared.drive.Outcome.{Outcome}
@@ -27,25 +26,32 @@ use Rattle.check_drive.specs.declared.drive.Outcome.TheVariants as outcome
 abbrev pub IsSummaryTold : ℕ → Configuration → List ℕ → Outcome → Type 0
 IsSummaryTold start c text told = (text ≡ summary_text (summary_of c start)) × (told ≡ outcome.Ran)
 
--- Words in one line that explain the document's fault: they begin with its place, where it has one, and name the member or the name at
--- fault. Of three sorts of faults the whole line is known: a number out of its limits, and what it can be; how much there is of what; the
--- objects of a cycle, or that there is none. Of a document that is too long or no JSON nothing more is known.
-abbrev pub IsExplained : List ℕ → List ℕ → Type 0
-IsExplained document words = HasNoFeed words × ((f : Fault) → examined document ≡ Err f → IsOfFault document f words × IsOfWhole document f words)
+-- A refusal is told: by the line that a run on the document writes, and by one line more, which explains this fault over the document's tree; null
+-- where there is none.
+abbrev pub IsFaultTold : Data → Fault → List ℕ → Outcome → Type 0
+IsFaultTold tree f text told =
+    ((words : List ℕ) × HasNoFeed words × IsExplanation tree f words × (text ≡ refusal_line (refusal.Setup (load_error f)) ++ (words ++ 10 ∷ [])))
+    × (told ≡ outcome.Refused)
 
--- a document with a fault has this one
-abbrev pub HasOnly : List ℕ → Fault → Type 0
-HasOnly document f = (other : Fault) → examined document ≡ Err other → other ≡ f
+-- the tree that was read, if one was
+abbrev pub tree_in : Result Data Fault → Option Data
+tree_in (Ok tree) = Some tree
+tree_in (Err f) = None
 
--- a document with this fault
-abbrev pub IsRefusedAs : List ℕ → Option Fault → Type 0
-IsRefusedAs document None = Unit {0}
-IsRefusedAs document (Some f) = (setup_of document ≡ Err (load_error f)) × HasOnly document f
+-- A refused document: what is told is its fault, which has this refusal.
+pub record IsRefusalTold (document : List ℕ) (e : LoadError) (text : List ℕ) (told : Outcome) : Type 0 where
+  pub found : Fault
+  pub is : IsFaultOf document found
+  pub refused : load_error found ≡ e
+  pub explained : IsFaultTold (tree_or_null (tree_in (document_of document))) found text told
 
--- a refused one: the line that a run on it writes, and one line more, which explains the fault
-abbrev pub IsRefusalTold : List ℕ → LoadError → List ℕ → Outcome → Type 0
-IsRefusalTold document e text told =
-    ((words : List ℕ) × IsExplained document words × (text ≡ refusal_line (refusal.Setup e) ++ (words ++ 10 ∷ []))) × (told ≡ outcome.Refused)
+-- a good document, its setup and its tree
+abbrev pub IsGood : List ℕ → Configuration → Data → Type 0
+IsGood document c tree = (document_of document ≡ Ok tree) × (setup_of document ≡ Ok c)
+
+-- of the document's tree
+abbrev pub OfTree : List ℕ → (Data → Type 0) → Type 0
+OfTree document P = (tree : Data) → tree_of document ≡ Some tree → P tree
 
 -- A line is of a document where it is the compact text of the document's tree, and so is read to the same setup; it is no longer
 -- than a setup may be.
@@ -60,8 +66,7 @@ IsWritten document text told = ((line : List ℕ) × IsLineOf document line × (
 
 -- a good one whose line would be too long: that is reported
 abbrev pub IsTooLong : List ℕ → List ℕ → Outcome → Type 0
-IsTooLong document text told =
-    OfTree document (λ tree. 16777216 < length (compact_text tree)) × IsRefusalTold document errors.TooLong text told
+IsTooLong document text told = OfTree document (λ tree. (16777216 < length (compact_text tree)) × IsFaultTold tree too_long text told)
 
 -- a document by what it is, its setup or its refusal
 abbrev pub IsToldBy : (Configuration → List ℕ → Outcome → Type 0) → List ℕ → Result Configuration LoadError → List ℕ → Outcome → Type 0

@@ -4,3 +4,4 @@ pub mod Checked
 pub mod Drill
 pub mod Session
 pub mod ScriptedCodes
+pub mod Examined

@@ -1,10 +1,14 @@
 //! A check: reads a setup, and a saved state where there is to be one, and reports what is in them, or why
 //! one of the two is refused.
-ghost use Rattle.std.specs.Prelude.{◌≡◌, ◌≤◌, Ok, IfOk, IfErr};
-ghost use Rattle.check_drafts.specs.Fault.{but_memory, load_error, seen};
-ghost use Rattle.check_objects.specs.Setup.{setup_of};
-ghost use Rattle.check_session.specs.Check.{HasOnly, IsRefusedAs, IsLineTold, IsSummaryTold, IsRefusalTold, IsTold};
+ghost use Rattle.std.specs.Prelude.{◌≡◌, ◌≤◌, ℕ, List, Ok, IfOk, IfErr, option_map};
+ghost use Rattle.serde_json.specs.View.{view};
+ghost use Rattle.check_drafts.specs.Fault.{seen};
+ghost use Rattle.check_explain.specs.Explanation.{tree_or_null};
+ghost use Rattle.check_objects.specs.Configuration.{Configuration};
+ghost use Rattle.check_objects.specs.Setup.{document_of};
+ghost use Rattle.check_session.specs.Check.{IsFaultTold, IsGood, IsLineTold, IsSummaryTold, IsTold};
 ghost use Rattle.check_session.specs.Checked.{Checked, IsSetupLineTold, IsToldFrom, most_of};
+ghost use Rattle.check_session.specs.Examined.{IsExamined};
 ghost use Rattle.check_script.specs.Start.{CanStart};
 ghost use Rattle.check_drive.specs.Streams.{streams};
 
@@ -13,11 +17,12 @@ use crate::printing::print_text;
 use crate::reading::{MAX_CHECKED_BYTES, document, most_bytes};
 use check_drive::drive::Outcome;
 use check_explain::{explain, write_line};
-use check_objects::{Fault, LoadError, Setup};
+use check_objects::{Fault, LoadError, Setup, read_document};
 use check_sched::LAST_MOMENT;
 use check_script::{DriveError, InputRefusal, Start, read_at_most};
 use check_summary::{Summary, push_summary};
 use check_text::push_refusal;
+use serde_json::Value;
 use std::alloc::{AllocError, Global};
 use std::io::{Read, Write};
 
@@ -100,20 +105,10 @@ fn tell_document(alloc: Global, start: u64, document: &[u8]) -> Result<Told, Dri
         IsTold start document.now told.text.items told.outcome) }
     ensures kind { IfErr result (λ e. e ≡ DriveError.Memory) }
 {
-    match examine(alloc, document) {
-        Ok(setup) => Ok(tell_summary(alloc, start, &setup)?),
-        Err(Fault::Memory) => Err(DriveError::Memory),
-        Err(fault) => Ok(tell_refusal(alloc, document, fault)?),
+    match examine(alloc, document)? {
+        Examined::Good { setup, .. } => Ok(tell_summary(alloc, start, &setup)?),
+        Examined::Refused(told) => Ok(told),
     }
-}
-
-/// The setup of a document, or its fault.
-pub(crate) fn examine(alloc: Global, document: &[u8]) -> Result<Setup, Fault>
-    ensures good { IfOk result (λ setup. setup_of document.now ≡ Ok setup) }
-    ensures refused { IfErr result (λ fault.
-        IsRefusedAs document.now (but_memory (seen fault))) }
-{
-    Setup::examine(alloc, document)
 }
 
 /// The line of a document, or why there is none. An Err is `Memory`.
@@ -122,7 +117,59 @@ fn tell_line(alloc: Global, document: &[u8]) -> Result<Told, DriveError>
         IsLineTold document.now told.text.items told.outcome) }
     ensures kind { IfErr result (λ e. e ≡ DriveError.Memory) }
 {
-    match write_line(alloc, document) {
+    match examine(alloc, document)? {
+        Examined::Good { tree, .. } => tell_tree(alloc, &tree),
+        Examined::Refused(told) => Ok(told),
+    }
+}
+
+/// A setup document that was examined.
+#[derive(Drop)]
+pub(crate) enum Examined {
+    /// Its setup and its tree.
+    Good {
+        /// The setup.
+        setup: Setup,
+        /// The tree.
+        tree: Value,
+    },
+    /// What is to be printed of its refusal.
+    Refused(Told),
+}
+
+/// The setup of a document, or what is to be printed of its refusal. An Err is `Memory`.
+pub(crate) fn examine(alloc: Global, document: &[u8]) -> Result<Examined, DriveError>
+    ensures examined { IfOk result (IsExamined document.now) }
+    ensures kind { IfErr result (λ e. e ≡ DriveError.Memory) }
+{
+    match read_document(alloc, document) {
+        Ok(tree) => examine_tree(alloc, tree),
+        Err(Fault::Memory) => Err(DriveError::Memory),
+        Err(fault) => Ok(Examined::Refused(tell_refusal(alloc, None, fault)?)),
+    }
+}
+
+/// The setup of a tree, or what is to be printed of its refusal. An Err is `Memory`.
+fn examine_tree(alloc: Global, tree: Value) -> Result<Examined, DriveError>
+    ensures examined { IfOk result (λ examined. (document : List ℕ)
+        → document_of document ≡ Ok (view tree) → IsExamined document examined) }
+    ensures kind { IfErr result (λ e. e ≡ DriveError.Memory) }
+{
+    match Setup::examine_tree(alloc, &tree) {
+        Ok(setup) => Ok(Examined::Good { setup, tree }),
+        Err(Fault::Memory) => Err(DriveError::Memory),
+        Err(fault) => Ok(Examined::Refused(tell_refusal(alloc, Some(&tree), fault)?)),
+    }
+}
+
+/// The line of the document with this tree, or that the line is too long. An Err is `Memory`.
+fn tell_tree(alloc: Global, tree: &Value) -> Result<Told, DriveError>
+    ensures told { IfOk result (λ told. (document : List ℕ) (setup : Configuration)
+        → IsGood document setup (view tree.now)
+        → IsLineTold document told.text.items told.outcome) }
+    ensures kind { IfErr result (λ e. e ≡ DriveError.Memory) }
+{
+    match write_line(alloc, tree) {
         Ok(mut text) => {
             if text.push(b'\n').is_err() {
                 return Err(DriveError::Memory);
@@ -132,8 +179,8 @@ fn tell_line(alloc: Global, document: &[u8]) -> Result<Told, DriveError>
                 outcome: Outcome::Ran,
             })
         }
-        Err(Fault::Memory) => Err(DriveError::Memory),
-        Err(fault) => Ok(tell_refusal(alloc, document, fault)?),
+        Err(Fault::TooLong) => Ok(tell_refusal(alloc, Some(tree), Fault::TooLong)?),
+        Err(_) => Err(DriveError::Memory),
     }
 }
 
@@ -152,15 +199,16 @@ fn tell_summary(alloc: Global, start: u64, setup: &Setup) -> Result<Told, AllocE
     })
 }
 
-/// The line of a refusal, and the line that explains it.
-pub(crate) fn tell_refusal(alloc: Global, document: &[u8], fault: Fault) -> Result<Told, AllocError>
-    requires { HasOnly document.now (seen fault) }
+/// The line of a refusal, and the line that explains it over the tree, if there is one.
+fn tell_refusal(alloc: Global, tree: Option<&Value>, fault: Fault) -> Result<Told, AllocError>
     ensures { IfOk result (λ told.
-        IsRefusalTold document.now (load_error (seen fault)) told.text.items told.outcome) }
+        IsFaultTold (tree_or_null (option_map (λ v. view v.now) tree.entry)) (seen fault)
+        told.text.items told.outcome) }
 {
+    let words = explain(alloc, tree, &fault)?;
     let mut text = String::new(alloc);
     push_refusal(&mut text, InputRefusal::Setup(LoadError::from(fault)))?;
-    text.push_str(explain(alloc, document, fault)?.as_str())?;
+    text.push_str(words.as_str())?;
     text.push_str("\n")?;
     Ok(Told {
         text: text.into_bytes(),

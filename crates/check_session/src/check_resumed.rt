@@ -5,10 +5,10 @@ ghost use Rattle.check_objects.specs.Configuration.{Configuration};
 ghost use Rattle.check_saved.specs.Text.{saved_of_text};
 ghost use Rattle.check_session.specs.CheckResumed.{AreBothTold, IsLengthTold, IsResumedTold, IsSavedTold};
 
-use crate::check::{Told, examine, tell_refusal};
+use crate::check::{Examined, Told, examine};
 use check_changes::{push_changes, push_explanation};
 use check_drive::drive::Outcome;
-use check_objects::{Fault, Setup};
+use check_objects::Setup;
 use check_saved::{Saved, SavedFault};
 use check_sched::LAST_MOMENT;
 use check_script::{DriveError, InputRefusal, LineFault, MAX_INPUT_BYTES, moment_of, split_line};
@@ -67,10 +67,9 @@ fn tell_both(
         AreBothTold start document.now text.now told.text.items told.outcome) }
     ensures kind { IfErr result (λ e. e ≡ DriveError.Memory) }
 {
-    match examine(alloc, document) {
-        Ok(setup) => tell_saved(alloc, start, &setup, text),
-        Err(Fault::Memory) => Err(DriveError::Memory),
-        Err(fault) => Ok(tell_refusal(alloc, document, fault)?),
+    match examine(alloc, document)? {
+        Examined::Good { setup, .. } => tell_saved(alloc, start, &setup, text),
+        Examined::Refused(told) => Ok(told),
     }
 }
 

@@ -1,8 +1,7 @@
 //! Tests of facts that no clause states and the built program doesn't show: runs over readers and writers
-//! that fail, flushes, the statuses of words, and explanations of a fault that another document had.
+//! that fail, flushes, and the statuses of words.
 
 mod devices;
-mod explanations;
 mod faults;
 mod live;
 mod sessions;
