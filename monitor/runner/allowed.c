@@ -4,8 +4,8 @@
  *     /usr/lib/nagios/plugins/check_ping -H 192.0.2.* -w * -c *
  *     /bin/sh -c 'df -h | grep -q "^/dev"'
  *
- * A pattern has as many words as the command line, and each fits the word in its place. `*` fits any text and `?` any character within a word. A wildcard at the
- * front of a word fits no word that begins with `-`, so that it lets no option in. What stands in quotes or after a backslash is meant literally.
+ * A pattern has as many words as the command line, and each fits the word in its place. `*` fits any text and `?` any character within a word. A wildcard at
+ * the beginning of a word fits no word that begins with `-`, so that it lets no option in. Text in quotes or after a backslash is literal.
  */
 #include "allowed.h"
 

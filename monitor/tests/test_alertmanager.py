@@ -76,9 +76,9 @@ class Posting(SiteTest):
             "alertname": PROBLEM, "site": site, "host": "web", "service": "http", "severity": "warning", "host_state": "UP", "host_groups": ",linux,dmz,",
             "contact_groups": ",ops,"})
         self.assertEqual(found[PROBLEM, "db", None]["labels"], {"alertname": PROBLEM, "site": site, "host": "db", "severity": "critical", "host_state": "DOWN"})
-        self.assertEqual([found[PROBLEM, *name]["labels"]["host_state"] for name in (("db", "disk"), ("soft", "http"), ("far", None))],
+        self.assertEqual([found[(PROBLEM, *name)]["labels"]["host_state"] for name in (("db", "disk"), ("soft", "http"), ("far", None))],
                          ["DOWN", "UP", "UNREACHABLE"])
-        self.assertEqual([found[PROBLEM, *name]["labels"]["severity"] for name in (("far", None), ("soft", "http"))], ["unreachable", "unknown"])
+        self.assertEqual([found[(PROBLEM, *name)]["labels"]["severity"] for name in (("far", None), ("soft", "http"))], ["unreachable", "unknown"])
         self.assertEqual(found[PROBLEM, "db", None]["annotations"], {"state": "DOWN", "summary": "db is DOWN: no answer", "output": "no answer\nat all"})
         self.assertEqual(found[FLAPPING, "web", "load"]["annotations"]["summary"], "web load is flapping: fine")
         started = datetime.datetime.fromisoformat(found[PROBLEM, "db", None]["startsAt"]).timestamp()

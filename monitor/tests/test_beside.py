@@ -4,6 +4,7 @@ import json
 import os
 import pathlib
 import signal
+import socket
 import subprocess
 import sys
 from typing import Any, List, Tuple
@@ -120,6 +121,20 @@ class PageProcess(SiteTest):
 
         comes(lambda: shown() == wanted)
         self.assertEqual(shown(), wanted)
+
+    def test_the_other_processes(self) -> None:
+        """The figures come as a file, which goes with the monitor; an Alertmanager that isn't there is a line of the log."""
+        with socket.socket() as free:
+            free.bind(("127.0.0.1", 0))
+            address = f"http://127.0.0.1:{free.getsockname()[1]}"
+        file = self.folder / "nagsched.prom"
+        running = self.started("--textfile", str(file), "--alertmanager", address)
+        self.assertTrue(comes(file.exists))
+        self.assertIn("nagsched_up{", file.read_text())
+        self.assertTrue(comes(lambda: "alertmanager: alerts aren't taken" in self.log.read_text()))
+        self.killed(running)
+        self.assertTrue(comes(lambda: not file.exists()))
+        self.assertEqual(self.log.read_text().count("alertmanager: "), 1)
 
     def test_a_monitor_that_is_killed(self) -> None:
         running = self.started("--page", "127.0.0.1:0")

@@ -24,4 +24,5 @@ class SystemClock:
     def moment(self) -> int:
         return (self._ahead + time.clock_gettime_ns(time.CLOCK_BOOTTIME)) // MILLISECOND
 
-    wall = staticmethod(time.time)
+    def wall(self) -> float:
+        return time.time()
