@@ -39,7 +39,7 @@ use Rattle.check_drive.specs.declared.drive.Outcome.{Outcome}
 use Rattle.check_drive.specs.declared.drive.Outcome.TheVariants as outcome
 use Rattle.check_drive.specs.Drive.{IsInput, outcome_by}
 use Rattle.check_drive.specs.Streams.{streams}
-use Rattle.check_drive.specs.Live.{AfterAll, AfterLater, AfterLines, Conversed, HadMany, HasReadLive, LeavesText, ReadBy, ReadOver, TalkEnded, TookDocument, WentOn, live_outcome, saved_in}
+use Rattle.check_drive.specs.Live.{AfterAll, AfterLater, AfterLines, Conversed, HadMany, HasReadLive, LeavesText, ReadBy, ReadOver, TalkEnded, TookDocument, WentOn, saved_in}
 use Rattle.check_drive.proofs.DriveLemmas.{front_tells}
 use Rattle.check_drive.proofs.LiveLemmas.{end_input, input_all, input_on, leaves_kept, live_failed}
 use Rattle.check_drive.proofs.LiveLemmas.{not_long, refused_stays, rest_input, rest_of, setup_is, setup_refused, written_errs, written_ifs, written_oks}

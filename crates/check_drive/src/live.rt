@@ -37,7 +37,7 @@ use std::io::{Read, Write};
 /// Line 1 is the setup. A refused setup writes the line of its refusal, and ends the conversation before
 /// more is asked for. A saved state is line 2, as the line `saved` has it after that word. If it is refused,
 /// it ends the conversation likewise: when its line has come, or as soon as it has more than 16,777,216
-/// bytes. Otherwise line 2 has no answer then.
+/// bytes. A saved state that is accepted has no answer.
 ///
 /// What was written is flushed before the reader is asked for more, and at the end. A reader is asked
 /// for more only where no whole line is at hand. Of line 1 no more is kept than 16,777,217 bytes, and

@@ -1,11 +1,10 @@
 -- A whole check of a setup, and what its faults leave.
-use Rattle.std.proofs.Common.{◌≡◌, ◌≢◌, ℕ, ◌<◌, ◌≤◌, ◌++◌, Bool, true, false, cond, List, [], ◌∷◌, length, take, Option, Some, None, Ok, Err, refl, sym, ap, subst, ◌∙◌}
-use Rattle.std.proofs.Common.{arith, inl, inr, ◌⊎◌, length-take}
+use Rattle.std.proofs.Common.{◌≡◌, ◌≢◌, ℕ, ◌<◌, ◌≤◌, ◌++◌, Bool, true, false, cond, List, [], ◌∷◌, length, Option, Some, None, Ok, Err, refl, sym, ap, subst, ◌∙◌}
+use Rattle.std.proofs.Common.{arith, inl, inr, ◌⊎◌}
 use Rattle.std.specs.Prelude.{nat_lt, ok_or, IfErr, IfSome, Result}
 use Rattle.check_drive.specs.declared.drive.Outcome.TheVariants as outcome
 use Rattle.check_session.specs.Check.{tree_in, HasTold, IsFaultTold, IsGood, IsLineTold, IsRefusalTold, IsSummaryTold, IsTold, IsToldBy, IsTooLong, IsWritten}
 use Rattle.std.specs.Io.KnownBytes.{Appends, Consumes}
-use Rattle.std.proofs.lemmas.List.{take_all}
 use Rattle.std.proofs.lemmas.Bool.{cases_lt}
 use Rattle.std.proofs.lemmas.Bool.Decides.{nat_tests}
 use Rattle.check_script.specs.declared.drive_error.DriveError.{DriveError}
@@ -18,10 +17,10 @@ use Rattle.check_drive.specs.Streams.{streams}
 use Rattle.check_script.specs.Input.{HasBegun}
 use Rattle.check_script.specs.declared.start.Start.{Start}
 use Rattle.check_script.specs.declared.start.Start.TheVariants as start
-use Rattle.check_session.specs.Checked.{Checked, IsSetupLineTold, IsToldFrom, most_of}
-use Rattle.check_session.specs.declared.reading.TheConstants.{MAX_CHECKED_BYTES}
+use Rattle.check_session.specs.Checked.{Checked, IsSetupLineTold, IsToldFrom}
+use Rattle.check_session.specs.Reading.{read_for, read_of}
 use Rattle.check_session.proofs.CheckResumedLemmas.{resumed_told_of}
-use Rattle.check_session.proofs.ReadingLemmas.{cut_length}
+use Rattle.check_session.proofs.ReadingLemmas.{cut_length, read_all, read_long}
 use Rattle.check_drive.proofs.DriveLemmas.{input_of, input_of-is}
 use Rattle.check_text.proofs.WrittenLemmas.{Keeps-same}
 use Rattle.serde_json.specs.Data.{Data, null}
@@ -65,33 +64,29 @@ told_long Good one other text told e f same h = rw f (refused_alike one other lo
 
 read_by : (Good : List ℕ → Configuration → List ℕ → Outcome → Type 0) (bytes text : List ℕ) (told : Outcome)
     → (16777217 < length bytes) ⊎ (length bytes ≤ 16777217)
-    → IsToldAs Good (without_last_feed (take MAX_CHECKED_BYTES bytes)) text told → IsToldAs Good (without_last_feed bytes) text told
+    → IsToldAs Good (without_last_feed (read_of bytes)) text told → IsToldAs Good (without_last_feed bytes) text told
 read_by Good bytes text told (inl long) h =
-    let read = length-take MAX_CHECKED_BYTES bytes in
     let cut = cut_length bytes in
-    let cut_read = cut_length (take MAX_CHECKED_BYTES bytes) in
-    told_long Good (without_last_feed (take MAX_CHECKED_BYTES bytes)) (without_last_feed bytes) text told
-    (too_long (without_last_feed (take MAX_CHECKED_BYTES bytes)) (omega (arith, read, cut_read, long)))
+    told_long Good (without_last_feed (read_of bytes)) (without_last_feed bytes) text told
+    (too_long (without_last_feed (read_of bytes)) (read_long bytes long))
     (too_long (without_last_feed bytes) (omega (arith, cut, long)))
-    (document_long (without_last_feed (take MAX_CHECKED_BYTES bytes)) (omega (arith, read, cut_read, long))
-    ∙ sym (document_long (without_last_feed bytes) (omega (arith, cut, long)))) h
-read_by Good bytes text told (inr short) h =
-    subst (λ read. IsToldAs Good (without_last_feed read) text told) (take_all MAX_CHECKED_BYTES bytes (omega (arith, short))) h
+    (document_long (without_last_feed (read_of bytes)) (read_long bytes long) ∙ sym (document_long (without_last_feed bytes) (omega (arith, cut, long)))) h
+read_by Good bytes text told (inr short) h = subst (λ read. IsToldAs Good (without_last_feed read) text told) (read_all bytes short) h
 
 -- what was printed of as much of an input as is read of a document is what is printed of the input
 pub told_of : (Good : List ℕ → Configuration → List ℕ → Outcome → Type 0) (had : Option (List ℕ)) (read text : List ℕ) (told : Outcome)
-    → IfSome had (λ bytes. read ≡ take MAX_CHECKED_BYTES bytes)
+    → IfSome had (λ bytes. read ≡ read_of bytes)
     → IsToldAs Good (without_last_feed read) text told → IsToldAs Good (without_last_feed (input_of had read)) text told
 told_of Good None read text told all h = h
 told_of Good (Some bytes) read text told all h =
     read_by Good bytes text told (cases_lt 16777217 (length bytes)) (subst (λ l. IsToldAs Good (without_last_feed l) text told) all h)
 
-pub line_told_of : (had : Option (List ℕ)) (read text : List ℕ) (told : Outcome) → IfSome had (λ bytes. read ≡ take MAX_CHECKED_BYTES bytes)
+pub line_told_of : (had : Option (List ℕ)) (read text : List ℕ) (told : Outcome) → IfSome had (λ bytes. read ≡ read_of bytes)
     → IsSetupLineTold read text told → IsSetupLineTold (input_of had read) text told
 line_told_of had read text told all h = told_of (λ d c t o. IsWritten d t o ⊎ IsTooLong d t o) had read text told all h
 
 -- the same of what was read for a start
-pub start_told_of : (how : Start) (had : Option (List ℕ)) (read text : List ℕ) (told : Outcome) → IfSome had (λ bytes. read ≡ take (most_of how) bytes)
+pub start_told_of : (how : Start) (had : Option (List ℕ)) (read text : List ℕ) (told : Outcome) → IfSome had (λ bytes. read ≡ read_for how bytes)
     → IsToldFrom how read text told → IsToldFrom how (input_of had read) text told
 start_told_of (start.Fresh moment) had read text told all h = told_of (λ d. IsSummaryTold moment) had read text told all h
 start_told_of (start.Resumed moment) had read text told all h = resumed_told_of moment had read text told all h
@@ -110,16 +105,16 @@ told_none Can errors.Write held n = absurd (n refl)
 told_none Can errors.Memory held n = Keeps-same held
 
 -- an error before anything was written
-pub unwritten_check : (Can : List ℕ → List ℕ → Outcome → Type 0) (most : ℕ) (e : DriveError) (had left held : Option (List ℕ)) → e ≢ errors.Write
-    → (e ≡ errors.Memory → HasBegun had left) → Checked Can most (Err e) (streams had left held held)
-unwritten_check Can most e had left held n memory =
+pub unwritten_check : (Can : List ℕ → List ℕ → Outcome → Type 0) (reads : List ℕ → List ℕ) (e : DriveError) (had left held : Option (List ℕ)) → e ≢ errors.Write
+    → (e ≡ errors.Memory → HasBegun had left) → Checked Can reads (Err e) (streams had left held held)
+unwritten_check Can reads e had left held n memory =
     record { input = input_of had []; is_input = input_of-is had []; told = told_none (Can (input_of had [])) e held n; read = tt; memory = memory }
 
 -- it couldn't be printed
-pub torn_check : (Can : List ℕ → List ℕ → Outcome → Type 0) (most : ℕ) (e : DriveError) (had left held holds : Option (List ℕ)) (read text : List ℕ)
+pub torn_check : (Can : List ℕ → List ℕ → Outcome → Type 0) (reads : List ℕ → List ℕ) (e : DriveError) (had left held holds : Option (List ℕ)) (read text : List ℕ)
     (told : Outcome) → e ≡ errors.Write → Can (input_of had read) text told → WroteFront held holds text
-    → Checked Can most (Err e) (streams had left held holds)
-torn_check Can most e had left held holds read text told is_write can front =
+    → Checked Can reads (Err e) (streams had left held holds)
+torn_check Can reads e had left held holds read text told is_write can front =
     rw is_write
     (record {
       input = input_of had read;
@@ -129,17 +124,17 @@ torn_check Can most e had left held holds read text told is_write can front =
       memory = λ m. write_is_no_memory errors.Write refl m;
     })
 
-read_most : (most : ℕ) (had left : Option (List ℕ)) (read : List ℕ) → IfSome had (λ bytes. read ≡ take most bytes) → Consumes had left read
-    → Consumes had left (take most (input_of had read))
-read_most most None left read all c = tt
-read_most most (Some bytes) left read all c = subst (λ l. Consumes (Some bytes) left l) all c
+read_as : (reads : List ℕ → List ℕ) (had left : Option (List ℕ)) (read : List ℕ) → IfSome had (λ bytes. read ≡ reads bytes) → Consumes had left read
+    → Consumes had left (reads (input_of had read))
+read_as reads None left read all c = tt
+read_as reads (Some bytes) left read all c = subst (λ l. Consumes (Some bytes) left l) all c
 
 -- all was printed
-pub printed_check : (Can : List ℕ → List ℕ → Outcome → Type 0) (most : ℕ) (had left held holds : Option (List ℕ)) (read text : List ℕ) (told : Outcome)
-    → IfSome had (λ bytes. read ≡ take most bytes) → Consumes had left read → Can (input_of had read) text told → Appends held holds text
-    → Checked Can most (Ok told) (streams had left held holds)
-printed_check Can most had left held holds read text told all c can a =
-    record { input = input_of had read; is_input = input_of-is had read; told = (text, can, a); read = read_most most had left read all c; memory = tt }
+pub printed_check : (Can : List ℕ → List ℕ → Outcome → Type 0) (reads : List ℕ → List ℕ) (had left held holds : Option (List ℕ)) (read text : List ℕ) (told : Outcome)
+    → IfSome had (λ bytes. read ≡ reads bytes) → Consumes had left read → Can (input_of had read) text told → Appends held holds text
+    → Checked Can reads (Ok told) (streams had left held holds)
+printed_check Can reads had left held holds read text told all c can a =
+    record { input = input_of had read; is_input = input_of-is had read; told = (text, can, a); read = read_as reads had left read all c; memory = tt }
 
 -- ---- a document that was examined
 

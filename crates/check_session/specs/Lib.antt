@@ -2,6 +2,7 @@ pub mod Check
 pub mod CheckResumed
 pub mod Checked
 pub mod Drill
+pub mod Reading
 pub mod Session
 pub mod ScriptedCodes
 pub mod Examined

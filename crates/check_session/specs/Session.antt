@@ -12,8 +12,8 @@ use Rattle.check_words.specs.declared.words.Job.{Job}
 use Rattle.check_words.specs.declared.words.Job.TheVariants as job
 use Rattle.check_words.specs.declared.words.WordsError.{WordsError}
 use Rattle.check_words.specs.declared.words.WordsError.TheVariants as words_error
-use Rattle.check_session.specs.Checked.{Checked, IsSetupLineTold, IsToldFrom, most_of}
-use Rattle.check_session.specs.declared.reading.TheConstants.{MAX_CHECKED_BYTES}
+use Rattle.check_session.specs.Checked.{Checked, IsSetupLineTold, IsToldFrom}
+use Rattle.check_session.specs.Reading.{read_for, read_of}
 use Rattle.check_session.specs.Drill.{Drilled}
 use Rattle.check_drive.specs.Drive.{Drove}
 use Rattle.check_drive.specs.Live.{Conversed}
@@ -36,8 +36,8 @@ IsSchemaTold ended held holds = (schema : List ℕ) × IsTextTold schema ended h
 abbrev pub HasDone : Job → Result Outcome DriveError → Streams → Type 0
 HasDone (job.Run how) ended io = Drove how ended io
 HasDone (job.Live how) ended io = Conversed how ended io
-HasDone (job.Check how) ended io = Checked (IsToldFrom how) (most_of how) ended io
-HasDone job.SetupLine ended io = Checked IsSetupLineTold MAX_CHECKED_BYTES ended io
+HasDone (job.Check how) ended io = Checked (IsToldFrom how) (read_for how) ended io
+HasDone job.SetupLine ended io = Checked IsSetupLineTold read_of ended io
 HasDone (job.Drill start workers room) ended io = Drilled start workers room ended io
 HasDone job.Schema ended io = (io.left ≡ io.had) × IsSchemaTold ended io.held io.holds
 

@@ -7,19 +7,20 @@ ghost use Rattle.check_explain.specs.Explanation.{tree_or_null};
 ghost use Rattle.check_objects.specs.Configuration.{Configuration};
 ghost use Rattle.check_objects.specs.Setup.{document_of};
 ghost use Rattle.check_session.specs.Check.{IsFaultTold, IsGood, IsLineTold, IsSummaryTold, IsTold};
-ghost use Rattle.check_session.specs.Checked.{Checked, IsSetupLineTold, IsToldFrom, most_of};
+ghost use Rattle.check_session.specs.Checked.{Checked, IsSetupLineTold, IsToldFrom};
+ghost use Rattle.check_session.specs.Reading.{read_for, read_of};
 ghost use Rattle.check_session.specs.Examined.{IsExamined};
 ghost use Rattle.check_script.specs.Start.{CanStart};
 ghost use Rattle.check_drive.specs.Streams.{streams};
 
 use crate::check_resumed::tell_resumed;
 use crate::printing::print_text;
-use crate::reading::{MAX_CHECKED_BYTES, document, most_bytes};
+use crate::reading::{MAX_CHECKED_BYTES, document, read_checked, read_input};
 use check_drive::drive::Outcome;
 use check_explain::{explain, write_line};
 use check_objects::{Fault, LoadError, Setup, read_document};
 use check_sched::LAST_MOMENT;
-use check_script::{DriveError, InputRefusal, Start, read_at_most};
+use check_script::{DriveError, InputRefusal, Start};
 use check_summary::{Summary, push_summary};
 use check_text::push_refusal;
 use serde_json::Value;
@@ -45,10 +46,10 @@ pub(crate) struct Told {
 /// and what stands behind the two isn't tested. The setup is tested first. Behind its figures stands what
 /// becomes of the saved objects. An input of more than 67,108,864 bytes is refused before either is tested.
 ///
-/// Of a document alone no more than 16,777,218 bytes are read, which show that it is too long. The writer is
-/// flushed once, at the end. After the errors `Read` and `Memory` nothing was written, after `Write` a
-/// prefix of what was to be printed. `Memory` comes only where a byte was read, or there was none. (What a
-/// check prints is our own profile.)
+/// Of a document alone no more than 16,777,217 bytes are read, which show that it is too long; where the
+/// last of these is a line feed, one byte more. The writer is flushed once, at the end. After the errors
+/// `Read` and `Memory` nothing was written, after `Write` a prefix of what was to be printed. `Memory`
+/// comes only where a byte was read, or there was none. (What a check prints is our own profile.)
 pub fn check<R: Read, W: Write>(
     alloc: Global,
     start: Start,
@@ -56,12 +57,12 @@ pub fn check<R: Read, W: Write>(
     writer: &mut W,
 ) -> Result<Outcome, DriveError>
     requires { CanStart start }
-    ensures checked { Checked (IsToldFrom start) (most_of start) result
+    ensures checked { Checked (IsToldFrom start) (read_for start) result
         (streams (R.remaining reader.old) (R.remaining reader.new)
         (W.contents writer.old) (W.contents writer.new)) }
-    ensures limit { MAX_CHECKED_BYTES ≡ 16777218 }
+    ensures limit { MAX_CHECKED_BYTES ≡ 16777217 }
 {
-    let input = read_at_most(alloc, reader, most_bytes(start))?;
+    let input = read_input(alloc, start, reader)?;
     let told = tell(alloc, start, &input)?;
     print_text(writer, &told.text)?;
     Ok(told.outcome)
@@ -75,11 +76,11 @@ pub fn write_setup_line<R: Read, W: Write>(
     reader: &mut R,
     writer: &mut W,
 ) -> Result<Outcome, DriveError>
-    ensures { Checked IsSetupLineTold MAX_CHECKED_BYTES result
+    ensures { Checked IsSetupLineTold read_of result
         (streams (R.remaining reader.old) (R.remaining reader.new)
         (W.contents writer.old) (W.contents writer.new)) }
 {
-    let input = read_at_most(alloc, reader, MAX_CHECKED_BYTES)?;
+    let input = read_checked(alloc, reader)?;
     let told = tell_line(alloc, document(&input))?;
     print_text(writer, &told.text)?;
     Ok(told.outcome)

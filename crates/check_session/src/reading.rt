@@ -1,24 +1,66 @@
-//! How much a check reads of its input, and the document in it.
-ghost use Rattle.std.specs.Prelude.{◌≡◌, ◌<◌};
-ghost use Rattle.check_script.specs.Input.{without_last_feed};
-ghost use Rattle.check_session.specs.Checked.{most_of};
+//! What a check reads of its input, and the document in it.
+ghost use Rattle.std.specs.Prelude.{◌≡◌, ◌≢◌, IfOk, IfErr, IfSome};
+ghost use Rattle.check_script.specs.Input.{HasBegun, HasBegunBy, without_last_feed};
+ghost use Rattle.check_session.specs.Reading.{is_undecided, read_for, read_of};
 
-use check_script::{MAX_READ_BYTES, Start};
+use check_script::{DriveError, MAX_READ_BYTES, Start, read_at_most};
+use std::alloc::Global;
+use std::io::Read;
 
-/// How many bytes are read at most of an input that is one document: two more than a document may have, a
-/// line feed behind it and one byte that shows that it is too long.
-pub const MAX_CHECKED_BYTES: usize = 16_777_218;
+/// How many bytes of a document are read at first: one more than it may have, so that a longer one is
+/// known to be too long.
+pub const MAX_CHECKED_BYTES: usize = 16_777_217;
 
-/// How many bytes a check reads at most of its input: of a document alone, or of the input of a run that
-/// starts from a saved state.
-pub(crate) fn most_bytes(start: Start) -> usize
-    ensures value { result ≡ most_of start }
-    ensures some { 0 < result }
+/// Reads what a check needs of its input: of a document alone, or of the input of a run that starts from a
+/// saved state. Errors come as [`read_checked`] has them.
+pub(crate) fn read_input<R: Read>(
+    alloc: Global,
+    start: Start,
+    reader: &mut R,
+) -> Result<Vec<u8>, DriveError>
+    ensures all { IfOk result (λ input.
+        IfSome (R.remaining reader.old) (λ bytes. input.items ≡ read_for start bytes)) }
+    ensures left { IfOk result (λ input.
+        HasBegunBy (R.remaining reader.old) (R.remaining reader.new) input.items) }
+    ensures errors { IfErr result (λ e. e ≢ DriveError.Write) }
+    ensures memory { IfErr result (λ e. e ≡ DriveError.Memory
+        → HasBegun (R.remaining reader.old) (R.remaining reader.new)) }
 {
     match start {
-        Start::Fresh(_) => MAX_CHECKED_BYTES,
-        Start::Resumed(_) => MAX_READ_BYTES,
+        Start::Fresh(_) => read_checked(alloc, reader),
+        Start::Resumed(_) => read_at_most(alloc, reader, MAX_READ_BYTES),
     }
+}
+
+/// Reads to the end of the input or to `MAX_CHECKED_BYTES` bytes, whichever comes first, and one byte
+/// more where the last of these is a line feed: it is no part of the document where the input ends
+/// behind it.
+///
+/// Each error of the reader is a fault, an interruption among them: nothing is tried again. `Memory`
+/// comes only where a byte was read, or there was none.
+pub(crate) fn read_checked<R: Read>(alloc: Global, reader: &mut R) -> Result<Vec<u8>, DriveError>
+    ensures all { IfOk result (λ input.
+        IfSome (R.remaining reader.old) (λ bytes. input.items ≡ read_of bytes)) }
+    ensures left { IfOk result (λ input.
+        HasBegunBy (R.remaining reader.old) (R.remaining reader.new) input.items) }
+    ensures errors { IfErr result (λ e. e ≢ DriveError.Write) }
+    ensures memory { IfErr result (λ e. e ≡ DriveError.Memory
+        → HasBegun (R.remaining reader.old) (R.remaining reader.new)) }
+{
+    let mut input = read_at_most(alloc, reader, MAX_CHECKED_BYTES)?;
+    if is_undecided(&input) {
+        let behind = read_at_most(alloc, reader, 1)?;
+        input.extend_from_slice(&behind)?;
+    }
+    Ok(input)
+}
+
+/// Whether these bytes are one more than a document may have and the last is a line feed. Where the
+/// input ends behind them they hold a document, and else it is too long.
+fn is_undecided(read: &[u8]) -> bool
+    ensures { result ≡ is_undecided read.now }
+{
+    read.len() == MAX_CHECKED_BYTES && document(read).len() < MAX_CHECKED_BYTES
 }
 
 /// The document of an input: the bytes without the line feed at their end, where there is one.

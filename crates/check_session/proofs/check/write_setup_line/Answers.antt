@@ -1,19 +1,19 @@
 use Rattle.std.proofs.lemmas.Result.{err_from_is_err_and}
 use Rattle.check_session.proofs.CheckLemmas.{line_told_of, memory_is_no_write, printed_check, torn_check, unwritten_check}
 use Rattle.check_session.specs.Checked.{IsSetupLineTold}
-use Rattle.check_session.specs.declared.reading.TheConstants.{MAX_CHECKED_BYTES}
+use Rattle.check_session.specs.Reading.{read_of}
 use Rattle.check_session.proofs.check.write_setup_line.Goals as goal
 
 pub returns-in_err-input : goal.returns-in_err-input
 returns-in_err-input g c =
     let p = err_from_is_err_and c.from_residual.result c.from_residual.ensures.1 in
     let e = c.in_err-input.ensures in
-    rw (p.1, p.2) (unwritten_check IsSetupLineTold MAX_CHECKED_BYTES _ _ _ _ e.errors e.memory)
+    rw (p.1, p.2) (unwritten_check IsSetupLineTold read_of _ _ _ _ e.errors e.memory)
 
 pub returns-in_err-told : goal.returns-in_err-told
 returns-in_err-told g c =
     let p = err_from_is_err_and c.from_residual-in_err-told.result c.from_residual-in_err-told.ensures.1 in
-    rw (p.1, p.2) (unwritten_check IsSetupLineTold MAX_CHECKED_BYTES _ _ _ _ (memory_is_no_write _ c.in_err-told.ensures.kind)
+    rw (p.1, p.2) (unwritten_check IsSetupLineTold read_of _ _ _ _ (memory_is_no_write _ c.in_err-told.ensures.kind)
     (λ m. (c.in_ok-input.input.items, c.in_ok-input.ensures.left)))
 
 pub returns-in_err-print_text : goal.returns-in_err-print_text
@@ -23,7 +23,7 @@ returns-in_err-print_text g c =
     let w = c.in_err-print_text.ensures in
     let can = line_told_of _ c.in_ok-input.input.items t.text.items t.outcome c.in_ok-input.ensures.all
     (rw (c.document.ensures, c.deref.ensures.value) at c.in_ok-told.ensures.told) in
-    rw (p.1, p.2) (torn_check IsSetupLineTold MAX_CHECKED_BYTES _ _ _ _ _ c.in_ok-input.input.items t.text.items t.outcome w.only can
+    rw (p.1, p.2) (torn_check IsSetupLineTold read_of _ _ _ _ _ c.in_ok-input.input.items t.text.items t.outcome w.only can
     (rw c.deref-2.ensures.value at w.fault))
 
 pub returns : goal.returns
@@ -32,5 +32,5 @@ returns g c =
     let all = c.in_ok-input.ensures.all in
     let can = line_told_of _ c.in_ok-input.input.items t.text.items t.outcome all
     (rw (c.document.ensures, c.deref.ensures.value) at c.in_ok-told.ensures.told) in
-    printed_check IsSetupLineTold MAX_CHECKED_BYTES _ _ _ _ c.in_ok-input.input.items t.text.items t.outcome all c.in_ok-input.ensures.left.0 can
+    printed_check IsSetupLineTold read_of _ _ _ _ c.in_ok-input.input.items t.text.items t.outcome all c.in_ok-input.ensures.left.0 can
     (rw c.deref-2.ensures.value at c.in_ok-print_text.ensures.written)
