@@ -1,12 +1,11 @@
 -- What C gets of opening a desk.
-use Rattle.std.specs.Prelude.{◌≡◌, ◌⊎◌, ◌<◌, ◌≤◌, ℕ, Bool, true, not, is_some, List, length, Option, Some, None}
+use Rattle.std.specs.Prelude.{◌≡◌, ◌<◌, ◌≤◌, ℕ, Bool, true, not, is_some, List, length, Option, Some, None}
 use Rattle.std.specs.List.{list_all}
 use Rattle.check_handles.specs.declared.handle.Handle.{Handle}
 use Rattle.check_handles.specs.declared.target.HandleTarget.{HandleTarget}
 use Rattle.check_handles.specs.declared.opening.Terms.{Terms}
 use Rattle.check_handles.specs.Handles.{contents_of}
 use Rattle.check_handles.specs.Opening.{IsBack, IsOpenedBy, IsSource}
-use Rattle.nagsched_c.specs.declared.status.TheConstants.{NO_MEMORY, OK, WRONG}
 
 -- the terms of a desk with this start, this room, this mark, and this many calls for each pass
 abbrev pub terms_of : ℕ → ℕ → ℕ → ℕ → Terms
@@ -29,12 +28,12 @@ IsSourceIn terms None = ⊥
 abbrev pub MayOpen : Terms → Option HandleTarget → List Handle → Type 0
 MayOpen terms before passes = ArePlaces passes × IsSourceIn terms before × (0 < terms.calls) × (terms.calls ≤ 4294967295)
 
--- The three statuses: a desk was opened, and the source's handle is empty; memory was refused, and the source is handed back; or it can't be opened like
--- this, and nothing was done.
-abbrev pub HasOpened : Terms → Option HandleTarget → List Handle → ℕ → Option HandleTarget → List Handle → Type 0
-HasOpened terms before passes status after opened =
-    ((status ≡ OK) × (after ≡ None)
-    × ((source : HandleTarget) × (before ≡ Some source) × IsSource terms source × IsOpenedBy terms source opened))
-    ⊎ (((status ≡ NO_MEMORY) × (opened ≡ passes) × ((source : HandleTarget) × (back : HandleTarget)
-    × (before ≡ Some source) × (after ≡ Some back) × IsBack terms source back))
-    ⊎ ((status ≡ WRONG) × (after ≡ before) × (opened ≡ passes) × (MayOpen terms before passes → ⊥)))
+-- a desk was opened on the target of a handle, which is empty now
+abbrev pub HasOpened : Terms → Option HandleTarget → Option HandleTarget → List Handle → Type 0
+HasOpened terms (Some source) None passes = IsSource terms source × IsOpenedBy terms source passes
+HasOpened terms before after passes = ⊥
+
+-- the target of a handle was handed back to it
+abbrev pub IsBackIn : Terms → Option HandleTarget → Option HandleTarget → Type 0
+IsBackIn terms (Some source) (Some back) = IsBack terms source back
+IsBackIn terms before after = ⊥

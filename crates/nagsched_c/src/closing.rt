@@ -1,9 +1,9 @@
 //! Passes gathered, a desk closed, and its book renewed.
 
-ghost use Rattle.std.specs.Prelude.{◌≡◌, ◌↔◌, is_some, true};
+ghost use Rattle.std.specs.Prelude.{◌≡◌, ◌≢◌, ◌⊎◌, ◌↔◌, is_some, true, None};
 ghost use Rattle.check_handles.specs.Closing.{AreOfOneDesk, MayBeGathered, MissesPasses};
 ghost use Rattle.check_handles.specs.Handles.{contents_of};
-ghost use Rattle.nagsched_c.specs.Closing.{HasClosed, HasGathered, HasRenewed, IsBookIn, IsRestingIn};
+ghost use Rattle.nagsched_c.specs.Closing.{HasClosed, HasGathered, HasRenewed, IsBookIn, IsOpenStill, IsRestingIn, IsSameBook};
 
 use crate::status::{MISSING, NO_MEMORY, OK, WRONG};
 use check_handles::closing::{close, is_book, put_together, renew, rests};
@@ -47,7 +47,10 @@ pub extern "C" fn nagsched_gather(alloc: Global, pass: &mut Handle, other: &mut 
 /// the handle is as it was.
 #[unsafe(no_mangle)]
 pub extern "C" fn nagsched_close(alloc: Global, pass: &mut Handle) -> u32
-    ensures closed { HasClosed (contents_of pass.old) result (contents_of pass.new) }
+    ensures status { (result ≡ OK) ⊎ ((result ≡ MISSING) ⊎ (result ≡ WRONG)) }
+    ensures closed { result ≡ OK → HasClosed (contents_of pass.old) (contents_of pass.new) }
+    ensures stayed { result ≡ MISSING → IsOpenStill (contents_of pass.old) (contents_of pass.new) }
+    ensures same { result ≡ WRONG → contents_of pass.new ≡ contents_of pass.old }
     ensures missing { MissesPasses (contents_of pass.old) → result ≡ MISSING }
     ensures wrong { (result ≡ WRONG) ↔ (IsRestingIn (contents_of pass.old) → ⊥) }
 {
@@ -84,8 +87,12 @@ pub extern "C" fn nagsched_renew(
     room: usize,
     history: &mut Handle,
 ) -> u32
-    ensures renewed { HasRenewed room (contents_of book.old) (contents_of history.old) result
-        (contents_of book.new) (contents_of history.new) }
+    ensures status { (result ≡ OK) ⊎ ((result ≡ NO_MEMORY) ⊎ (result ≡ WRONG)) }
+    ensures renewed { result ≡ OK → (contents_of history.old ≡ None)
+        × HasRenewed room (contents_of book.old) (contents_of book.new) (contents_of history.new) }
+    ensures kept { result ≡ NO_MEMORY → IsSameBook (contents_of book.old) (contents_of book.new) }
+    ensures same { result ≡ WRONG → contents_of book.new ≡ contents_of book.old }
+    ensures history { result ≢ OK → contents_of history.new ≡ contents_of history.old }
     ensures wrong { (result ≡ WRONG)
         ↔ (IsBookIn (contents_of book.old) → is_some (contents_of history.old) ≡ true) }
 {

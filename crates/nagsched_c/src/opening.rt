@@ -1,8 +1,8 @@
 //! Desks opened on a setup, or on a book without entries.
 
-ghost use Rattle.std.specs.Prelude.{◌≡◌, ◌↔◌, ◌<◌, true};
+ghost use Rattle.std.specs.Prelude.{◌≡◌, ◌≢◌, ◌⊎◌, ◌↔◌, ◌<◌, true};
 ghost use Rattle.check_handles.specs.Handles.{contents_of};
-ghost use Rattle.nagsched_c.specs.Opening.{are_empty, terms_of, ArePlaces, HasOpened, MayOpen};
+ghost use Rattle.nagsched_c.specs.Opening.{are_empty, terms_of, ArePlaces, HasOpened, IsBackIn, MayOpen};
 
 use crate::status::{NO_MEMORY, OK, WRONG};
 use check_handles::opening::{Terms, is_source, open_source};
@@ -22,8 +22,13 @@ pub extern "C" fn nagsched_open(
     mark: u64,
     passes: &mut [Handle],
 ) -> u32
-    ensures opened { HasOpened (terms_of start room mark 4294967295) (contents_of source.old)
-        passes.old result (contents_of source.new) passes.new }
+    ensures status { (result ≡ OK) ⊎ ((result ≡ NO_MEMORY) ⊎ (result ≡ WRONG)) }
+    ensures opened { result ≡ OK
+        → HasOpened (terms_of start room mark 4294967295) (contents_of source.old) (contents_of source.new) passes.new }
+    ensures back { result ≡ NO_MEMORY
+        → IsBackIn (terms_of start room mark 4294967295) (contents_of source.old) (contents_of source.new) }
+    ensures same { result ≡ WRONG → contents_of source.new ≡ contents_of source.old }
+    ensures passes { result ≢ OK → passes.new ≡ passes.old }
     ensures wrong { (result ≡ WRONG)
         ↔ (MayOpen (terms_of start room mark 4294967295) (contents_of source.old) passes.old → ⊥) }
 {
@@ -58,8 +63,13 @@ pub extern "C" fn nagsched_open_with(
     calls: u64,
     passes: &mut [Handle],
 ) -> u32
-    ensures opened { HasOpened (terms_of start room mark calls) (contents_of source.old) passes.old
-        result (contents_of source.new) passes.new }
+    ensures status { (result ≡ OK) ⊎ ((result ≡ NO_MEMORY) ⊎ (result ≡ WRONG)) }
+    ensures opened { result ≡ OK
+        → HasOpened (terms_of start room mark calls) (contents_of source.old) (contents_of source.new) passes.new }
+    ensures back { result ≡ NO_MEMORY
+        → IsBackIn (terms_of start room mark calls) (contents_of source.old) (contents_of source.new) }
+    ensures same { result ≡ WRONG → contents_of source.new ≡ contents_of source.old }
+    ensures passes { result ≢ OK → passes.new ≡ passes.old }
     ensures wrong { (result ≡ WRONG)
         ↔ (MayOpen (terms_of start room mark calls) (contents_of source.old) passes.old → ⊥) }
 {
@@ -78,8 +88,13 @@ pub extern "C" fn nagsched_open_with(
 /// Opens a desk on these terms.
 fn open_desk(alloc: Global, source: &mut Handle, terms: Terms, passes: &mut [Handle]) -> u32
     requires { 0 < terms.calls }
-    ensures opened { HasOpened terms (contents_of source.old) passes.old result
-        (contents_of source.new) passes.new }
+    ensures status { (result ≡ OK) ⊎ ((result ≡ NO_MEMORY) ⊎ (result ≡ WRONG)) }
+    ensures opened { result ≡ OK
+        → HasOpened terms (contents_of source.old) (contents_of source.new) passes.new }
+    ensures back { result ≡ NO_MEMORY
+        → IsBackIn terms (contents_of source.old) (contents_of source.new) }
+    ensures same { result ≡ WRONG → contents_of source.new ≡ contents_of source.old }
+    ensures passes { result ≢ OK → passes.new ≡ passes.old }
     ensures wrong { (result ≡ WRONG) ↔ (MayOpen terms (contents_of source.old) passes.old → ⊥) }
 {
     if !are_places(passes) {
