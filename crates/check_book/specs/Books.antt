@@ -12,7 +12,7 @@ use Rattle.check_book.specs.Logs.{log_opening, log_state}
 abbrev pub entries_of : Book → List (Entry Call Reply)
 entries_of book = book.log.value.entries.items
 
--- how many calls were refused when out of memory
+-- the number of calls that were refused when out of memory
 abbrev pub refused_of : Book → ℕ
 refused_of book = book.log.value.refused
 
@@ -20,15 +20,15 @@ refused_of book = book.log.value.refused
 abbrev pub sched_of : Book → State
 sched_of book = book.log.value.sched
 
--- for how many entries there was room from the start
+-- the number of entries for which there was room at first
 abbrev pub room_of : Book → ℕ
 room_of book = book.log.value.room
 
--- for how many entries there is room now
+-- the number of entries for which there is room now
 abbrev pub capacity_of : Book → ℕ
 capacity_of book = vec_capacity book.log.value.entries
 
--- the state that it was opened with
+-- the state in which it was opened
 abbrev pub opening_of : Book → BookState
 opening_of book = log_opening book.log.value
 

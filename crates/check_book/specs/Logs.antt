@@ -1,8 +1,8 @@
--- What the log behind a book says.
+-- The states of a book's log.
 use Rattle.check_book.specs.declared.book.Log.{Log}
 use Rattle.check_book.specs.BookState.{BookState}
 
--- the state that it began with
+-- the state in which it began
 abbrev pub log_opening : Log → BookState
 log_opening log = record { sched = log.opened.at; room = log.room }
 

@@ -21,15 +21,15 @@ use std::alloc::{AllocError, Global};
 use std::mem;
 use ticket_steps::{Entry, Kept, NoMemory};
 
-/// A scheduler that keeps the history of its calls, each with its reply and under the number of the
-/// pass that made it. (Our own profile.)
+/// A scheduler that stores the history of its calls. Each call is stored with its reply, under the number
+/// of the pass that made it. (Our own profile.)
 ///
-/// The history is always legal: each reply is the scheduler's at its place, from the opening on, and
-/// the scheduler is in the state that those calls leave. Refused calls are entries too; a call for
-/// whose entry there is no memory isn't made, but counted.
+/// The history is always legal: each reply is the scheduler's at its place, from the opening on, and the
+/// scheduler is in the state after those calls. Refused calls are entries too. If there is no memory for
+/// the entry of a call, the call isn't made, but counted.
 #[derive(Drop)]
 pub struct Book {
-    /// Behind a box, so that a book that is handed over moves a pointer.
+    /// In a box, so that moving a book moves a pointer.
     log: Box<Log>,
     ghost reserved: { log.value.room ≤ vec_capacity log.value.entries },
     ghost opened: { IsState log.value.opened.at } by { IsState-prop log.value.opened.at },
@@ -40,21 +40,21 @@ pub struct Book {
         ≡ replay book_step (log_opening log.value) log.value.entries.items },
 }
 
-/// What a book keeps: the scheduler, and the calls that led to its state.
+/// The contents of a book: the scheduler, and the calls that led to its state.
 #[derive(Drop)]
 struct Log {
     sched: Sched,
-    // The entries stand beside what the scheduler's calls write, which it has last.
+    // The entries are next to the fields that the scheduler's calls write, which are its last.
     entries: Vec<Entry<Call, Reply>>,
     refused: u64,
     room: usize,
-    /// The scheduler as it was when the book was opened. It takes no byte.
+    /// The scheduler as it was when the book was opened. It takes no bytes.
     opened: Opening<Sched>,
 }
 
 impl Log {
-    /// Begins anew where the scheduler stands, with these entries, of which there are none, and their
-    /// room. Gives the entries that were there.
+    /// Begins again in the scheduler's present state, with an empty list of entries and its room. Returns
+    /// the entries so far.
     fn begin_anew(
         &mut self,
         entries: Vec<Entry<Call, Reply>>,
@@ -78,9 +78,8 @@ impl Log {
 impl Book {
     ghost use Rattle.check_book.specs.Books.{entries_of, opening_of, refused_of, room_of, sched_of, state_of};
 
-    /// A book without entries over a new scheduler for the objects of `setup`, which starts at the
-    /// moment `start`, in milliseconds. There is room for so many entries: their calls take no
-    /// memory.
+    /// A book without entries over a new scheduler for the objects of `setup`, which starts at the moment
+    /// `start`, in milliseconds. There is room for `room` entries: their calls need no memory.
     ///
     /// An Err means out of memory, and hands the setup back as it was.
     pub fn open(alloc: Global, setup: Setup, start: u64, room: usize) -> Result<Book, Setup>
@@ -98,10 +97,10 @@ impl Book {
         Book::over(alloc, sched, entries, room)
     }
 
-    /// A book without entries over a scheduler that goes on from what was saved of another
-    /// ([`Sched::resume`]), over this setup and from the moment `start` on, in milliseconds. There is
-    /// room for so many entries: their calls take no memory. Run numbers go on from the saved ones, and a
-    /// check that was out is reported under its number as ever.
+    /// A book without entries over a scheduler that resumes what was saved of another ([`Sched::resume`]),
+    /// over this setup and from the moment `start` on, in milliseconds. There is room for `room` entries:
+    /// their calls need no memory. Run numbers continue from the saved ones, and a check that was running
+    /// is reported under its number as before.
     ///
     /// An Err means out of memory, and hands the setup back as it was.
     pub fn resume(
@@ -126,8 +125,8 @@ impl Book {
         Book::over(alloc, sched, entries, room)
     }
 
-    /// A book over this scheduler, which opens where it stands, with these entries, of which there are
-    /// none, and their room. An Err means out of memory, and hands the setup back.
+    /// A book over this scheduler, which opens in the scheduler's present state, with an empty list of
+    /// entries and its room. An Err means out of memory, and hands the setup back.
     fn over(
         alloc: Global,
         sched: Sched,
@@ -157,19 +156,19 @@ impl Book {
         }
     }
 
-    /// What is saved of the scheduler ([`Sched::save`]), in the state in which the book stands. The book
-    /// stays as it is. An Err means out of memory.
+    /// What is saved of the scheduler ([`Sched::save`]), in the book's present state. The book stays as it
+    /// is. An Err means out of memory.
     pub fn save(&self, alloc: Global) -> Result<Saved, AllocError>
         ensures { IfOk result (λ saved. saved ≡ saved_of (sched_of self.now)) }
     {
         self.log.sched.save(alloc)
     }
 
-    /// A new book that opens in the state in which this one stands, without entries and refusals, and
-    /// with room for so many entries; beside it the entries of this one. What the scheduler knows goes
-    /// on: standings, next times, checks that are out, the results kept, and how many runs were handed
-    /// out. The entries are moved, not copied: memory is taken for the room only. The count of
-    /// refusals ends with this book, so read [`refused`](Kept::refused) before.
+    /// A new book that opens in the present state of this one, without entries and refusals, and with room
+    /// for `room` entries; also the entries of this one. The scheduler's knowledge is carried over:
+    /// standings, next times, running checks, stored results, and the number of runs handed out. The
+    /// entries are moved, not copied: only the room needs memory. The count of refusals ends with this
+    /// book, so read [`refused`](Kept::refused) first.
     ///
     /// An Err means out of memory, and hands this book back as it was.
     pub fn renew(self, alloc: Global, room: usize) -> Result<(Book, Vec<Entry<Call, Reply>>), Book>
@@ -195,14 +194,14 @@ impl Book {
         Box::into_inner(log).sched.into_setup()
     }
 
-    /// The scheduler, in the state that the entries' calls leave.
+    /// The scheduler, in the state after the calls of the entries.
     pub fn sched(&self) -> &Sched
         ensures { result.now ≡ sched_of self.now }
     {
         &self.log.sched
     }
 
-    /// For how many entries there was room from the start.
+    /// The number of entries for which there was room at first.
     pub fn room(&self) -> usize
         ensures { result ≡ room_of self.now }
     {
@@ -243,9 +242,9 @@ impl Kept for Book {
 
     ghost posted = { λ s. step_posted s.sched };
 
-    /// Makes one call on the scheduler, and keeps it with its reply. Room for the entry is made
-    /// first; where there is no memory for it, the call isn't made, but counted. `NoMemory` comes
-    /// only where the entries have reached the room, and fill all that was reserved since.
+    /// Makes one call on the scheduler, and stores it with its reply. Room for the entry is made first. If
+    /// there is no memory for it, the call isn't made, but counted. `NoMemory` comes only if the entries
+    /// have reached the room, and fill everything that was reserved since.
     fn record(&mut self, pass: u32, call: Call) -> Result<Reply, NoMemory>
         requires { refused_of self.old < 2 ^ 60 }
         ensures same { opening_of self.new ≡ opening_of self.old }
@@ -291,14 +290,14 @@ impl Kept for Book {
         self.log.sched.word(place)
     }
 
-    /// The object's number for a report of the run under which the object is being checked. No other
-    /// call is posted: neither a report that will be refused, nor what changes no standing.
+    /// The object's number for a report of the run under which the object is being checked. No other call
+    /// is posted: neither a report that will be refused, nor a call that changes no standing.
     fn posts(&self, call: Call) -> Option<u32> {
         self.log.sched.place_of(call)
     }
 }
 
-/// Makes room for one more entry. It takes no memory where there is some.
+/// Makes room for one more entry. It takes no memory if there is room.
 fn grow(entries: &mut Vec<Entry<Call, Reply>>) -> Result<(), AllocError>
     ensures same { entries.new.items ≡ entries.old.items }
     ensures capacity { vec_capacity entries.old ≤ vec_capacity entries.new }

@@ -19,9 +19,9 @@ ghost use Rattle.check_book.specs.Books.{opening_of, sched_of, state_of};
 ghost use Rattle.check_book.specs.BookState.{BookState, book_at, book_opening, book_step};
 ghost use Rattle.check_book.specs.Resumed.{resumed_from};
 
-/// The history of a book is a history of its scheduler (`books`): so what
+/// The history of a book is a history of its scheduler (`books`). So
 /// [`runs_once`](check_sched::laws::runs_once) and
-/// [`flaps_by_history`](check_sched::laws::flaps_by_history) say holds of it.
+/// [`flaps_by_history`](check_sched::laws::flaps_by_history) hold of it.
 pub fn histories()
     ensures books { (setup : Configuration) → (start room : ℕ)
         → (history : List (Entry Call Reply))
@@ -29,10 +29,11 @@ pub fn histories()
         → IsLegal step (opening setup start) history }
 {}
 
-/// Which replies come in the history of a book, whatever it was opened with. A take is answered with an
-/// object that is taken or put off, or that none is due, or that the limit is reached, or it is refused
-/// for its moment or because no run is left (`take`). The report of an object that was taken before is answered with the object's standing, or
-/// refused because the object isn't being checked, or is under another run (`report`).
+/// The replies that can come in the history of a book, however it was opened. The reply to a take is an
+/// object that is taken or put off, or that none is due, or that the limit is reached, or a refusal for its
+/// moment or because no run is left (`take`). The reply to the report of an object that was taken before is
+/// the object's standing, or a refusal because the object isn't being checked, or is under another run
+/// (`report`).
 pub fn replies()
     ensures take { (opened : BookState) → (front : List (Entry Call Reply)) → (pass now : ℕ)
         → (answer : Reply)
@@ -46,12 +47,12 @@ pub fn replies()
         → IsReportReply answer }
 {}
 
-/// What the board of a book shows, whatever calls were made since it was opened, one after another: a
-/// word for each object of the setup (`words`), which [`decode`](check_rules::decode) reads as the
-/// standing of the object with that number (`read`). It is so from every state on that a scheduler can
-/// be in (`words_from`, `read_from`), and each book opens in such a state (`opened`), a renewed one
-/// too, and is in such a state at any time (`state`). Each book is over a setup as [`Setup`](check_objects::Setup) has it (`books`), and so its board
-/// has at most 4,096 words (`few`).
+/// What the board of a book shows, after any calls since it was opened, one after another: a word for each
+/// object of the setup (`words`), which [`decode`](check_rules::decode) reads as the standing of the object
+/// with that number (`read`). This holds from every state that a scheduler can be in (`words_from`,
+/// `read_from`). Each book opens in such a state (`opened`), a renewed book does too, and a book is in such a
+/// state at any time (`state`). Each book is over a setup as [`Setup`](check_objects::Setup) has it
+/// (`books`), and so its board has at most 4,096 words (`few`).
 pub fn board_shows_standings()
     ensures words { (setup : Configuration) → (start room : ℕ)
         → (history : List (Entry Call Reply))
@@ -75,16 +76,16 @@ pub fn board_shows_standings()
     ensures few { (book : Book) → length (book_board (state_of book)) ≤ 4096 }
 {}
 
-/// Histories go on from one book to the next. Where `earlier` is legal from a state, as from a
-/// scheduler's opening, and `later` is legal from the state that `earlier` leaves, `earlier` followed by
-/// `later` is legal from the first state (`legal`) and leaves the same state (`state`). The same holds of
-/// the schedulers of books, whatever their rooms (`book`, `book_state`), and no call changes a book's
-/// setup (`setup`). So each law of legal histories holds of the joined history of books that were
+/// Histories continue from one book to the next. Let `earlier` be legal from a state, as from a scheduler's
+/// opening, and `later` from the state after `earlier`. Then `earlier` followed by `later` is legal from
+/// the first state (`legal`) and leaves the same state (`state`). The same holds of the schedulers of
+/// books, whatever their rooms (`book`, `book_state`), and no call changes a book's setup (`setup`). So
+/// each law of legal histories holds of the joined history of books that were
 /// [renewed](crate::Book::renew).
 ///
-/// The same holds where a scheduler was put down and another book was [resumed](crate::Book::resume) from
-/// what was saved of it, over the same setup, with whatever start and room (`resumed`, `resumed_state`):
-/// the state is the same except for the start, by which no call goes.
+/// The same holds if a scheduler's state was saved and another book was [resumed](crate::Book::resume) from
+/// it, over the same setup, with any start and room (`resumed`, `resumed_state`). The state is the same
+/// except for the start, which no call reads.
 pub fn generations()
     ensures legal { (opened : State) → (earlier later : List (Entry Call Reply))
         → IsLegal step opened earlier → IsLegal step (replay step opened earlier) later

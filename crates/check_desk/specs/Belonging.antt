@@ -1,5 +1,4 @@
--- That a pass or a turn is of a desk is a fact without parts: a struct that keeps the two together may carry it as a
--- ghost field.
+-- The fact that a pass or a turn is of a desk has no parts: a struct that keeps the two together can carry it as a ghost field.
 use Rattle.check_book.specs.contracts.book.Book.{the_row as book_row}
 use Rattle.ticket_lock.specs.Belonging.{IsSeatOf-prop, IsTurnOf-prop}
 use Rattle.check_desk.specs.declared.desk.Desk.{Desk}

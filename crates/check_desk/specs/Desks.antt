@@ -1,4 +1,4 @@
--- What clauses see of a desk: how it was opened, which passes, turns and holds are its own, and what a call adds.
+-- What clauses see of a desk: how it was opened, its passes, turns and holds, and what a call adds.
 use Rattle.std.specs.Prelude.{◌≡◌, ℕ, ◌+◌, ◌<◌, ◌≤◌, ⊤, List, [], ◌∷◌, ◌++◌, length}
 use Rattle.ticket_steps.specs.declared.kept.Entry.{Entry}
 use Rattle.ticket_steps.specs.History.{entry, replay, IsLegal}
@@ -22,23 +22,23 @@ use Rattle.check_desk.specs.declared.passes.Turn.{Turn}
 use Rattle.check_desk.specs.declared.passes.Hold.{Hold}
 use Rattle.check_desk.specs.Passes.{book_in_hand, opening_calls, pass_of, new_pass_with}
 
--- the state of the book that the desk was opened with: the setup and the start of its scheduler, and its room
+-- the state of the book with which the desk was opened: the setup and the start of its scheduler, and its room
 abbrev pub opened_with : Desk → BookState
 opened_with desk = opening_of (start_of desk.lock).book
 
--- how many passes were made
+-- the number of passes
 abbrev pub passes_of : Desk → ℕ
 passes_of desk = (start_of desk.lock).numbers
 
--- how many calls each of them brought
+-- the number of calls that each of them brought
 abbrev pub calls_of : Desk → ℕ
 calls_of desk = (start_of desk.lock).draws
 
--- how many objects its setup has
+-- the number of objects in its setup
 abbrev pub objects_of : Desk → ℕ
 objects_of desk = object_count (opened_with desk).sched.setup
 
--- what is known of the object with this number once these calls are made, one after another, from the opening on
+-- the standing of the object with this number after these calls, made one after another, from the opening on
 abbrev pub standing_after : Desk → List (Entry Call Reply) → ℕ → Standing
 standing_after desk history number = standing_at (replay book_step (opened_with desk) history).sched.standings number
 
@@ -56,7 +56,7 @@ IsHolderAt desk hold = IsHoldOf desk.lock hold.hold × (opening_of (book_in_hand
 abbrev pub IsHistoryOf : Desk → List (Entry Call Reply) → Type 0
 IsHistoryOf desk history = IsLegal book_step (opened_with desk) history
 
--- the passes of a desk as it hands them out with so many calls each, from this number on
+-- the passes of a desk as it hands them out with this many calls each, from this number on
 abbrev pub AreNewPassesWith : ℕ → Desk → ℕ → List Pass → Type 0
 AreNewPassesWith calls desk number [] = ⊤
 AreNewPassesWith calls desk number (pass ∷ passes) =
@@ -79,12 +79,12 @@ MatchAnswer (answer.Reply reply) P Q R = P reply
 MatchAnswer answer.NoMemory P Q R = Q
 MatchAnswer answer.Spent P Q R = R
 
--- the caller after a call that was answered by this reply, where this was the history before it: one entry more, under its own number
+-- the caller after a call with this reply, if this was the history before it: one entry more, under its own number
 abbrev pub recorded : Call → Reply → List (Entry Call Reply) → Caller Call Reply → Caller Call Reply
 recorded call reply history c = ended (history ++ entry c.own call reply ∷ []) c
 
--- A whole call that was answered by this reply: the history before it begins with what the caller had seen and has nothing
--- new of its numbers; to that came its entry.
+-- A whole call with this reply. The history before it begins with what the caller had seen and has nothing new of its numbers; the call's entry was added to
+-- it.
 pub record HasRecorded (call : Call) (reply : Reply) (before after : Caller Call Reply) : Type 0 where
   pub history : List (Entry Call Reply)
   pub follows : Follows before.numbers before.seen history

@@ -1,5 +1,5 @@
--- What clauses see of passes, turns and holds: the caller behind them, with its own number, the numbers it answers for,
--- the calls it has left and has made, and the history it has seen.
+-- What clauses see of passes, turns and holds: their caller, with its own number, the numbers for which it answers, the calls that it has left and has made,
+-- and the history that it has seen.
 use Rattle.std.specs.Prelude.{ℕ, ◌-◌, ◌^◌, [], ◌∷◌, true}
 use Rattle.ticket_lock.specs.Callers.{Caller, caller}
 use Rattle.ticket_lock.specs.Tokens.{seat_of, turn_of, hold_of, ticket_of}
@@ -19,19 +19,19 @@ waiting_of turn = turn_of turn.turn
 abbrev pub holder_of : Hold → Caller Call Reply
 holder_of hold = hold_of hold.hold
 
--- the ticket with which a turn waits: how many calls end before its own
+-- the ticket with which a turn waits: the number of calls that end before its own
 abbrev pub drawn_ticket : Turn → ℕ
 drawn_ticket turn = ticket_of turn.turn
 
--- the book that a holder has in hand
+-- the book that a holder has
 abbrev pub book_in_hand : Hold → Book
 book_in_hand hold = hold.book
 
--- how many calls each pass brings where the caller names no other number, and the most that it can bring
+-- the number of calls that each pass brings if the program names no other number, and the most that it can bring
 abbrev pub opening_calls : ℕ
 opening_calls = 2 ^ 32 - 1
 
--- the pass of this number as a desk hands it out with so many calls: it answers for itself, has made no call and has seen nothing
+-- the pass of this number as a desk hands it out with this many calls: it answers for itself, has made no call and has seen nothing
 abbrev pub new_pass_with : ℕ → ℕ → Caller Call Reply
 new_pass_with calls number = caller number (number ∷ []) calls 0 true []
 

@@ -1,4 +1,4 @@
--- What a pass knows of a call that it made, or that a pass gathered into it made, and what it glances of the object then.
+-- What a pass knows of a call that it made, or that a pass gathered into it made, and what it then sees of the object at a glance.
 use Rattle.std.specs.Prelude.{◌≡◌, ◌≢◌, ℕ, ⊤, List, [], ◌∷◌, ◌++◌, Option, Some}
 use Rattle.ticket_steps.specs.declared.kept.Entry.{Entry}
 use Rattle.ticket_lock.specs.Callers.{Caller}
@@ -9,20 +9,20 @@ use Rattle.check_sched.specs.Board.{place_by}
 use Rattle.check_desk.specs.declared.desk.Desk.{Desk}
 use Rattle.check_desk.specs.Desks.{IsHistoryOf, standing_after}
 
--- the entry stands in what the caller has seen
+-- the entry is in what the caller has seen
 pub record HasSeen (e : Entry Call Reply) (c : Caller Call Reply) : Type 0 where
   pub before : List (Entry Call Reply)
   pub since : List (Entry Call Reply)
   pub seen : c.seen ≡ before ++ e ∷ since
 
--- the standing is the object's after a history of the desk in which the entry stands
+-- the standing is the object's after a history of the desk with this entry
 pub record IsAfter (desk : Desk) (e : Entry Call Reply) (object : ℕ) (standing : Option Standing) : Type 0 where
   pub before : List (Entry Call Reply)
   pub since : List (Entry Call Reply)
   pub legal : IsHistoryOf desk (before ++ e ∷ since)
   pub shown : standing ≡ Some (standing_after desk (before ++ e ∷ since) object)
 
--- none of the entries is a report of the object that was answered by its standing
+-- none of the entries is a report of the object whose reply is its standing
 abbrev pub HasNoReport : ℕ → List (Entry Call Reply) → Type 0
 HasNoReport object [] = ⊤
 HasNoReport object (e ∷ es) = (place_by e.call e.reply ≢ Some object) × HasNoReport object es

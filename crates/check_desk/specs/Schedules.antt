@@ -1,4 +1,4 @@
--- The schedules of a desk's lock: what any callers' steps, in any order, lead to.
+-- The schedules of a desk's lock: where the steps of any callers, in any order, lead.
 use Rattle.std.specs.Prelude.{◌≡◌, ℕ, List}
 use Rattle.ticket_steps.specs.declared.kept.Entry.{Entry}
 use Rattle.ticket_steps.specs.History.{replay, IsLegal}
@@ -17,14 +17,14 @@ pub record IsScheduleOver (setup : Configuration) (start room : ℕ) (s : Schedu
   pub schedule : IsSchedule kept_book s
   pub opening : s.opening ≡ book_opening setup start room
 
--- The same over a book that goes on from those before it: it opens where `earlier` leads, a legal history of the scheduler on this
--- setup, from this start on. Of the first book `earlier` is empty.
+-- The same over a book that continues those before it: it opens in the state after `earlier`, a legal history of the scheduler on this setup, from this start
+-- on. For the first book `earlier` is empty.
 pub record IsScheduleAfter (setup : Configuration) (start : ℕ) (earlier : List (Entry Call Reply)) (room : ℕ) (s : Schedule BookState Call Reply) : Type 0 where
   pub schedule : IsSchedule kept_book s
   pub legal_before : IsLegal step (opening setup start) earlier
   pub opens : s.opening ≡ book_at (replay step (opening setup start) earlier) room
 
--- The same over a book that opens empty in this state, as one does that goes on from what was saved.
+-- The same over a book that opens empty in this state, as a book does that resumes what was saved.
 pub record IsScheduleFrom (opened : BookState) (s : Schedule BookState Call Reply) : Type 0 where
   pub schedule : IsSchedule kept_book s
   pub opens : s.opening ≡ opened

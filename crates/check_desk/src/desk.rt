@@ -29,32 +29,32 @@ const PAUSES: u32 = 3;
 
 /// A book behind a lock, for up to 1,024 callers in any threads.
 ///
-/// Each call asks that its pass, turn or hold is of this desk.
+/// Each call needs a pass, turn or hold of this desk.
 #[derive(Drop)]
 pub struct Desk {
     pub(crate) passes: u32,
     pub(crate) objects: u32,
-    // Behind these eight bytes, so that behind the eight of a shared count the two pointers that the lock
-    // begins with lie in one line of the cache.
+    // After these eight bytes, and the eight of a shared count, the two pointers with which the lock begins
+    // are in one line of the cache.
     pub(crate) lock: TicketLock<Book>,
     ghost passes_are: { (start_of lock).numbers ≡ passes },
     ghost objects_are: { object_count (opening_of (start_of lock).book).sched.setup ≡ objects },
 }
 
-/// What a poll finds.
+/// The outcome of a poll.
 pub enum Poll {
     /// The turn has come: the caller holds the book.
     Mine(Hold),
-    /// It hasn't yet.
+    /// The turn hasn't come yet.
     NotYet(Turn),
 }
 
-/// What came of a call.
+/// The outcome of a call.
 #[derive(Clone, Copy, Debug, PartialEq, Eq)]
 pub enum Answer {
     /// The call was made, and is recorded with this reply.
     Reply(Reply),
-    /// There was no memory for the entry: the call wasn't made, but it is counted.
+    /// Out of memory for the entry: the call wasn't made, but it is counted.
     NoMemory,
     /// The pass has no call left. Nothing was done.
     Spent,
@@ -65,13 +65,12 @@ impl Desk {
     ghost use Rattle.check_desk.specs.Desks.{AreNewPassesWith, MatchPoll, calls_of, objects_of, opened_with, passes_of, recorded, standing_after};
     ghost use Rattle.check_desk.specs.Passes.{book_in_hand, drawn_ticket, holder_of, pass_of, waiting_of};
 
-    /// A desk over the book, and its passes in the order of their numbers, from 0. Each has 2^32 - 1
-    /// calls, the most that [`Desk::open_with`] gives, stands only for itself, and has made no call
-    /// and seen nothing.
+    /// A desk over the book, and its passes in the order of their numbers, from 0. Each has 2^32 - 1 calls,
+    /// the most that [`Desk::open_with`] gives, answers only for itself, and has made no call and seen
+    /// nothing.
     ///
-    /// An Err means out of memory, and hands the book back as it was. No other call but
-    /// [`Desk::finish`] and [`Desk::ask`] needs memory, and they only where the book's room is used
-    /// up.
+    /// An Err means out of memory, and hands the book back as it was. Of the other calls only
+    /// [`Desk::finish`] and [`Desk::ask`] need memory, and only if the book's room is used up.
     pub fn open(alloc: Global, book: Book, passes: u32) -> Result<(Desk, Vec<Pass>), Book>
         requires passes { (0 < passes) × (passes ≤ 1024) }
         requires empty { (entries_of book ≡ []) × (refused_of book ≡ 0) }
@@ -85,11 +84,11 @@ impl Desk {
         Desk::open_with(alloc, book, passes, DRAWS)
     }
 
-    /// A desk as `open` makes it, whose passes bring so many calls each: for callers that are to make
-    /// few calls. A pass is spent when it has made them.
+    /// A desk as `open` makes it, whose passes bring `calls` calls each: for callers that make few calls. A
+    /// pass is spent when it has made them.
     ///
-    /// An Err means out of memory, and hands the book back as it was. Which other calls need memory
-    /// is said at [`Desk::open`].
+    /// An Err means out of memory, and hands the book back as it was. [`Desk::open`] says which other calls
+    /// need memory.
     pub fn open_with(
         alloc: Global,
         book: Book,
@@ -124,7 +123,7 @@ impl Desk {
         }
     }
 
-    /// Divides the seat that stands for all numbers into one pass for each.
+    /// Divides the seat for all numbers into one pass for each.
     fn hand_out(&self, seat: Seat<Book>, list: &mut Vec<Pass>)
         requires desk { IsSeatOf self.now.lock seat }
         requires all { seat_of seat ≡ first_caller (passes_of self.now) (calls_of self.now) }
@@ -145,8 +144,8 @@ impl Desk {
         list.push_reserved(Pass { seat: rest });
     }
 
-    /// Takes a ticket, by one of the pass's calls. The pass comes back as it was exactly where it
-    /// has no call left.
+    /// Takes a ticket, by one of the pass's calls. The pass comes back as it was exactly if it has no call
+    /// left.
     pub fn begin(&self, pass: Pass) -> Result<Turn, Pass>
         requires { IsPassOf self.now pass }
         ensures spent { IsErr result ↔ ((pass_of pass).left ≡ 0) }
@@ -160,11 +159,11 @@ impl Desk {
         }
     }
 
-    /// Looks whether the turn has come. It always has where the pass answers for all passes.
+    /// Looks whether the turn has come. It always has if the pass answers for all passes.
     ///
-    /// With the book in hand the caller has seen its history: it begins with all that the caller had
-    /// seen, and has nothing new of the numbers that the pass answers for. Its entries and the
-    /// refusals together are the ticket, so that calls end in the order of their tickets.
+    /// With the book the caller has seen its history. It begins with all that the caller had seen, and has
+    /// nothing new of the numbers for which the pass answers. The number of its entries and refusals is the
+    /// ticket, so that calls end in the order of their tickets.
     pub fn poll(&self, turn: Turn) -> Poll
         requires { IsWaitingAt self.now turn }
         ensures desk { MatchPoll result (λ hold. IsHolderAt self.now hold)
@@ -191,10 +190,10 @@ impl Desk {
         }
     }
 
-    /// Makes the call, records it under the pass's own number, and ends the turn. A report that is
-    /// answered by its object's standing is posted before, so that whoever glances at the object from
-    /// then on has seen it. Where there is no memory for the entry the call isn't made, but counted;
-    /// that comes only where the history has reached the book's room.
+    /// Makes the call, records it under the pass's own number, and ends the turn. A report whose reply is
+    /// its object's standing is posted first, so that everyone who glances at the object from then on has
+    /// seen it. If there is no memory for the entry, the call isn't made, but counted. That happens only if
+    /// the history has reached the book's room.
     pub fn finish(&self, hold: Hold, call: Call) -> (Pass, Answer)
         requires { IsHolderAt self.now hold }
         ensures desk { IsPassOf self.now result.0 }
@@ -216,8 +215,8 @@ impl Desk {
         (Pass { seat }, answer)
     }
 
-    /// Ends the turn of a holder whose call is recorded in the book, or refused. A call that has a place
-    /// on the board is posted before.
+    /// Ends the turn of a holder whose call is recorded in the book, or refused. A call that has a place on
+    /// the board is posted first.
     fn leave(&self, hold: ticket_lock::Hold<Book>, book: Book, place: Option<u32>) -> Seat<Book>
         requires desk { IsHoldOf self.now.lock hold }
         requires unposted { has_posted hold ≡ false }
@@ -236,10 +235,10 @@ impl Desk {
         }
     }
 
-    /// A whole call: takes a ticket, waits until its turn comes, and makes the call. It answers
-    /// `Spent`, and does nothing, exactly where the pass has no call left.
+    /// A whole call: takes a ticket, waits until its turn comes, and makes the call. The answer is `Spent`,
+    /// and nothing is done, exactly if the pass has no call left.
     ///
-    /// What this says holds where it returns: nothing is promised of how long it waits.
+    /// The contract holds when the call returns. It doesn't say how long the call waits.
     #[tactic(auto, using(crate::proofs::PassLemmas::seen_history))]
     pub fn ask(&self, rt: &impl Wait, pass: Pass, call: Call) -> (Pass, Answer)
         requires { IsPassOf self.now pass }
@@ -259,8 +258,8 @@ impl Desk {
         }
     }
 
-    /// Polls again and again until the turn has come. Between the first polls it pauses, each time longer;
-    /// between all others it yields, so that a caller ahead that has no processor gets one.
+    /// Polls until the turn has come. It pauses between the first polls, each time longer. Between all
+    /// later ones it yields, so that a caller ahead that has no processor gets one.
     fn wait(&self, rt: &impl Wait, turn: Turn) -> Hold
         requires { IsWaitingAt self.now turn }
         ensures desk { IsHolderAt self.now result }
@@ -287,13 +286,13 @@ impl Desk {
         unreachable!()
     }
 
-    /// Reads what is known of an object, by one load: without a ticket, without waiting, and without a
-    /// call of the pass. None, with no load and the pass as it was, exactly where the setup has no
-    /// object of this number.
+    /// Reads what is known of an object, by one load: without a ticket, without waiting, and without a call
+    /// of the pass. None, with no load and the pass as it was, exactly if the setup has no object of this
+    /// number.
     ///
     /// The standing is the object's after a history of the desk that begins with all that the pass had
-    /// seen, and has nothing new of the numbers that it answers for. The pass has seen that history
-    /// now, so later glances never go back.
+    /// seen, and has nothing new of the numbers for which it answers. The pass has seen that history now,
+    /// so later glances never go back.
     pub fn glance(&self, pass: Pass, object: u32) -> (Pass, Option<Standing>)
         requires { IsPassOf self.now pass }
         ensures desk { IsPassOf self.now result.0 }
@@ -312,9 +311,9 @@ impl Desk {
         (Pass { seat }, decode(word))
     }
 
-    /// Puts two passes together: the first goes on, answers for the numbers of both and has made the
-    /// calls of both. It has seen the longer history, to which neither's numbers added anything. The
-    /// second's calls that are left are given up.
+    /// Joins two passes. The first pass stays, answers for the numbers of both, and has made the calls of
+    /// both. It has seen the longer history, to which neither's numbers added anything. The calls that the
+    /// second had left are lost.
     #[tactic(auto, using(crate::proofs::PassLemmas::seen_history))]
     pub fn gather(&self, pass: Pass, other: Pass) -> Pass
         requires { IsPassOf self.now pass × IsPassOf self.now other }
@@ -330,11 +329,11 @@ impl Desk {
         }
     }
 
-    /// Gives the book back, where all passes were gathered into this one. Desk and pass come back as
-    /// they were exactly where passes are missing.
+    /// Gives the book back, if all passes were gathered into this one. Desk and pass come back as they were
+    /// exactly if passes are missing.
     ///
-    /// The book's history is what the pass has seen: each caller's calls stand there once, in its
-    /// order, and nothing else does.
+    /// The book's history is what the pass has seen: it has each caller's calls once, in the caller's
+    /// order, and nothing else.
     pub fn close(self, pass: Pass) -> Result<Book, (Desk, Pass)>
         requires { IsPassOf self pass }
         ensures missing { IsErr result ↔ (length (pass_of pass).numbers < passes_of self) }

@@ -1,5 +1,5 @@
-//! Laws without code: what is so of the history that all callers share, of every pass, and of calls
-//! that have returned.
+//! Laws without code: what holds of the history that all callers share, of every pass, and of calls that
+//! have returned.
 
 ghost use Rattle.std.specs.Prelude.{ℕ, ◌≡◌, ◌+◌, ◌<◌, ◌≤◌, ◌^◌, List, [], ◌∷◌, ◌++◌, length, Bool, true, false, Option, Some};
 ghost use Rattle.std.specs.List.{All, list_any};
@@ -36,32 +36,32 @@ ghost use Rattle.check_desk.specs.Reports.{HasNoReport, HasSeen, IsAfter};
 ghost use Rattle.check_desk.specs.Schedules.{IsScheduleAfter, IsScheduleFrom, IsScheduleOver};
 
 /// A law without code: whatever callers do, and in whatever order the steps of their passes come,
-/// the history that they share is one thread's.
+/// the history that they share is that of one thread.
 ///
-/// It speaks of every setup, start and room, of 1 to 1,024 passes, and of every schedule of the core
-/// from the opening on. The book is the one at home, whenever no seat holds; while one does, it is
-/// the book as its holder took it out, with what it has posted since, so that nothing here asks
-/// whether the lock is free.
+/// It holds for every setup, start and room, for 1 to 1,024 passes, and for every schedule of the core
+/// from the opening on. The book is the one at home, whenever no seat holds. While a seat holds, it is
+/// the book as its holder took it out, with what it has posted since. So no clause asks whether the
+/// lock is free.
 ///
 /// - Each reply is the sequential scheduler's at its place (`legal`), and the scheduler is in the
-///   state that those calls leave (`state`).
+///   state after those calls (`state`).
 /// - The history shows no object taken while it runs (`once`), and the numbers of runs are 1,
 ///   2, 3 and so on (`runs`).
-/// - Each number's entries are the calls that it recorded, each once and in its order (`entries`); a
-///   number that was never given out has none (`strangers`).
-/// - Entries and refusals together are the calls that were made (`made`); where one seat stands for
-///   all numbers, they are the calls that it counts, and one more while it has posted a call and
-///   not left (`all`).
+/// - Each number's entries are the calls that it recorded, each once and in its order (`entries`). A
+///   number that was never given out has no entries (`strangers`).
+/// - Entries and refusals together are the calls that were made (`made`). If one seat has all
+///   numbers, they are the calls that it counts, plus one while it has posted a call and not left
+///   (`all`).
 ///
-/// A book that was [renewed](check_book::Book::renew) goes on from those before it. Of each such book,
-/// with whatever legal history `earlier` that led to where it opened:
+/// A book that was [renewed](check_book::Book::renew) continues those before it. For each such book,
+/// and any legal history `earlier` that led to its opening state:
 ///
 /// - `earlier` followed by its entries is one thread's history from the setup's opening on
 ///   (`joined_legal`), and leaves the state in which the scheduler is (`joined_state`).
-/// - No object is taken while it runs by the whole history (`joined_once`): a check that was out when a
-///   book ended is taken again only after its end. The numbers of runs go on (`joined_runs`).
-/// - What the schedule of the book's own callers leaves is as it is of the first one (`later_entries`,
-///   `later_strangers`, `later_made`, `later_all`).
+/// - No object is taken while it runs by the whole history (`joined_once`): a check that was running
+///   when a book ended is taken again only after its end. The numbers of runs continue (`joined_runs`).
+/// - The clauses about the schedule of the book's own callers hold as for the first book
+///   (`later_entries`, `later_strangers`, `later_made`, `later_all`).
 pub fn headline()
     ensures legal { (setup : Configuration) (start room : ℕ) (s : Schedule BookState Call Reply)
         → IsScheduleOver setup start room s → IsLegal step (opening setup start) s.end.book.entries }
@@ -124,16 +124,16 @@ pub fn headline()
         → calls_taken s.end.book ≡ p.calls + posted_one p.phase }
 {}
 
-/// What [`headline`] says, of a book that opens in any state, as one does that was
+/// The same as [`headline`], for a book that opens in any state, as a book does that was
 /// [resumed](check_book::Book::resume) from what was saved, over the same setup or another.
 ///
 /// - Each reply is the sequential scheduler's at its place, from that state on (`legal`), and the
-///   scheduler is in the state that those calls leave (`state`).
-/// - The history shows no object taken while it runs (`once`), nor while a check of it is out from
-///   before, until that run was reported or given up (`out`). The numbers of runs go on from those that
-///   were handed out before (`runs`).
-/// - What the schedule of the book's callers leaves is as `headline` says (`entries`, `strangers`,
-///   `made`, `all`).
+///   scheduler is in the state after those calls (`state`).
+/// - The history shows no object taken while it runs (`once`), nor while a check of it is running from
+///   before, until that run was reported or abandoned (`out`). The numbers of runs continue from those
+///   that were handed out before (`runs`).
+/// - The clauses about the schedule of the book's callers hold as in `headline` (`entries`,
+///   `strangers`, `made`, `all`).
 pub fn headline_from_any_state()
     ensures legal { (opened : BookState) (s : Schedule BookState Call Reply) → IsScheduleFrom opened s
         → IsLegal step opened.sched s.end.book.entries }
@@ -163,11 +163,11 @@ pub fn headline_from_any_state()
         → calls_taken s.end.book ≡ p.calls + posted_one p.phase }
 {}
 
-/// What is so of every pass, at any time.
+/// What holds of every pass, at any time.
 ///
-/// What it has seen is a history of its desk (`legal`). It answers for its own number (`own`), for at
-/// least one (`some`) and for at most 1,024 (`few`), and has made fewer than 2^42 calls
-/// (`few_calls`). Passes as they are handed out are of their desk (`new`).
+/// It has seen a history of its desk (`legal`). It answers for its own number (`own`), for at least one
+/// (`some`) and for at most 1,024 (`few`), and has made fewer than 2^42 calls (`few_calls`). New passes are
+/// of their desk (`new`).
 pub fn every_pass()
     ensures legal { (desk : Desk) → (pass : Pass) → IsPassOf desk pass
         → IsHistoryOf desk (pass_of pass).seen }
@@ -179,18 +179,18 @@ pub fn every_pass()
         → AreNewPasses desk number passes → All (IsPassOf desk) passes }
 {}
 
-/// A report whose call has returned is on the board, for the pass that made it and for each that has
-/// gathered it: by what `finish`, `ask`, `gather` and `glance` say, and no clause more.
+/// A report whose call has returned is on the board, for the pass that made it and for each pass that has
+/// gathered it. This follows from the clauses of `finish`, `ask`, `gather` and `glance` alone.
 ///
-/// The call stands in what its pass has seen, under its own number (`finished`, `asked`). It goes on
-/// to stand there while a turn waits (`waiting`), and in all that begins with what was seen (`later`),
-/// as what that pass sees by later polls, calls and glances does, and what a pass has seen that
-/// gathered it. So what such a pass glances of an object is the standing after a history of the desk
-/// that contains the call (`glanced`). Where the call is a report that was answered by the object's
-/// standing, and none that was comes behind it, it is that very standing (`told`).
+/// The call is in what its pass has seen, under its own number (`finished`, `asked`). It stays there while
+/// a turn waits (`waiting`), and in everything that begins with what was seen (`later`). That includes what
+/// the pass sees by later polls, calls and glances, and what a pass has seen that gathered it. So the
+/// standing that such a pass sees at a glance is the standing after a history of the desk that contains the
+/// call (`glanced`). Let the call be a report whose reply was the object's standing, with no such report
+/// after it. Then the glance shows that very standing (`told`).
 ///
-/// Of other passes no clause says so: they may be shown the standing before it, as far as contracts
-/// know. That a report is posted before its turn ends is the order of operations on the atomic word.
+/// No clause says this of other passes: as far as contracts know, they may see the standing before it. The
+/// report is posted before its turn ends because of the order of operations on the atomic word.
 pub fn returned_reports()
     ensures finished { (call : Call) → (reply : Reply) → (hold : Hold) → (pass : Pass)
         → pass_of pass ≡ recorded call reply (holder_of hold).seen (holder_of hold)

@@ -1,7 +1,7 @@
-//! Passes, turns and holds: what callers have in hand.
+//! Passes, turns and holds: the tokens of callers.
 //!
-//! They have no bytes of their own beyond their counts. What a caller has seen, which is always a
-//! beginning of the one history, exists only in contracts.
+//! They have no bytes of their own except their counts. The history that a caller has seen, which is always
+//! a first part of the one history, exists only in contracts.
 
 ghost use Rattle.std.specs.Prelude.{◌≡◌, ◌+◌, ◌<◌, ◌≤◌, ◌^◌, false, length};
 ghost use Rattle.ticket_steps.specs.Sums.{times};
@@ -11,10 +11,10 @@ ghost use Rattle.ticket_lock.specs.Tokens.{has_posted, held_ticket_of, hold_of, 
 use check_book::Book;
 use ticket_lock::Seat;
 
-/// The right to call: one caller's, for as many calls as the desk was opened with, up to 2^32 - 1,
-/// which are recorded under its number.
+/// The right of one caller to make calls: as many as the desk was opened with, up to 2^32 - 1. They are
+/// recorded under its number.
 ///
-/// Gathering puts passes together, when their callers have returned.
+/// Gathering joins passes, when their callers have returned.
 #[derive(Drop)]
 pub struct Pass {
     pub(crate) seat: Seat<Book>,
@@ -44,8 +44,8 @@ pub struct Hold {
 impl Pass {
     ghost use Rattle.check_desk.specs.Passes.{pass_of};
 
-    /// Its own number: the name under which its calls are recorded, and one of those that it answers
-    /// for.
+    /// Its own number: its calls are recorded under it, and it is one of the numbers for which the pass
+    /// answers.
     pub fn number(&self) -> u32
         ensures own { result ≡ (pass_of self.now).own }
         ensures among { 0 < times result (pass_of self.now).numbers }
@@ -53,7 +53,7 @@ impl Pass {
         self.seat.number()
     }
 
-    /// How many passes it stands for, itself included.
+    /// How many passes it answers for, including itself.
     pub fn gathered(&self) -> u32
         ensures numbers { result ≡ length (pass_of self.now).numbers }
         ensures some { 0 < result }
@@ -69,8 +69,8 @@ impl Pass {
         self.seat.left()
     }
 
-    /// The calls that it and the passes gathered into it have made, those without memory for their
-    /// entry among them.
+    /// The calls that it and the passes gathered into it have made, including those without memory for
+    /// their entry.
     pub fn calls(&self) -> u64
         ensures calls { result ≡ (pass_of self.now).calls }
         ensures few { result < 2 ^ 42 }

@@ -6,6 +6,6 @@ use Rattle.std.specs.List.{list_all}
 abbrev pub is_before : ℕ × ℕ → ℕ × ℕ → Bool
 is_before c d = nat_lt c.0 d.0 || (c.0 == d.0 && nat_lt c.1 d.1)
 
--- the member that no member comes before; none where there is no member
+-- the member that no member comes before; None if there is no member
 unfoldable pub least : List (ℕ × ℕ) → Option (ℕ × ℕ)
 least pairs = find (λ c. list_all (λ d. not (is_before d c)) pairs) pairs

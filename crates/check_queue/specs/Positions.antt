@@ -3,7 +3,7 @@ use Rattle.std.specs.Prelude.{◌≡◌, ◌≢◌, ℕ, ◌<◌, ◌≤◌, ◌
 use Rattle.check_queue.specs.declared.entry.Entry.{Entry}
 use Rattle.check_queue.specs.Entries.{entry_at}
 
--- what stands for the position of a number that isn't in the heap
+-- the stored position of a number that isn't in the heap
 abbrev pub absent : ℕ
 absent = 4294967295
 
@@ -11,7 +11,7 @@ absent = 4294967295
 abbrev pub position_at : List ℕ → ℕ → ℕ
 position_at positions number = slice_index_or positions number absent
 
--- the position that a stored one means, if it means one
+-- the position in the heap for a stored position, if there is one
 abbrev pub position_from : ℕ → Option ℕ
 position_from position = if position == absent then None else Some position
 
@@ -27,13 +27,13 @@ time_from entries position = option_map (λ i. (entry_at entries i).time) (posit
 abbrev pub times_in : List Entry → List ℕ → List (Option ℕ)
 times_in entries positions = map (time_from entries) positions
 
--- number k has its entry at position p, which is one of the first n and not the hole
+-- number k has its entry at position p, one of the first n and not the hole
 pub record IsAt (entries : List Entry) (n hole k p : ℕ) : Type 0 where
   pub within : p < n
   pub apart : p ≢ hole
   pub number : (entry_at entries p).number ≡ k
 
--- The first n entries, but for that at the hole, and the positions of their numbers agree, and no other number has a position. Without a hole it is n.
+-- The first n entries, except the one at the hole, agree with the positions of their numbers, and no other number has a position. Without a hole, it is n.
 pub record AreLinked (entries : List Entry) (positions : List ℕ) (n hole : ℕ) : Type 0 where
   pub room : n ≤ length entries
   pub few : length entries < 2 ^ 32

@@ -3,8 +3,8 @@
 ghost use Rattle.std.specs.Prelude.{◌≡◌, ◌+◌, ◌*◌, ◌^◌};
 ghost use Rattle.check_queue.specs.Entries.{comes_before};
 
-/// A number and its time. The number is as wide as the time, so that an entry is two words and is
-/// moved as such.
+/// A number and its time. The number is as wide as the time, so that an entry is two words and moves as two
+/// words.
 #[derive(Clone, Copy)]
 pub(crate) struct Entry {
     pub(crate) time: u64,

@@ -1,7 +1,7 @@
 //! Moves of an entry up and down the heap. The children of position i are 2i + 1 and 2i + 2.
 //!
-//! Entries aren't swapped. The entry that moves is held outside the heap, and its position is a hole:
-//! other entries move into the hole, one by one, and the held entry is written once, at the end.
+//! Entries aren't swapped. The entry that moves is held outside the heap, and its position is a hole. Other
+//! entries move into the hole, one by one, and the held entry is written once, at the end.
 
 ghost use Rattle.std.specs.Prelude.{◌≡◌, ◌+◌, ◌-◌, ◌*◌, ◌<◌, ◌≤◌, ◌^◌, Some, length, slice_set};
 ghost use Rattle.check_queue.specs.Heap.{FitsBelow, HasHole, IsFirstChild, IsOrdered};
@@ -9,8 +9,8 @@ ghost use Rattle.check_queue.specs.Positions.{IsOutside, times_in};
 
 use crate::entry::{Entry, is_before};
 
-/// What stands for the position of a number without a time. No heap reaches so far, since there are
-/// at most `u32::MAX` numbers.
+/// The stored position of a number without a time. No heap is that long, since there are at most `u32::MAX`
+/// numbers.
 pub(crate) const ABSENT: u32 = u32::MAX;
 
 /// Writes an entry to a position, and the position to the entry's number.
@@ -25,7 +25,7 @@ fn put_at(entries: &mut [Entry], positions: &mut [u32], position: usize, entry: 
     positions[entry.number as usize] = position as u32;
 }
 
-/// The position of that of the two children of `hole` which comes first.
+/// The position of the child of `hole` that comes first.
 fn first_child(entries: &[Entry], len: usize, hole: usize) -> usize
     requires room { len ≤ length entries.now }
     requires few { length entries.now < 2 ^ 32 }
@@ -62,10 +62,9 @@ pub(crate) fn sift_up(
     put_at(entries, positions, hole, held);
 }
 
-/// Closes the hole by the last entry, so that the heap is one entry shorter. The hole moves down to
-/// where it hasn't two children; from there the last entry, which mostly belongs low, rises to where
-/// it fits. Where the hole came to the last position, the last entry has moved already, or it was the
-/// one that left.
+/// Closes the hole with the last entry, so that the heap is one entry shorter. The hole moves down until it
+/// doesn't have two children. From there the last entry, which mostly belongs low, rises to where it fits.
+/// If the hole reached the last position, the last entry has moved already, or was the one removed.
 pub(crate) fn close_hole(entries: &mut [Entry], positions: &mut [u32], len: usize, mut hole: usize)
     requires { HasHole entries.old positions.old len hole }
     ensures ordered { IsOrdered entries.new positions.new (len - 1) }

@@ -1,4 +1,4 @@
--- What the workers of a crew leave in the book.
+-- What the workers of a crew add to the book.
 use Rattle.std.specs.Prelude.{◌≡◌, ℕ, ◌+◌, ◌≤◌, ◌<◌, ⊤, List, [], ◌∷◌, ◌++◌, length, flat_map, Option, Some, None, slice_index_or, sum_by}
 use Rattle.ticket_steps.specs.declared.kept.Entry.{Entry}
 use Rattle.ticket_steps.specs.History.{of}
@@ -19,8 +19,8 @@ use Rattle.check_workers.specs.declared.tally.Tally.{Tally}
 use Rattle.check_workers.specs.Shifts.{HasWorked, Shift, IsReason, IsShift, shift_entries, stops_of, unanswered}
 use Rattle.check_workers.specs.Tallies.{IsSum, plus, tally_of}
 
--- The shift that a worker worked on these moments with this pass, as the history of the closed book shows: of the numbers that
--- the pass answers for, what is new since it came to the crew are the entries of the shift.
+-- The shift that a worker worked on these moments with this pass, as the history of the closed book shows. The new entries of the pass's numbers, since it
+-- came to the crew, are the entries of the shift.
 pub record IsShiftOf (allows : ℕ → ℕ → ℕ → Code → Type 0) (moments : List ℕ) (room : ℕ)
     (history : List (Entry Call Reply)) (brought : Caller Call Reply) (s : Shift) : Type 0 where
   pub number : s.number ≡ brought.own
@@ -43,18 +43,18 @@ AreShiftsOf allows moments room history (pass ∷ passes) (s ∷ shifts) =
 abbrev pub tally_of_all : List Shift → Tally
 tally_of_all shifts = tally_of (flat_map shift_entries shifts) (flat_map (λ s. stops_of s.stopped) shifts)
 
--- for how many of a desk's passes these stand, and how many calls they have made
+-- the number of a desk's passes for which these answer, and the number of calls that they have made
 abbrev pub numbers_in : List Pass → ℕ
 numbers_in passes = sum_by (λ pass. length (pass_of pass).numbers) passes
 
--- the numbers for which they stand
+-- the numbers for which they answer
 abbrev pub numbers_of : List Pass → List ℕ
 numbers_of passes = flat_map (λ pass. (pass_of pass).numbers) passes
 
 abbrev pub calls_in : List Pass → ℕ
 calls_in passes = sum_by (λ pass. (pass_of pass).calls) passes
 
--- each pass has more than so many calls left
+-- each pass has more than this many calls left
 abbrev pub HaveLeft : ℕ → List Pass → Type 0
 HaveLeft least [] = ⊤
 HaveLeft least (pass ∷ passes) = (least < (pass_of pass).left) × HaveLeft least passes

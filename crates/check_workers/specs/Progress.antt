@@ -28,7 +28,7 @@ abbrev pub IsOpenAt : ℕ → Option Open → Type 0
 IsOpenAt now None = ⊤
 IsOpenAt now (Some o) = o.now ≡ now
 
--- a call got no answer: there is at most a check that was taken
+-- a call got no answer: at most a check was taken
 pub record IsStopped (now room : ℕ) (stop : Stop) (given : Option (ℕ × ℕ)) (before after : Caller Call Reply) (tally : Tally) : Type 0 where
   pub left_open : Option Open
   pub told : given ≡ open_run left_open
@@ -41,7 +41,7 @@ abbrev pub HasCome : (ℕ → ℕ → ℕ → Code → Type 0) → ℕ → ℕ �
 HasCome allows now room before after tally progress.Done = IsDone allows now before after tally
 HasCome allows now room before after tally (progress.Stopped stop given) = IsStopped now room stop given before after tally
 
--- ---- the same of the report only, of a check that was taken at this moment
+-- ---- the same for the report only, of a check that was taken at this moment
 
 pub record IsReported (allows : ℕ → ℕ → ℕ → Code → Type 0) (now object run : ℕ) (before after : Caller Call Reply) (tally : Tally) : Type 0 where
   pub code : Code

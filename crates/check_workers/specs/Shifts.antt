@@ -1,4 +1,4 @@
--- What a worker does with its moments, as its entries in the history show: rounds, and how its shift ended.
+-- What a worker does at its moments, as its entries in the history show: rounds, and how its shift ended.
 use Rattle.std.specs.Prelude.{◌≡◌, ℕ, ◌+◌, ◌≤◌, ◌<◌, ⊤, List, [], ◌∷◌, ◌++◌, length, map, flat_map, Option, Some, None}
 use Rattle.std.specs.List.{All}
 use mathlib.Core.List.{IsPrefix}
@@ -16,7 +16,7 @@ use Rattle.check_workers.specs.declared.tally.Stop.TheVariants as stop
 
 -- ---- a round: the work of one moment
 
--- The reply to the take of this moment and, where it began a run, the code that the plugin gave and the reply to its report.
+-- The reply to the take of this moment. If it began a run, also the code that the plugin gave and the reply to its report.
 pub record Round : Type 0 where
   pub now : ℕ
   pub reply : Reply
@@ -31,7 +31,7 @@ report_entries number other result = []
 abbrev pub round_entries : ℕ → Round → List (Entry Call Reply)
 round_entries number r = entry number (call.Take r.now) r.reply ∷ report_entries number r.reply r.result
 
--- where the take of this moment began a run, its result is a code that the plugin allows, and else there is none
+-- if the take of this moment began a run, its result is a code that the plugin allows; otherwise there is no result
 abbrev pub IsResult : (ℕ → ℕ → ℕ → Code → Type 0) → ℕ → Reply → Option (Code × Reply) → Type 0
 IsResult allows now (reply.Taken object run) (Some (code, answer)) = allows object run now code
 IsResult allows now (reply.Taken object run) None = ⊥
@@ -82,23 +82,22 @@ abbrev pub open_run : Option Open → Option (ℕ × ℕ)
 open_run None = None
 open_run (Some o) = Some (o.object, o.run)
 
--- A shift over these moments, with a plugin that allows these codes: its rounds are those of the first moments in order, of
--- all where it didn't stop early; a check is left open only where it did.
+-- A shift over these moments, with a plugin that allows these codes. Its rounds are those of the first moments in order, and of all moments if it didn't stop
+-- early. A check is left open only if it did.
 pub record IsShift (allows : ℕ → ℕ → ℕ → Code → Type 0) (moments : List ℕ) (s : Shift) : Type 0 where
   pub rounds : All (IsRound allows) s.rounds
   pub in_order : IsPrefix (shift_moments s) moments
   pub all : s.stopped ≡ None → shift_moments s ≡ moments
   pub none_open : s.stopped ≡ None → s.left_open ≡ None
-  -- a worker that stopped early has some moment's work still to do
+  -- a worker that stopped early still has some moment's work to do
   pub early : (why : Stop) → s.stopped ≡ Some why → length s.rounds < length moments
 
--- how many calls got no answer where the shift ended so
+-- the number of calls that got no answer if the shift ended like this
 abbrev pub unanswered : Option Stop → ℕ
 unanswered (Some stop.NoMemory) = 1
 unanswered other = 0
 
--- A worker stops early only where there is no memory for an entry, its history having reached the room, or where it has no
--- call left.
+-- A worker stops early only if there is no memory for an entry, and its history has reached the room, or if it has no call left.
 abbrev pub IsReason : ℕ → ℕ → ℕ → Option Stop → Type 0
 IsReason room recorded left (Some stop.NoMemory) = room ≤ recorded
 IsReason room recorded left (Some stop.Spent) = left ≡ 0
@@ -106,7 +105,7 @@ IsReason room recorded left None = ⊤
 
 -- ---- what callers have done
 
--- A caller has made so many calls more, and these entries of its own are what is new of the numbers that it answers for.
+-- A caller has made this many more calls, and these entries of its own are the new entries of the numbers for which it answers.
 pub record HasMade (entries : List (Entry Call Reply)) (unanswered : ℕ) (before after : Caller Call Reply) : Type 0 where
   pub own : after.own ≡ before.own
   pub numbers : after.numbers ≡ before.numbers

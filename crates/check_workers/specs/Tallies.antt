@@ -42,7 +42,7 @@ abbrev pub is_standing : Reply → Bool
 is_standing (reply.Standing standing changed next) = true
 is_standing other = false
 
--- the object ran no more, or under another run
+-- the object was not running any more, or under another run
 abbrev pub is_late : Reply → Bool
 is_late (reply.Refused refusal.NotRunning) = true
 is_late (reply.Refused refusal.WrongRun) = true
@@ -52,7 +52,7 @@ abbrev pub is_no_memory : Stop → Bool
 is_no_memory stop.NoMemory = true
 is_no_memory stop.Spent = false
 
--- how many of the entries are takes with such a reply, and how many are reports with such a reply
+-- the number of entries that are takes with such a reply, and of entries that are reports with such a reply
 abbrev pub takes_with : (Reply → Bool) → List (Entry Call Reply) → ℕ
 takes_with p es = count_by (λ e. is_take e.call && p e.reply) es
 

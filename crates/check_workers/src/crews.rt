@@ -29,22 +29,22 @@ use std::thread::Threads;
 pub enum CrewError {
     /// There was no pass in the list, and so no worker.
     NoPass(Desk),
-    /// All workers have done their work and returned, but passes of the desk weren't in the list:
-    /// the desk can't be closed before they are gathered too. All that were in the list are gathered
+    /// All workers have done their work and returned, but the list didn't have all passes of the desk. The
+    /// desk can't be closed before the other passes are gathered too. All passes of the list are gathered
     /// in this one.
     Missing(Desk, Pass),
-    /// There was no memory for the threads. Some workers may have worked and others not; all that
-    /// started have returned. Their passes are lost, so the desk can't be closed any more.
+    /// Out of memory for the threads. Some workers may have worked and others not, and all that started
+    /// have returned. Their passes are lost, so the desk can't be closed any more.
     NoThread(Desk),
 }
 
-/// One worker for each pass of the list works at each moment of the whole list ([`work`]): one in
-/// the caller's thread, and each other in one of its own. When all have returned, the passes are gathered and the desk is closed;
-/// the tallies are added up. Where a thread can't be made, its worker works in the caller's.
+/// One worker for each pass of the list works at each moment of the whole list ([`work`]): one in the
+/// caller's thread, and each other in a thread of its own. When all have returned, the passes are gathered,
+/// the desk is closed, and the tallies are added up. If a thread can't be made, its worker works in the
+/// caller's thread.
 ///
-/// The book begins with what each pass had seen, and each pass's entries in it are those that it
-/// brought and then those of its worker's shift.
-/// What this says holds where it returns: it waits for all workers.
+/// The book begins with what each pass had seen. Each pass's entries in it are those that it brought and
+/// then those of its worker's shift. The contract holds when the call returns: it waits for all workers.
 pub fn crew<R: Threads + Wait + Sync, P: Plugin + Sync>(
     rt: &R,
     _alloc: Global,
@@ -93,7 +93,7 @@ pub fn crew<R: Threads + Wait + Sync, P: Plugin + Sync>(
     }
 }
 
-/// Lets a worker work for each pass, at the same time, and gives back the passes and tallies.
+/// Lets a worker work for each pass, at the same time, and returns the passes and tallies.
 fn work_all<R: Threads + Wait + Sync, P: Plugin + Sync>(
     rt: &R,
     desk: &Desk,
@@ -108,7 +108,7 @@ fn work_all<R: Threads + Wait + Sync, P: Plugin + Sync>(
     thread::map_vec(rt, passes, &|pass| one(rt, desk, pass, plugin, moments))
 }
 
-/// Works with one pass, and gives it back with its tally.
+/// Works with one pass, and returns it with its tally.
 fn one<P: Plugin>(
     rt: &impl Wait,
     desk: &Desk,
@@ -152,7 +152,7 @@ fn close(desk: Desk, worked: Vec<(Pass, Tally)>) -> Result<(Book, Tally), CrewEr
     }
 }
 
-/// Gathers the passes into the first, and adds up the tallies, where there are any.
+/// Gathers the passes into the first, and adds up the tallies. None if there are no passes.
 fn gather_all(desk: &Desk, mut worked: Vec<(Pass, Tally)>) -> Option<(Pass, Tally)>
     requires { All (λ w. IsTallied desk.now w.0 w.1) worked.items }
     ensures { MatchGathered desk.now worked.items result }

@@ -5,16 +5,16 @@ ghost use Rattle.check_rules.specs.declared.state.Code.{Code as CodeOf};
 
 use check_rules::Code;
 
-/// What runs the checks: the caller's own code, which starts a plugin and waits for its return code.
+/// Runs the checks: the program's own code, which starts a plugin and waits for its return code.
 ///
-/// It is called with no lock held, so that other workers go on meanwhile, and by many threads at
-/// once. An implementation names in `allows` the codes that it may give for an object, a run and a
-/// moment; where nothing is known, that is any code.
+/// It is called with no lock held, so that other workers continue meanwhile, and by many threads at once.
+/// An implementation names in `allows` the codes that it may give for an object, a run and a moment. If
+/// nothing is known, that is any code.
 pub trait Plugin {
     ghost allows: { Self → ℕ → ℕ → ℕ → CodeOf → Type 0 };
 
-    /// Runs the check of the object with this number, which was taken as the run with this number
-    /// at the moment `now`, in milliseconds, and gives its return code.
+    /// Runs the check of the object with this number, which was taken as the run with this number at the
+    /// moment `now`, in milliseconds, and returns its return code.
     fn check(&self, object: u32, run: u64, now: u64) -> Code
         ensures { allows self.now object run now result };
 }

@@ -16,12 +16,11 @@ use std::sync::Wait;
 pub enum Progress {
     /// Its work is done.
     Done,
-    /// A call got no answer. The check that was taken and couldn't be reported, if any, is named by
-    /// its object and run.
+    /// A call got no answer. If a check was taken and couldn't be reported, its object and run are here.
     Stopped(Stop, Option<(u32, u64)>),
 }
 
-/// Takes the next check at the moment `now` and, where there is one, runs it and reports its result.
+/// Takes the next check at the moment `now`. If there is one, runs it and reports its result.
 pub fn round<P: Plugin>(
     rt: &impl Wait,
     desk: &Desk,

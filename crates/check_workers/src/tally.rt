@@ -13,7 +13,7 @@ use check_sched::{Refusal, Reply};
 /// `reported` and `late`.
 #[derive(Clone, Copy, Debug, Default, PartialEq, Eq)]
 pub struct Tally {
-    /// Takes that were answered by a reply.
+    /// Takes that got a reply.
     pub takes: u64,
     /// Takes that began a check.
     pub taken: u64,
@@ -21,15 +21,15 @@ pub struct Tally {
     pub put_off: u64,
     /// Takes when nothing was due.
     pub idle: u64,
-    /// Takes when services were due, but as many ran as may.
+    /// Takes when services were due, but the limit of running checks was reached.
     pub at_limit: u64,
     /// Takes that were refused: a moment out of range, or no run number left.
     pub refused: u64,
-    /// Reports that were answered by a reply.
+    /// Reports that got a reply.
     pub reports: u64,
     /// Reports that ended their run.
     pub reported: u64,
-    /// Reports that came too late: the object ran no more, or under another run.
+    /// Reports that came too late: the object was not running any more, or under another run.
     pub late: u64,
     /// Calls that were refused when out of memory.
     pub unanswered: u64,
@@ -47,8 +47,7 @@ pub enum Stop {
 }
 
 impl Tally {
-    /// The tally of one take with this reply. No other reply than those that have an arm here
-    /// answers a take.
+    /// The tally of one take with this reply. Only the replies that have an arm here answer a take.
     pub(crate) fn of_take(reply: Reply) -> Tally
         ensures { (number now : ℕ)
             → result ≡ tally_of (entry number (call.Take now) reply ∷ []) [] }

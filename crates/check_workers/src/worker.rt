@@ -12,16 +12,15 @@ use crate::tally::Tally;
 use check_desk::{Desk, Pass};
 use std::sync::Wait;
 
-/// Works at each moment of the list in order, in milliseconds: takes the next check by one call of
-/// the pass and, where a check was taken, runs it by the plugin, once, and reports its return code
-/// by one call more. Any other reply ends the work of that moment.
+/// Works at each moment of the list in order, in milliseconds. It takes the next check by one call of the
+/// pass. If a check was taken, it runs the check by the plugin, once, and reports the return code by one
+/// more call. Any other reply ends the work of that moment.
 ///
-/// It stops early where there is no memory to record a call, which comes only where the history has
-/// reached the book's room, or where the pass has no call left. The last part of what it gives is
-/// then the object and the run that it took and couldn't report, if any: that check stays open, and
-/// an operator may abandon it.
+/// It stops early if there is no memory to record a call, which happens only if the history has reached the
+/// book's room, or if the pass has no call left. The last part of the result is then the object and the run
+/// that it took and couldn't report, if any. That check stays open, and an operator can abandon it.
 ///
-/// What this says holds where it returns: it waits for its turns, and for the plugin.
+/// The contract holds when the call returns: it waits for its turns, and for the plugin.
 pub fn work<P: Plugin>(
     rt: &impl Wait,
     desk: &Desk,

@@ -1,4 +1,4 @@
-//! A core over the largest book, which no clause states and no test over the C library shows
+//! A core over the largest book. No clause states this, and no test over the C library shows it
 //! (`tests/c/books.c`).
 
 use check_book::Book;
@@ -22,7 +22,7 @@ fn largest_document(alloc: Global) -> Result<String, AllocError> {
     Ok(document)
 }
 
-/// With ample memory a core is made over a book of as many objects as there can be.
+/// With enough memory a core can be made over a book of as many objects as there can be.
 #[test]
 fn a_core_opens_over_the_largest_book(rt: HostRuntime) -> Result<(), Fail> {
     // for the proof: a book's board has few words

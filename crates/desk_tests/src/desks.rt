@@ -1,5 +1,5 @@
 //! Facts that no clause states and no test over the C library shows (`tests/c/desks.c`): turns that come
-//! while another pass waits, and glances while one holds.
+//! while another pass waits, and glances while another pass holds.
 
 ghost use Rattle.check_desk.specs.Desks.{IsHolderAt, IsPassOf, IsWaitingAt};
 
@@ -82,7 +82,7 @@ fn turns_come_in_the_order_of_their_tickets(rt: HostRuntime) -> Result<(), Fail>
     Ok(())
 }
 
-/// A glance at an object that is there.
+/// A glance at an object of the setup.
 fn glanced(rt: &impl Abort, desk: &Desk, pass: Pass, object: u32) -> (Pass, Standing)
     requires { IsPassOf desk.now pass }
     ensures { IsPassOf desk.now result.0 }
@@ -94,8 +94,8 @@ fn glanced(rt: &impl Abort, desk: &Desk, pass: Pass, object: u32) -> (Pass, Stan
     (pass, standing)
 }
 
-/// The second pass glances while the first takes, holds and reports: it reads what was posted, and
-/// that is no call.
+/// The second pass glances while the first takes, holds and reports. It reads what was posted, and the
+/// glance is no call.
 #[test]
 fn glances_without_a_turn(rt: HostRuntime) -> Result<(), Fail> {
     let (desk, first, second) = two_passes(rt.alloc(), ONE_SERVICE)?;

@@ -1,4 +1,4 @@
-//! The desks that the tests are of.
+//! The desks that the tests use.
 
 ghost use Rattle.std.specs.Prelude.{◌≡◌, ◌<◌, ◌≤◌, IfOk, length};
 ghost use Rattle.std.specs.List.{All};
@@ -22,7 +22,7 @@ pub(crate) const TWO_SERVICES: &[u8] =
 /// As many calls as a pass can have.
 pub(crate) const MOST_CALLS: u32 = 4_294_967_295;
 
-/// A desk on the setup of this text, and its passes with so many calls each.
+/// A desk on the setup of this text, and its passes with this many calls each.
 pub(crate) fn opened(
     alloc: Global,
     text: &[u8],

@@ -1,5 +1,5 @@
-//! What no clause says and no drill of the program shows: that the workers of a crew work at the same
-//! time, what a plugin may do, crews that lack a pass, and how the library is embedded.
+//! Facts that no clause states and no drill of the program shows: the workers of a crew work at the same
+//! time, what a plugin can do, crews without one of the passes, and how the library is embedded.
 
 ghost use Rattle.std.specs.Prelude.{⊤};
 
@@ -19,11 +19,11 @@ use std::sync::atomic::Ordering::SeqCst;
 use std::test::Fail;
 use ticket_steps::Kept;
 
-/// Two hosts that are due at 0; the first depends on the second where that was never checked.
+/// Two hosts that are due at 0. The first depends on the second, and fails if that was never checked.
 const FIRST_ON_PENDING: &[u8] =
     br#"{"options":{"host_inter_check_delay_method":"n"},"hosts":[{"name":"a","max_check_attempts":3},{"name":"b","max_check_attempts":3}],"host_dependencies":[{"dependent":"a","master":"b","criteria":"p"}]}"#;
 
-/// How often a check looks whether another one has begun, before it gives up.
+/// How often a check looks whether another check has begun, before it stops looking.
 const LOOKS: u32 = 1_000_000_000;
 
 /// No run finds a problem.
@@ -52,7 +52,7 @@ impl Plugin for Counting {
     }
 }
 
-/// Two checks that wait for each other: each ends when both have begun, or gives up.
+/// Two checks that wait for each other: each ends when both have begun, or after the last look.
 #[derive(Drop)]
 struct Meeting {
     begun: AtomicU64,
@@ -84,8 +84,8 @@ impl Plugin for Meeting {
     }
 }
 
-/// At the first moment a host is put off, and at the second its master is taken: the plugin is called
-/// only for what was taken.
+/// At the first moment a host is put off, and at the second its master is taken. The plugin is called only
+/// for the check that was taken.
 #[test]
 fn no_plugin_is_called_for_what_is_put_off(rt: HostRuntime) -> Result<(), Fail> {
     let (desk, pass) = one_pass(rt.alloc(), FIRST_ON_PENDING)?;
@@ -131,7 +131,7 @@ fn a_crew_lacks_a_pass_of_the_desk(rt: HostRuntime) -> Result<(), Fail> {
     }
 }
 
-/// Were the workers to work one after another, the first would wait in vain for the second's check.
+/// If the workers worked one after another, the first would wait in vain for the second's check.
 #[test]
 fn the_workers_of_a_crew_work_at_the_same_time(rt: HostRuntime) -> Result<(), Fail> {
     let alloc = rt.alloc();

@@ -1,4 +1,4 @@
-//! The book that the tests of cores and locks are over.
+//! The book over which the tests have their cores and locks.
 
 ghost use Rattle.std.specs.Prelude.{◌≡◌, [], IfOk};
 ghost use Rattle.ticket_steps.specs.CounterBooks.{entries_of, refused_of};
@@ -7,7 +7,7 @@ use std::alloc::{AllocError, Global};
 use ticket_steps::Entry;
 use ticket_steps::counter::CounterBook;
 
-/// An empty book, at the second try where the first is out of memory.
+/// An empty book, at the second try if the first is out of memory.
 pub(crate) fn empty_book(alloc: Global, room: usize) -> Result<CounterBook, AllocError>
     ensures { IfOk result (λ book. (entries_of book ≡ []) × (refused_of book ≡ 0)) }
 {

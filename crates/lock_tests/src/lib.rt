@@ -1,8 +1,8 @@
 #![tactic(auto)]
 //! Tests of the lock: its steps, one thread's schedules, and the lock itself.
 //!
-//! They stand in a crate of their own, since a crate with a test is proved once more for it. Nothing
-//! but tests is in it. What a clause says has none.
+//! They are in a crate of their own, because a crate with tests is proved once more for them. It holds
+//! nothing else. A fact that a clause states has no test here.
 
 #[cfg(test)]
 mod books;

@@ -1,8 +1,8 @@
-//! What no clause says: worked turns, that calls succeed, glances before and after a post, two threads,
-//! and out of memory.
+//! Facts that no clause states: worked turns, successful calls, glances before and after a post, two
+//! threads, and out of memory.
 //!
-//! The test of one thread also passes where any one request for memory is refused
-//! (`rt try --test --fail-alloc N`).
+//! The test of one thread also passes if any one request for memory is refused (`rt try --test --fail-alloc
+//! N`).
 ghost use Rattle.std.specs.Prelude.{◌<◌, ◌≤◌, IfOk};
 ghost use Rattle.ticket_lock.specs.Tokens.{IsSeatOf, IsTurnOf};
 
@@ -42,7 +42,7 @@ fn two_seats(alloc: Global, room: usize) -> Result<LockOfTwo, AllocError>
     Ok((lock, first, second))
 }
 
-/// A lock of one number that brings so many draws, over an empty book, and its seat.
+/// A lock of one number that brings this many draws, over an empty book, and its seat.
 fn seat_with(
     alloc: Global,
     draws: u32,
@@ -143,7 +143,7 @@ fn a_glance_reads_what_was_posted(rt: HostRuntime) -> Result<(), Fail> {
     Ok(())
 }
 
-/// A seat with two draws makes two calls; then it comes back from its third draw as it was.
+/// A seat with two draws makes two calls. Then its third draw gives it back as it was.
 #[test]
 fn a_seat_draws_as_often_as_it_was_given(rt: HostRuntime) -> Result<(), Fail> {
     let (lock, seat) = seat_with(rt.alloc(), 2)?;
@@ -163,10 +163,10 @@ fn a_seat_draws_as_often_as_it_was_given(rt: HostRuntime) -> Result<(), Fail> {
     Ok(())
 }
 
-/// How often a caller looks for one turn before the test gives up.
+/// How often a caller looks for one turn before the test stops.
 const LOOKS: u64 = 1_000_000_000;
 
-/// Makes so many calls of 1. The turn comes back where it isn't served in time.
+/// Makes this many calls of 1. The turn comes back if it isn't served in time.
 fn add_ones(
     lock: &TicketLock<CounterBook>,
     mut seat: Seat<CounterBook>,
@@ -184,7 +184,7 @@ fn add_ones(
     Ok(seat)
 }
 
-/// One call of 1, looking again and again until it is served.
+/// One call of 1, which looks until its ticket is served.
 fn wait_and_add(
     lock: &TicketLock<CounterBook>,
     mut turn: Turn<CounterBook>,
@@ -201,7 +201,7 @@ fn wait_and_add(
     Err(Some(turn))
 }
 
-/// What a thread hands back, or the end of the test.
+/// The result of a thread, or the end of the test.
 fn seat_back(
     rt: &impl Abort,
     lock: &TicketLock<CounterBook>,

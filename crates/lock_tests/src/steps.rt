@@ -1,7 +1,6 @@
-//! What no clause says: worked schedules, that calls succeed, and out of memory.
+//! Facts that no clause states: worked schedules, successful calls, and out of memory.
 //!
-//! Each test also passes where any one request for memory is refused
-//! (`rt try --test --fail-alloc N`).
+//! Each test also passes if any one request for memory is refused (`rt try --test --fail-alloc N`).
 ghost use Rattle.std.specs.Prelude.{◌<◌, ◌≤◌};
 
 use crate::books::{empty_book, is_entry};
@@ -11,7 +10,7 @@ use std::test::Fail;
 use ticket_steps::counter::CounterBook;
 use ticket_steps::{Core, Event, Fault, Grants, Kept, NoMemory, Seen, every_schedule};
 
-/// A core of so many numbers over an empty book. Out of memory hands the book back as it was, and a
+/// A core of this many numbers over an empty book. Out of memory hands the book back as it was, and a
 /// second try with memory succeeds.
 fn core_of(alloc: Global, numbers: u32, room: usize) -> Result<Core<CounterBook>, AllocError>
     requires { (0 < numbers) × (numbers ≤ 1024) }
@@ -72,7 +71,7 @@ fn gather(seat: u32, other: u32) -> Event<u8> {
     Event::Gather { seat, other }
 }
 
-/// Events with what each is to be answered.
+/// Events, each with the expected answer.
 type Rows<'a> = &'a [(Event<u8>, Result<Seen<u64>, Fault>)];
 
 /// Makes events on a core, one after another.
@@ -150,7 +149,7 @@ fn a_glance_reads_what_was_posted(rt: HostRuntime) -> Result<(), Fail> {
         (leave(0, 5), Err(Fault::Phase)),
         (post(0, 5), Ok(Seen::Posted(Ok(5)))),
         (glance(1, 0), Ok(Seen::Glanced(5))),
-        // there is one word, and who holds doesn't glance
+        // there is one word, and the holder doesn't glance
         (glance(1, 1), Err(Fault::Phase)),
         (glance(0, 0), Err(Fault::Phase)),
         (leave(0, 5), Err(Fault::Phase)),
@@ -259,9 +258,8 @@ fn a_seat_without_a_draw_left_is_spent(rt: HostRuntime) -> Result<(), Fail> {
     Ok(())
 }
 
-/// A book with room for four calls is asked for 200. A call for which memory is wanting is counted
-/// and changes nothing else; it comes only past the room, and later calls are answered as if it
-/// hadn't been.
+/// A book with room for four calls gets 200. A call without memory is counted and changes nothing else.
+/// That happens only past the room, and later calls are answered as if it had not been made.
 #[test]
 fn a_book_counts_what_it_refuses(rt: HostRuntime) -> Result<(), Fail> {
     let mut book = empty_book(rt.alloc(), 4)?;

@@ -9,6 +9,6 @@ module _ {K C R : Type 0} (k : Ghosts K C R) where
   abbrev pub board_after : K → List (Entry C R) → List ℕ
   board_after book entries = k.board (replay k.step (k.opening book) entries)
 
-  -- how many words it has: as many as that of the state that the book was opened in
+  -- the number of its words: the number of words of the state in which the book was opened
   abbrev pub board_length : K → ℕ
   board_length book = length (k.board (k.opening book))

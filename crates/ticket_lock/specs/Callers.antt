@@ -1,4 +1,4 @@
--- What is seen of a seat, a turn or a hold: the caller behind it.
+-- What contracts see of a seat, a turn or a hold: its caller.
 use Rattle.std.specs.Prelude.{◌≡◌, ℕ, ◌+◌, ◌-◌, ◌*◌, ◌<◌, ◌^◌, List, [], ◌++◌, length, take, drop, Bool, true, false, slice_index}
 use Rattle.ticket_steps.specs.declared.kept.Entry.{Entry}
 use Rattle.ticket_steps.specs.declared.kept.Kept.{Ghosts}
@@ -12,13 +12,13 @@ use Rattle.ticket_lock.specs.Views.{Follows, longer}
 pub record Caller (C R : Type 0) : Type 0 where
   -- its own number, under which its calls are recorded
   pub own : ℕ
-  -- the numbers that it answers for
+  -- the numbers for which it answers
   pub numbers : List ℕ
   -- the draws that it has left
   pub left : ℕ
   -- the calls that it and the callers gathered into it have ended
   pub calls : ℕ
-  -- whether it has never drawn, and no other was gathered into it
+  -- whether it has never drawn, and no other caller was gathered into it
   pub fresh : Bool
   -- the history that it has seen
   pub seen : List (Entry C R)
@@ -35,7 +35,7 @@ module _ {C R : Type 0} where
   abbrev pub keeping : ℕ → ℕ → Caller C R → Caller C R
   keeping draws count c = caller c.own (take (length c.numbers - count) c.numbers) ((length c.numbers - count) * draws) c.calls true c.seen
 
-  -- the caller that is given them
+  -- the caller that gets them
   abbrev pub given : ℕ → ℕ → Caller C R → Caller C R
   given draws count c = caller (c.own + (length c.numbers - count)) (drop (length c.numbers - count) c.numbers) (count * draws) 0 true c.seen
 
@@ -58,19 +58,19 @@ module _ {C R : Type 0} where
 module _ {K C R : Type 0} (k : Ghosts K C R) where
   -- a book that is handed out to a caller whose ticket is served
   pub record IsHanded (start : Start K) (numbers : List ℕ) (seen : List (Entry C R)) (ticket : ℕ) (book : K) : Type 0 where
-    -- it is the book of the lock's opening
+    -- it is the book with which the lock was opened
     pub opening : k.opening book ≡ k.opening start.book
     -- its entries begin with all that the caller has seen, and have nothing new of the caller's numbers
     pub follows : Follows numbers seen (k.history book)
-    -- its entries and refusals are the ticket: calls end in the order of their draws
+    -- the number of its entries and refusals is the ticket: calls end in the order of their draws
     pub counted : length (k.history book) + k.refusals book ≡ ticket
     pub few : ticket < 2 ^ 42
 
-  -- what a caller with these numbers sees at a glance, by which it has seen these entries: this word of the table with this number in it
+  -- what a caller with these numbers sees at a glance, after which it has seen these entries: this number in this word of the table
   pub record IsGlanced (start : Start K) (numbers : List ℕ) (seen entries : List (Entry C R)) (word found : ℕ) : Type 0 where
     -- the entries begin with all that the caller has seen, and have nothing new of the caller's numbers
     pub follows : Follows numbers seen entries
-    -- they are a legal history from the book of the lock's opening
+    -- they are a legal history from the book with which the lock was opened
     pub legal : IsLegal k.step (k.opening start.book) entries
-    -- the number found is the word at its place on the board of the state that they leave
+    -- the number found is the word at its place on the board of the state after them
     pub shown : (place : ℕ) → word ≡ board_word place → found ≡ slice_index (board_after k start.book entries) place

@@ -1,10 +1,10 @@
--- What a token says at run time of its seat.
+-- The numbers of a token's seat at run time.
 use Rattle.std.specs.Prelude.{◌≡◌, ◌<◌, ◌≤◌, length}
 use Rattle.ticket_steps.specs.declared.seats.CoreSeat.{CoreSeat}
 use Rattle.ticket_steps.specs.Sums.{times}
 use Rattle.ticket_lock.specs.declared.counts.SeatCounts.{SeatCounts}
 
--- the counts are those of the seat, and in range; its own number is among those that it answers for
+-- the counts are those of the seat, and in range; the seat answers for its own number
 pub record AreCountsOf (f : SeatCounts) (s : CoreSeat) : Type 0 where
   pub own : s.own ≡ f.number
   pub count : length s.numbers ≡ f.count

@@ -1,4 +1,4 @@
--- The rule, third pass: what each seat has seen begins the one history, and its calls stand there.
+-- The rule, third pass: the history that each seat has seen is a first part of the one history, and its calls are in it.
 use Rattle.std.specs.Prelude.{◌≡◌, ℕ, ◌+◌, ◌≤◌, Option, Some}
 use mathlib.Core.Option.{some}
 use lib.ListN.{get_elem?}
@@ -12,19 +12,19 @@ use Rattle.ticket_lock.specs.declared.views.View.{View}
 use Rattle.ticket_lock.specs.Views.{Follows}
 
 module _ {K S C R : Type 0} (start : Start K) where
-  -- what a seat knows, where this is the book at home or with its holder
+  -- what a seat knows, if this is the book at home or with its holder
   pub record IsKnown (b : BookState S C R) (v : View K C R) : Type 0 where
     -- it knows how the lock was opened
     pub start_is : (o : Start K) → v.start ≡ Some o → o ≡ start
-    -- it has seen all entries of the numbers that it answers for
+    -- it has seen all entries of the numbers for which it answers
     pub seen : Follows v.seat.numbers v.seen b.entries
-    -- so have the two seats of which it was made
+    -- so have the two seats from which it was made
     pub one : Follows v.one.numbers v.one.seen b.entries
     pub two : Follows v.two.numbers v.two.seen b.entries
     pub within : (number : ℕ) → times number v.one.numbers + times number v.two.numbers ≤ times number v.seat.numbers
     -- a holder has seen the whole history, and knows how many calls were refused when it took the book out, or when it posted
     pub out : (ticket : ℕ) → Holds ticket v.seat.phase → (v.seen ≡ b.entries) × (v.refused ≡ b.refused)
 
-  -- so it is with every seat, however many there are
+  -- this holds of every seat, however many there are
   pub record IsKnownToAll (c : CoreState S C R) (s : State (Option K) (View K C R)) : Type 0 where
     pub each : (i : ℕ) (v : View K C R) → get_elem? s.views i ≡ some v → IsKnown c.book v

@@ -1,4 +1,4 @@
--- The layout of the table: at which place each of its words stands, and the list of them all. No other definition says it.
+-- The layout of the table: the place of each of its words, and the list of them all. Only this file has it.
 use Rattle.std.specs.Prelude.{ℕ, ◌+◌, List, [], ◌∷◌, ◌++◌}
 use Rattle.ticket_steps.specs.Grants.{watched}
 
@@ -6,7 +6,7 @@ use Rattle.ticket_steps.specs.Grants.{watched}
 abbrev pub next_word : ℕ
 next_word = 0
 
--- the place of the grant word that a ticket watches: a seat that waits with the ticket looks at it, and the holder before it writes it
+-- the place of the grant word that a ticket watches: the seat that waits with the ticket looks at it, and the holder before it writes it
 abbrev pub grant_word : ℕ → ℕ
 grant_word ticket = watched ticket + 1
 
@@ -18,10 +18,10 @@ board_word place = place + 5
 abbrev pub table_words : ℕ → List ℕ → List ℕ → List ℕ
 table_words next grants board = next ∷ (grants ++ board)
 
--- how many they are, where the board has so many words
+-- the number of these words, if the board has this many
 abbrev pub word_count : ℕ → ℕ
 word_count words = words + 5
 
--- the words of the table as it is made: no ticket is drawn, ticket 0 is served, and this is the board
+-- the words of a new table: no ticket is drawn, ticket 0 is served, and this is the board
 abbrev pub first_words : List ℕ → List ℕ
 first_words board = table_words 0 (0 ∷ 0 ∷ 0 ∷ 0 ∷ []) board

@@ -7,7 +7,7 @@ use Rattle.ticket_steps.specs.History.{IsLegal, IsLegal-prop}
 use Rattle.ticket_lock.specs.declared.views.Start.{Start}
 
 module _ {K C R : Type 0} (k : Ghosts K C R) where
-  -- each reply is the book's sequential step's, from the state of the book that the lock was opened with
+  -- each reply is that of the book's sequential step, from the state of the book with which the lock was opened
   abbrev pub IsLegalFrom : Option (Start K) → List (Entry C R) → Type 0
   IsLegalFrom None es = Unit {0}
   IsLegalFrom (Some start) es = IsLegal k.step (k.opening start.book) es

@@ -1,4 +1,4 @@
--- What a post asks of the hold and its book, and what it makes of the hold.
+-- What a post needs of the hold and its book, and what becomes of the hold.
 use Rattle.std.specs.Prelude.{◌≡◌, ℕ, ◌<◌, Some, true, false}
 use Rattle.ticket_steps.specs.declared.kept.Kept.{Ghosts}
 use Rattle.ticket_lock.specs.declared.lock.TicketLock.{TicketLock}

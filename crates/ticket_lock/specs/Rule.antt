@@ -1,4 +1,4 @@
--- The rule of the lock's table: what is so of the words, the slot and all views between any two steps.
+-- The rule of the lock's table: what holds of the words, the slot and all views between any two steps.
 use Rattle.std.specs.Prelude.{◌<◌, ◌≤◌, List, Option}
 use Rattle.atomic_table.specs.Table.{State}
 use Rattle.ticket_steps.specs.declared.kept.Kept.{Ghosts}
@@ -11,7 +11,7 @@ use Rattle.ticket_lock.specs.Slots.{IsSlotOf}
 use Rattle.ticket_lock.specs.Histories.{IsKnownToAll}
 
 module _ {K C R : Type 0} (k : Ghosts K C R) (start : Start K) where
-  -- what happened led the table to this core state
+  -- the events so far led the table to this core state
   pub record IsTableOf (happened : List (Happening C R)) (c : CoreState k.State C R) (s : State (Option K) (View K C R)) : Type 0 where
     pub some_number : 0 < start.numbers
     pub few_numbers : start.numbers ≤ 1024
@@ -20,6 +20,6 @@ module _ {K C R : Type 0} (k : Ghosts K C R) (start : Start K) where
     pub slot : IsSlotOf k start c s
     pub known : IsKnownToAll start c s
 
-  -- the table is that of some core state, to which some schedule leads
+  -- the table is that of a core state to which some schedule leads
   abbrev pub IsRuled : State (Option K) (View K C R) → Type 0
   IsRuled s = (happened : List (Happening C R)) × (c : CoreState k.State C R) × IsTableOf happened c s

@@ -1,5 +1,5 @@
--- The rule, second pass: where no seat holds, the book is in its slot, and while one holds, the slot is out.
--- A book is known by its opening state, its entries and its refusals, and by nothing else.
+-- The rule, second pass: if no seat holds, the book is in its slot, and while a seat holds, the slot is empty. Only the opening state, the entries and the
+-- refusals of a book count.
 use Rattle.std.specs.Prelude.{◌≡◌, ◌<◌, Option, Some, length}
 use mathlib.Core.Option.{none, some}
 use lib.ListN.{get_elem?}
@@ -12,7 +12,7 @@ use Rattle.ticket_lock.specs.declared.views.Start.{Start}
 use Rattle.ticket_lock.specs.declared.views.View.{View}
 
 module _ {K C R : Type 0} (k : Ghosts K C R) (start : Start K) where
-  -- this is the book of the core, and of the lock's opening
+  -- this is the book of the core, and the book with which the lock was opened
   pub record IsBook (b : BookState k.State C R) (book : K) : Type 0 where
     pub opening : k.opening book ≡ k.opening start.book
     pub entries : k.history book ≡ b.entries

@@ -1,4 +1,4 @@
--- The steps of the lock: the table after each kind, and what it means that a step is one event.
+-- The steps of the lock: the table after each kind of step, and what it means that a step is one event.
 use Rattle.std.specs.Prelude.{◌≡◌, ℕ, ◌+◌, ◌%◌, List, [], ◌∷◌, ◌++◌, slice_index, slice_set, Option, Some, ◌⊎◌}
 use mathlib.Core.Option.{some}
 use lib.ListN.{get_elem?}
@@ -15,7 +15,7 @@ use Rattle.ticket_lock.specs.Rule.{IsTableOf}
 use Rattle.ticket_lock.specs.Views.{first_view, spent_view, keeping_view, given_view, drawn_view, joined_view, reloaded_view, glanced_view, held_view}
 use Rattle.ticket_lock.specs.Views.{posted_view, left_view}
 
--- what an operation makes of the number that it finds: an add of one, a load, and a store of a number
+-- what an operation does to the number that it finds: an add of one, a load, and a store of a number
 abbrev pub one_more : ℕ → ℕ
 one_more n = (n + 1) % 18446744073709551616
 
@@ -43,7 +43,7 @@ module _ {K C R : Type 0} where
   abbrev pub after_gather : State (Option K) (View K C R) → ℕ → View K C R → ℕ → View K C R → State (Option K) (View K C R)
   after_gather s id v other w = record { words = s.words; homes = s.homes; views = slice_set (slice_set s.views id (joined_view v w)) other spent_view }
 
-  -- glance, a load of a word of the board, by a seat that has seen these entries by it
+  -- glance, a load of a word of the board, by a seat that has seen these entries with it
   abbrev pub after_glance : State (Option K) (View K C R) → ℕ → ℕ → List (Entry C R) → Me (Option K) (View K C R) → State (Option K) (View K C R)
   after_glance s id place entries me =
       stepped s (board_word place) (slice_index s.words (board_word place)) id me.1 (glanced_view entries me.0) keeps
@@ -53,8 +53,8 @@ module _ {K C R : Type 0} where
   after_second_load s id me = stepped s next_word (slice_index s.words next_word) id me.1 (reloaded_view me.0) keeps
 
 module _ {K C R : Type 0} (k : Ghosts K C R) where
-  -- the table as it is made: no ticket is drawn, ticket 0 is served, the board shows the state that the book was opened in, the book
-  -- is in its slot, and one seat stands for all numbers
+  -- the new table: no ticket is drawn, ticket 0 is served, the board shows the state in which the book was opened, the book is in its slot, and one seat has
+  -- all numbers
   abbrev pub first_table : Start K → State (Option K) (View K C R)
   first_table start = opening (first_words (k.board (k.opening start.book))) (Some start.book ∷ []) (first_view start)
 
@@ -67,16 +67,16 @@ module _ {K C R : Type 0} (k : Ghosts K C R) where
   abbrev pub word_in : K → ℕ → ℕ
   word_in book place = slice_index (k.board (k.state book)) place
 
-  -- post, a store of the word at the place of the call, by the holder that has recorded its call in the book that it has, and holds on
+  -- post, a store of the word at the place of the call, by the holder that has recorded its call in the book that it has, and that still holds
   abbrev pub after_posting : State (Option K) (View K C R) → ℕ → ℕ → ℕ → Me (Option K) (View K C R) → K → State (Option K) (View K C R)
   after_posting s id ticket place me book =
       stepped s (board_word place) (word_in book place) id me.1 (posted_view ticket (k.history book) (k.refusals book) me.0) keeps
 
-  -- leave, a store of the next number in the word that it watches, by the holder of this ticket, whose book is back in its slot
+  -- leave, a store of the next number in the word that this number watches, by the holder of this ticket, whose book is back in its slot
   abbrev pub after_leaving : State (Option K) (View K C R) → ℕ → ℕ → Me (Option K) (View K C R) → K → State (Option K) (View K C R)
   after_leaving s id ticket me book = stepped s (grant_word (ticket + 1)) (ticket + 1) id me.1 (left_view k me.0 book) gives
 
-  -- at which place this call is posted, if it is made after these entries; None where it is posted nowhere
+  -- the place at which this call is posted, if it is made after these entries; None if it is not posted
   abbrev pub place_after : Start K → List (Entry C R) → C → Option ℕ
   place_after start entries call = k.posts_at (replay k.step (k.opening start.book) entries) call
 
@@ -98,8 +98,8 @@ module _ {K C R : Type 0} (k : Ghosts K C R) where
   abbrev pub IsEvent : Start K → List (Happening C R) → CoreState k.State C R → Happening C R → State (Option K) (View K C R) → Type 0
   IsEvent start happened c h s = (d : CoreState k.State C R) × Moves k start.draws c h d × IsTableOf k start (happened ++ h ∷ []) d s
 
--- a moment of the table, for one of its seats: how the lock was opened, what has happened since, the core state that it led
--- to, the table, and the seat that is about to step
+-- a moment of the table, for one of its seats: how the lock was opened, the events so far, the core state to which they led, the table, and the seat that
+-- makes the next step
 pub record TableMoment (K S C R : Type 0) : Type 0 where
   pub start : Start K
   pub happened : List (Happening C R)
@@ -114,7 +114,7 @@ module _ {K C R : Type 0} (k : Ghosts K C R) where
     pub ruled : IsTableOf k m.start m.happened m.core m.table
     pub there : get_elem? m.table.views m.id ≡ some m.me.0
 
-  -- the step to this table takes the core state to the one that this one event leaves
+  -- the step to this table takes the core state to the state after this one event
   abbrev pub IsOneEvent : TableMoment K k.State C R → Happening C R → State (Option K) (View K C R) → Type 0
   IsOneEvent m h s = IsEvent k m.start m.happened m.core h s
 
@@ -122,15 +122,15 @@ module _ {K C R : Type 0} (k : Ghosts K C R) where
   abbrev pub IsNoEvent : TableMoment K k.State C R → State (Option K) (View K C R) → Type 0
   IsNoEvent m s = IsTableOf k m.start m.happened m.core s
 
-  -- In the table after a step this is the seat that stepped, and this is said of it: of the number that was found in the word, and of itself.
-  -- A store finds no number: what is said of it names none.
+  -- In the table after a step this is the seat that made it, and this holds of the number that was found in the word, and of the seat. A store finds no
+  -- number, so its statement names none.
   pub record IsTold (m : TableMoment K k.State C R) (word : ℕ) (tells : ℕ → Me (Option K) (View K C R) → Type 0)
       (after : Me (Option K) (View K C R)) (s : State (Option K) (View K C R)) : Type 0 where
     pub stands : get_elem? s.views m.id ≡ some after.0
     pub told : tells (slice_index m.table.words word) after
 
-  -- A table that an operation by this seat may leave: one on this word, with this function, that meets the play. The seat has
-  -- some view after it and took or gave back what it could, and the play speaks of the number found and of the seat.
+  -- A table that an operation by this seat can leave: an operation on this word, with this function, that meets the play. The seat has some view after it and
+  -- took or gave back what it could, and the play speaks of the number found and of the seat.
   pub record MayLeave (m : TableMoment K k.State C R) (word : ℕ) (makes : ℕ → ℕ)
       (tells : ℕ → Me (Option K) (View K C R) → Type 0) (s : State (Option K) (View K C R)) : Type 0 where
     pub view : View K C R

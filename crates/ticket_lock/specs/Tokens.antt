@@ -1,4 +1,4 @@
--- What clauses see of the lock, its seats, turns and holds.
+-- What clauses see of the lock, and of its seats, turns and holds.
 use Rattle.std.specs.Prelude.{◌≡◌, ℕ, Some, Bool}
 use Rattle.ticket_steps.specs.declared.kept.Kept.{Ghosts}
 use Rattle.ticket_lock.specs.declared.lock.Look.{Look}
@@ -21,11 +21,11 @@ module _ {K C R : Type 0} {G : Ghosts K C R} where
   abbrev pub start_of : TicketLock K C R G → Start K
   start_of lock = record { book = lock.table.shared.key.book.value; numbers = lock.numbers; draws = lock.draws }
 
-  -- how many words its board has: as many as that of the state that its book was opened in
+  -- the number of words on its board: the number of words of the state in which its book was opened
   abbrev pub words_of : TicketLock K C R G → ℕ
   words_of lock = board_length G (start_of lock).book
 
-  -- the caller behind a seat, a turn, a hold
+  -- the caller of a seat, a turn, a hold
   abbrev pub seat_of : Seat K C R G → Caller C R
   seat_of seat = caller_in seat.table_seat.me.0
 
@@ -46,7 +46,7 @@ module _ {K C R : Type 0} {G : Ghosts K C R} where
   abbrev pub has_posted : Hold K C R G → Bool
   has_posted hold = hold.posted
 
-  -- how many calls were refused when the holder took the book out, or when it posted
+  -- the number of calls that were refused before the holder took the book out, or before it posted
   abbrev pub refused_before : Hold K C R G → ℕ
   refused_before hold = hold.table_seat.me.0.refused
 

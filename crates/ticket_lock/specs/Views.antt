@@ -11,7 +11,7 @@ use Rattle.ticket_lock.specs.declared.views.Start.{Start}
 use Rattle.ticket_lock.specs.declared.views.Part.{Part}
 use Rattle.ticket_lock.specs.declared.views.View.{View}
 
--- how many draws each number brought
+-- the number of draws that each number brought
 abbrev pub draws_in : {K : Type 0} → Option (Start K) → ℕ
 draws_in None = 0
 draws_in (Some start) = start.draws
@@ -23,7 +23,7 @@ module _ {C R : Type 0} where
   abbrev pub longer : List (Entry C R) → List (Entry C R) → List (Entry C R)
   longer xs ys = cond (nat_lt (length xs) (length ys)) ys xs
 
-  -- a history that was seen begins a later one, to which nothing of these numbers came since
+  -- a history that was seen is a first part of a later one, which has nothing new of these numbers
   abbrev pub Follows : List ℕ → List (Entry C R) → List (Entry C R) → Type 0
   Follows numbers seen later = IsPrefix seen later × ((number : ℕ) → 0 < times number numbers → of number later ≡ of number seen)
 
@@ -42,7 +42,7 @@ module _ {K C R : Type 0} where
   abbrev pub first_view : Start K → View K C R
   first_view start = view (Some start) (fresh_seat start.draws 0 (counted 0 start.numbers) 0) [] 0
 
-  -- a fresh seat's view without its last numbers, and that of the seat that is given them
+  -- a fresh seat's view without its last numbers, and that of the seat that gets them
   abbrev pub keeping_view : ℕ → View K C R → View K C R
   keeping_view count v = view v.start (keeping (draws_in v.start) count v.seat) v.seen 0
 
@@ -52,7 +52,7 @@ module _ {K C R : Type 0} where
   abbrev pub drawn_view : ℕ → View K C R → View K C R
   drawn_view ticket v = view v.start (waiting ticket v.seat) v.seen 0
 
-  -- the view of two seats that were made one, until it has looked at the table; it remembers the two
+  -- the view of a seat made from two seats, until it has looked at the table; it remembers the two
   abbrev pub joined_view : View K C R → View K C R → View K C R
   joined_view v w = record {
     start = v.start;
@@ -67,11 +67,11 @@ module _ {K C R : Type 0} where
   abbrev pub reloaded_view : View K C R → View K C R
   reloaded_view v = view v.start v.seat v.seen 0
 
-  -- the view of a seat that has glanced at the board, and so seen this history
+  -- the view of a seat that has glanced at the board, and so has seen this history
   abbrev pub glanced_view : List (Entry C R) → View K C R → View K C R
   glanced_view entries v = view v.start v.seat entries 0
 
-  -- the view of a holder that has posted its call, by which the book came to these entries and refusals
+  -- the view of a holder that has posted its call, after which the book has these entries and refusals
   abbrev pub posted_view : ℕ → List (Entry C R) → ℕ → View K C R → View K C R
   posted_view ticket entries refused v = view v.start (posting ticket v.seat) entries refused
 

@@ -1,4 +1,4 @@
--- The rule, first pass: the words and the phases of the seats are a core state that a schedule leads to.
+-- The rule, first pass: the words and the phases of the seats are a core state to which a schedule leads.
 use Rattle.std.specs.Prelude.{◌≡◌, ℕ, List, map, Option}
 use Rattle.atomic_table.specs.Table.{State}
 use Rattle.ticket_steps.specs.declared.kept.Kept.{Ghosts}
@@ -10,18 +10,18 @@ use Rattle.ticket_lock.specs.declared.views.View.{View}
 use Rattle.ticket_lock.specs.Layout.{table_words}
 use Rattle.ticket_lock.specs.Views.{seat_in}
 
--- the words where this is the next ticket, this number is served, and this is the board
+-- the words if this is the next ticket, this number is served, and this is the board
 pub record AreWordsOf (next served : ℕ) (board ws : List ℕ) : Type 0 where
   pub grants : List ℕ
   pub words : ws ≡ table_words next grants board
-  -- the greatest of the grant words is the number served, and the word that a ticket watches which isn't left yet equals it
-  -- exactly where it is served
+  -- the greatest of the grant words is the number served; for a ticket that isn't left yet, the word that it watches equals it exactly if the ticket is
+  -- served
   pub keep : AreGrantsOf served grants
 
 module _ {K C R : Type 0} (k : Ghosts K C R) (start : Start K) where
-  -- what happened since the opening led to the core state that is read off words and views
+  -- the events since the opening led to the core state of these words and views
   pub record IsCoreOf (happened : List (Happening C R)) (c : CoreState k.State C R) (s : State (Option K) (View K C R)) : Type 0 where
-    -- the board shows the state of the book that is at home, or with its holder
+    -- the board shows the state of the book, which is at home or with its holder
     pub words : AreWordsOf c.next c.served (k.board c.book.state) s.words
     pub seats : c.seats ≡ map seat_in s.views
     pub leads : Leads k start.draws (opened start.numbers start.draws (k.opening start.book)) happened c

@@ -1,6 +1,6 @@
-//! What a seat, a turn or a hold says at run time.
+//! The numbers of a seat, a turn or a hold at run time.
 
-/// The numbers that go with a caller from seat to turn to hold.
+/// The numbers that a caller takes along from seat to turn to hold.
 #[derive(Clone, Copy)]
 pub(crate) struct SeatCounts {
     /// Its own number.
@@ -9,6 +9,6 @@ pub(crate) struct SeatCounts {
     pub(crate) count: u32,
     /// The draws that it has left.
     pub(crate) left: u64,
-    /// The calls that it and those gathered into it have ended.
+    /// The calls that it and the callers gathered into it have ended.
     pub(crate) calls: u64,
 }

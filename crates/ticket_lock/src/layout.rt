@@ -1,8 +1,8 @@
-//! The layout of the table: at which place each of its words stands, and the list of them all.
+//! The layout of the table: the place of each of its words, and the list of them all.
 //!
-//! Nothing else says it. The words lie side by side: the next ticket, the four grant words, and the
-//! words of the board. A machine with many cores may want each grant word in a cache line of its own:
-//! that is another list, and another place for each word.
+//! Only this file has it. The words are next to each other: the next ticket, the four grant words, and the
+//! words of the board. A machine with many cores may want each grant word in a cache line of its own: that
+//! needs another list, and another place for each word.
 ghost use Rattle.std.specs.Prelude.{◌≡◌, ◌<◌, IfOk};
 ghost use Rattle.ticket_lock.specs.Layout.{grant_word, board_word, first_words};
 
@@ -27,8 +27,7 @@ pub(crate) fn board_word(place: u32) -> usize
     place as usize + 5
 }
 
-/// The words as the table is made: no ticket is drawn, ticket 0 is served, and the board shows the
-/// book as it is.
+/// The words of a new table: no ticket is drawn, ticket 0 is served, and the board shows the book as it is.
 pub(crate) fn first_words<K: Kept>(alloc: Global, book: &K) -> Result<Vec<u64>, AllocError>
     ensures { IfOk result (λ words. words.items ≡ first_words (K.board (K.state book.now))) }
 {

@@ -31,17 +31,17 @@ type LockTable<K> = Table<
 
 /// A ticket lock round a book, for threads that have seats of it.
 ///
-/// Each call of a caller takes a ticket (`draw`), looks until its ticket is served (`look`),
-/// records in the book that it is handed, posts it where the book's board is to show it (`post`),
-/// and leaves (`leave`). Calls end in the order of their draws. No call waits: a caller that isn't
-/// served yet is answered so, and may look again when it likes. Each call asks that its seat, turn or hold
-/// is of this lock.
+/// A caller makes a call in these steps. It takes a ticket (`draw`) and looks until its ticket is served
+/// (`look`). It records the call in the book that it gets. It posts the call if the book's board is to show
+/// it (`post`), and leaves (`leave`). Calls end in the order of their draws. No step waits: a caller that
+/// isn't served yet gets that answer, and can look again later. Each step needs a seat, turn or hold of
+/// this lock.
 ///
 /// The lock shows the book's board: a caller reads one of its words, without a ticket, by one load
 /// (`glance`).
 ///
-/// Whatever the threads do, the history of the book is that of one thread: each call is answered by
-/// the book's sequential step at its place.
+/// Whatever the threads do, the history of the book is that of one thread: each reply is that of the book's
+/// sequential step at its place.
 #[derive(Drop)]
 pub struct TicketLock<K: Kept> {
     pub(crate) table: LockTable<K>,
@@ -55,7 +55,7 @@ pub struct TicketLock<K: Kept> {
 pub enum Look<K: Kept> {
     /// The ticket is served: the caller has the book.
     Held(Hold<K>, K),
-    /// It isn't yet.
+    /// The ticket isn't served yet.
     Waiting(Turn<K>),
 }
 
@@ -64,9 +64,9 @@ impl<K: Kept> TicketLock<K> {
     ghost use Rattle.ticket_lock.specs.Tokens.{IsSeatOf, IsTurnOf, IsHoldOf, MatchLook};
     ghost use Rattle.ticket_lock.specs.Posting.{MayPost, HasPosted};
 
-    /// A lock with the book in it, and a seat for all of `numbers`, each of which brings 2^32 - 1
-    /// draws, the most that [`TicketLock::open_with`] gives. Its board shows the book's, which has at
-    /// most 4,096 words. Where there is no memory for the lock the book comes back as it was.
+    /// A lock with the book in it, and a seat for all of `numbers`. Each number brings 2^32 - 1 draws, the
+    /// most that [`TicketLock::open_with`] gives. The lock's board shows the book's, which has at most
+    /// 4,096 words. If there is no memory for the lock, the book comes back as it was.
     pub fn open(alloc: Global, book: K, numbers: u32) -> Result<(TicketLock<K>, Seat<K>), K>
         requires numbers { (0 < numbers) × (numbers ≤ 1024) }
         requires empty { (K.history book ≡ []) × (K.refusals book ≡ 0) }
@@ -80,8 +80,8 @@ impl<K: Kept> TicketLock<K> {
         TicketLock::open_with(alloc, book, numbers, DRAWS)
     }
 
-    /// A lock as `open` makes it, whose numbers bring so many draws each: for callers that are to
-    /// make few calls. Where there is no memory for the lock the book comes back as it was.
+    /// A lock as `open` makes it, whose numbers bring `draws` draws each: for callers that make few calls.
+    /// If there is no memory for the lock, the book comes back as it was.
     pub fn open_with(
         alloc: Global,
         book: K,
@@ -191,8 +191,8 @@ impl<K: Kept> TicketLock<K> {
         (seat, given)
     }
 
-    /// Takes the next ticket, by one of the seat's draws. The seat comes back as it was exactly
-    /// where it has no draw left.
+    /// Takes the next ticket, by one of the seat's draws. The seat comes back as it was exactly if it has
+    /// no draw left.
     pub fn draw(&self, seat: Seat<K>) -> Result<Turn<K>, Seat<K>>
         requires { IsSeatOf self.now seat }
         ensures spent { IsErr result ↔ ((seat_of seat).left ≡ 0) }
@@ -225,10 +225,9 @@ impl<K: Kept> TicketLock<K> {
         })
     }
 
-    /// Looks whether the turn's ticket is served. If it is, the book is handed out: its entries
-    /// begin with all that the caller has seen, nothing in them is new of the caller's numbers, and
-    /// entries and refusals together are the ticket. A turn whose seat stands for all numbers is
-    /// always served.
+    /// Looks whether the turn's ticket is served. If it is, the caller gets the book. The book's entries
+    /// begin with all that the caller has seen, and nothing in them is new of the caller's numbers. The
+    /// number of entries and refusals is the ticket. A turn whose seat has all numbers is always served.
     pub fn look(&self, turn: Turn<K>) -> Look<K>
         requires { IsTurnOf self.now turn }
         ensures lock { MatchLook result (λ hold book. IsHoldOf self.now hold)
@@ -273,10 +272,11 @@ impl<K: Kept> TicketLock<K> {
         })
     }
 
-    /// Posts the hold's call: stores the book's word at the place of the call on the board, so that who
-    /// glances there from now on has seen it. The book must be the one that was handed out, with one
-    /// more entry of the hold's own number, whose call is posted at this place, or one more refusal:
-    /// then the word stays as it was. The hold holds on, and has seen the book's history.
+    /// Posts the hold's call: stores the book's word at the place of the call on the board, so that
+    /// everyone who glances there from now on has seen it. The book must be the one that was handed out,
+    /// with one more entry of the hold's own number, whose call is posted at this place, or with one more
+    /// refusal. With a refusal the word stays as it was. The hold still holds, and has seen the book's
+    /// history.
     pub fn post(&self, hold: Hold<K>, book: &K, place: u32) -> Hold<K>
         requires lock { IsHoldOf self.now hold }
         requires unposted { has_posted hold ≡ false }
@@ -307,9 +307,9 @@ impl<K: Kept> TicketLock<K> {
         hold
     }
 
-    /// Puts the book back and ends the turn. Where the hold has posted, the book must be the one that
-    /// it posted. Else it is the one that was handed out, with one more entry of the hold's own number,
-    /// whose call is posted nowhere, or one more refusal.
+    /// Puts the book back and ends the turn. If the hold has posted, the book must be the one that it
+    /// posted. Otherwise it must be the one that was handed out, with one more entry of the hold's own
+    /// number, whose call is not posted, or with one more refusal.
     pub fn leave(&self, hold: Hold<K>, book: K) -> Seat<K>
         requires lock { IsHoldOf self.now hold }
         requires recorded { has_posted hold ≡ false → Returns K.Kept (start_of self.now)
@@ -343,9 +343,9 @@ impl<K: Kept> TicketLock<K> {
         }
     }
 
-    /// Puts two seats together: the first goes on, answers for the numbers of both and has ended
-    /// the calls of both. It has seen the longer history, to which neither's numbers added anything.
-    /// The second's draws are given up.
+    /// Joins two seats. The first seat stays, answers for the numbers of both, and has ended the calls of
+    /// both. It has seen the longer history, to which neither's numbers added anything. The draws of the
+    /// second are lost.
     pub fn gather(&self, seat: Seat<K>, other: Seat<K>) -> Seat<K>
         requires lock { IsSeatOf self.now seat × IsSeatOf self.now other }
         ensures lock { IsSeatOf self.now result }
@@ -383,8 +383,8 @@ impl<K: Kept> TicketLock<K> {
         }
     }
 
-    /// Reads the word at this place of the board, by one load and without a ticket. It is the word
-    /// after a legal history that goes on from what the seat had seen, and the seat has seen it now.
+    /// Reads the word at this place of the board, by one load and without a ticket. It is the word after a
+    /// legal history that continues the one that the seat had seen. The seat has seen that history now.
     pub fn glance(&self, seat: Seat<K>, place: u32) -> (Seat<K>, u64)
         requires lock { IsSeatOf self.now seat }
         requires place { place < words_of self.now }
@@ -403,9 +403,9 @@ impl<K: Kept> TicketLock<K> {
         (seat, word)
     }
 
-    /// Takes the book out for good, where the seat stands for all numbers. It has seen the whole
-    /// history, and its calls are all that were made. Lock and seat come back as they were exactly
-    /// where numbers are missing.
+    /// Takes the book out for good, if the seat has all numbers. The seat has seen the whole history, and
+    /// its calls are all that were made. Lock and seat come back as they were exactly if numbers are
+    /// missing.
     pub fn close(self, seat: Seat<K>) -> Result<K, (TicketLock<K>, Seat<K>)>
         requires { IsSeatOf self seat }
         ensures missing { IsErr result ↔ (length (seat_of seat).numbers < (start_of self).numbers) }

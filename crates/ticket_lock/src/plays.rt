@@ -1,5 +1,5 @@
-//! The seven kinds of step (split, draw, look, post, leave, gather, glance), and what each says to the
-//! seat that steps.
+//! The seven kinds of step (split, draw, look, post, leave, gather, glance), and what each tells the seat
+//! that makes it.
 ghost use Rattle.std.specs.Prelude.{ℕ, List, []};
 ghost use Rattle.ticket_steps.specs.declared.kept.Entry.{Entry as EntryOf};
 ghost use Rattle.ticket_lock.specs.Plays.{DrawTells, LookTells, PostTells, LeaveTells, SecondLoadTells, GlanceTells};
@@ -28,8 +28,8 @@ impl<K: Kept> Play<Option<K>, View<K, K::Call, K::Reply>> for Looks<K> {
     ghost then = { LookTells K.Kept };
 }
 
-/// What the book has after a call that is posted: its entries and its refusals. While the book is out
-/// no step sees it, so each call picks what it has.
+/// The entries and the refusals of the book after a call that is posted. While the book is out no step sees
+/// it, so each call chooses them.
 pub trait After<C, R> {
     ghost entries: { List (EntryOf C R) };
 
@@ -61,7 +61,7 @@ impl<K: Kept> Play<Option<K>, View<K, K::Call, K::Reply>> for Leaves<K> {
     ghost then = { LeaveTells K.Kept };
 }
 
-/// How many numbers a split gives away. Each call picks it.
+/// The number of numbers that a split gives away. Each call chooses it.
 pub trait Count {
     ghost count: { ℕ };
 }
@@ -90,8 +90,8 @@ impl<K, C, R> Join<View<K, C, R>> for Gathers {
     ghost spent = { spent_view };
 }
 
-/// The second step of a gather: joining two seats says nothing of the rule, so the joined seat
-/// loads once more, to learn that the two histories are beginnings of one.
+/// The second step of a gather. Joining two seats says nothing of the rule. So the joined seat loads once
+/// more, and learns that the two histories are first parts of one history.
 pub(crate) struct SecondLoad<K> {
     marker: PhantomData<K>,
 }

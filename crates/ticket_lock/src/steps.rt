@@ -21,30 +21,29 @@ use ticket_steps::Kept;
 
 /// A law without code: each kind of step of the lock is one event of the core.
 ///
-/// The table as it is made is that of the core's opening (`opening`). At any moment that meets the
-/// rule, each kind of step leads to a table that meets it again, whose core state is the one that
-/// this one event of the core leaves: a split, a draw, a look that holds or waits, a post, a leave, a
-/// gather and a glance. The second load of a gather, by which the joined seat learns that its two
-/// histories are beginnings of one, is no event: it leaves the core state as it was (`second_load`).
+/// The new table is that of the core's opening (`opening`). At any moment that meets the rule, each kind of
+/// step leads to a table that meets it again. The core state of that table is the state after one event: a
+/// split, a draw, a look that holds or waits, a post, a leave, a gather or a glance. The second load of a
+/// gather is no event. The joined seat learns from it that its two histories are first parts of one
+/// history, and the core state stays as it was (`second_load`).
 ///
 /// A holder that has recorded a call with a place on the board posts it (`post`), and its leave is the
-/// event Leave that brings no call (`leave_posted`). One whose call has no place leaves with it
-/// (`leave`). What a leave says, and that it leaves only one table, is said of a holder whether it
-/// has posted or not.
+/// event Leave that brings no call (`leave_posted`). A holder whose call has no place leaves with it
+/// (`leave`). What a leave says, and that it leaves only one table, is stated for a holder whether it has
+/// posted or not.
 ///
-/// A look loads the word that its ticket watches, a post stores the book's word at the place of the
-/// call, a leave stores the next number in the word that this number watches, and a glance loads a
-/// word of the board. What is said to the seat that steps, on which the lock's code relies, is so of
-/// that very step: of the number found in the word, and of the seat as it stands in the table after
-/// it (`draw_tells`, `look_held_tells`, `look_waits_tells`, `post_tells`, `leave_tells`,
-/// `glance_tells`, `second_load_tells`).
+/// A look loads the word that its ticket watches. A post stores the book's word at the place of the call. A
+/// leave stores the next number in the word that this number watches. A glance loads a word of the board.
+/// The lock's code relies on what the seat learns from its step. That holds of the very step: of the number
+/// found in the word, and of the seat in the table after it (`draw_tells`, `look_held_tells`,
+/// `look_waits_tells`, `post_tells`, `leave_tells`, `glance_tells`, `second_load_tells`).
 ///
-/// Nor could the step be another one: an operation on that word, an add of one, a load or a store of
-/// that number, by a seat that carries what its phase says, of which this is said, leaves that table
-/// and no other, whatever the seat took or gave back (`draw_only`, `look_held_only`,
-/// `look_waits_only`, `post_only`, `leave_only`, `second_load_only`). Of a glance nothing like it is
-/// said: what it says is so of any legal history that goes on from what the seat had seen and shows
-/// that word, and the seat's view after it is one of these.
+/// The step could not be another one either. Take an operation on that word, an add of one, a load or a
+/// store of that number, by a seat that carries what its phase says, with the same statement. It leaves
+/// that table and no other, whatever the seat took or gave back (`draw_only`, `look_held_only`,
+/// `look_waits_only`, `post_only`, `leave_only`, `second_load_only`). Glances have no such clause. Their
+/// statement holds of any legal history that continues the one that the seat had seen and shows that word,
+/// and the seat's view afterwards is one of these.
 pub fn every_step<K: Kept>()
     ensures opening { (start : Start K) → K.history start.book ≡ [] → K.refusals start.book ≡ 0
         → 0 < start.numbers → start.numbers ≤ 1024 → start.draws ≤ 4294967295

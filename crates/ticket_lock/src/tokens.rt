@@ -1,7 +1,7 @@
 //! Seats, turns and holds: the tokens by which callers take part in the lock.
 //!
-//! A token has no bytes that threads share. It carries what its caller knows, only in proofs: the
-//! history that it has seen, which is always a beginning of the one history of the book.
+//! A token has no bytes that threads share. Only in proofs it carries what its caller knows: the history
+//! that it has seen, which is always a first part of the one history of the book.
 ghost use Rattle.std.specs.Prelude.{◌≡◌, ◌+◌, ◌^◌, ◌<◌, ◌≤◌, nat_lt, false, cond, [], ◌∷◌, length, None};
 ghost use Rattle.std.specs.Coded.{Coded-set};
 ghost use Rattle.ticket_steps.specs.declared.seats.Phase.TheVariants.{Idle, Waiting, Holding, Posted};
@@ -20,15 +20,15 @@ pub(crate) type TableSeat<K> = atomic_table::Seat<
 
 /// A caller that neither waits nor holds.
 ///
-/// The seat that opens a lock stands for all numbers. `TicketLock::split` gives some of them to a
-/// new seat, for another thread, and `TicketLock::gather` puts two seats together again.
+/// The seat that opens a lock has all numbers. `TicketLock::split` gives some of them to a new seat, for
+/// another thread, and `TicketLock::gather` joins two seats again.
 #[derive(Drop)]
 pub struct Seat<K: Kept> {
     pub(crate) table_seat: TableSeat<K>,
     pub(crate) counts: SeatCounts,
-    /// How many numbers it may be split into: as many as it answers for, until it draws or another is
-    /// gathered into it, and then 0. As wide as what stands before it: bytes that no field has would be
-    /// copied wherever a seat goes.
+    /// How many numbers can be divided: all those for which it answers, until it draws or another seat is
+    /// gathered into it, and then 0. The field is as wide as the fields before it: bytes between fields
+    /// would be copied with each seat.
     pub(crate) parts: u64,
     ghost bare: { table_seat.me.1 ≡ [] },
     ghost legal: { IsLegalFrom K.Kept table_seat.me.0.start table_seat.me.0.seen } by { IsLegalFrom-prop K.Kept (Coded-set K.Reply.code) _ _ },
@@ -54,11 +54,11 @@ pub struct Turn<K: Kept> {
     ghost stale: { table_seat.me.0.seat.fresh ≡ false },
 }
 
-/// A caller whose turn it is: it has the book in hand. It posts its call (`TicketLock::post`), where
-/// the board is to show it, and leaves.
+/// A caller whose turn it is: it holds the book. It posts its call (`TicketLock::post`), if the board is to
+/// show it, and leaves.
 ///
-/// It is not `Drop`, so one that isn't spent by `TicketLock::leave` doesn't compile: the book has
-/// to come back.
+/// It is not `Drop`, so one that isn't spent by `TicketLock::leave` doesn't compile: the book has to come
+/// back.
 pub struct Hold<K: Kept> {
     pub(crate) table_seat: TableSeat<K>,
     pub(crate) counts: SeatCounts,
@@ -75,8 +75,8 @@ pub struct Hold<K: Kept> {
 impl<K: Kept> Seat<K> {
     ghost use Rattle.ticket_lock.specs.Tokens.{seat_of};
 
-    /// Its own number: the name under which its calls are recorded, and one of those that it answers
-    /// for.
+    /// Its own number: its calls are recorded under it, and it is one of the numbers for which the seat
+    /// answers.
     pub fn number(&self) -> u32
         ensures own { result ≡ (seat_of self.now).own }
         ensures among { 0 < times result (seat_of self.now).numbers }
@@ -84,7 +84,7 @@ impl<K: Kept> Seat<K> {
         self.counts.number
     }
 
-    /// How many numbers it stands for now, its own included.
+    /// How many numbers it answers for now, including its own.
     pub fn count(&self) -> u32
         ensures numbers { result ≡ length (seat_of self.now).numbers }
         ensures some { 0 < result }
@@ -119,7 +119,7 @@ impl<K: Kept> Seat<K> {
 impl<K: Kept> Turn<K> {
     ghost use Rattle.ticket_lock.specs.Tokens.{ticket_of};
 
-    /// Its ticket: how many calls end before its own.
+    /// Its ticket: the number of calls that end before its own.
     pub fn ticket(&self) -> u64
         ensures { result ≡ ticket_of self.now }
     {
@@ -137,7 +137,7 @@ impl<K: Kept> Hold<K> {
         self.counts.number
     }
 
-    /// Its ticket: how many calls have ended before its own.
+    /// Its ticket: the number of calls that have ended before its own.
     pub fn ticket(&self) -> u64
         ensures { result ≡ held_ticket_of self.now }
     {

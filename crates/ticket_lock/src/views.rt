@@ -1,6 +1,6 @@
 //! What the seats of the table know, and the rule of the table.
 //!
-//! No value of these types is made but of `TableStart`: views are the data that the rule speaks of.
+//! Only `TableStart` has values at run time: views are the data of which the rule speaks.
 ghost use Rattle.std.specs.Prelude.{◌≡◌};
 ghost use Rattle.ticket_lock.specs.Boards.{board_length};
 ghost use Rattle.ticket_lock.specs.Rule.{IsRuled};
@@ -12,14 +12,14 @@ use std::marker::PhantomData;
 use std::snapshot::Snapshot;
 use ticket_steps::{CoreSeat, Entry, Kept};
 
-/// How a lock was opened: with this book, for so many numbers, with so many draws for each.
+/// How a lock was opened: with this book, for this many numbers, with this many draws for each.
 pub struct Start<K> {
     pub book: K,
     pub numbers: u32,
     pub draws: u32,
 }
 
-/// One of the two seats of which a seat was made: its numbers, and the history that it had seen.
+/// One of the two seats from which a seat was made: its numbers, and the history that it had seen.
 pub struct Part<C, R> {
     pub numbers: LinkedList<u32>,
     pub seen: LinkedList<Entry<C, R>>,
@@ -27,26 +27,26 @@ pub struct Part<C, R> {
 
 /// What a seat of the table knows.
 pub struct View<K, C, R> {
-    /// How the lock was opened; nothing where the seat was gathered into another.
+    /// How the lock was opened; nothing if the seat was gathered into another.
     pub start: Option<Start<K>>,
     /// The seat of the core.
     pub seat: CoreSeat,
     /// The history that it has seen.
     pub seen: LinkedList<Entry<C, R>>,
-    /// Of a holder, the refusals of the book as it was handed out, or as the holder posted it.
+    /// For a holder, the refusals of the book as it was handed out, or as the holder posted it.
     pub refused: u64,
-    /// The two seats of which it was made, until it has looked at the table.
+    /// The two seats from which it was made, until it has looked at the table.
     pub one: Part<C, R>,
     pub two: Part<C, R>,
 }
 
-/// What is said to the table when it is made.
+/// The data with which the table is made.
 #[derive(Drop)]
 pub struct TableStart<K: Kept> {
     pub book: Snapshot<K>,
     pub numbers: u32,
     pub draws: u32,
-    /// How many words the board has.
+    /// The number of words on the board.
     pub words: u32,
     ghost counted: { words ≡ board_length K.Kept book.value },
 }

@@ -1,4 +1,4 @@
--- What is so of a book, whatever it is made of: its state, its entries and its refusals.
+-- What holds of every kind of book: its state, its entries and its refusals.
 use Rattle.std.specs.Prelude.{◌≡◌, ℕ, ◌+◌, List, [], ◌∷◌, ◌++◌, length}
 use Rattle.ticket_steps.specs.declared.kept.Entry.{Entry}
 use Rattle.ticket_steps.specs.History.{entry, replay, IsLegal}
@@ -16,7 +16,7 @@ module _ {S C R : Type 0} where
   abbrev pub empty_book : S → BookState S C R
   empty_book state = book_state state [] 0
 
-  -- how many calls a book has taken in: those of its entries, and those that were refused
+  -- the number of calls that a book has handled: its entries, and its refused calls
   abbrev pub calls_taken : BookState S C R → ℕ
   calls_taken book = length book.entries + book.refused
 

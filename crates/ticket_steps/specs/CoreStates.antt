@@ -9,16 +9,16 @@ pub record CoreState (S C R : Type 0) : Type 0 where
   pub next : ℕ
   -- the number served: the ticket of the seat whose turn it is
   pub served : ℕ
-  -- in the order in which they came to be
+  -- in the order in which they were made
   pub seats : List CoreSeat
-  -- as it is at home, or as the holder took it out, with what the holder has posted since
+  -- the book at home, or the book as the holder took it out, with what the holder has posted since
   pub book : BookState S C R
 
 module _ {S C R : Type 0} where
   abbrev pub core_state : ℕ → ℕ → List CoreSeat → BookState S C R → CoreState S C R
   core_state next served seats book = record { next = next; served = served; seats = seats; book = book }
 
-  -- the opening: one fresh seat, its own number 0, for all numbers, and an empty book at home
+  -- the opening state: one fresh seat, with its own number 0, for all numbers, and an empty book at home
   abbrev pub opened : ℕ → ℕ → S → CoreState S C R
   opened numbers draws state = core_state 0 0 (fresh_seat draws 0 (counted 0 numbers) 0 ∷ []) (empty_book state)
 
@@ -26,6 +26,6 @@ module _ {S C R : Type 0} where
   abbrev pub IsHome : CoreState S C R → Type 0
   IsHome c = holders c.seats ≡ 0
 
-  -- what is counted: the calls that the book has taken in are the number served, and one more while a seat has posted and not left
+  -- the counts: the number of calls that the book has handled is the number served, plus one while a seat has posted and not left
   abbrev pub IsCounted : CoreState S C R → Type 0
   IsCounted c = calls_taken c.book ≡ c.served + posters c.seats

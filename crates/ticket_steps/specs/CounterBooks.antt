@@ -1,4 +1,4 @@
--- What is seen of a counter book.
+-- The parts of a counter book that contracts see.
 use Rattle.std.specs.Prelude.{ℕ, List, vec_capacity}
 use Rattle.ticket_steps.specs.declared.kept.Entry.{Entry}
 use Rattle.ticket_steps.specs.declared.counter.CounterBook.{CounterBook}
@@ -11,14 +11,14 @@ entries_of book = book.entries.items
 abbrev pub sum_of : CounterBook → ℕ
 sum_of book = book.sum
 
--- how many calls were refused
+-- the number of refused calls
 abbrev pub refused_of : CounterBook → ℕ
 refused_of book = book.refused
 
--- for how many entries there was room from the start
+-- the number of entries for which it had room at first
 abbrev pub room_of : CounterBook → ℕ
 room_of book = book.room
 
--- for how many entries there is room now
+-- the number of entries for which it has room now
 abbrev pub capacity_of : CounterBook → ℕ
 capacity_of book = vec_capacity book.entries

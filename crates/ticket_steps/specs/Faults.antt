@@ -13,7 +13,7 @@ use Rattle.ticket_steps.specs.Happenings.{Happening, shown, IsOf, Moves}
 use Rattle.ticket_steps.specs.Seats.{Stands, IsThere}
 
 module _ {C : Type 0} where
-  -- the seats that an event names are there
+  -- the seats that an event names exist
   abbrev pub NamesSeats : List CoreSeat → Event C → Type 0
   NamesSeats seats (Split own count) = IsThere seats own
   NamesSeats seats (Draw own) = IsThere seats own
@@ -23,8 +23,7 @@ module _ {C : Type 0} where
   NamesSeats seats (Glance own place) = IsThere seats own
   NamesSeats seats (Gather own other) = IsThere seats own × IsThere seats other
 
-  -- an event is for the phases of its seats; a split also asks for a fresh seat and a count in range. A leave brings a call
-  -- exactly where its seat has posted none
+  -- an event fits the phases of its seats; a split also needs a fresh seat and a count in range. A leave brings a call exactly if its seat has posted none
   abbrev pub FitsPhases : List CoreSeat → Event C → Type 0
   FitsPhases seats (Split own count) = (i : ℕ) × (p : CoreSeat) × Stands seats i own Idle p × (p.fresh ≡ true) × (0 < count) × (count < length p.numbers)
   FitsPhases seats (Draw own) = (i : ℕ) × (p : CoreSeat) × Stands seats i own Idle p
@@ -46,7 +45,7 @@ module _ {C : Type 0} where
   HasDraw seats (Gather own other) = Unit {0}
 
 module _ {K C R : Type 0} (k : Ghosts K C R) where
-  -- a call that is posted has a place on the board, one that a leave brings has none, and a glance is at the place of a word
+  -- a posted call has a place on the board, a call that a leave brings has none, and a glance is at the place of a word
   abbrev pub IsPlaced : k.State → Event C → Type 0
   IsPlaced state (Split own count) = Unit {0}
   IsPlaced state (Draw own) = Unit {0}
@@ -61,7 +60,7 @@ module _ {K C R : Type 0} (k : Ghosts K C R) where
   abbrev pub Fits : CoreState k.State C R → Event C → Type 0
   Fits b event = FitsPhases b.seats event × IsPlaced b.book.state event
 
-  -- the fault of an event: the first that applies, in the order in which they stand here
+  -- the fault of an event: the first that applies, in the order of this definition
   abbrev pub IsFault : CoreState k.State C R → Event C → Fault → Type 0
   IsFault b event NoSeat = NamesSeats b.seats event → ⊥
   IsFault b event Phase = NamesSeats b.seats event × (Fits b event → ⊥)
@@ -72,7 +71,7 @@ module _ {K C R : Type 0} (k : Ghosts K C R) where
     abbrev pub Shows : CoreState k.State C R → Event C → Seen R → CoreState k.State C R → Type 0
     Shows b event seen c = (h : Happening C R) × IsOf event h × (seen ≡ shown h) × Moves k draws b h c × IsPlaced b.book.state event
 
-    -- events lead from one core state to another: each fits the board at its point, whatever is shown of it
+    -- events lead from one core state to another: each fits the board at its point, whatever it shows
     abbrev pub LeadsBy : CoreState k.State C R → List (Event C) → CoreState k.State C R → Type 0
     LeadsBy b [] c = c ≡ b
     LeadsBy b (event ∷ events) c = (seen : Seen R) × (d : CoreState k.State C R) × Shows b event seen d × LeadsBy d events c

@@ -1,7 +1,7 @@
--- The grant words: the number served, kept in four words, so that waiting seats needn't all look at one.
+-- The grant words: the number served, stored in four words, so that the waiting seats needn't all look at one word.
 use Rattle.std.specs.Prelude.{◌≡◌, ◌↔◌, ℕ, ◌%◌, ◌<◌, ◌≤◌, List, [], ◌∷◌, length, max, slice_index}
 
--- the place among the grant words of the one that a ticket watches
+-- the place of the grant word that a ticket watches
 abbrev pub watched : ℕ → ℕ
 watched ticket = ticket % 4
 
@@ -10,17 +10,17 @@ abbrev pub greatest : List ℕ → ℕ
 greatest [] = 0
 greatest (n ∷ ns) = max n (greatest ns)
 
--- the word at this place, where this number is served: the last ticket yet served of those that watch it, and 0 where none was
+-- the word at this place when this number is served: the last ticket served among those that watch the word, or 0 if none was
 pub record IsLastGrant (served place word : ℕ) : Type 0 where
   pub within : word ≤ served
   pub own : 0 < word → watched word ≡ place
   pub last : (ticket : ℕ) → ticket ≤ served → watched ticket ≡ place → ticket ≤ word
 
--- these are the grant words where this number is served
+-- these are the grant words when this number is served
 pub record AreGrantsOf (served : ℕ) (words : List ℕ) : Type 0 where
   pub four : length words ≡ 4
   -- the greatest of them is the number served
   pub greatest_is : greatest words ≡ served
-  -- the word that a ticket watches equals a ticket that isn't left yet exactly where it is served
+  -- for a ticket that isn't left yet: the word that it watches equals the ticket exactly if the ticket is served
   pub found : (ticket : ℕ) → served ≤ ticket → (slice_index words (watched ticket) ≡ ticket) ↔ (ticket ≡ served)
   pub each : (place : ℕ) → place < 4 → IsLastGrant served place (slice_index words place)

@@ -1,4 +1,4 @@
--- What happens in the core: each event with what came of it, and the states that it leads to.
+-- What happens in the core: each event with its outcome, and the states to which it leads.
 use Rattle.std.specs.Prelude.{◌≡◌, ◌≢◌, ℕ, ◌+◌, ◌<◌, List, [], ◌∷◌, ◌++◌, length, slice_index, slice_set, true, cond, ◌==◌, Ok, Err, Some, None}
 use Rattle.ticket_steps.specs.declared.kept.Entry.{Entry}
 use Rattle.ticket_steps.specs.declared.kept.Kept.{Ghosts}
@@ -13,9 +13,9 @@ use Rattle.ticket_steps.specs.CoreStates.{CoreState, core_state}
 use Rattle.ticket_steps.specs.History.{entry}
 use Rattle.ticket_steps.specs.Seats.{Stands, keeping, given, waiting, holding, posting, ended, joined, gone}
 
--- one event with its outcome; seats are named by their own numbers. What was refused for memory keeps nothing of its call
+-- one event with its outcome; seats are named by their own numbers. A call that was refused for memory leaves nothing here
 pub data Happening (C R : Type 0) : Type 0 where
-  -- a seat gave so many numbers to a new one
+  -- a seat gave this many numbers to a new seat
   split : ℕ → ℕ → Happening C R
   -- a seat drew this ticket
   drew : ℕ → ℕ → Happening C R
@@ -23,13 +23,13 @@ pub data Happening (C R : Type 0) : Type 0 where
   waited : ℕ → Happening C R
   -- a seat looked, and holds
   held : ℕ → Happening C R
-  -- the holder posted, and this call of it was recorded with this reply; it holds on
+  -- the holder posted, and its call was recorded with this reply; it still holds
   posted : ℕ → C → R → Happening C R
-  -- the holder posted, and its call was refused, out of memory; it holds on
+  -- the holder posted, and its call was refused, out of memory; it still holds
   post_refused : ℕ → Happening C R
-  -- the holder left that had posted its call before
+  -- the holder left, after it had posted its call
   left_posted : ℕ → Happening C R
-  -- the holder left, and this call of it was recorded with this reply
+  -- the holder left, and its call was recorded with this reply
   recorded : ℕ → C → R → Happening C R
   -- the holder left, and its call was refused, out of memory
   refused : ℕ → Happening C R
@@ -39,7 +39,7 @@ pub data Happening (C R : Type 0) : Type 0 where
   gathered : ℕ → ℕ → Happening C R
 
 module _ {C R : Type 0} where
-  -- what the caller of an event is shown
+  -- what the caller of an event sees
   abbrev pub shown : Happening C R → Seen R
   shown (split own count) = shows.Split
   shown (drew own ticket) = shows.Drew ticket
@@ -67,14 +67,14 @@ module _ {C R : Type 0} where
   IsOf event (glanced own place word) = event ≡ Glance own place
   IsOf event (gathered own other) = event ≡ Gather own other
 
-  -- the calls that a number has recorded, by a post or when it left, each with its reply, in their order
+  -- the calls that a number has recorded, by a post or by a leave, each with its reply, in their order
   abbrev pub recorded_by : ℕ → List (Happening C R) → List (Entry C R)
   recorded_by number [] = []
   recorded_by number (recorded own call reply ∷ hs) = cond (own == number) (entry own call reply ∷ recorded_by number hs) (recorded_by number hs)
   recorded_by number (posted own call reply ∷ hs) = cond (own == number) (entry own call reply ∷ recorded_by number hs) (recorded_by number hs)
   recorded_by number (_ ∷ hs) = recorded_by number hs
 
-  -- how many calls were made, by a post or by a leave, each recorded or refused
+  -- the number of calls that were made, by a post or by a leave, each recorded or refused
   abbrev pub calls_made : List (Happening C R) → ℕ
   calls_made [] = 0
   calls_made (posted own call reply ∷ hs) = 1 + calls_made hs
@@ -83,7 +83,7 @@ module _ {C R : Type 0} where
   calls_made (refused own ∷ hs) = 1 + calls_made hs
   calls_made (_ ∷ hs) = calls_made hs
 
-  -- how many turns have ended: each leave ends one
+  -- the number of turns that have ended: each leave ends one
   abbrev pub turns_ended : List (Happening C R) → ℕ
   turns_ended [] = 0
   turns_ended (left_posted own ∷ hs) = 1 + turns_ended hs
@@ -92,11 +92,11 @@ module _ {C R : Type 0} where
   turns_ended (_ ∷ hs) = turns_ended hs
 
 module _ {S C R : Type 0} where
-  -- other seats, and all else as it was
+  -- other seats, and everything else as it was
   abbrev pub with_seats : CoreState S C R → List CoreSeat → CoreState S C R
   with_seats b seats = core_state b.next b.served seats b.book
 
-  -- the holder at the place i has posted: the book has what the post added, and the turn goes on
+  -- the holder at the place i has posted: the book has what the post added, and the turn continues
   abbrev pub after_post : CoreState S C R → ℕ → ℕ → CoreSeat → BookState S C R → CoreState S C R
   after_post b i ticket p book = core_state b.next b.served (slice_set b.seats i (posting ticket p)) book
 
@@ -105,7 +105,7 @@ module _ {S C R : Type 0} where
   after_leave b i p book = core_state b.next (b.served + 1) (slice_set b.seats i (ended p)) book
 
 module _ {K C R : Type 0} (k : Ghosts K C R) (draws : ℕ) where
-  -- what happened leads from one core state to another; each number brings so many draws
+  -- this event and outcome lead from one core state to another; each number brings this many draws
   abbrev pub Moves : CoreState k.State C R → Happening C R → CoreState k.State C R → Type 0
   -- a fresh idle seat gives its last numbers, at least one and not all, with all their draws, to a new seat
   Moves b (split own count) c = (i : ℕ) × (p : CoreSeat) × Stands b.seats i own Idle p × (p.fresh ≡ true) × (0 < count) × (count < length p.numbers)
@@ -113,20 +113,21 @@ module _ {K C R : Type 0} (k : Ghosts K C R) (draws : ℕ) where
   -- an idle seat with a draw left gets the next ticket
   Moves b (drew own ticket) c = (i : ℕ) × (p : CoreSeat) × Stands b.seats i own Idle p × (0 < p.left) × (ticket ≡ b.next)
       × (c ≡ core_state (b.next + 1) b.served (slice_set b.seats i (waiting b.next p)) b.book)
-  -- a seat whose ticket isn't the number served goes on waiting
+  -- a seat whose ticket isn't the number served still waits
   Moves b (waited own) c = (i : ℕ) × (p : CoreSeat) × (ticket : ℕ) × Stands b.seats i own (Waiting ticket) p × (ticket ≢ b.served) × (c ≡ b)
   -- a seat whose ticket is the number served becomes the holder
   Moves b (held own) c = (i : ℕ) × (p : CoreSeat) × Stands b.seats i own (Waiting b.served) p × (c ≡ with_seats b (slice_set b.seats i (holding b.served p)))
-  -- the holder posts its call, which has a place on the board: it is recorded under its own number, answered by the sequential step
+  -- the holder posts its call, which has a place on the board: the call is recorded under the holder's own number, with the reply of the sequential step
   Moves b (posted own call reply) c =
       (i : ℕ) × (p : CoreSeat) × (ticket : ℕ) × Stands b.seats i own (Holding ticket) p × (reply ≡ (k.step b.book.state call).1)
       × (c ≡ after_post b i ticket p (with_entry k.step own call b.book)) × ((place : ℕ) × (k.posts_at b.book.state call ≡ Some place))
   -- the holder posts its call, and it is refused for memory
   Moves b (post_refused own) c =
       (i : ℕ) × (p : CoreSeat) × (ticket : ℕ) × Stands b.seats i own (Holding ticket) p × (c ≡ after_post b i ticket p (with_refusal b.book))
-  -- the holder leaves that has posted its call: nothing more is recorded
+  -- the holder leaves after it has posted its call: nothing more is recorded
   Moves b (left_posted own) c = (i : ℕ) × (p : CoreSeat) × (ticket : ℕ) × Stands b.seats i own (Posted ticket) p × (c ≡ after_leave b i p b.book)
-  -- the holder leaves with its call, which has no place on the board, recorded under its own number, answered by the sequential step
+  -- the holder leaves with its call, which has no place on the board: the call is recorded under the holder's own number, with the reply of the sequential
+  -- step
   Moves b (recorded own call reply) c =
       (i : ℕ) × (p : CoreSeat) × (ticket : ℕ) × Stands b.seats i own (Holding ticket) p × (reply ≡ (k.step b.book.state call).1)
       × (c ≡ after_leave b i p (with_entry k.step own call b.book)) × (k.posts_at b.book.state call ≡ None)
@@ -136,12 +137,12 @@ module _ {K C R : Type 0} (k : Ghosts K C R) (draws : ℕ) where
   Moves b (glanced own place word) c =
       (i : ℕ) × (p : CoreSeat) × Stands b.seats i own Idle p × (place < length (k.board b.book.state))
       × (word ≡ slice_index (k.board b.book.state) place) × (c ≡ b)
-  -- of two idle seats the first takes over the other's numbers and calls
+  -- the first of two idle seats takes over the numbers and calls of the second
   Moves b (gathered own other) c =
       (i : ℕ) × (p : CoreSeat) × (k : ℕ) × (q : CoreSeat) × Stands b.seats i own Idle p × Stands b.seats k other Idle q × (own ≢ other)
       × (c ≡ with_seats b (slice_set (slice_set b.seats i (joined p q)) k gone))
 
-  -- what happened, one after another, leads from one core state to another
+  -- these events and outcomes, one after another, lead from one core state to another
   abbrev pub Leads : CoreState k.State C R → List (Happening C R) → CoreState k.State C R → Type 0
   Leads b [] c = c ≡ b
   Leads b (h ∷ hs) c = (d : CoreState k.State C R) × Moves b h d × Leads d hs c

@@ -1,4 +1,4 @@
--- Histories: lists of entries, and the one thread whose calls they could be.
+-- Histories: lists of entries, and the single thread that could have made the same calls.
 use Rattle.std.specs.Prelude.{◌≡◌, ℕ, List, [], ◌∷◌, cond, ◌==◌}
 use Rattle.std.specs.Coded.{×_prop, Unit-prop}
 use Rattle.ticket_steps.specs.declared.kept.Entry.{Entry}
@@ -14,7 +14,7 @@ module _ {C R : Type 0} where
   of number (e ∷ es) = cond (e.pass == number) (e ∷ of number es) (of number es)
 
   module _ {S : Type 0} (step : S → C → S × R) where
-    -- the state that the calls of a history leave, made one after another
+    -- the state after the calls of a history, made one after another
     abbrev pub replay : S → List (Entry C R) → S
     replay state [] = state
     replay state (e ∷ es) = replay (step state e.call).0 es
@@ -24,7 +24,7 @@ module _ {C R : Type 0} where
     IsLegal state [] = Unit {0}
     IsLegal state (e ∷ es) = (e.reply ≡ (step state e.call).1) × IsLegal (step state e.call).0 es
 
-    -- a history is legal in at most one way, where two replies are equal in at most one way
+    -- a history is legal in at most one way, if two replies are equal in at most one way
     pub IsLegal-prop : ((a b : R) → IsProp (a ≡ b)) → (state : S) (es : List (Entry C R)) → IsProp (IsLegal state es)
     IsLegal-prop set state [] = Unit-prop
     IsLegal-prop set state (e ∷ es) = ×_prop (set _ _) (IsLegal-prop set (step state e.call).0 es)

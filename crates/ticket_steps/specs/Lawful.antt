@@ -1,4 +1,4 @@
--- What is so of every core state, whatever schedule led to it.
+-- What holds of every core state, whatever schedule led to it.
 use Rattle.std.specs.Prelude.{◌≡◌, ℕ, ◌+◌, ◌-◌, ◌*◌, ◌<◌, ◌≤◌, [], length, true, false, cond}
 use mathlib.Core.Option.{some}
 use lib.ListN.{get_elem?}
@@ -7,7 +7,7 @@ use Rattle.ticket_steps.specs.CoreStates.{CoreState, IsCounted}
 use Rattle.ticket_steps.specs.Seats.{Holds, is_there, tickets_at, answering}
 use Rattle.ticket_steps.specs.Sums.{total, times, once_below, counted}
 
--- what is so of each seat, where this number is served
+-- what holds of each seat when this number is served
 pub record IsSeat (draws served : ℕ) (s : CoreSeat) : Type 0 where
   -- a holder's ticket is the number served
   pub holder : (ticket : ℕ) → Holds ticket s.phase → ticket ≡ served
@@ -18,16 +18,16 @@ pub record IsSeat (draws served : ℕ) (s : CoreSeat) : Type 0 where
   -- a seat that was gathered into another has nothing left
   pub gone : is_there s.phase ≡ false → (s.numbers ≡ []) × (s.calls ≡ 0) × (s.left ≡ 0) × (s.fresh ≡ false)
 
--- how many seats can still be split off a seat
+-- the number of seats that can still be split off a seat
 abbrev pub spare : CoreSeat → ℕ
 spare s = cond s.fresh (length s.numbers - 1) 0
 
--- what is so of every core state, in numbers
+-- what holds of every core state, in numbers
 pub record IsLawful {S C R : Type 0} (numbers draws : ℕ) (c : CoreState S C R) : Type 0 where
   pub each : (i : ℕ) (s : CoreSeat) → get_elem? c.seats i ≡ some s → IsSeat draws c.served s
-  -- each ticket below the next was left, or is with one seat; no other ticket is with a seat
+  -- each ticket below the next one was left, or is held by one seat; no seat has any other ticket
   pub tickets : (t : ℕ) → tickets_at t c.seats + once_below t c.served ≡ once_below t c.next
-  -- each number is one seat's to answer for
+  -- exactly one seat answers for each number
   pub numbered : (n : ℕ) → answering n c.seats ≡ once_below n numbers
   pub count : total (λ (s : CoreSeat). length s.numbers) c.seats ≡ numbers
   pub counted : IsCounted c

@@ -1,4 +1,4 @@
--- Schedules: what happened from an opening on, in whatever order the seats stepped, and the core state at the end.
+-- Schedules: what happened from an opening on, in whatever order the seats made their steps, and the core state at the end.
 use Rattle.std.specs.Prelude.{◌≡◌, ℕ, ◌<◌, ◌≤◌, List, length, slice_index}
 use mathlib.Core.List.{IsPrefix}
 use Rattle.ticket_steps.specs.declared.kept.Entry.{Entry}
@@ -11,10 +11,10 @@ use Rattle.ticket_steps.specs.Seats.{tickets_at}
 pub record Schedule (S C R : Type 0) : Type 0 where
   -- the state of the book when the core was opened
   pub opening : S
-  -- how many numbers there are, and how many draws each brings
+  -- the number of seat numbers, and the number of draws that each brings
   pub numbers : ℕ
   pub draws : ℕ
-  -- each event with its outcome, the first of them first
+  -- each event with its outcome, oldest first
   pub happened : List (Happening C R)
   pub end : CoreState S C R
 
@@ -24,7 +24,7 @@ pub record IsSchedule {K C R : Type 0} (k : Ghosts K C R) (s : Schedule k.State 
   pub few_numbers : s.numbers ≤ 1024
   pub leads : Leads k s.draws (opened s.numbers s.draws s.opening) s.happened s.end
 
--- the word at this place is the one that a beginning of these entries leaves, which is a legal history from the opening state
+-- the word at this place is the word after some first part of these entries, which is a legal history from the opening state
 pub record ShowsAt {K C R : Type 0} (k : Ghosts K C R) (opening : k.State) (place word : ℕ) (later : List (Entry C R)) : Type 0 where
   pub entries : List (Entry C R)
   pub prefix : IsPrefix entries later
@@ -33,7 +33,7 @@ pub record ShowsAt {K C R : Type 0} (k : Ghosts K C R) (opening : k.State) (plac
   pub word_is : word ≡ slice_index (k.board (replay k.step opening entries)) place
 
 module _ {S C R : Type 0} where
-  -- the tickets from the number served to the last drawn are with one seat each, and no other ticket is with a seat
+  -- each ticket from the number served to the last drawn is held by one seat, and no seat has any other ticket
   pub record IsLine (c : CoreState S C R) : Type 0 where
     pub past : (ticket : ℕ) → ticket < c.served → tickets_at ticket c.seats ≡ 0
     pub in_line : (ticket : ℕ) → c.served ≤ ticket → ticket < c.next → tickets_at ticket c.seats ≡ 1

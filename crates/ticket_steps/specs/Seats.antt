@@ -15,13 +15,13 @@ tickets_of (Holding ticket) = ticket ∷ []
 tickets_of (Posted ticket) = ticket ∷ []
 tickets_of Gone = []
 
--- 1 for a seat that holds, and else 0; a seat that has posted its call holds until it leaves
+-- 1 for a seat that holds, otherwise 0; a seat that has posted its call holds until it leaves
 abbrev pub holds_one : Phase → ℕ
 holds_one (Holding ticket) = 1
 holds_one (Posted ticket) = 1
 holds_one _ = 0
 
--- 1 for a seat that has posted its call and hasn't left yet, and else 0
+-- 1 for a seat that has posted its call and hasn't left yet, otherwise 0
 abbrev pub posted_one : Phase → ℕ
 posted_one (Posted ticket) = 1
 posted_one _ = 0
@@ -30,7 +30,7 @@ posted_one _ = 0
 abbrev pub Holds : ℕ → Phase → Type 0
 Holds ticket phase = (holds_one phase ≡ 1) × (tickets_of phase ≡ ticket ∷ [])
 
--- whether a seat is there: it was not gathered into another
+-- whether a seat exists: it was not gathered into another
 abbrev pub is_there : Phase → Bool
 is_there Idle = true
 is_there (Waiting ticket) = true
@@ -49,11 +49,11 @@ fresh_seat draws own numbers calls = seat own numbers Idle (length numbers * dra
 abbrev pub gone : CoreSeat
 gone = seat 0 [] Gone 0 0 false
 
--- a fresh seat without its last numbers, so many
+-- a fresh seat without this many of its last numbers
 abbrev pub keeping : ℕ → ℕ → CoreSeat → CoreSeat
 keeping draws count s = fresh_seat draws s.own (take (length s.numbers - count) s.numbers) s.calls
 
--- the seat that is given these numbers
+-- the seat that gets these numbers
 abbrev pub given : ℕ → ℕ → CoreSeat → CoreSeat
 given draws count s = fresh_seat draws (s.own + (length s.numbers - count)) (drop (length s.numbers - count) s.numbers) 0
 
@@ -71,30 +71,30 @@ posting ticket s = seat s.own s.numbers (Posted ticket) s.left s.calls s.fresh
 abbrev pub ended : CoreSeat → CoreSeat
 ended s = seat s.own s.numbers Idle s.left (s.calls + 1) s.fresh
 
--- a seat with the numbers and calls of another; the other's draws are given up
+-- a seat with the numbers and calls of another; the other's draws are lost
 abbrev pub joined : CoreSeat → CoreSeat → CoreSeat
 joined s other = seat s.own (s.numbers ++ other.numbers) Idle s.left (s.calls + other.calls) false
 
--- how many seats have this ticket
+-- the number of seats with this ticket
 abbrev pub tickets_at : ℕ → List CoreSeat → ℕ
 tickets_at ticket seats = total (λ s. times ticket (tickets_of s.phase)) seats
 
--- how many seats hold
+-- the number of seats that hold
 abbrev pub holders : List CoreSeat → ℕ
 holders seats = total (λ s. holds_one s.phase) seats
 
--- how many seats have posted a call and haven't left yet
+-- the number of seats that have posted a call and haven't left yet
 abbrev pub posters : List CoreSeat → ℕ
 posters seats = total (λ s. posted_one s.phase) seats
 
--- how many seats answer for this number
+-- the number of seats that answer for this number
 abbrev pub answering : ℕ → List CoreSeat → ℕ
 answering number seats = total (λ s. times number s.numbers) seats
 
--- the seat p with this own number stands at the place i of the list, in this phase
+-- the seat p, with this own number, is at the place i of the list, in this phase
 abbrev pub Stands : List CoreSeat → ℕ → ℕ → Phase → CoreSeat → Type 0
 Stands seats i own phase p = (get_elem? seats i ≡ some p) × (p.own ≡ own) × (p.phase ≡ phase)
 
--- some seat that is there has this own number
+-- some existing seat has this own number
 abbrev pub IsThere : List CoreSeat → ℕ → Type 0
 IsThere seats own = (i : ℕ) × (p : CoreSeat) × (get_elem? seats i ≡ some p) × (p.own ≡ own) × (is_there p.phase ≡ true)

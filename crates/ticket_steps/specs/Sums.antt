@@ -6,16 +6,16 @@ abbrev pub total : {A : Type 0} → (A → ℕ) → List A → ℕ
 total f [] = 0
 total f (x ∷ xs) = f x + total f xs
 
--- how often n stands in a list
+-- how often n occurs in a list
 abbrev pub times : ℕ → List ℕ → ℕ
 times n [] = 0
 times n (x ∷ xs) = cond (n == x) 1 0 + times n xs
 
--- 1 where x is below n, and else 0
+-- 1 if x is below n, otherwise 0
 abbrev pub once_below : ℕ → ℕ → ℕ
 once_below x n = cond (nat_lt x n) 1 0
 
--- the numbers from n on, so many
+-- the numbers from n on, this many
 abbrev pub counted : ℕ → ℕ → List ℕ
 counted n zero = []
 counted n (suc k) = n ∷ counted (n + 1) k

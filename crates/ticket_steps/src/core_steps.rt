@@ -1,4 +1,4 @@
-//! The core as a program: a step or a list of steps at a time, on one thread.
+//! The core as a program that makes one step or a list of steps, on one thread.
 ghost use Rattle.std.specs.Prelude.{◌≡◌, ◌↔◌, ◌+◌, ◌-◌, ◌^◌, ◌<◌, ◌≤◌, [], length, take, true, IfOk, IfErr, OnErr, OnOk, Some, None, slice_get, vec_capacity, vec_len};
 ghost use mathlib.Core.Option.{some};
 ghost use lib.ListN.{get_elem?};
@@ -16,11 +16,10 @@ use crate::seats::{CoreSeat, DRAWS, Phase};
 use std::alloc::{AllocError, Global};
 use std::collections::LinkedList;
 
-/// The core of the lock: its next ticket, the number served, its seats, its book, and the board that
-/// shows the book's words.
+/// The core of the lock: its next ticket, the number served, its seats, its book, and the board that shows
+/// the book's words.
 ///
-/// Each event is one step of one seat. Whatever events come, in whatever order, the core stays one
-/// of those of which `every_schedule` speaks.
+/// Each event is one step of one seat. After any events, in any order, `every_schedule` holds of the core.
 #[derive(Drop)]
 pub struct Core<K: Kept> {
     next: u64,
@@ -41,11 +40,10 @@ pub struct Core<K: Kept> {
 impl<K: Kept> Core<K> {
     ghost use Rattle.ticket_steps.specs.Cores.{state_of, opening_of, numbers_of, draws_of, IsOpenedAlike};
 
-    /// A core with one seat, whose own number is 0, for all of `numbers`, each of which brings
-    /// 2^32 - 1 draws, the most that [`Core::open_with`] gives, and with the book at home.
-    /// It makes places for all seats that can come to be, and a board of the book's words, so that
-    /// later only a `Post` or a `Leave` can run out of memory. Where there is no memory for these the
-    /// book comes back as it was.
+    /// A core with one seat, whose own number is 0, for all of `numbers`, and with the book at home. Each
+    /// number brings 2^32 - 1 draws, the most that [`Core::open_with`] gives. It makes places for all
+    /// possible seats, and a board of the book's words, so that later only a `Post` or a `Leave` can run
+    /// out of memory. If there is no memory for these, the book comes back as it was.
     pub fn open(alloc: Global, book: K, numbers: u32) -> Result<Core<K>, K>
         requires numbers { (0 < numbers) × (numbers ≤ 1024) }
         requires empty { (K.history book ≡ []) × (K.refusals book ≡ 0) }
@@ -59,9 +57,8 @@ impl<K: Kept> Core<K> {
         Core::open_with(alloc, book, numbers, DRAWS)
     }
 
-    /// A core as `open` makes it, whose numbers bring so many draws each: for callers that are to
-    /// make few calls, and for schedules that spend their seats. Where there is no memory the book
-    /// comes back as it was.
+    /// A core as `open` makes it, whose numbers bring `draws` draws each: for callers that make few calls,
+    /// and for schedules that use up their seats. If there is no memory, the book comes back as it was.
     pub fn open_with(alloc: Global, book: K, numbers: u32, draws: u32) -> Result<Core<K>, K>
         requires numbers { (0 < numbers) × (numbers ≤ 1024) }
         requires draws { 0 < draws }
@@ -101,9 +98,9 @@ impl<K: Kept> Core<K> {
         })
     }
 
-    /// One event. It is shown what came of it, or it has a fault and nothing changes: `NoSeat` before
-    /// `Phase`, and `Phase` before `Spent`. A `Post` or a `Leave` whose call was refused, out of memory,
-    /// is no fault: the seat has posted or left, and is shown the refusal.
+    /// Makes one event, and shows its outcome. If the event has a fault, nothing changes: `NoSeat` comes
+    /// before `Phase`, and `Phase` before `Spent`. A `Post` or a `Leave` whose call was refused, out of
+    /// memory, is not a fault: the seat has posted or left, and sees the refusal.
     pub fn step(&mut self, event: Event<K::Call>) -> Result<Seen<K::Reply>, Fault>
         ensures shown { IfOk result (λ seen.
             Shows K.Kept (draws_of self.old) (state_of self.old) event seen (state_of self.new)) }
@@ -128,8 +125,8 @@ impl<K: Kept> Core<K> {
         }
     }
 
-    /// Events, one after another, up to the first that has a fault: its place, from 0, and the fault
-    /// are returned. The events before it have happened.
+    /// Makes events, one after another, up to the first that has a fault. Returns the place of that event,
+    /// from 0, and the fault. The events before it have happened.
     pub fn run(&mut self, events: &[Event<K::Call>]) -> Result<(), (usize, Fault)>
         ensures all { OnOk result (
             LeadsBy K.Kept (draws_of self.old) (state_of self.old) events.now (state_of self.new)) }
@@ -208,7 +205,7 @@ impl<K: Kept> Core<K> {
         Ok(Seen::Held)
     }
 
-    /// The holder's call is recorded, the board shows what came of it, and the seat holds on.
+    /// Records the holder's call, and shows the outcome on the board. The seat still holds.
     fn post(&mut self, seat: u32, call: K::Call) -> Result<Seen<K::Reply>, Fault>
         ensures step { Steps K.Kept (draws_of self.old) (state_of self.old) (Event.Post seat call)
             result (state_of self.new) }
@@ -227,7 +224,7 @@ impl<K: Kept> Core<K> {
         Ok(Seen::Posted(recorded))
     }
 
-    /// The holder leaves that has posted its call: nothing more is recorded.
+    /// The holder leaves after it has posted its call: nothing more is recorded.
     fn leave_posted(&mut self, seat: u32) -> Result<Seen<K::Reply>, Fault>
         ensures step { Steps K.Kept (draws_of self.old) (state_of self.old) (Event.Leave seat None)
             result (state_of self.new) }
@@ -242,7 +239,7 @@ impl<K: Kept> Core<K> {
         Ok(Seen::Left(None))
     }
 
-    /// The holder's call, of which the board shows nothing, is recorded, and the seat leaves.
+    /// Records the holder's call, which the board doesn't show, and the seat leaves.
     fn leave(&mut self, seat: u32, call: K::Call) -> Result<Seen<K::Reply>, Fault>
         ensures step { Steps K.Kept (draws_of self.old) (state_of self.old)
             (Event.Leave seat (Some call)) result (state_of self.new) }
@@ -290,7 +287,7 @@ impl<K: Kept> Core<K> {
         Ok(Seen::Gathered)
     }
 
-    /// The place in the list of the seat that events call by this number.
+    /// The place in the list of the seat that events name by this number.
     fn place_of(&self, own: u32) -> Result<usize, Fault>
         ensures found { IfOk result (λ i. (p : CoreSeat)
             × (get_elem? (state_of self.now).seats i ≡ some p)
@@ -308,7 +305,7 @@ impl<K: Kept> Core<K> {
     }
 }
 
-/// The numbers from 0 on, so many.
+/// The numbers from 0 on, this many.
 fn first_numbers(alloc: Global, count: u32) -> Result<LinkedList<u32>, AllocError>
     ensures { IfOk result (λ numbers. numbers ≡ counted 0 count) }
 {

@@ -7,7 +7,7 @@ ghost use Rattle.ticket_steps.specs.History.{entry, replay, IsLegal, IsLegal-pro
 use crate::kept::{Entry, Kept, NoMemory};
 use std::alloc::{AllocError, Global};
 
-/// A running sum that keeps its history. It is opened with the sum 0.
+/// A running sum that stores its history. It is opened with the sum 0.
 #[derive(Drop)]
 pub struct CounterBook {
     entries: Vec<Entry<u8, u64>>,
@@ -22,8 +22,8 @@ pub struct CounterBook {
 impl CounterBook {
     ghost use Rattle.ticket_steps.specs.CounterBooks.{entries_of, refused_of, sum_of, room_of};
 
-    /// An empty book with room for so many entries: their calls take no memory. Where there is no
-    /// memory for the room, nothing is made.
+    /// An empty book with room for `room` entries: their calls need no memory. If there is no memory for
+    /// the room, nothing is made.
     pub fn open(alloc: Global, room: usize) -> Result<CounterBook, AllocError>
         ensures empty { IfOk result (λ book. (entries_of book ≡ []) × (refused_of book ≡ 0)) }
         ensures sum { IfOk result (λ book. sum_of book ≡ 0) }
@@ -38,7 +38,7 @@ impl CounterBook {
         })
     }
 
-    /// For how many entries there was room from the start.
+    /// The number of entries for which the book had room at first.
     pub fn room(&self) -> usize
         ensures { result ≡ room_of self.now }
     {
@@ -79,8 +79,8 @@ impl Kept for CounterBook {
 
     ghost posted = { sum_posted };
 
-    /// Adds the call to the sum. `NoMemory` comes only where the entries have reached the room, and
-    /// fill all that was reserved since.
+    /// Adds the call to the sum. `NoMemory` comes only if the entries have reached the room, and fill
+    /// everything that was reserved since.
     fn record(&mut self, pass: u32, call: u8) -> Result<u64, NoMemory>
         requires { refused_of self.old < 2 ^ 60 }
         ensures same { room_of self.new ≡ room_of self.old }

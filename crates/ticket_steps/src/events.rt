@@ -1,4 +1,4 @@
-//! What a seat may do, what it is shown, and the faults.
+//! What a seat can do, what it sees, and the faults.
 use crate::kept::NoMemory;
 
 /// One step of one seat. A seat is named by its own number.
@@ -9,13 +9,13 @@ pub enum Event<C> {
     Split { seat: u32, count: u32 },
     /// The idle seat takes the next ticket, by one of its draws.
     Draw { seat: u32 },
-    /// The waiting seat looks whether its ticket is served, and holds the book if it is.
+    /// The waiting seat looks whether its ticket is served. If it is, the seat holds the book.
     Look { seat: u32 },
-    /// The holder records a call that has a place on the board in the book, under its own number, and
-    /// shows there what came of it. It holds on until it leaves.
+    /// The holder records a call that has a place on the board in the book, under its own number, and shows
+    /// the outcome on the board. It holds until it leaves.
     Post { seat: u32, call: C },
-    /// The holder leaves. One that hasn't posted brings its call, which has no place on the board and
-    /// is recorded in the book under its own number; one that has posted brings none.
+    /// The holder leaves. If it hasn't posted, it brings its call, which has no place on the board and is
+    /// recorded in the book under its own number. If it has posted, it brings no call.
     Leave { seat: u32, call: Option<C> },
     /// The idle seat reads a word of the board, without a ticket.
     Glance { seat: u32, place: u32 },
@@ -23,7 +23,7 @@ pub enum Event<C> {
     Gather { seat: u32, other: u32 },
 }
 
-/// What the seat that stepped is shown.
+/// What the seat that made the step sees.
 #[derive(Clone, Copy, PartialEq, Eq, Debug)]
 pub enum Seen<R> {
     Split,
@@ -32,24 +32,24 @@ pub enum Seen<R> {
     /// The ticket isn't served yet, and nothing changed.
     Waiting,
     Held,
-    /// What `record` answered.
+    /// The answer of `record`.
     Posted(Result<R, NoMemory>),
-    /// What `record` answered; nothing where the call was posted before.
+    /// The answer of `record`, or nothing if the call was posted before.
     Left(Option<Result<R, NoMemory>>),
     /// The word that was read.
     Glanced(u64),
     Gathered,
 }
 
-/// Why an event doesn't happen. The first that applies is returned, and nothing changes.
+/// Why an event can't happen. The first fault that applies is returned, and nothing changes.
 #[derive(Clone, Copy, PartialEq, Eq, Debug)]
 pub enum Fault {
     /// No seat has this own number, or it was gathered into another.
     NoSeat,
-    /// The event doesn't fit the seat's phase, the seat to be split isn't fresh or the count is out
-    /// of range, a leave brings a call though one was posted or brings none though none was, a call is
-    /// posted that has no place on the board or left with though it has one, a glance is at a place
-    /// that isn't there, or a seat is to be gathered into itself.
+    /// The event doesn't fit the seat's phase. Or the seat to be split isn't fresh, or the count is out of
+    /// range. Or a leave brings a call though one was posted, or brings none though none was. Or a posted
+    /// call has no place on the board, or a call that a leave brings has one. Or a glance is at a place
+    /// without a word, or a seat is to be gathered into itself.
     Phase,
     /// No draw is left.
     Spent,

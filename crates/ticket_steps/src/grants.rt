@@ -1,13 +1,13 @@
-//! The grant words: the number served, kept in four words.
+//! The grant words: the number served, stored in four words.
 //!
-//! Ticket t watches the word t mod 4, and is served where that word is t. So a leave writes one
-//! word, and three of four waiting seats look at another.
+//! Ticket t watches the word t mod 4, and is served when that word is t. So a leave writes one word, and
+//! three of four waiting seats watch other words.
 ghost use Rattle.std.specs.Prelude.{◌≡◌, ◌↔◌, ℕ, ◌+◌, ◌^◌, ◌<◌, ◌≤◌, IsTrue};
 ghost use Rattle.ticket_steps.specs.Grants.{watched, greatest, AreGrantsOf, IsLastGrant};
 
 use std::marker::Model;
 
-/// The number served, as four words, of which it is the greatest. Contracts see this number.
+/// The number served, as four words. It is the greatest of them, and contracts see this number.
 #[derive(Drop)]
 pub struct Grants {
     words: [u64; 4],
@@ -29,7 +29,7 @@ impl Grants {
         Grants { words: [0; 4] }
     }
 
-    /// One of the four words: the last ticket yet served of those that watch it, 0 where none was.
+    /// One of the four words: the last ticket served among those that watch it, or 0 if none was.
     pub fn word(&self, place: usize) -> u64
         requires { place < 4 }
         ensures { IsLastGrant self.now place result }
@@ -45,7 +45,7 @@ impl Grants {
         self.words[watched_word(ticket)] == ticket
     }
 
-    /// The ticket that is served is left: the next one is served.
+    /// Leaves the ticket that is served, so that the next one is served.
     pub fn leave(&mut self, ticket: u64)
         requires served { ticket ≡ self.old }
         requires small { ticket < 2 ^ 60 }
@@ -56,7 +56,7 @@ impl Grants {
     }
 }
 
-/// The place among the grant words of the one that a ticket watches.
+/// The place of the grant word that a ticket watches.
 pub fn watched_word(ticket: u64) -> usize
     ensures { result ≡ watched ticket }
 {

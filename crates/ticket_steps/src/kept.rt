@@ -1,4 +1,4 @@
-//! Books: sequential objects that keep the history of their calls.
+//! Books: sequential objects that store the history of their calls.
 ghost use Rattle.std.specs.Prelude.{◌≡◌, ℕ, ◌+◌, ◌^◌, ◌<◌, List, [], ◌∷◌, ◌++◌, length, slice_index, slice_set};
 ghost use Rattle.std.specs.Prelude.{Option, Some, None, IfOk, OnErr};
 ghost use Rattle.ticket_steps.specs.declared.kept.Entry.{Entry as EntryOf};
@@ -12,28 +12,28 @@ pub struct Entry<C, R> {
     pub reply: R,
 }
 
-/// A call that was refused, out of memory: it is counted, and nothing else came of it.
+/// A call was refused, out of memory. The book counts it, and changes in no other way.
 #[derive(Clone, Copy, PartialEq, Eq, Debug)]
 pub struct NoMemory;
 
-/// A sequential object that keeps the history of its calls, each under the number of its caller.
+/// A sequential object that stores the history of its calls, each under the number of its caller.
 ///
-/// An implementation names its states, its sequential step and, for each value, the state that it
-/// was opened in, its present state, its history and its count of refusals. It also names what a
-/// state shows on a board that is read without the lock: its words, by place, and the place at which
-/// a call is posted, if it is. Seven laws hold:
+/// An implementation names its states, its sequential step and, for each value, the state in which it
+/// was opened, its present state, its history and its count of refusals. It also names what a state
+/// shows on a board that is read without the lock: its words, by place, and the place at which a call
+/// is posted, if it is. Seven laws hold:
 ///
 /// 1. `legal`: each reply of the history is the step's at its point, from the opening state on.
-/// 2. `replayed`: the present state is what the calls of the history leave.
-/// 3. A `record` that answers a reply adds exactly that entry (`replied`) and changes neither the
+/// 2. `replayed`: the present state is the state after the calls of the history.
+/// 3. A `record` that answers a reply adds exactly that entry (`replied`). It changes neither the
 ///    opening state (`same`) nor the count of refusals.
 /// 4. A `record` that answers `NoMemory` adds one to the refusals and changes nothing else.
-/// 5. The words, and the place of a call, are functions of the state, so of the opening state and the
-///    entries, and nothing else (by `replayed`), and a place is one of a word (`within`).
-/// 6. A call that is posted nowhere changes no word (`unposted`).
-/// 7. One that is posted changes at most the word at its place (`posted`).
+/// 5. The words, and the place of a call, depend on the state only, so only on the opening state and
+///    the entries (by `replayed`). Each place is the place of a word (`within`).
+/// 6. A call that is not posted changes no word (`unposted`).
+/// 7. A call that is posted changes at most the word at its place (`posted`).
 ///
-/// By the last two no call changes how many words there are.
+/// By the last two no call changes the number of words.
 pub trait Kept {
     type Call: Copy;
 
@@ -55,8 +55,8 @@ pub trait Kept {
 
     ghost refusals: { Self → ℕ };
 
-    /// Makes one call for the caller with the number `pass`, and keeps it in the history. Where
-    /// memory for the entry is wanting the call isn't made, but counted as refused.
+    /// Makes one call for the caller with the number `pass`, and stores it in the history. If there is no
+    /// memory for the entry, the call isn't made, but counted as refused.
     fn record(&mut self, pass: u32, call: Self::Call) -> Result<Self::Reply, NoMemory>
         requires { refusals self.old < 2 ^ 60 }
         ensures same { opening self.new ≡ opening self.old }
@@ -72,11 +72,11 @@ pub trait Kept {
     fn entries(&self) -> &[Entry<Self::Call, Self::Reply>]
         ensures { result.now ≡ history self.now };
 
-    /// How many calls were refused, out of memory.
+    /// The number of calls that were refused, out of memory.
     fn refused(&self) -> u64
         ensures { result ≡ refusals self.now };
 
-    /// How many words its board has.
+    /// The number of words on the book's board.
     fn words(&self) -> u32
         ensures { result ≡ length (board (state self.now)) };
 
@@ -85,23 +85,23 @@ pub trait Kept {
         requires { place < length (board (state self.now)) }
         ensures { result ≡ slice_index (board (state self.now)) place };
 
-    /// At which place the call is posted, if it is made now; None where no word shows it.
+    /// The place at which the call is posted, if it is made now. None if no word shows the call.
     fn posts(&self, call: Self::Call) -> Option<u32>
         ensures { result ≡ posts_at (state self.now) call };
 
     /// Each reply is the step's at its point.
     ghost legal: { (book : Self) → IsLegal step (opening book) (history book) };
 
-    /// The state is what the calls leave.
+    /// The state is the state after the calls.
     ghost replayed: { (book : Self) → state book ≡ replay step (opening book) (history book) };
 
     /// A call is posted at the place of a word.
     ghost within: { (s : State) (call : Self.Call) (at : ℕ) → posts_at s call ≡ Some at → at < length (board s) };
 
-    /// A call that is posted nowhere changes no word.
+    /// A call that is not posted changes no word.
     ghost unposted: { (s : State) (call : Self.Call) → posts_at s call ≡ None → board (step s call).0 ≡ board s };
 
-    /// A call that is posted changes no word but the one at its place.
+    /// A call that is posted changes only the word at its place.
     ghost posted: { (s : State) (call : Self.Call) (at : ℕ) → posts_at s call ≡ Some at
         → board (step s call).0 ≡ slice_set (board s) at (slice_index (board (step s call).0) at) };
 }

@@ -5,20 +5,20 @@ ghost use Rattle.ticket_steps.specs.Seats.{is_there, keeping, given, waiting, ho
 
 use std::collections::LinkedList;
 
-/// How many draws each number of a core that `Core::open` makes brings, and the most that
-/// `Core::open_with` gives: a seat makes at most this many calls for each of its numbers.
+/// The number of draws that each number of a core made by `Core::open` brings, and the most that
+/// `Core::open_with` gives. A seat makes at most this many calls for each of its numbers.
 pub const DRAWS: u32 = 4_294_967_295;
 
-/// What a seat is about.
+/// The phase of a seat.
 #[derive(Clone, Copy, PartialEq, Eq, Debug)]
 pub enum Phase {
     /// It has no ticket.
     Idle,
-    /// It has drawn this ticket, and looks for its turn.
+    /// It has drawn this ticket, and waits for its turn.
     Waiting(u64),
-    /// It has this ticket, and it is its turn: it has the book.
+    /// It has this ticket, and it is its turn: it holds the book.
     Holding(u64),
-    /// It has this ticket, and its call is recorded in the book: it has only to leave.
+    /// It has this ticket, and its call is recorded in the book: it only has to leave.
     Posted(u64),
     /// It was gathered into another seat.
     Gone,
@@ -27,10 +27,10 @@ pub enum Phase {
 /// A seat of the core, as the definitions see it.
 #[derive(Drop)]
 pub struct CoreSeat {
-    /// Its own number: the name by which events call it, and under which its calls are recorded.
+    /// Its own number. Events name the seat by it, and its calls are recorded under it.
     pub own: u32,
-    /// The numbers that it answers for, its own first: a range where it is fresh, and after that
-    /// those of the seats that were gathered into it.
+    /// The numbers for which it answers, its own first: a range if it is fresh, and later also those of the
+    /// seats that were gathered into it.
     pub numbers: LinkedList<u32>,
     pub phase: Phase,
     /// The draws that it has left.
@@ -42,7 +42,7 @@ pub struct CoreSeat {
 }
 
 impl CoreSeat {
-    /// Whether events call this seat by that number.
+    /// Whether events name this seat by that number.
     pub(crate) fn is_called(&self, own: u32) -> bool
         ensures { IsTrue result ↔ ((self.now.own ≡ own) × (is_there self.now.phase ≡ true)) }
     {
@@ -58,7 +58,7 @@ impl CoreSeat {
         matches!(self.phase, Phase::Idle)
     }
 
-    /// Whether it may give away so many of its numbers.
+    /// Whether it can give away this many of its numbers.
     pub(crate) fn can_split(&self, count: u32) -> bool
         ensures { IsTrue result ↔ ((self.now.phase ≡ Idle) × (self.now.fresh ≡ true)
             × (0 < count) × (count < length self.now.numbers)) }
@@ -106,7 +106,7 @@ impl CoreSeat {
         self.phase = Phase::Holding(ticket);
     }
 
-    /// Holds on, with its call recorded.
+    /// Still holds, with its call recorded.
     pub(crate) fn post(&mut self, ticket: u64)
         ensures { self.new ≡ posting ticket self.old }
     {
@@ -122,7 +122,7 @@ impl CoreSeat {
         self.calls += 1;
     }
 
-    /// Is gathered into another, which gets what it was.
+    /// Is gathered into another seat. Returns what it was.
     pub(crate) fn give_up(&mut self) -> CoreSeat
         ensures was { result ≡ self.old }
         ensures gone { self.new ≡ gone }
@@ -146,7 +146,7 @@ impl CoreSeat {
         was
     }
 
-    /// Takes over the numbers and the calls of another seat, whose draws are given up.
+    /// Takes over the numbers and the calls of another seat, whose draws are lost.
     pub(crate) fn join(&mut self, other: CoreSeat)
         requires idle { self.old.phase ≡ Idle }
         requires numbers { length self.old.numbers + length other.numbers < 2 ^ 63 }

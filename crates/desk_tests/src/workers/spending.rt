@@ -31,7 +31,7 @@ fn three_passes(alloc: Global) -> Result<(Desk, Pass, Pass, Pass), Fail>
     Ok((desk, first, second, third))
 }
 
-/// Works with a pass of one call, which goes into the take.
+/// Works with a pass of one call, which the take uses.
 fn take_alone(rt: &(impl Wait + Abort), desk: &Desk, pass: Pass) -> Pass
     requires { IsPassOf desk.now pass }
     ensures { IsPassOf desk.now result }
@@ -48,7 +48,7 @@ fn take_alone(rt: &(impl Wait + Abort), desk: &Desk, pass: Pass) -> Pass
     pass
 }
 
-/// Asks by a pass that has made its one call, and takes no ticket by it.
+/// Asks by a pass that has made its only call, and takes no ticket.
 fn ask_spent(rt: &(impl Wait + Abort), desk: &Desk, pass: Pass) -> Pass
     requires { IsPassOf desk.now pass }
     ensures { IsPassOf desk.now result }
@@ -97,7 +97,7 @@ fn a_spent_worker_leaves_its_check_open(rt: HostRuntime) -> Result<(), Fail> {
     Ok(())
 }
 
-/// A crew whose pass has fewer calls left than two for each moment works with those that it has.
+/// A crew whose pass has fewer calls left than two for each moment works with the calls that it has.
 #[test]
 fn a_crew_of_a_pass_with_one_call(rt: HostRuntime) -> Result<(), Fail> {
     let alloc = rt.alloc();

@@ -1,5 +1,5 @@
-//! A plugin that calls its own desk from inside a check, through another pass: a worker that held the
-//! book, or had drawn its next ticket before the check, would keep that call from its turn.
+//! A plugin that calls its own desk from inside a check, through another pass. A worker that held the book,
+//! or had drawn its next ticket before the check, would keep that call from its turn.
 
 ghost use Rattle.check_desk.specs.Belonging.{IsPassOf-prop, IsWaitingAt-prop};
 ghost use Rattle.check_desk.specs.Desks.{IsPassOf, IsWaitingAt};
@@ -15,24 +15,24 @@ use std::process::Abort;
 use std::sync::Wait;
 use std::test::Fail;
 
-/// How often a visitor polls before it gives up.
+/// How often a visitor polls before it stops.
 const POLLS: u32 = 1_000;
 
-/// A pass beside its desk.
+/// A pass with its desk.
 struct Ready<'a> {
     desk: &'a Desk,
     pass: Pass,
     ghost belongs: { IsPassOf desk.now pass } by { IsPassOf-prop desk.now pass },
 }
 
-/// A turn beside its desk.
+/// A turn with its desk.
 struct Queued<'a> {
     desk: &'a Desk,
     turn: Turn,
     ghost belongs: { IsWaitingAt desk.now turn } by { IsWaitingAt-prop desk.now turn },
 }
 
-/// Somebody who calls a desk: with a pass, or with a turn that didn't come.
+/// A caller of a desk: with a pass, or with a turn that didn't come.
 enum Visitor<'a> {
     Ready(Ready<'a>),
     Queued(Queued<'a>),
@@ -59,7 +59,7 @@ fn ask_within<'a>(queued: Queued<'a>) -> Visitor<'a> {
     Visitor::Queued(queued)
 }
 
-/// Polls once, and asks for the standing of the service where the turn has come.
+/// Polls once, and asks for the standing of the service if the turn has come.
 fn look<'a>(queued: Queued<'a>) -> Visitor<'a> {
     let Queued { desk, turn } = queued;
     match desk.poll(turn) {
@@ -92,7 +92,7 @@ impl<'a, R: Abort> Plugin for Visiting<'a, R> {
     }
 }
 
-/// How many calls a visitor has made whose turn came in time; a turn that didn't is waited for.
+/// The number of calls made by a visitor whose turn came in time. If the turn didn't come, waits for it.
 fn calls_of(rt: &impl Wait, visitor: Visitor) -> Option<u64> {
     match visitor {
         Visitor::Ready(Ready { desk: _, pass }) => Some(pass.calls()),

@@ -1,4 +1,4 @@
-//! One turn over the counter book, in the way in which a layer above uses the lock.
+//! One turn over the counter book, as a layer above uses the lock.
 ghost use Rattle.std.specs.Prelude.{◌≡◌, ◌+◌, MatchResult};
 ghost use Rattle.ticket_lock.specs.Tokens.{seat_of, turn_of, IsSeatOf, IsTurnOf};
 
@@ -6,8 +6,8 @@ use ticket_lock::{Look, Seat, TicketLock, Turn};
 use ticket_steps::counter::CounterBook;
 use ticket_steps::{Kept, NoMemory};
 
-/// Looks, and where the ticket is served records the call under the seat's own number, posts it where
-/// it has a place on the board, and leaves.
+/// Looks. If the ticket is served, records the call under the seat's own number, posts it if it has a place
+/// on the board, and leaves.
 pub(crate) fn take_turn(
     lock: &TicketLock<CounterBook>,
     turn: Turn<CounterBook>,
