@@ -17,9 +17,12 @@ abbrev pub tree_or_null : Option Data → Data
 tree_or_null None = null
 tree_or_null (Some tree) = tree
 
+abbrev pub too_long_text : List ℕ
+too_long_text = codes "the document has more than " ++ (decimal 16777216 ++ codes " bytes")
+
 -- the whole line; for a value of another kind what `IsOfShape` says, and where reading stops is in `IsOfUnread`
 abbrev pub IsExplanation : Data → Fault → List ℕ → Type 0
-IsExplanation tree fault.too_long text = text ≡ codes "the document has more than 16777216 bytes"
+IsExplanation tree fault.too_long text = text ≡ too_long_text
 IsExplanation tree fault.not_json text = Unit {0}
 IsExplanation tree (fault.shape p w) text = IsOfShape tree p w text
 IsExplanation tree (fault.too_many c n) text = text ≡ count_text c n

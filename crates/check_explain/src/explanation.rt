@@ -2,7 +2,7 @@
 ghost use Rattle.std.specs.Prelude.{◌≡◌, ◌++◌, IfOk, OnOk, false, option_map, string_bytes};
 ghost use Rattle.serde_json.specs.View.{view};
 ghost use Rattle.check_drafts.specs.Fault.{seen};
-ghost use Rattle.check_explain.specs.Explanation.{stop_words, tree_or_null, unread_text, IsExplanation, IsOfUnread};
+ghost use Rattle.check_explain.specs.Explanation.{stop_words, too_long_text, tree_or_null, unread_text, IsExplanation, IsOfUnread};
 ghost use Rattle.check_explain.specs.Feeds.{has_feed, HasNoFeed};
 
 use crate::counts::push_count;
@@ -13,7 +13,7 @@ use crate::names::{
 };
 use crate::ranges::push_range;
 use crate::shapes::push_shape;
-use check_drafts::{Fault, Unread};
+use check_drafts::{Fault, MAX_DOCUMENT_BYTES, Unread};
 use serde_json::Value;
 use std::alloc::{AllocError, Global};
 
@@ -45,7 +45,7 @@ fn explanation(alloc: Global, tree: &Value, fault: &Fault) -> Result<Line, Alloc
 {
     let mut line = Line::new(alloc);
     match fault {
-        Fault::TooLong => line.push_words("the document has more than 16777216 bytes")?,
+        Fault::TooLong => push_too_long(&mut line)?,
         Fault::NotJson(unread) => push_unread(&mut line, *unread)?,
         Fault::Shape(place, shape) => push_shape(alloc, &mut line, tree, *place, *shape)?,
         Fault::TooMany(count, number) => push_count(&mut line, *count, *number)?,
@@ -66,6 +66,15 @@ fn explanation(alloc: Global, tree: &Value, fault: &Fault) -> Result<Line, Alloc
         }
     }
     Ok(line)
+}
+
+/// Appends how many bytes a document can have.
+fn push_too_long(line: &mut Line) -> Result<(), AllocError>
+    ensures { OnOk result (line.new ≡ line.old ++ too_long_text) }
+{
+    line.push_words("the document has more than ")?;
+    line.push_number(MAX_DOCUMENT_BYTES as u64)?;
+    line.push_words(" bytes")
 }
 
 /// Appends the place in the text at which a document stops being JSON.

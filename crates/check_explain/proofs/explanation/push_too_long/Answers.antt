@@ -1,0 +1,10 @@
+use Rattle.std.specs.Prelude.{codes, decimal}
+use Rattle.std.proofs.lemmas.Result.{on_ok_weaker}
+use Rattle.check_explain.proofs.PieceLemmas.{three_pieces}
+use Rattle.check_explain.proofs.explanation.push_too_long.Goals as goal
+
+pub returns : goal.returns
+returns c =
+    on_ok_weaker c.push_words-2.result (three_pieces c.args.line.now c.push_words.new.self c.push_number.new.self c.push_words-2.new.self
+    (codes "the document has more than ") (decimal 16777216) (codes " bytes") c.in_ok-push_words.ensures.text c.in_ok-push_number.ensures.text)
+    c.push_words-2.ensures.text
