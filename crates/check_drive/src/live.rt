@@ -10,7 +10,8 @@ ghost use Rattle.check_script.specs.Script.{in_setup};
 ghost use Rattle.check_script.specs.Start.{CanStart};
 ghost use Rattle.check_text.specs.LiveText.{answer_to, said, state_after};
 ghost use Rattle.check_text.specs.Text.{refusal_line};
-ghost use Rattle.check_drive.specs.Live.{AfterAll, AfterLater, AfterLines, AnsweredNext, Conversed, LeavesText, LineFailed, TalkEnded, TookDocument, WentOn, saved_in};
+ghost use Rattle.check_drive.specs.Live.{AfterAll, AfterLater, AfterLines, AnsweredNext, Conversed, LeavesText};
+ghost use Rattle.check_drive.specs.Live.{LineFailed, TalkEnded, TookDocument, WentOn, saved_in};
 ghost use Rattle.check_drive.specs.Streams.{streams};
 
 use crate::drive::{Outcome, answer_command};

@@ -41,8 +41,9 @@ pub enum Ending {
 /// before each read too.
 ///
 /// The status is that of [`exit_status`]. Where it means a fault or that there was no memory, a job
-/// leaves what `run`, `live`, `check`, `write_setup_line` or `drill` says of that error. Without a job, and where the job is the schema, the reader is as it was, and the writer has got
-/// a prefix of what it was to be handed, or nothing.
+/// leaves what `run`, `live`, `check`, `write_setup_line` or `drill` says of that error. Without a job, and
+/// where the job is the schema, the reader is as it was, and the writer has got a prefix of what it was to
+/// be handed, or nothing.
 ///
 /// `rt` is the machine that starts threads and waits, which only a drill uses.
 pub fn session<H: Threads + Wait + Sync, R: Read, W: Write>(
