@@ -145,22 +145,30 @@ setup_by document r is = ap (λ d. refused_as load_error d >>= setup_of_tree) is
 -- a document that has no tree
 pub unread : (document : List ℕ) (f : Fault) (text : List ℕ) (told : Outcome) → document_of document ≡ Err f → IsFaultTold null f text told
     → (e : LoadError) × (setup_of document ≡ Err e) × IsRefusalTold document e text told
-unread document f text told is h = (load_error f, setup_by document (Err f) is, record {
-  found = f;
-  is = subst (λ d. IsFaultIn d f) (sym is) refl;
-  refused = refl;
-  explained = subst (λ d. IsFaultTold (tree_or_null (tree_in d)) f text told) (sym is) h;
-})
+unread document f text told is h = (
+  load_error f,
+  setup_by document (Err f) is,
+  record {
+    found = f;
+    is = subst (λ d. IsFaultIn d f) (sym is) refl;
+    refused = refl;
+    explained = subst (λ d. IsFaultTold (tree_or_null (tree_in d)) f text told) (sym is) h;
+  },
+)
 
 -- a document whose tree is refused
 pub refused_tree : (document : List ℕ) (tree : Data) (f : Fault) (text : List ℕ) (told : Outcome) → document_of document ≡ Ok tree
     → IsRefusedTree tree (Some f) → IsFaultTold tree f text told → (e : LoadError) × (setup_of document ≡ Err e) × IsRefusalTold document e text told
-refused_tree document tree f text told is refused h = (load_error f, setup_by document (Ok tree) is ∙ refused.1, record {
-  found = f;
-  is = subst (λ d. IsFaultIn d f) (sym is) refused.0;
-  refused = refl;
-  explained = subst (λ d. IsFaultTold (tree_or_null (tree_in d)) f text told) (sym is) h;
-})
+refused_tree document tree f text told is refused h = (
+  load_error f,
+  setup_by document (Ok tree) is ∙ refused.1,
+  record {
+    found = f;
+    is = subst (λ d. IsFaultIn d f) (sym is) refused.0;
+    refused = refl;
+    explained = subst (λ d. IsFaultTold (tree_or_null (tree_in d)) f text told) (sym is) h;
+  },
+)
 
 pub good_tree : (document : List ℕ) (tree : Data) (c : Configuration) → document_of document ≡ Ok tree → setup_of_tree tree ≡ Ok c → IsGood document c tree
 good_tree document tree c is good = (is, setup_by document (Ok tree) is ∙ good)
@@ -208,11 +216,18 @@ pub line_written : (document : List ℕ) (c : Configuration) (tree : Data) (line
 line_written document c tree line text good same compact fits is =
     let read = tree_of_document document tree good.0 in
     let setup : setup_of line ≡ setup_of document = setup_by line (Ok tree) (document_by line tree fits (same document read)) ∙ sym (setup_by document (Ok tree) good.0) in
-    rw good.1 (inl ((line, record {
-      same = setup;
-      compact = λ other there. compact (good_floats document c tree good) ∙ ap compact_text (same_tree document tree other read there);
-      fits = fits;
-    }, is), refl))
+    rw good.1 (inl (
+      (
+        line,
+        record {
+          same = setup;
+          compact = λ other there. compact (good_floats document c tree good) ∙ ap compact_text (same_tree document tree other read there);
+          fits = fits;
+        },
+        is,
+      ),
+      refl,
+    ))
 
 pub line_too_long : (document : List ℕ) (c : Configuration) (tree : Data) (text : List ℕ) (told : Outcome) → IsGood document c tree
     → (has_float tree ≡ false → 16777216 < length (compact_text tree)) → IsFaultTold tree fault.too_long text told → IsLineTold document text told
