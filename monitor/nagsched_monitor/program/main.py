@@ -48,8 +48,12 @@ def default_program() -> str:
     return str(beside) if shutil.which("nagsched") is None and os.access(beside, os.X_OK) else "nagsched"
 
 
+OBJECT = "a host's name, or host;description of a service"
+
+
 def words_of(given: Optional[List[str]]) -> argparse.Namespace:
-    parser = argparse.ArgumentParser(prog="nagsched-monitor", description="Monitors a site: it runs plugins, and nagsched decides which is due.")
+    parser = argparse.ArgumentParser(prog="nagsched-monitor", usage="nagsched-monitor [OPTION ..] DIR [COMMAND ..]",
+                                     description="Monitors a site: it runs plugins, and nagsched decides which is due.")
     parser.add_argument("folder", metavar="DIR", type=pathlib.Path, help="the folder of the site")
     parser.add_argument("--program", default=default_program(), metavar="PATH", help="the program nagsched; on the path or next to this one without it")
     parser.add_argument("--alertmanager", action="append", default=[], metavar="URL", help="post standing problems to this Alertmanager; several may be named")
@@ -59,20 +63,21 @@ def words_of(given: Optional[List[str]]) -> argparse.Namespace:
                         help="a name by which browsers reach the page, besides addresses and localhost")
     parser.add_argument("--textfile", metavar="FILE", type=pathlib.Path, help="keep the figures in this file, for node_exporter's textfile collector")
     parser.add_argument("--nagios-files", metavar="DIRECTORY", type=pathlib.Path, help="keep Nagios's status.dat and its pipe nagios.cmd there")
-    words = parser.add_subparsers(dest="word", metavar="WORD", help="without a word it runs the monitor; else it asks the one that runs")
+    words = parser.add_subparsers(dest="word", metavar="COMMAND", prog="nagsched-monitor DIR",
+                                  help="without a command it runs the monitor; test and status need no running monitor, the others ask it")
     status = words.add_parser("status", help="prints the states of objects")
-    status.add_argument("pattern", nargs="?", default="*")
+    status.add_argument("pattern", nargs="?", default="*", help="names of objects, with * and ? as in a shell; all without it")
     status.add_argument("--long", action="store_true", help="with the time of each next check")
     reschedule = words.add_parser("reschedule", help="sets the next check of an object")
-    reschedule.add_argument("name")
+    reschedule.add_argument("name", help=OBJECT)
     reschedule.add_argument("--at", type=time_of, metavar="T", help="a date and time such as 2026-11-27T18:00, or seconds since 1970; now without it")
     reschedule.add_argument("--force", action="store_true", help="also if it is switched off or held back")
     for word, what in (("enable", "on"), ("disable", "off"), ("default", "as the setup has them")):
-        words.add_parser(word, help=f"switches an object's checks {what}").add_argument("name")
+        words.add_parser(word, help=f"switches an object's checks {what}").add_argument("name", help=OBJECT)
     result = words.add_parser("result", help="gives a passive result")
-    result.add_argument("name")
+    result.add_argument("name", help=OBJECT)
     result.add_argument("code", type=code_of, help="0 to 3, or OK, WARNING, CRITICAL or UNKNOWN; UP or DOWN of a host")
-    result.add_argument("output", nargs="?", default="")
+    result.add_argument("output", nargs="?", default="", help="what the plugin printed")
     for word, what in (("test", "reads the site and tests it"), ("reload", "reads the site again"), ("save", "saves the state"), ("stop", "ends the monitor")):
         words.add_parser(word, help=what)
     return parser.parse_args(given)
