@@ -1,4 +1,4 @@
--- What a glance shows.
+-- The result of a glance.
 use Rattle.std.specs.Prelude.{◌≡◌, ◌<◌, ◌≤◌, ℕ, Option, Some, None}
 use Rattle.ticket_lock.specs.Callers.{having_seen}
 use Rattle.ticket_lock.specs.Views.{Follows}

@@ -64,8 +64,8 @@ IsWholeAtRest desk other = ⊥
 abbrev pub IsOnlyPassOf : BookState → DeskPass → Type 0
 IsOnlyPassOf opening pass = (opened_with (desk_of pass) ≡ opening) × IsWholeAtRest (desk_of pass) (pass_state_of pass)
 
--- what is handed back of a desk that opened with this state: a book without entries, or else its only pass, which would need a count of owners that is at its
--- limit
+-- the target that is handed back of a desk that opened with this state: a book without entries, or else its only pass; the pass would need a count of
+-- owners that is at its limit
 abbrev pub IsBackOf : BookState → HandleTarget → Type 0
 IsBackOf opening (target.Book named) = (opening_of named.book ≡ opening) × (entries_of named.book ≡ []) × (refused_of named.book ≡ 0)
 IsBackOf opening (target.Pass pass) = IsOnlyPassOf opening pass
@@ -79,7 +79,7 @@ IsSetupBack terms named (target.Setup back) = back.setup ≡ named.setup
 IsSetupBack terms named (target.Pass pass) = IsOnlyPassOf (book_opening named.setup terms.start terms.room) pass
 IsSetupBack terms named other = ⊥
 
--- what is handed back of this target if memory was refused
+-- the target that is handed back if memory was refused
 abbrev pub IsBack : Terms → HandleTarget → HandleTarget → Type 0
 IsBack terms (target.Setup named) back = IsSetupBack terms named back
 IsBack terms (target.Book named) back = IsBookBack named back

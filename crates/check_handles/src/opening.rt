@@ -1,7 +1,7 @@
 //! Desks opened on a setup, or on a book without entries.
 //!
-//! A desk's seats are asked for before it opens. So if memory is refused for them, the setup or the book
-//! can be handed back.
+//! The memory for a desk's seats is asked for before the desk opens. So if memory is refused for them,
+//! the setup or the book can be handed back.
 
 ghost use Rattle.std.specs.Prelude.{◌≡◌, ◌↔◌, ◌<◌, ◌≤◌, [], length, true, IfOk, IfErr, OnOk};
 ghost use Rattle.std.specs.List.{All};
@@ -25,7 +25,7 @@ use std::alloc::{AllocError, Global};
 use std::sync::Arc;
 use ticket_steps::Kept;
 
-/// On what terms a desk opens.
+/// The terms on which a desk opens.
 #[derive(Clone, Copy)]
 pub struct Terms {
     /// The moment at which scheduling starts, in milliseconds, at most 2^60; 0 for a book, which has its own.
