@@ -12,12 +12,12 @@ use check_handles::reading::{prepare, waits};
 use check_records::{PlainRefusal, plain_refusal};
 use std::alloc::Global;
 
-/// Reads a setup from a JSON document into an empty handle. The document is read twice, since the passes of a
-/// desk need the names of its objects outside its lock.
+/// Reads a setup from a JSON document into an empty handle. The document is read twice, since the
+/// passes of a desk need the names of its objects outside its lock.
 ///
-/// Refused if the document is no setup: the struct says why and where. Wrong exactly if the handle isn't
-/// empty. If memory is refused, the status says so, and says nothing of the document. The handle changes only
-/// if the setup was made, and the struct only with a refusal.
+/// Refused if the document isn't a setup: the struct has the reason and the place. Wrong exactly if the
+/// handle isn't empty. If memory is refused, the status says so, and says nothing about the document.
+/// The handle changes only if the setup was made, and the struct only with a refusal.
 #[unsafe(no_mangle)]
 pub extern "C" fn nagsched_read(
     alloc: Global,
