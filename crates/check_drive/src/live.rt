@@ -41,8 +41,8 @@ use std::io::{Read, Write};
 ///
 /// Line 1 is the setup. If it is refused, the line of its refusal is written, and the conversation ends
 /// before more is asked for. A saved state is line 2: it is the text after the word in a line `saved`.
-/// A refused saved state ends the conversation in the same way: when its line has come, or as soon as
-/// the line has more than 16,777,216 bytes. An accepted saved state has no answer.
+/// A refused saved state ends the conversation in the same way. It is refused when its line has come,
+/// or as soon as the line has more than 16,777,216 bytes. An accepted saved state has no answer.
 ///
 /// The output is flushed before the reader is asked for more, and at the end. The reader is asked for
 /// more only if the buffer holds no whole line. At most 16,777,217 bytes of line 1 and of a saved state
@@ -51,8 +51,8 @@ use std::io::{Read, Write};
 /// Any error of the reader or the writer ends the conversation. An interruption is such an error, and
 /// so is a write that takes no byte.
 ///
-/// - `Read`: the reader failed, or each line with a number below 2^64 - 1 was answered, or 2^64 - 1
-///   reads didn't bring the end of a line.
+/// - `Read`: the reader failed. It also comes if each line with a number below 2^64 - 1 was answered,
+///   or if 2^64 - 1 reads didn't bring the end of a line.
 /// - `Write`: the writer or its flush failed.
 /// - `Memory`: out of memory, which a save may be too.
 ///

@@ -121,7 +121,7 @@ impl DeskPass {
         }
     }
 
-    /// Puts the pass into its place, where it rests.
+    /// Puts the pass into its place. It rests there.
     pub(crate) fn sit(&mut self, pass: Pass)
         requires { IsPassOf (desk_of self.old) pass }
         ensures shared { self.new.shared ≡ self.old.shared }

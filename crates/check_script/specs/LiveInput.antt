@@ -18,7 +18,7 @@ abbrev pub behind_line : List ℕ → List ℕ
 behind_line [] = []
 behind_line (b ∷ bs) = if b == 10 then bs else behind_line bs
 
--- a line of which no more than the first bytes are kept
+-- the kept part of a line: the limit, at most that many first bytes, and whether all of the line is blank
 pub record LineFront : Type 0 where
   pub most : ℕ
   pub bytes : List ℕ

@@ -13,8 +13,8 @@ pub fn limits_of_an_input()
     ensures line { MAX_LINE_BYTES ≡ 4096 }
 {}
 
-/// A conversation asks for 8,192 bytes at a time. It keeps at most 16,777,217 bytes of a setup
-/// document, as many of a saved state, and 4,097 of a later line: one more than each may have.
+/// A conversation asks for 8,192 bytes at a time. It keeps at most 16,777,217 bytes of a setup document
+/// or a saved state, and 4,097 of a later line. Each limit is one more than such a text may have.
 pub fn limits_of_a_conversation()
     ensures asked { ASKED_BYTES ≡ 8192 }
     ensures setup { KEPT_SETUP_BYTES ≡ 16777217 }

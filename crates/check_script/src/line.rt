@@ -27,9 +27,9 @@ pub trait Command: Drop {
 
     ghost meaning: { Configuration → List ℕ → Items → Result Seen LineFault };
 
-    /// The command of a word with these members after it, or its first fault: another shape, then a
-    /// return code above 3, then a name that the setup doesn't have. A fault is reported as that of the
-    /// line with this number. Out of memory is an error of its own.
+    /// The command of a word with these members after it, or its first fault. The faults are, in order:
+    /// another shape, a return code above 3, a name that the setup doesn't have. A fault is reported as
+    /// that of the line with this number. Out of memory is an error of its own.
     fn read(
         alloc: Global,
         setup: &Setup,

@@ -1,5 +1,5 @@
-//! The script of an input: line 1 is the setup document, line 2 a saved state if the scheduler starts
-//! from one, and each later line that isn't blank is one command.
+//! The script of an input. Line 1 is the setup document, and line 2 a saved state if the scheduler
+//! starts from one. Each later line that isn't blank is one command.
 ghost use Rattle.std.specs.Prelude.{◌≤◌, length, map};
 ghost use Rattle.check_objects.specs.Setup.{setup_of};
 ghost use Rattle.check_saved.specs.Text.{saved_of_text};

@@ -24,8 +24,8 @@ use Rattle.check_text.specs.Text.{drill_text, refusal_line}
 abbrev pub gives_scripted : List (List Code) → ℕ → ℕ → ℕ → Code → Type 0
 gives_scripted codes object run now code = code ≡ scripted_code codes object run
 
--- The entries of the pass with this number are those of this shift: a take for each moment in order, and after each check that was taken its report
--- with the scripted code. If the worker stopped early, they are only a beginning of that.
+-- The entries of the pass with this number are those of this shift. They are a take for each moment in order, and after each check that was taken its
+-- report with the scripted code. If the worker stopped early, they are only a beginning of that.
 pub record IsWorkerOf (s : DrillScript) (number : ℕ) (entries : List (Entry Call Reply)) (shift : Shift) : Type 0 where
   pub number_is : shift.number ≡ number
   pub worked : IsShift (gives_scripted s.returns) s.moments shift
@@ -40,8 +40,8 @@ AreWorkersOf s history number (shift ∷ shifts) = IsWorkerOf s number (of numbe
 abbrev pub stopped_in : List Shift → ℕ
 stopped_in shifts = length (filter_map (λ shift. shift.stopped) shifts)
 
--- A history that this many workers can leave over a script, from this start and with this room, and the number of calls that were refused when out of
--- memory.
+-- A history that this many workers can leave over a script, from this start and with this room. With it comes the number of calls that were refused
+-- when out of memory.
 pub record IsDrill (s : DrillScript) (start workers room : ℕ) (history : List (Entry Call Reply)) (refused : ℕ) : Type 0 where
   -- it is that of one thread
   pub legal : IsLegal step (opening s.setup start) history

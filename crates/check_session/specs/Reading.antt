@@ -15,7 +15,7 @@ is_undecided read = (length read == MAX_CHECKED_BYTES) && nat_lt (length (withou
 abbrev pub read_of : List ℕ → List ℕ
 read_of input = take (if is_undecided (take MAX_CHECKED_BYTES input) then MAX_CHECKED_BYTES + 1 else MAX_CHECKED_BYTES) input
 
--- the bytes that a check reads of an input, by how a scheduler starts: of a document alone, or of the input of a run that starts from a saved state
+-- the bytes that a check reads of its input: of a document alone, or of the input of a run that starts from a saved state
 abbrev pub read_for : Start → List ℕ → List ℕ
 read_for (start.Fresh moment) input = read_of input
 read_for (start.Resumed moment) input = take MAX_READ_BYTES input

@@ -81,7 +81,8 @@ abbrev pub Ends : List Text → Result Ending DriveError → Streams → Type 0
 Ends words (Ok ending) io = Did words ending io
 Ends words (Err e) io = Failed words e io
 
--- The exit status: 0 ran or printed its help or version, 1 input refused, 2 arguments refused, 3 a fault of the reader or the writer, 4 out of memory.
+-- The exit status. 0: done, or the help or the version was printed. 1: the input was refused. 2: the arguments were refused. 3: a fault of the reader
+-- or the writer. 4: out of memory.
 abbrev pub exit_status : Result Ending DriveError → ℕ
 exit_status (Ok (ending.Drove outcome.Ran)) = 0
 exit_status (Ok ending.Helped) = 0

@@ -153,9 +153,9 @@ fn write_book<W: Write>(alloc: Global, book: &Book, writer: &mut W) -> Result<Ou
     Ok(Outcome::Ran)
 }
 
-/// Writes the line of each entry of a history, in order, and then the total: the number of entries, and
-/// the number of calls that were refused when out of memory. One buffer serves all lines. Nothing is
-/// flushed.
+/// Writes the line of each entry of a history, in order, and then the total. The total is the number of
+/// entries, and the number of calls that were refused when out of memory. One buffer serves all lines.
+/// Nothing is flushed.
 ///
 /// The error is `Write` if the writer fails or takes no byte, or `Memory`. A prefix of the text was
 /// written then.

@@ -157,8 +157,13 @@ pub fn refuse_words<W: Write>(writer: &mut W) -> Result<(), DriveError>
     print_text(writer, b"refused words\n")
 }
 
-/// The exit status of a session: 0 ran or printed its help or version, 1 input refused, 2 arguments
-/// refused, 3 a fault of the reader or the writer, 4 out of memory.
+/// The exit status of a session:
+///
+/// - 0: done, or the help or the version was printed.
+/// - 1: the input was refused.
+/// - 2: the arguments were refused.
+/// - 3: a fault of the reader or the writer.
+/// - 4: out of memory.
 pub fn exit_status(ended: Result<Ending, DriveError>) -> u8
     ensures { result ≡ exit_status ended }
 {

@@ -10,7 +10,7 @@ EndsLine bytes = (xs : List ℕ) × (bytes ≡ xs ++ 10 ∷ [])
 abbrev pub AreWholeLines : List ℕ → Type 0
 AreWholeLines bytes = (bytes ≡ []) ⊎ EndsLine bytes
 
--- the writer took the text up to where `rest` begins, and no more
+-- the writer took the text up to the beginning of `rest`, and no more
 pub record WroteUpTo (old new : Option (List ℕ)) (text rest : List ℕ) : Type 0 where
   pub front : List ℕ
   pub parts : text ≡ front ++ rest

@@ -157,7 +157,7 @@ fault_text fault.Shape = codes "S3 Shape"
 fault_text fault.Code = codes "S4 Code"
 fault_text fault.UnknownName = codes "S5 UnknownName"
 
--- why an input is refused, and where
+-- why an input is refused, and at which place
 abbrev pub input_refusal_text : InputRefusal → List ℕ
 input_refusal_text (refusal.Setup e) = load_text e
 input_refusal_text (refusal.Saved e) = saved_fault_text e
@@ -196,7 +196,7 @@ abbrev pub script_text : Result Script InputRefusal → List ℕ
 script_text (Ok s) = text_from s.state s.commands
 script_text (Err r) = refusal_line r
 
--- The text that a run writes on the input, by how its scheduler starts: the one line of the input's first refusal, or the lines of the answers to its
+-- The text that a run writes on the input, by how its scheduler starts. It is the line of the input's first refusal, or the lines of the answers to its
 -- commands, in order.
 unfoldable pub text : Start → List ℕ → List ℕ
 text how input = script_text (script_of how input)

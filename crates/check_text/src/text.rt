@@ -241,9 +241,9 @@ fn marks_between_spaces(changed: bool, flapping: bool) -> &'static str
     }
 }
 
-/// Appends the line of an entry of a history, with its line feed: the number of the pass that made the
-/// call, a space, and the line of the reply. An error means out of memory, and a part of the line may
-/// have been appended.
+/// Appends the line of an entry of a history, with its line feed. The line is the number of the pass
+/// that made the call, a space, and the line of the reply. An error means out of memory, and a part of
+/// the line may have been appended.
 pub fn push_entry(
     line: &mut String,
     setup: &Setup,
@@ -258,9 +258,9 @@ pub fn push_entry(
     push_reply(line, setup, call, reply)
 }
 
-/// Appends the last line of a drill, with its line feed: the number of entries in its history, and the
-/// number of calls that were refused when out of memory. An error means out of memory, and a part of
-/// the line may have been appended.
+/// Appends the last line of a drill, with its line feed. It has the number of entries in the history,
+/// and the number of calls that were refused when out of memory. An error means out of memory, and a
+/// part of the line may have been appended.
 pub fn push_total(line: &mut String, entries: usize, refused: u64) -> Result<(), AllocError>
     ensures { OnOk result
         (string_bytes line.new ≡ string_bytes line.old ++ total_line entries refused) }
@@ -292,7 +292,7 @@ pub fn push_refusal(line: &mut String, refusal: InputRefusal) -> Result<(), Allo
     writeln!(line, "refused {reason}")
 }
 
-/// Why an input is refused, and where.
+/// Why an input is refused, and at which place.
 #[derive(Clone, Copy)]
 struct RefusalText(InputRefusal);
 

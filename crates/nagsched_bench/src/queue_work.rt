@@ -57,7 +57,7 @@ fn put_all(queue: &mut Queue, times: &[u64])
     }
 }
 
-/// A queue of numbers, each with its moment of the first minute. An Err means out of memory.
+/// A queue of numbers, each with its moment of the first minute. An error means out of memory.
 pub(crate) fn queue(alloc: Global, numbers: u32) -> Result<Queue, AllocError>
     requires { 0 < numbers }
 {

@@ -143,8 +143,8 @@ pub(crate) fn put(text: &[u8], room: &mut [u8], bytes: &mut usize) -> u32
 
 /// The number of the service's host.
 ///
-/// Missing exactly if the object is a host; wrong exactly if the handle has neither a setup, a pass nor a
-/// book, or if there is no object of this number. The number is written only if there is one.
+/// Missing exactly if the object is a host. Wrong exactly if the handle has neither a setup, a pass nor
+/// a book, or if there is no object of this number. The number is written only if there is one.
 #[unsafe(no_mangle)]
 pub extern "C" fn nagsched_host_of(
     alloc: Global,

@@ -60,8 +60,8 @@ fn put_saved(alloc: Global, book: &Book, text: &mut [u8], bytes: &mut usize) -> 
 }
 
 /// Makes the book over a setup that resumes the saved state of a text, from the moment `start` on, in
-/// milliseconds, at most 2^60, with memory for `room` entries at once. It has no entries. The setup's
-/// handle is empty afterwards.
+/// milliseconds, at most 2^60. The book has memory for `room` entries at once, and no entries. The
+/// setup's handle is empty afterwards.
 ///
 /// Refused if the text isn't a saved state: the struct has the reason and the place. Wrong exactly if
 /// the first handle has no setup, the other isn't empty, or the start is later. If memory is refused,

@@ -27,7 +27,7 @@ impl Notes {
     }
 }
 
-/// A reader that gives at most `most` bytes in one call. It notes each call that came before an answer
+/// A reader that gives at most `most` bytes in one call. It notes whether a call came before an answer
 /// was flushed.
 #[derive(Drop)]
 struct Asker<'a> {
