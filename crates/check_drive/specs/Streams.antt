@@ -1,7 +1,7 @@
 -- The bytes that a reader has left and those that a writer holds, before a call and after it.
 use Rattle.std.specs.Prelude.{ℕ, List, Option}
 
--- each field is None if it isn't known
+-- None marks a field that isn't known
 pub record Streams : Type 0 where
   -- the bytes that the reader has left, before and after
   pub had : Option (List ℕ)

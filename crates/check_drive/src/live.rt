@@ -54,7 +54,7 @@ use std::io::{Read, Write};
 /// - `Read`: the reader failed. It also comes if each line with a number below 2^64 - 1 was answered,
 ///   or if 2^64 - 1 reads didn't bring the end of a line.
 /// - `Write`: the writer or its flush failed.
-/// - `Memory`: out of memory, which a save may be too.
+/// - `Memory`: out of memory. A save may run out of memory too.
 ///
 /// A prefix of the text was written then, and after `Memory` whole lines of it.
 ///
@@ -323,7 +323,7 @@ impl Talk {
     }
 
     /// Writes the answer to the line that was taken. The memory for a reply's line is there before its
-    /// call is made. A save may be out of memory, and changes nothing.
+    /// call is made. A save may run out of memory, and changes nothing.
     fn answer<W: Write>(
         &mut self,
         alloc: Global,

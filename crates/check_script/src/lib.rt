@@ -1,7 +1,7 @@
 #![tactic(auto)]
-//! Reads an input: bytes from a reader, lines, a setup, and commands, or the input's first refusal.
+//! Reads an input: its bytes, lines, setup and commands, or its first refusal.
 //!
-//! The modules, in the order in which a byte goes through the first of them:
+//! The modules (a byte goes through `input`, `script` and `line`, in this order):
 //!
 //! - `input`: bytes from a reader, and lines. `reader` asks a reader.
 //! - `script`: a setup, a saved state if the scheduler starts from one, and a command for each later

@@ -209,7 +209,7 @@ AsksHelp words = IsAmong kind.DisplayHelp (fault_of program words)
 abbrev pub AsksVersion : List Text → Type 0
 AsksVersion words = IsAmong kind.DisplayVersion (fault_of program words)
 
--- the arguments ask for this text: some help, or the version
+-- the arguments ask for this text: help, about which nothing more is said, or the version
 abbrev pub AsksText : List Text → Text → Type 0
 AsksText words text = AsksHelp words ⊎ (AsksVersion words × (text ≡ version_line))
 
@@ -239,7 +239,7 @@ Reads (Ok job) expected = expected ≡ Some job
 Reads (Err error.Refused) expected = expected ≡ None
 Reads (Err e) expected = ⊥
 
--- the meaning of an error of this kind; its text may need memory too
+-- the meaning of an error of this kind; making its text may run out of memory too
 abbrev pub Tells : ErrorKind → WordsError → Type 0
 Tells k (error.Help text) = (k ≡ kind.DisplayHelp) ⊎ ((k ≡ kind.DisplayVersion) × (string_bytes text ≡ version_line))
 Tells k error.Refused = IsFault k × (k ≢ kind.OutOfMemory)

@@ -1,27 +1,29 @@
 #![tactic(auto)]
-//! The program `nagsched_bench`: makes a workload, and prints how long it took. The scripts of `bench/`
-//! time it, when somebody runs them.
+//! The program `nagsched_bench`: makes many cycles of a workload, and prints how long they took. The
+//! scripts of `bench/` time it, when somebody runs them.
 //!
 //! Its arguments are `WORKLOAD N CYCLES [untimed]`. It writes one line: `ns=TIME ops=CYCLES sum=SUM`,
 //! or the same without the time if the last argument is `untimed`. The sum is made from all that the
 //! workload saw. So two programs that make the same workload can be compared.
 //!
-//! | Workload | A cycle |
-//! |---|---|
-//! | `steady` | takes the first of n entries out, and puts it back 5 minutes later |
-//! | `cycle` | takes a check of one of n objects, and reports that it is OK |
-//! | `depend` | as `cycle`, but every service except the first depends on the first |
-//! | `inherit` | as `depend`, but these dependencies inherit, and the first service depends on the second |
-//! | `vary` | takes the check that is due first at its moment, and reports a random code |
-//! | `lines` | as `cycle`, and the replies are written as lines of text |
-//! | `ask` | as `cycle`, by the only pass of a desk |
+//! A cycle of each workload:
+//!
+//! - `steady`: takes the first of n entries out, and puts it back 5 minutes later.
+//! - `cycle`: takes a check of one of n objects, and reports that it is OK.
+//! - `depend`: as `cycle`, but every service except the first depends on the first.
+//! - `inherit`: as `depend`, but these dependencies inherit, and the first service depends on the
+//!   second.
+//! - `vary`: takes the check that is due first at its moment, and reports a random code.
+//! - `lines`: as `cycle`, and the replies are written as lines of text.
+//! - `ask`: as `cycle`, by the only pass of a desk.
 //!
 //! The modules:
 //!
 //! - `queue_work`: the workload of the queue.
 //! - `sched_work`: the workloads of the scheduler.
 //! - `desk_work`: the workload of a desk.
-//! - `random`: the pseudo-random numbers.
+//! - `random`: the pseudo-random numbers, and the sum.
+//! - `made`: the time and the sum of a workload.
 //!
 //! `bench/c_asks.c` measures the cost of a shared scheduler, over the C library.
 
