@@ -82,7 +82,7 @@ impl DeskPass {
         true
     }
 
-    /// Whether it is at rest.
+    /// Whether the pass is at rest.
     pub(crate) fn rests(&self) -> bool
         ensures { (result ≡ true) ↔ IsAtRest (pass_state_of self.now) }
     {

@@ -1,4 +1,4 @@
-//! Desks opened on a setup, or on a book without entries.
+//! Opens desks on a setup, or on a book without entries.
 //!
 //! The memory for a desk's seats is asked for before the desk opens. So if it is refused, the setup or
 //! the book can be handed back.

@@ -1,4 +1,4 @@
-//! A book over a setup that resumes a saved state.
+//! Makes a book over a setup that resumes a saved state.
 
 ghost use Rattle.std.specs.Prelude.{◌≡◌, ◌↔◌, ◌≤◌, true, false};
 ghost use Rattle.check_handles.specs.Resuming.{IsResumed, IsSameSetup, IsSetup};
@@ -9,7 +9,7 @@ use check_sched::{LAST_MOMENT, Saved};
 use std::alloc::Global;
 use std::mem::replace;
 
-/// Whether it is a setup.
+/// Whether the target is a setup.
 pub fn is_setup(target: &HandleTarget) -> bool
     ensures { (result ≡ true) ↔ IsSetup target.now }
 {

@@ -18,8 +18,8 @@ without_last_feed [] = []
 without_last_feed (b ∷ []) = if b == 10 then [] else b ∷ []
 without_last_feed (b ∷ c ∷ bs) = b ∷ without_last_feed (c ∷ bs)
 
--- These are the lines of the input. No line has a line feed. Joined by line feeds they are the input, except for one line feed at its end. No byte
--- gives no line, and any bytes give at least one.
+-- These are the lines of the input. No line has a line feed. Joined by line feeds they are the input, except for one line feed at its end. An empty
+-- input has no line, and any other input has at least one.
 pub record AreLines (input : List ℕ) (lines : List (List ℕ)) : Type 0 where
   pub feedless : AllByRecursion HasNoFeed lines
   pub joined : join_with_byte 10 lines ≡ without_last_feed input

@@ -33,7 +33,7 @@ abbrev pub said_by : {K : Type 0} → (List ℕ → Items → Result K LineFault
 said_by meaning n line = if is_blank line then Ok None else (command_of meaning n line >>= λ command. Ok (Some command))
 
 -- The first line of these bytes was taken, with its line feed, and at most `most` bytes of it are kept. The fields are the kept part of the line, the
--- bytes left after the line, and whether it has a line feed. If it has none, `end` holds.
+-- bytes left after the line, and whether it has a line feed. If it has no line feed, `end` holds.
 pub record TookLine (most : ℕ) (bytes : List ℕ) (line : LineFront) (rest : List ℕ) (end : Type 0) (whole : Bool) : Type 0 where
   pub line_is : line ≡ front_of most (first_line_of bytes)
   pub rest_is : rest ≡ behind_line bytes

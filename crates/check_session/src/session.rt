@@ -119,7 +119,7 @@ fn tell_schema<W: Write>(alloc: Global, writer: &mut W) -> Result<Outcome, Drive
     }
 }
 
-/// Writes a text and flushes it, as the whole of a job.
+/// Writes the whole text of a job, and flushes it.
 fn tell_text<W: Write>(writer: &mut W, told: &str) -> Result<Outcome, DriveError>
     ensures { IsTextTold told.now result (W.contents writer.old) (W.contents writer.new) }
 {

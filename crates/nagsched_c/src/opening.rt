@@ -1,4 +1,4 @@
-//! Desks opened on a setup, or on a book without entries.
+//! Opens desks on a setup, or on a book without entries.
 
 ghost use Rattle.std.specs.Prelude.{◌≡◌, ◌≢◌, ◌⊎◌, ◌↔◌, ◌<◌, true};
 ghost use Rattle.check_handles.specs.Handles.{contents_of};
