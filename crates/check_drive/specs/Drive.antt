@@ -1,4 +1,4 @@
--- What a run from a reader to a writer leaves, fault or none.
+-- How a run from a reader to a writer ends, with or without a fault.
 use Rattle.std.specs.Prelude.{ℕ, ◌≡◌, ◌⊎◌, List, Option, Result, Ok, Err, IfErr, IfOk, IfSome, OnErr, OnOk, take}
 use Rattle.std.specs.Io.KnownBytes.{Appends, Keeps, Consumes}
 use Rattle.check_script.specs.declared.drive_error.DriveError.{DriveError}
@@ -13,7 +13,7 @@ use Rattle.check_drive.specs.declared.drive.Outcome.{Outcome}
 use Rattle.check_drive.specs.declared.drive.Outcome.TheVariants as outcome
 use Rattle.check_drive.specs.Streams.{Streams}
 
--- what was read is run
+-- the outcome of a reading: a run, or a refusal
 abbrev pub outcome_by : {A : Type 0} → Result A InputRefusal → Outcome
 outcome_by (Ok x) = outcome.Ran
 outcome_by (Err r) = outcome.Refused
@@ -26,18 +26,18 @@ outcome_of how input = outcome_by (script_of how input)
 abbrev pub HasRead : Option (List ℕ) → Option (List ℕ) → List ℕ → Type 0
 HasRead had left input = Consumes had left (take MAX_READ_BYTES input)
 
--- An input of a reader: where it is known what the reader had, it is that.
+-- An input of a reader. If it is known what the reader had, the input is that.
 abbrev pub IsInput : Option (List ℕ) → List ℕ → Type 0
 IsInput had input = IfSome had (λ bytes. input ≡ bytes)
 
--- What an error leaves of a text: after a fault of the reader nothing was written, after one of the writer a prefix of the text. Out of memory
--- whole lines of it were written, and something is missing.
+-- The part of a text that an error leaves. After a fault of the reader nothing was written, and after a fault of the writer a prefix of the text. Out
+-- of memory, nothing was written, or whole lines of the text that aren't all of it.
 abbrev pub LeavesRun : DriveError → Option (List ℕ) → Option (List ℕ) → List ℕ → Type 0
 LeavesRun errors.Read held holds text = Keeps held holds
 LeavesRun errors.Write held holds text = WroteFront held holds text
 LeavesRun errors.Memory held holds text = WroteShort held holds text
 
--- How a run ended, by how its scheduler starts. Whatever is known of reader and writer, there is one input of which all this holds.
+-- How a run ended, by how its scheduler starts. Even if the reader and the writer aren't known, there is one input for which all this holds.
 pub record Drove (how : Start) (ended : Result Outcome DriveError) (io : Streams) : Type 0 where
   pub input : List ℕ
   pub is_input : IsInput io.had input
@@ -45,6 +45,6 @@ pub record Drove (how : Start) (ended : Result Outcome DriveError) (io : Streams
   pub outcome_is : IfOk ended (λ outcome. outcome ≡ outcome_of how input)
   pub written : OnOk ended (Appends io.held io.holds (text how input))
   pub read : OnOk ended (HasRead io.had io.left input)
-  -- what an error leaves of the text, which is nothing unless the input was read to its end or to the limit
+  -- the part of the text that an error leaves; nothing, unless the input was read to its end or to the limit
   pub fault : IfErr ended (λ e. LeavesRun e io.held io.holds (text how input))
   pub unread : OnErr ended (Keeps io.held io.holds ⊎ HasRead io.had io.left input)

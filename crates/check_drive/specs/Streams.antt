@@ -1,12 +1,12 @@
--- What a reader has left and a writer holds, before a call and after it.
+-- The bytes that a reader has left and those that a writer holds, before a call and after it.
 use Rattle.std.specs.Prelude.{ℕ, List, Option}
 
--- each is None where it isn't known
+-- None marks a field that isn't known
 pub record Streams : Type 0 where
-  -- what the reader has left, before and after
+  -- the bytes that the reader has left, before and after
   pub had : Option (List ℕ)
   pub left : Option (List ℕ)
-  -- what the writer holds, before and after
+  -- the bytes that the writer holds, before and after
   pub held : Option (List ℕ)
   pub holds : Option (List ℕ)
 

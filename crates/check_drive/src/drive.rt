@@ -13,14 +13,14 @@ use check_text::{REPLY_BYTES, flush, push_reply, write_refusal, write_saved, wri
 use std::alloc::Global;
 use std::io::{Read, Write};
 
-/// How a run, a conversation, a drill, a check or the writing of a schema ended that met no fault and
+/// How a run, a conversation, a drill, a check or the writing of a schema ended, if it met no fault and
 /// wasn't out of memory.
 #[derive(Clone, Copy, Debug, PartialEq, Eq)]
 pub enum Outcome {
-    /// What was asked for was done. A run made each call of its script and wrote the line of each reply.
+    /// The job was done. A run made each call of its script and wrote the line of each reply.
     Ran,
-    /// The input was refused before any call was made, and the line of its first refusal written. Of the
-    /// input of a conversation only the setup and what was saved are refused so.
+    /// The input was refused before any call was made, and the line of its first refusal was written. A
+    /// conversation refuses its input only for the setup or the saved state.
     Refused,
 }
 
@@ -40,24 +40,28 @@ pub fn drive<R: Read, W: Write>(
     run(alloc, Start::Fresh(start), reader, writer)
 }
 
-/// Reads a setup, a saved state if the scheduler starts from one, and a script, checks every line, then
-/// makes the calls on one scheduler that starts so, and writes the line of each reply. The command `save`
-/// is no call: it is answered by the line of the scheduler's saved state, and changes nothing. An input
-/// that is refused writes the line of its first refusal and nothing else. The writer is flushed once, at
-/// the end.
+/// Runs a script. It reads a setup, a saved state if the scheduler starts from one, and commands, and
+/// checks every line. Then it makes the calls on one scheduler that starts as `start` says, and writes
+/// the line of each reply. The command `save` isn't a call: its answer is the line of the scheduler's
+/// saved state, and it changes nothing. For a refused input it writes only the line of the first
+/// refusal. The writer is flushed once, at the end.
 ///
-/// Line 1 is the setup. A saved state is line 2, whatever its length, as the line `saved` has it after that
-/// word. The first refusal is that of the input's length, then of the setup, then of the saved state, then
-/// of the lines in their order.
+/// Line 1 is the setup. A saved state is line 2, of any length: it is the text after the word in a line
+/// `saved`. The tests come in this order: the input's length, the setup, the saved state, the lines in
+/// their order.
 ///
-/// The input is read whole, but no more than 67,108,865 bytes of it. Any error of the reader or the
-/// writer, an interruption among them, and a write that takes no byte, ends the run: `Read` comes
-/// where the reader fails, and nothing was written then; `Write` where the writer or its flush fails,
-/// and `Memory` where there is no memory, and a prefix of the text was written then, which is empty
-/// where the input wasn't read. After `Memory` it is whole lines, and never all of a text that has a line.
+/// The input is read whole, but at most 67,108,865 bytes of it. Any error of the reader or the writer
+/// ends the run. An interruption is such an error, and so is a write that takes no byte.
 ///
-/// Input, text and commands are our own profile. The rules of the calls are those of check_sched, after the
-/// chapters of the Nagios Core 4 manual that it names.
+/// - `Read`: the reader failed, and nothing was written.
+/// - `Write`: the writer or its flush failed, and a prefix of the text was written.
+/// - `Memory`: out of memory, and a prefix of the text was written. It is whole lines, and never all of
+///   a text that has a line.
+///
+/// The prefix is empty if the input wasn't read.
+///
+/// Input, text and commands are our own profile. The rules of the calls are those of check_sched, after
+/// the chapters of the Nagios Core 4 manual that it names.
 pub fn run<R: Read, W: Write>(
     alloc: Global,
     start: Start,
@@ -117,9 +121,9 @@ fn carry_out<W: Write>(
     Ok(Outcome::Ran)
 }
 
-/// Carries out one command, and writes the line of its answer: of a call that of its reply, by way of
-/// the buffer `line`. With room for `REPLY_BYTES` in that buffer memory is wanting only where the
-/// scheduler is saved, which changes nothing.
+/// Carries out one command, and writes the line of its answer. The line of a reply goes through the
+/// buffer `line`. With room for `REPLY_BYTES` in that buffer, `Memory` comes only when the scheduler is
+/// saved, which changes nothing.
 pub(crate) fn answer_command<W: Write>(
     alloc: Global,
     sched: &mut Sched,
@@ -140,8 +144,8 @@ pub(crate) fn answer_command<W: Write>(
     }
 }
 
-/// Makes one call, and writes the line of its reply by way of the buffer `line`. With room for
-/// `REPLY_BYTES` in that buffer no memory is wanting.
+/// Makes one call, and writes the line of its reply through the buffer `line`. With room for
+/// `REPLY_BYTES` in that buffer, `Memory` doesn't come.
 pub fn make_call<W: Write>(
     sched: &mut Sched,
     call: Call,

@@ -1,4 +1,5 @@
-//! Laws of what runs write, each the contract of a function without parameters and code.
+//! Laws of the texts that runs write. Each law is the contract of a function without parameters and
+//! code.
 ghost use Rattle.std.specs.Prelude.{ℕ, ◌≡◌, ◌≤◌, ◌++◌, List, None, Ok, false, length};
 ghost use Rattle.check_sched.specs.State.{State};
 ghost use Rattle.check_script.specs.declared.script.TheConstants.{MAX_INPUT_BYTES};
@@ -10,11 +11,11 @@ ghost use Rattle.check_text.specs.Output.{AreWholeLines};
 ghost use Rattle.check_text.specs.Text.{saved_line, text};
 ghost use Rattle.check_drive.specs.Cut.{first_part, second_part, whole_input};
 
-/// A run that is accepted is cut behind any of its lines. The first part, with `["save"]` behind it, writes
-/// what the whole writes of it, and then the line of a saved state. The second part, behind the same setup
-/// document and that saved state, writes what the whole writes of it. So the answers of both are together
-/// those of the whole, except for the line of the saved state; where each of the two is within the limit of
-/// an input.
+/// A run that is accepted can be cut after any of its lines. The first part ends with `["save"]`. It
+/// writes what the whole run writes for it, and then the line of a saved state. The second part begins
+/// with the same setup document and that saved state. It writes what the whole run writes for it. Both
+/// parts together give the answers of the whole run, except for the line of the saved state. This holds
+/// for each part that is within the limit of an input.
 pub fn a_cut_run_goes_on()
     ensures { (start : ℕ) → (document front rest : List ℕ) → (script : Script)
         → start ≤ LAST_MOMENT → has_feed document ≡ false → AreWholeLines front

@@ -1,15 +1,17 @@
 #![tactic(auto)]
-//! What the program does on one scheduler, with a reader and a writer that the caller gives: a run, and
-//! a conversation.
+//! Runs and conversations on one scheduler, with a reader and a writer that the caller gives.
 //!
-//! `drive` is a run: an input is read by `check_script`, its calls are made, and the lines are made and
-//! written by `check_text`. `live` is a conversation, whose lines `live_lines` takes one at a time, and
-//! whose errors `live_faults` converts. Both start their scheduler fresh or from a saved state, as `Start`
-//! of `check_script` says. `laws` says what two runs write of which the second continues from the saved
-//! state of the first.
+//! The modules:
 //!
-//! These are public, since a function `drive` and a module of that name can't stand side by side at the
-//! root.
+//! - `drive`: a run. `check_script` reads its input, and `check_text` makes and writes its lines.
+//! - `live`: a conversation. `live_lines` takes its lines one at a time, and `live_faults` converts its
+//!   errors.
+//! - `laws`: the texts of two runs if the second one continues from the saved state of the first.
+//!
+//! A run and a conversation start their scheduler fresh or from a saved state (`Start` of
+//! `check_script`).
+//!
+//! The modules are public, because a function `drive` and a module `drive` can't both be at the root.
 
 pub mod drive;
 pub mod laws;

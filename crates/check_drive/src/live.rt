@@ -1,4 +1,4 @@
-//! A conversation: reads a setup, and then answers each line when it has come, before it asks for more.
+//! A conversation: reads a setup, then answers each line when it has come, before it asks for more.
 ghost use Rattle.std.specs.Prelude.{◌≡◌, ◌≢◌, ◌≤◌, ◌++◌, ◌⊎◌, ℕ, List, [], Ok, IfOk, IfErr, OnOk, true, false, length, string_capacity};
 ghost use Rattle.std.specs.Io.KnownBytes.{Appends, Consumes, IsAtEnd, Keeps};
 ghost use Rattle.check_objects.specs.Setup.{setup_of};
@@ -29,29 +29,37 @@ use check_text::{REPLY_BYTES, flush, write_refusal};
 use std::alloc::{AllocError, Global};
 use std::io::{Read, Write};
 
-/// Reads a setup, and a saved state if the scheduler starts from one, starts the scheduler, and then
-/// answers each line when it is complete: its line feed has come, or the input has ended behind it. A call
-/// is made and the line of its reply written; the command `save` is answered by the line of the scheduler's
-/// saved state, and changes nothing; a line that is no command is answered with the line of its refusal,
-/// and the scheduler stays as it was; a blank line is passed over.
+/// Holds a conversation. It reads a setup, and a saved state if the scheduler starts from one, and
+/// starts the scheduler. Then it answers each line when the line is complete: its line feed has come,
+/// or the input has ended after it.
 ///
-/// Line 1 is the setup. A refused setup writes the line of its refusal, and ends the conversation before
-/// more is asked for. A saved state is line 2, as the line `saved` has it after that word. If it is refused,
-/// it ends the conversation likewise: when its line has come, or as soon as it has more than 16,777,216
-/// bytes. A saved state that is accepted has no answer.
+/// - A call is made, and the line of its reply is written.
+/// - The command `save` is answered by the line of the scheduler's saved state, and changes nothing.
+/// - A line that isn't a command is answered by the line of its refusal, and the scheduler stays as it
+///   was.
+/// - A blank line is skipped.
 ///
-/// What was written is flushed before the reader is asked for more, and at the end. A reader is asked
-/// for more only where no whole line is at hand. Of line 1 no more is kept than 16,777,217 bytes, and
-/// of a later line 4,097; there is no limit on the input.
+/// Line 1 is the setup. If it is refused, the line of its refusal is written, and the conversation ends
+/// before more is asked for. A saved state is line 2: it is the text after the word in a line `saved`.
+/// A refused saved state ends the conversation in the same way. It is refused when its line has come,
+/// or as soon as the line has more than 16,777,216 bytes. An accepted saved state has no answer.
 ///
-/// Any error of the reader or the writer, an interruption among them, and a write that takes no byte,
-/// ends the conversation: `Read` comes where the reader fails, or where each line with a number below
-/// 2^64 - 1 was answered, or 2^64 - 1 reads didn't bring the end of a line; `Write` where the writer or
-/// its flush fails, and `Memory` where there is no memory, which a save may want too. A prefix of the
-/// text was written then, after `Memory` whole lines of it.
+/// The output is flushed before the reader is asked for more, and at the end. The reader is asked for
+/// more only if the buffer holds no whole line. At most 16,777,217 bytes of line 1 and of a saved state
+/// are kept, and 4,097 of any other line. The input has no limit.
 ///
-/// Input, text and commands are our own profile. The rules of the calls are those of check_sched, after the
-/// chapters of the Nagios Core 4 manual that it names.
+/// Any error of the reader or the writer ends the conversation. An interruption is such an error, and
+/// so is a write that takes no byte.
+///
+/// - `Read`: the reader failed. It also comes if each line with a number below 2^64 - 1 was answered,
+///   or if 2^64 - 1 reads didn't bring the end of a line.
+/// - `Write`: the writer or its flush failed.
+/// - `Memory`: out of memory. A save may run out of memory too.
+///
+/// A prefix of the text was written then, and after `Memory` whole lines of it.
+///
+/// Input, text and commands are our own profile. The rules of the calls are those of check_sched, after
+/// the chapters of the Nagios Core 4 manual that it names.
 pub fn live<R: Read, W: Write>(
     alloc: Global,
     start: Start,
@@ -66,8 +74,8 @@ pub fn live<R: Read, W: Write>(
     as_told(converse(alloc, start, reader, writer))
 }
 
-/// A conversation, which tells a loop that is spent from a fault of the reader: a loop is spent only where
-/// 2^64 - 3 bytes were given.
+/// A conversation that distinguishes a spent loop from a fault of the reader. A loop is spent only if
+/// at least 2^64 - 3 bytes were given.
 fn converse<R: Read, W: Write>(
     alloc: Global,
     start: Start,
@@ -89,9 +97,9 @@ fn converse<R: Read, W: Write>(
     }
 }
 
-/// Goes on after a setup: starts the scheduler, which may take a saved state, and answers the lines for it.
-/// Nothing is read where nothing may follow the setup. A loop is spent only where 2^64 - 3 bytes were at
-/// hand or were given.
+/// Continues after a setup: starts the scheduler, which may resume a saved state, and answers the lines
+/// for it. If nothing may follow the setup, nothing is read. A loop is spent only if at least 2^64 - 3
+/// bytes were in the buffer or were given.
 fn go_on<R: Read, W: Write>(
     alloc: Global,
     start: Start,
@@ -169,9 +177,9 @@ fn read_first<R: Read>(
     Ok((read_setup(alloc, document.bytes()), whole))
 }
 
-/// The saved state of line 2, or its refusal, and whether lines may follow. Where nothing may follow the
-/// setup, line 2 has no byte, and nothing is read. Where the whole line is at hand the reader isn't asked.
-/// Before this line nothing was written, so nothing is flushed.
+/// The saved state of line 2, or its refusal, and whether lines may follow. If nothing may follow the
+/// setup, line 2 is empty, and nothing is read. If the buffer holds the whole line, the reader isn't
+/// asked. Nothing was written before this line, so nothing is flushed.
 fn take_saved<R: Read>(
     alloc: Global,
     may_follow: bool,
@@ -199,8 +207,7 @@ fn take_saved<R: Read>(
     Ok((read_saved(alloc, line.bytes()), follow))
 }
 
-/// A scheduler that is spoken to, what is at hand of the input, and the buffers of a line and of a
-/// reply's.
+/// A scheduler in a conversation, the input in its buffer, and the buffers of a line and of a reply.
 #[derive(Drop)]
 struct Talk {
     sched: Sched,
@@ -210,7 +217,7 @@ struct Talk {
 }
 
 impl Talk {
-    /// This scheduler, spoken to.
+    /// A conversation with this scheduler.
     fn new(alloc: Global, sched: Sched, at_hand: InputBuffer) -> Result<Talk, AllocError>
         ensures sched { IfOk result (λ talk. talk.sched ≡ sched) }
         ensures at_hand { IfOk result (λ talk. talk.at_hand ≡ at_hand) }
@@ -226,7 +233,7 @@ impl Talk {
         })
     }
 
-    /// Answers the lines from the one with the number `begins` on, where any may follow. Else nothing
+    /// Answers the lines from the one with the number `begins` on, if any may follow. Otherwise nothing
     /// is read or written.
     fn answer_all<R: Read, W: Write>(
         &mut self,
@@ -256,8 +263,8 @@ impl Talk {
         Ok(Outcome::Ran)
     }
 
-    /// Answers each line from the one with the number `begins` on, to the end of the input, and flushes
-    /// the writer then. `LinesSpent` comes only where all lines below 2^64 - 1 were answered.
+    /// Answers each line from the one with the number `begins` on, to the end of the input, and then
+    /// flushes the writer. `LinesSpent` comes only if all lines below 2^64 - 1 were answered.
     fn answer_lines<R: Read, W: Write>(
         &mut self,
         alloc: Global,
@@ -283,8 +290,8 @@ impl Talk {
         Err(LiveError::LinesSpent)
     }
 
-    /// Takes the next line, which has this number, and writes its answer; returns whether lines may
-    /// follow. Where a whole line is at hand the reader stays as it was. Where there is no memory the
+    /// Takes the next line, which has this number, and writes its answer. Returns whether lines may
+    /// follow. If the buffer holds a whole line, the reader stays as it was. Out of memory, the
     /// scheduler stays as it was, and nothing is written.
     fn answer_next<R: Read, W: Write>(
         &mut self,
@@ -315,8 +322,8 @@ impl Talk {
         Ok(whole)
     }
 
-    /// Writes the answer to the line that was taken. The memory for a reply's line is there before
-    /// its call is made. A save may want memory, and changes nothing.
+    /// Writes the answer to the line that was taken. The memory for a reply's line is there before its
+    /// call is made. A save may run out of memory, and changes nothing.
     fn answer<W: Write>(
         &mut self,
         alloc: Global,

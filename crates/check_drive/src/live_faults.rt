@@ -1,4 +1,5 @@
-//! Errors of a conversation: from those of what only writes, and to those that its caller is given.
+//! Conversions of errors: from functions that only write to a conversation, and from a conversation to
+//! its caller.
 ghost use Rattle.std.specs.Prelude.{◌≡◌, ◌≢◌, IfErr};
 ghost use Rattle.check_script.specs.LiveError.{IsWritten, told_by};
 
@@ -16,7 +17,7 @@ pub fn as_written<T: Drop>(written: Result<T, DriveError>) -> Result<T, LiveErro
     }
 }
 
-/// The result of a conversation, as its caller is given it.
+/// The result of a conversation, as its caller gets it.
 pub fn as_told<T: Drop>(ended: Result<T, LiveError>) -> Result<T, DriveError>
     ensures { result ≡ told_by ended }
 {

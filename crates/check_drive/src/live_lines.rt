@@ -1,5 +1,5 @@
-//! The lines of a conversation, taken one at a time: the reader is asked only where no whole line is
-//! at hand, and what was written is flushed before.
+//! Takes the lines of a conversation one at a time. The reader is asked only if the buffer holds no
+//! whole line, and the output is flushed before.
 ghost use Rattle.std.specs.Prelude.{◌≡◌, ◌<◌, ◌⊎◌, ◌++◌, ℕ, List, [], IfOk, IfErr, OnOk, true, false, length};
 ghost use Rattle.std.specs.Io.KnownBytes.{Consumes, IsAtEnd, Keeps};
 ghost use Rattle.check_script.specs.LiveError.{AfterLine, IsOfInput};
@@ -10,9 +10,9 @@ use check_script::{InputBuffer, KeptLine, LiveError};
 use check_text::flush;
 use std::io::{Read, Write};
 
-/// Takes the next line, and returns whether its line feed came: where it didn't, the input has ended.
-/// Where a whole line is at hand the reader isn't asked, and only memory may be refused. `ReadsSpent` comes
-/// only where 2^64 - 1 reads each gave something of the line.
+/// Takes the next line, and returns whether its line feed came. If it didn't, the input has ended. If
+/// the buffer holds a whole line, the reader isn't asked, and the only possible error is `Memory`.
+/// `ReadsSpent` comes only if each of 2^64 - 1 reads gave something of the line.
 pub fn take_next_line<R: Read, W: Write>(
     at_hand: &mut InputBuffer,
     line: &mut KeptLine,
@@ -36,7 +36,7 @@ pub fn take_next_line<R: Read, W: Write>(
     Ok(true)
 }
 
-/// Takes the rest of a line that has begun, where nothing is at hand.
+/// Takes the rest of a line that has begun. The buffer is empty.
 fn take_rest<R: Read, W: Write>(
     at_hand: &mut InputBuffer,
     line: &mut KeptLine,
@@ -63,8 +63,8 @@ fn take_rest<R: Read, W: Write>(
     Err(LiveError::ReadsSpent)
 }
 
-/// Asks the reader for more, where nothing is at hand, and returns whether it gave any. What was
-/// written goes out before.
+/// Asks the reader for more, and returns whether it gave any. The buffer is empty. The output is
+/// flushed before.
 fn ask<R: Read, W: Write>(
     at_hand: &mut InputBuffer,
     reader: &mut R,

@@ -1,4 +1,4 @@
--- What becomes of passes that are gathered, of a desk that is closed, and of a book that is renewed.
+-- The results of gathering passes, closing a desk and renewing a book.
 use Rattle.std.specs.Prelude.{◌≡◌, ◌+◌, ◌<◌, ◌≤◌, ⊤, ℕ, [], length, Option, Some, None}
 use Rattle.check_desk.specs.declared.desk.Desk.{Desk}
 use Rattle.check_desk.specs.Desks.{opened_with, passes_of}
@@ -50,8 +50,8 @@ abbrev pub IsResting : HandleTarget → Type 0
 IsResting (target.Pass pass) = IsAtRest (pass_state_of pass)
 IsResting other = ⊥
 
--- the book of a desk whose passes are all gathered in this one. It opened as the desk did and has the history that the pass has seen; its entries and
--- refusals are all calls that were made
+-- The book of a desk whose passes are all gathered in this one. It opened as the desk did, and has the history that the pass has seen. Its entries and
+-- refusals are all calls that were made.
 abbrev pub IsBookAfter : Desk → PassState → NamedBook → Type 0
 IsBookAfter desk (state.Resting pass) named = (opening_of named.book ≡ opened_with desk) × (passes_of desk ≤ length (pass_of pass).numbers)
     × (entries_of named.book ≡ (pass_of pass).seen) × (length (entries_of named.book) + refused_of named.book ≡ (pass_of pass).calls)

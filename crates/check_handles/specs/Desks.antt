@@ -1,4 +1,4 @@
--- What clauses see of a pass: its desk, its state between two calls, and which of its parts stay from call to call.
+-- The parts of a pass that clauses speak of: its desk, its state between two calls, and the parts that stay from call to call.
 use Rattle.std.specs.Prelude.{◌≡◌, ℕ}
 use Rattle.std_alloc.specs.Arc.{arc_value}
 use Rattle.check_desk.specs.declared.desk.Desk.{Desk}

@@ -1,4 +1,4 @@
--- What a glance shows.
+-- The result of a glance.
 use Rattle.std.specs.Prelude.{◌≡◌, ◌<◌, ◌≤◌, ℕ, Option, Some, None}
 use Rattle.ticket_lock.specs.Callers.{having_seen}
 use Rattle.ticket_lock.specs.Views.{Follows}
@@ -10,8 +10,8 @@ use Rattle.check_rules.specs.declared.standing.Standing.{Standing}
 use Rattle.check_handles.specs.declared.pass_state.PassState.{PassState}
 use Rattle.check_handles.specs.declared.pass_state.PassState.TheVariants as state
 
--- The standing is the object's after a history of the desk that begins with all that the pass had seen, and has nothing new of the numbers for which it
--- answers. The pass has seen that history now.
+-- The standing is the object's after a history of the desk. The history begins with all that the pass had seen, and has nothing new of the numbers for
+-- which the pass answers. The pass has seen this history now.
 pub record HasGlimpsed (desk : Desk) (object : ℕ) (before after : Pass) (standing : Standing) : Type 0 where
   pub there : object < objects_of desk
   pub pass : pass_of after ≡ having_seen (pass_of after).seen (pass_of before)

@@ -1,4 +1,4 @@
--- What clauses see of a handle.
+-- The parts of a handle that clauses speak of.
 use Rattle.std.specs.Prelude.{Option, Some, None}
 use Rattle.std_alloc.specs.declared.boxed.Box.{Box}
 use Rattle.check_objects.specs.Configuration.{Configuration}

@@ -1,4 +1,4 @@
--- What a handle owns: nothing if it is empty, otherwise a value at its address, with the right to free its block.
+-- A handle owns nothing if it is empty. Otherwise it owns a value at its address, with the right to free its block.
 use Rattle.std.specs.Prelude.{Option, Some, None}
 use base.Fml.{Fml, ftrue}
 use denote.RattleType.{RattleType}

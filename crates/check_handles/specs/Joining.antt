@@ -1,4 +1,4 @@
--- What becomes of the states of two passes that are joined.
+-- The state of the pass that two joined passes become.
 use Rattle.std.specs.Prelude.{◌≡◌}
 use Rattle.ticket_lock.specs.Callers.{joined}
 use Rattle.check_desk.specs.Passes.{pass_of}

@@ -1,4 +1,4 @@
--- What opening a desk needs, and its result.
+-- The conditions of opening a desk, and its result.
 use Rattle.std.specs.Prelude.{◌≡◌, ◌≤◌, ◌^◌, ⊤, List, [], length, Option, Some, None}
 use Rattle.check_desk.specs.declared.desk.Desk.{Desk}
 use Rattle.check_desk.specs.declared.passes.Pass.{Pass}
@@ -19,7 +19,7 @@ use Rattle.check_handles.specs.declared.pass_state.PassState.TheVariants as stat
 use Rattle.check_handles.specs.Desks.{desk_of, pass_state_of}
 use Rattle.check_handles.specs.Seats.{HavePasses}
 
--- a desk can be opened on this target, on these terms: on a setup, or on a book without entries and refusals, whose start and room are its own
+-- A desk can be opened on this target, on these terms. The target is a setup, or a book without entries and refusals, whose start and room are its own.
 abbrev pub IsSource : Terms → HandleTarget → Type 0
 IsSource terms (target.Setup named) = terms.start ≤ 2 ^ 60
 IsSource terms (target.Book named) = (terms.start ≡ 0) × (terms.room ≡ 0) × (entries_of named.book ≡ []) × (refused_of named.book ≡ 0)
@@ -64,8 +64,8 @@ IsWholeAtRest desk other = ⊥
 abbrev pub IsOnlyPassOf : BookState → DeskPass → Type 0
 IsOnlyPassOf opening pass = (opened_with (desk_of pass) ≡ opening) × IsWholeAtRest (desk_of pass) (pass_state_of pass)
 
--- what is handed back of a desk that opened with this state: a book without entries, or else its only pass, which would need a count of owners that is at its
--- limit
+-- The target that is handed back of a desk that opened with this state: a book without entries, or else its only pass. The pass would need a count of
+-- owners that is at its limit.
 abbrev pub IsBackOf : BookState → HandleTarget → Type 0
 IsBackOf opening (target.Book named) = (opening_of named.book ≡ opening) × (entries_of named.book ≡ []) × (refused_of named.book ≡ 0)
 IsBackOf opening (target.Pass pass) = IsOnlyPassOf opening pass
@@ -79,7 +79,7 @@ IsSetupBack terms named (target.Setup back) = back.setup ≡ named.setup
 IsSetupBack terms named (target.Pass pass) = IsOnlyPassOf (book_opening named.setup terms.start terms.room) pass
 IsSetupBack terms named other = ⊥
 
--- what is handed back of this target if memory was refused
+-- the target that is handed back if memory was refused
 abbrev pub IsBack : Terms → HandleTarget → HandleTarget → Type 0
 IsBack terms (target.Setup named) back = IsSetupBack terms named back
 IsBack terms (target.Book named) back = IsBookBack named back

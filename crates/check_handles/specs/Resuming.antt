@@ -14,15 +14,14 @@ abbrev pub IsSetup : HandleTarget → Type 0
 IsSetup (target.Setup named) = ⊤
 IsSetup other = ⊥
 
--- a book over this setup that opened, with this room, in the state of a scheduler that resumes what was saved; it has no entries and no
--- refusals
+-- a book over this setup that opened, with this room, in the state of a scheduler that resumes the saved state; it has no entries and no refusals
 pub record IsResumedOver (start room : ℕ) (saved : Saved) (setup : NamedSetup) (named : NamedBook) : Type 0 where
   pub opening : opening_of named.book ≡ book_at (resumed setup.setup saved start) room
   pub sched : sched_of named.book ≡ resumed setup.setup saved start
   pub entries : entries_of named.book ≡ []
   pub refused : refused_of named.book ≡ 0
 
--- a setup became a book that resumes what was saved
+-- a setup became a book that resumes the saved state
 abbrev pub IsResumed : ℕ → ℕ → Saved → HandleTarget → HandleTarget → Type 0
 IsResumed start room saved (target.Setup setup) (target.Book named) = IsResumedOver start room saved setup named
 IsResumed start room saved before after = ⊥

@@ -1,5 +1,5 @@
--- What a try of one of the six calls does: it makes the call at the end of a history that the pass sees, or leaves the pass
--- waiting, or does nothing.
+-- The effect of a try of one of the six calls. It makes the call at the end of a history that the pass sees, or leaves the pass waiting, or does
+-- nothing.
 use Rattle.std.specs.Prelude.{◌≡◌, ◌≢◌, ◌<◌, ◌≤◌, ℕ, length, List}
 use Rattle.core.specs.Mem.{manually_drop_value}
 use Rattle.ticket_steps.specs.declared.kept.Entry.{Entry}
@@ -38,7 +38,7 @@ pub record HasFailed (room : ℕ) (waiting after : Seen Call Reply) : Type 0 whe
   pub after_is : after ≡ ended after.seen waiting
   pub full : room ≤ length after.seen
 
--- The turn hasn't come: the pass has the same ticket, for this call. That never happens to a pass that answers for all of the desk's passes.
+-- The turn hasn't come: the pass has the same ticket, for this call. This never happens to a pass that answers for all of the desk's passes.
 pub record HasWaited (desk : Desk) (call : Call) (turn again : Turn) (asked : Call) : Type 0 where
   pub same : waiting_of again ≡ waiting_of turn
   pub ticket : drawn_ticket again ≡ drawn_ticket turn

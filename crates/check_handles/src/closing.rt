@@ -1,4 +1,4 @@
-//! Passes joined, a desk ended, and its book renewed.
+//! Joins passes, ends a desk, and renews its book.
 
 ghost use Rattle.std.specs.Prelude.{◌≡◌, ◌↔◌, true, false, IfErr, IfOk, Some};
 ghost use Rattle.check_handles.specs.Closing.{AreOfOneDesk, HasEnded, HasGoneOn, HasStayed, IsBook, IsGathered, IsRenewed, IsResting, MayBeGathered};
@@ -24,7 +24,7 @@ pub fn put_together(first: &mut HandleTarget, second: &mut HandleTarget) -> bool
     }
 }
 
-/// Whether it is a pass at rest.
+/// Whether the target is a pass at rest.
 pub fn rests(target: &HandleTarget) -> bool
     ensures { (result ≡ true) ↔ IsResting target.now }
 {
@@ -49,7 +49,7 @@ pub fn close(target: HandleTarget) -> Result<HandleTarget, HandleTarget>
     }
 }
 
-/// Whether it is a book.
+/// Whether the target is a book.
 pub fn is_book(target: &HandleTarget) -> bool
     ensures { (result ≡ true) ↔ IsBook target.now }
 {

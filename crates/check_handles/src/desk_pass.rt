@@ -42,7 +42,7 @@ impl DeskPass {
         advance(&self.shared.desk, &mut self.state, call)
     }
 
-    /// What is known of an object. None if there is no such object, and if the pass waits.
+    /// The standing of an object. None if there is no such object, or if the pass waits.
     pub fn glance(&mut self, object: u32) -> Option<Standing>
         ensures desk { AreOneDesk self.old self.new }
         ensures seen { HasLookedAt (desk_of self.old) object (pass_state_of self.old) result (pass_state_of self.new) }
@@ -60,8 +60,8 @@ impl DeskPass {
         }
     }
 
-    /// Joins another pass of the same desk to this one. Does nothing, and returns false, exactly if one of
-    /// the two doesn't rest or their desks have two marks.
+    /// Joins another pass of the same desk to this one. It does nothing, and returns false, exactly if
+    /// one of the two doesn't rest or their desks have two marks.
     pub(crate) fn join(&mut self, other: &mut DeskPass) -> bool
         requires { AreOneDesk self.old other.old }
         ensures desk { AreOneDesk self.old self.new }
@@ -82,7 +82,7 @@ impl DeskPass {
         true
     }
 
-    /// Whether it is at rest.
+    /// Whether the pass is at rest.
     pub(crate) fn rests(&self) -> bool
         ensures { (result ≡ true) ↔ IsAtRest (pass_state_of self.now) }
     {
@@ -121,7 +121,7 @@ impl DeskPass {
         }
     }
 
-    /// Puts the pass into its place, where it rests.
+    /// Puts the pass into its place. It rests there.
     pub(crate) fn sit(&mut self, pass: Pass)
         requires { IsPassOf (desk_of self.old) pass }
         ensures shared { self.new.shared ≡ self.old.shared }

@@ -1,7 +1,7 @@
-//! A handle: what C keeps of the library.
+//! A handle: C's reference to a value of the library.
 //!
-//! A handle is zeroed before its first use, and after that it is as the last call left it. A call that uses
-//! the target of the handle takes it out and puts it back, which needs no memory.
+//! A handle is zeroed before its first use, and after that it is as the last call left it. A call that
+//! uses the target of the handle takes it out and puts it back, which needs no memory.
 
 ghost use Rattle.std.specs.Prelude.{◌≡◌, ◌==◌, not, is_some, Some, None};
 

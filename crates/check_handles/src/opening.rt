@@ -1,7 +1,7 @@
-//! Desks opened on a setup, or on a book without entries.
+//! Opens desks on a setup, or on a book without entries.
 //!
-//! A desk's seats are asked for before it opens. So if memory is refused for them, the setup or the book
-//! can be handed back.
+//! The memory for a desk's seats is asked for before the desk opens. So if it is refused, the setup or
+//! the book can be handed back.
 
 ghost use Rattle.std.specs.Prelude.{◌≡◌, ◌↔◌, ◌<◌, ◌≤◌, [], length, true, IfOk, IfErr, OnOk};
 ghost use Rattle.std.specs.List.{All};
@@ -25,7 +25,7 @@ use std::alloc::{AllocError, Global};
 use std::sync::Arc;
 use ticket_steps::Kept;
 
-/// On what terms a desk opens.
+/// The terms on which a desk opens.
 #[derive(Clone, Copy)]
 pub struct Terms {
     /// The moment at which scheduling starts, in milliseconds, at most 2^60; 0 for a book, which has its own.
@@ -54,9 +54,9 @@ pub fn is_source(target: &HandleTarget, terms: Terms) -> bool
     }
 }
 
-/// Opens a desk on a setup or a book, with a pass for each handle. If memory is refused, it hands the setup
-/// or the book back, or else the only pass of the desk, and leaves the handles as they were. The pass would
-/// need a count of owners that is at its limit (`IsBackOf`).
+/// Opens a desk on a setup or a book, with a pass for each handle. If memory is refused, it leaves the
+/// handles as they were, and hands back the setup or the book, or else the only pass of the desk. The
+/// pass would need a count of owners that is at its limit (`IsBackOf`).
 pub fn open_source(
     alloc: Global,
     source: HandleTarget,
@@ -200,8 +200,8 @@ fn share(shared: &Arc<Shared, Global>, seats: &mut Vec<Box<HandleTarget>>) -> Re
     Ok(())
 }
 
-/// The book of a desk that nothing else shares. A desk that is shared all the same has one pass for all:
-/// that would need a count of 2^63 owners.
+/// The book of a desk that nothing else shares. If the desk is shared nevertheless, its only pass: that
+/// would need a count of 2^63 owners.
 fn unshared(shared: Arc<Shared, Global>, passes: Vec<Pass>) -> HandleTarget
     requires fresh { All (IsFreshPassOf (arc_value shared).desk) passes.items }
     requires count { length passes.items ≡ passes_of (arc_value shared).desk }

@@ -12,7 +12,7 @@ use std::alloc::Global;
 use std::marker::Model;
 use std::ptr::null_mut;
 
-/// What C knows of the target of a handle: it has an address.
+/// The target of a handle as C knows it: it has an address.
 #[repr(C)]
 pub struct Opaque {
     byte: u8,

@@ -1,4 +1,4 @@
-//! A setup read from a document, and which handles can't be freed.
+//! Reads a setup from a document, and says which handles can't be freed.
 
 ghost use Rattle.std.specs.Prelude.{◌≡◌, ◌⊎◌, ◌↔◌, true, Err, Some, IfOk, IfErr};
 ghost use Rattle.check_objects.specs.Setup.{setup_of};
@@ -21,7 +21,7 @@ pub fn prepare(alloc: Global, document: &[u8]) -> Result<Box<HandleTarget>, Load
     Ok(Box::new(alloc, HandleTarget::Setup(NamedSetup { setup, names }))?)
 }
 
-/// Whether it is a pass that waits for its turn.
+/// Whether the target is a pass that waits for its turn.
 pub fn waits(target: &HandleTarget) -> bool
     ensures { (result ≡ true) ↔ IsTurnWaitingIn (Some target.now) }
 {

@@ -1,4 +1,4 @@
-//! A book over a setup that resumes a saved state.
+//! Makes a book over a setup that resumes a saved state.
 
 ghost use Rattle.std.specs.Prelude.{◌≡◌, ◌↔◌, ◌≤◌, true, false};
 ghost use Rattle.check_handles.specs.Resuming.{IsResumed, IsSameSetup, IsSetup};
@@ -9,16 +9,16 @@ use check_sched::{LAST_MOMENT, Saved};
 use std::alloc::Global;
 use std::mem::replace;
 
-/// Whether it is a setup.
+/// Whether the target is a setup.
 pub fn is_setup(target: &HandleTarget) -> bool
     ensures { (result ≡ true) ↔ IsSetup target.now }
 {
     matches!(target, HandleTarget::Setup(_))
 }
 
-/// Replaces a setup by a book over it that resumes what was saved, from the moment `start` on, in
-/// milliseconds, with room for `room` entries. If memory is refused, it returns false and leaves the setup
-/// as it was.
+/// Replaces a setup by a book over it that resumes the saved state, from the moment `start` on, in
+/// milliseconds, with room for `room` entries. If memory is refused, it returns false and leaves the
+/// setup as it was.
 pub fn resume(
     alloc: Global,
     target: &mut HandleTarget,
@@ -37,7 +37,8 @@ pub fn resume(
     resumed
 }
 
-/// The book over a setup that resumes what was saved, and true. If memory is refused, the setup and false.
+/// The book over a setup that resumes the saved state, and true. If memory is refused, the setup and
+/// false.
 fn resume_over(
     alloc: Global,
     target: HandleTarget,

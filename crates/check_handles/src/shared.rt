@@ -1,4 +1,4 @@
-//! What the passes of a desk share.
+//! The parts of a desk that its passes share.
 
 ghost use Rattle.std.specs.Prelude.{◌≡◌, ◌↔◌, true};
 ghost use Rattle.check_desk.specs.Desks.{opened_with, passes_of};
@@ -11,9 +11,9 @@ use check_objects::Setup;
 pub struct Shared {
     /// The desk.
     pub(crate) desk: Desk,
-    /// The setup of the desk, for the names of its objects. The desk's own copy is behind its lock.
+    /// The setup of the desk, for the names of its objects. The desk's own copy is under its lock.
     pub(crate) names: Setup,
-    /// How many passes the desk has.
+    /// The number of the desk's passes.
     pub(crate) passes: u32,
     /// A number that no other desk of the process has. The program that opens desks chooses it.
     pub(crate) mark: u64,

@@ -1,4 +1,4 @@
-//! What a handle leads to: a setup, a pass of a desk, the book of a closed desk, or the entries of an
+//! The target of a handle: a setup, a pass of a desk, the book of a closed desk, or the entries of an
 //! earlier book.
 
 ghost use Rattle.std.specs.Prelude.{◌≡◌, option_map};
@@ -29,7 +29,7 @@ pub struct NamedBook {
     ghost same: { names ≡ (sched_of book).setup },
 }
 
-/// What a handle leads to.
+/// The target of a handle.
 #[derive(Drop)]
 pub enum HandleTarget {
     /// Nothing: only while a call is made.

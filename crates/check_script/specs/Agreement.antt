@@ -10,6 +10,6 @@ abbrev pub refusal : ScriptError → Option InputRefusal
 refusal errors.Memory = None
 refusal (errors.Refused why) = Some why
 
--- The result of the code is what is expected: its value, seen by `view`, or its refusal.
+-- The result of the code is the expected one: its value, seen by `view`, or its refusal.
 abbrev pub Gives : {X Y : Type 0} → (X → Y) → Result X ScriptError → Result Y InputRefusal → Type 0
 Gives view result expected = agreement.Gives refusal view result expected

@@ -49,8 +49,7 @@ name_number_switch members =
 abbrev pub object_named : Configuration → List ℕ → Result ℕ LineFault
 object_named c name = ok_or (number_of c name) fault.UnknownName
 
--- ---- one definition a word, over the members after the word: first their number and kinds, then
--- the return code, then the name
+-- ---- one definition per word, over the members after the word: the tests are their number and kinds, then the return code, then the name
 
 abbrev pub take_at : Option ℕ → Result Call LineFault
 take_at (Some now) = Ok (call.Take now)
@@ -66,7 +65,7 @@ abbrev pub report_call : Configuration → Items → Result Call LineFault
 report_call c members = ok_or (name_and_numbers members) fault.Shape >>= λ p. (ok_or (numbered_code p.2) fault.Code >>= λ code.
     (object_named c p.0 >>= λ object. Ok (call.Report object p.1 code)))
 
--- `["abandon",name,run,now]`: the check of the object `name` that runs under the number `run` is given up at the moment `now`
+-- `["abandon",name,run,now]`: the check of the object `name` that runs under the number `run` is abandoned at the moment `now`
 abbrev pub abandon_call : Configuration → Items → Result Call LineFault
 abandon_call c members = ok_or (name_and_numbers members) fault.Shape >>= λ p.
     (object_named c p.0 >>= λ object. Ok (call.Abandon object p.1 p.2))
@@ -81,12 +80,12 @@ abbrev pub enable_call : Configuration → Items → Result Call LineFault
 enable_call c members = ok_or (name_and_switch members) fault.Shape >>= λ p.
     (object_named c p.0 >>= λ object. Ok (call.Enable object p.1))
 
--- `["status",name]`: what is known of the object `name`
+-- `["status",name]`: the standing of the object `name`
 abbrev pub status_call : Configuration → Items → Result Call LineFault
 status_call c members = ok_or (name_in members) fault.Shape >>= λ name.
     (object_named c name >>= λ object. Ok (call.Status object))
 
--- `["save"]`: what is to be saved of the scheduler
+-- `["save"]`: the scheduler's saved state
 abbrev pub save_command : Items → Result RunCommand LineFault
 save_command no_items = Ok command.Save
 save_command members = Err fault.Shape

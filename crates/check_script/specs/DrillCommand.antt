@@ -25,12 +25,12 @@ abbrev pub are_numbers : Items → Bool
 are_numbers no_items = true
 are_numbers (item d ds) = is_some (whole_number d) && are_numbers ds
 
--- whether they are whole numbers, one or more
+-- whether they are whole numbers, at least one
 abbrev pub are_some_numbers : Items → Bool
 are_some_numbers no_items = false
 are_some_numbers (item d ds) = are_numbers (item d ds)
 
--- a name, and after it whole numbers, one or more
+-- a name, and after it whole numbers, at least one
 abbrev pub name_and_returned : Items → Option (List ℕ × Items)
 name_and_returned no_items = None
 name_and_returned (item name returned) = if are_some_numbers returned then (as_str name >=> λ n. Some (n, returned)) else None
@@ -48,7 +48,7 @@ abbrev pub codes_in : Items → Option (List Code)
 codes_in no_items = Some []
 codes_in (item d ds) = code_in d >=> λ first. (codes_in ds >=> λ more. Some (first ∷ more))
 
--- ---- one definition a word, over the members after the word: first their number and kinds, then the return codes, then the name
+-- ---- one definition per word, over the members after the word: the tests are their number and kinds, then the return codes, then the name
 
 -- `["plugin",name,code,..]`: the plugin of the object `name` returns these codes, one after another
 abbrev pub plugin_command : Configuration → Items → Result Command LineFault

@@ -13,7 +13,7 @@ use Rattle.check_script.specs.Script.{commands_behind, in_setup, within_limit}
 
 pub record DrillScript : Type 0 where
   pub setup : Configuration
-  -- of each object by number the return codes of its plugin, and none where no command gives it any
+  -- the return codes of each object's plugin, by the object's number; no codes if no command gives the object any
   pub returns : List (List Code)
   pub moments : List ℕ
 
@@ -35,16 +35,16 @@ returns_by object (MomentAt now) = None
 abbrev pub returns_of : List Command → ℕ → List Code
 returns_of commands object = unwrap_or (last_or None (filter_map (returns_by object) commands)) []
 
--- those of each object below this number
+-- the return codes of each object below this number
 abbrev pub returns_below : ℕ → List Command → List (List Code)
 returns_below count commands = map (returns_of commands) (range_with_len 0 count)
 
--- the lists of return codes after a command, which puts its own in the place of those of its object
+-- the lists of return codes after a command, which replaces those of its object by its own
 abbrev pub given_by : Command → List (List Code) → List (List Code)
 given_by (PluginOf object returned) lists = slice_set lists object returned
 given_by (MomentAt now) lists = lists
 
--- what commands say together over a setup
+-- the script that commands make together over a setup
 abbrev pub drill_over : Configuration → List Command → DrillScript
 drill_over c commands = record { setup = c; returns = returns_below (object_count c) commands; moments = moments_in commands }
 

@@ -1,5 +1,5 @@
--- One line of a script: it is blank, or a JSON array that is a command. The array's first member is its word; what a word with
--- the members after it means is a matter of the vocabulary, of which each subcommand has its own.
+-- One line of a script: it is blank, or a JSON array that is a command. The array's first member is its word. Each subcommand has a vocabulary of its
+-- own, which gives a word with the members after it a meaning.
 use Rattle.std.specs.Prelude.{ℕ, ◌||◌, ◌==◌, Bool, List, length, Option, Some, None, Result, Ok, Err, ok_or, nat_lt, if◌then◌else◌}
 use Rattle.std.specs.List.{list_all}
 use Rattle.serde_json.specs.Data.{Data, Items, no_items, item}
@@ -11,7 +11,7 @@ use Rattle.check_script.specs.declared.refusal.LineFault.TheVariants as fault
 use Rattle.check_script.specs.declared.refusal.InputRefusal.{InputRefusal}
 use Rattle.check_script.specs.declared.refusal.InputRefusal.TheVariants as refusal
 
--- a line that is passed over: only spaces, tabs and carriage returns, or nothing
+-- a line that is skipped: only spaces, tabs and carriage returns, or nothing
 abbrev pub is_blank : List ℕ → Bool
 is_blank line = list_all (λ b. b == 32 || b == 9 || b == 13) line
 
@@ -20,7 +20,7 @@ abbrev pub word_and_members_in : Items → Option (List ℕ × Items)
 word_and_members_in no_items = None
 word_and_members_in (item word members) = as_str word >=> λ w. Some (w, members)
 
--- the same of a tree that is an array
+-- the same for a tree that is an array
 abbrev pub word_and_members : Data → Option (List ℕ × Items)
 word_and_members d = as_array d >=> word_and_members_in
 
@@ -29,11 +29,11 @@ abbrev pub at_line : {A : Type 0} → ℕ → Result A LineFault → Result A In
 at_line n (Ok x) = Ok x
 at_line n (Err e) = Err (refusal.Line e n)
 
--- the command that a tree is, by what words with members mean
+-- the command that a tree is, by the meaning of words with members
 abbrev pub command_in : {K : Type 0} → (List ℕ → Items → Result K LineFault) → Data → Result K LineFault
 command_in meaning d = ok_or (word_and_members d) fault.Shape >>= λ p. meaning p.0 p.1
 
--- the command of the line with number n, or its first fault: more than 4,096 bytes, then no JSON, then those of the command
+-- the command of the line with number n, or its first fault: more than 4,096 bytes, then not JSON, then those of the command
 unfoldable pub command_of : {K : Type 0} → (List ℕ → Items → Result K LineFault) → ℕ → List ℕ → Result K InputRefusal
 command_of meaning n line = if nat_lt 4096 (length line) then Err (refusal.Line fault.TooLong n)
     else (ok_or (tree_of line) (refusal.Line fault.NotJson n) >>= λ d. at_line n (command_in meaning d))

@@ -13,36 +13,36 @@ abbrev pub has_feed : List ℕ → Bool
 has_feed [] = false
 has_feed (b ∷ bs) = if b == 10 then true else has_feed bs
 
--- the bytes behind the first line feed, or none where there is none
+-- the bytes after the first line feed, or nothing without one
 abbrev pub behind_line : List ℕ → List ℕ
 behind_line [] = []
 behind_line (b ∷ bs) = if b == 10 then bs else behind_line bs
 
--- a line of which no more than the first bytes are kept
+-- the kept part of a line: the limit, at most that many first bytes, and whether all of the line is blank
 pub record LineFront : Type 0 where
   pub most : ℕ
   pub bytes : List ℕ
   pub blank : Bool
 
--- What is kept of a line: so many bytes at most from its beginning, and whether all of it is blank.
+-- The kept part of a line: at most this many bytes from its beginning, and whether all of the line is blank.
 abbrev pub front_of : ℕ → List ℕ → LineFront
 front_of most line = record { most = most; bytes = take most line; blank = is_blank line }
 
--- what the line with number n says: nothing where it is blank, or a command, or why it is refused
+-- the meaning of the line with number n: nothing if it is blank, otherwise a command, or why it is refused
 abbrev pub said_by : {K : Type 0} → (List ℕ → Items → Result K LineFault) → ℕ → List ℕ → Result (Option K) InputRefusal
 said_by meaning n line = if is_blank line then Ok None else (command_of meaning n line >>= λ command. Ok (Some command))
 
--- The first line of these bytes was taken, of which so many at most are kept, and its line feed with it: what is kept of it,
--- what is left of the bytes behind it, and whether it has a line feed. Where it has none, `end` holds.
+-- The first line of these bytes was taken, with its line feed, and at most `most` bytes of it are kept. The fields are the kept part of the line, the
+-- bytes left after the line, and whether it has a line feed. If it has no line feed, `end` holds.
 pub record TookLine (most : ℕ) (bytes : List ℕ) (line : LineFront) (rest : List ℕ) (end : Type 0) (whole : Bool) : Type 0 where
   pub line_is : line ≡ front_of most (first_line_of bytes)
   pub rest_is : rest ≡ behind_line bytes
   pub whole_is : whole ≡ has_feed bytes
   pub ended : whole ≡ false → end
 
--- What a reader gave that is asked for a line, of which so many bytes are kept at most: less than one read's bytes more than that, and
--- no more than one read's bytes behind the line. This bounds the bytes and doesn't count the reads: a reader that is asked again behind the
--- line feed, for the rest of those bytes, isn't excluded.
+-- The bytes that a reader gave for a line, if at most `most` bytes of the line are kept. They are fewer than `most` and the bytes of one read together,
+-- and at most the bytes of one read come after the line. This bounds the bytes and doesn't count the reads. It doesn't exclude that a reader is asked
+-- again after the line feed, for the rest of those bytes.
 pub record StopsSoon (most : ℕ) (given : List ℕ) : Type 0 where
   pub at_the_bound : length given < most + ASKED_BYTES
   pub at_the_feed : length given ≤ length (first_line_of given) + ASKED_BYTES

@@ -26,7 +26,7 @@ use Rattle.check_script.specs.LiveInput.{behind_line}
 
 -- ---- commands
 
--- the lines that aren't blank, each with its number, where the first of the lines has the number n
+-- the lines that aren't blank, each with its number; the first of all lines has the number n
 abbrev pub numbered_from : ℕ → List (List ℕ) → List (ℕ × List ℕ)
 numbered_from n lines = filter (λ p. not (is_blank p.1)) (enumerate_from n lines)
 
@@ -35,8 +35,8 @@ abbrev pub all_or_first : {A E : Type 0} → List (Result A E) → Result (List 
 all_or_first [] = Ok []
 all_or_first (r ∷ rs) = r >>= λ x. (all_or_first rs >>= λ xs. Ok (x ∷ xs))
 
--- The commands of the lines that aren't blank, up to the first fault, where the first of the lines has the number n. What a word means is a
--- matter of the vocabulary.
+-- The commands of the lines that aren't blank, or the first fault among them. The first of all lines has the number n. The vocabulary gives words their
+-- meaning.
 abbrev pub commands_behind : {K : Type 0} → ℕ → (List ℕ → Items → Result K LineFault) → List (List ℕ) → Result (List K) InputRefusal
 commands_behind n meaning lines = all_or_first (map (λ p. command_of meaning p.0 p.1) (numbered_from n lines))
 
@@ -62,15 +62,15 @@ pub record Beginning : Type 0 where
   pub number : ℕ
   pub rest : List ℕ
 
--- Over a setup, by the bytes after the setup document. A fresh scheduler has all their lines. For one that continues the first of
--- them is the saved state, whatever its length.
+-- The beginning over a setup, by the bytes after the setup document. All their lines are for a fresh scheduler. For a scheduler that continues, the
+-- first line is the saved state, of any length.
 abbrev pub beginning_over : Start → Configuration → List ℕ → Result Beginning InputRefusal
 beginning_over (start.Fresh moment) c bytes = Ok (record { state = opening c moment; number = 2; rest = bytes })
 beginning_over (start.Resumed moment) c bytes = in_saved (saved_of_text (first_line_of bytes)) >>= λ saved.
     Ok (record { state = resumed_from c saved moment; number = 3; rest = behind_line bytes })
 
--- By an input, whose line 1 is the setup document, whatever its length. The setup is tested before the saved state. A line that is missing is
--- one without a byte.
+-- The beginning of an input. Line 1 is the setup document, of any length. The setup is tested before the saved state. A missing line counts as an empty
+-- one.
 abbrev pub beginning_of : Start → List ℕ → Result Beginning InputRefusal
 beginning_of how input = in_setup (setup_of (first_line_of input)) >>= λ c. beginning_over how c (behind_line input)
 
@@ -89,7 +89,7 @@ script_behind b = commands_behind b.number (command_by b.state.setup) (lines_of 
 abbrev pub script_over : Start → Configuration → List ℕ → Result Script InputRefusal
 script_over how c bytes = beginning_over how c bytes >>= script_behind
 
--- what an input says; its length is tested before all else
+-- the meaning of an input; its length is tested first
 abbrev pub within_limit : {A : Type 0} → List ℕ → Result A InputRefusal → Result A InputRefusal
 within_limit input says = if nat_lt MAX_INPUT_BYTES (length input) then Err (refusal.Line fault.TooLong 0) else says
 

@@ -21,7 +21,7 @@ use std::alloc::Global;
 pub enum RunCommand {
     /// A call of the scheduler.
     Call(Call),
-    /// What is to be saved of the scheduler, which stays as it is. (Our own profile.)
+    /// To save the scheduler, which stays as it is. (Our own profile.)
     Save,
 }
 
@@ -58,7 +58,7 @@ fn command_by(setup: &Setup, word: &str, members: &[Value]) -> Result<RunCommand
     }
 }
 
-/// `["save"]`: what is to be saved of the scheduler.
+/// `["save"]`: the scheduler's saved state.
 #[tactic(auto, using(crate::proofs::CommandLemmas::save_members))]
 fn save_command(members: &[Value]) -> Result<RunCommand, LineFault>
     ensures { result ≡ save_command (items_view members.now) }
@@ -115,7 +115,7 @@ fn report_call(setup: &Setup, members: &[Value]) -> Result<Call, LineFault>
 }
 
 /// `["abandon",name,run,now]`: the check of the object `name` that runs under the number `run` is
-/// given up at the moment `now`, in milliseconds.
+/// abandoned at the moment `now`, in milliseconds.
 fn abandon_call(setup: &Setup, members: &[Value]) -> Result<Call, LineFault>
     ensures { result ≡ abandon_call setup.now (items_view members.now) }
 {
@@ -153,7 +153,7 @@ fn enable_call(setup: &Setup, members: &[Value]) -> Result<Call, LineFault>
     Ok(Call::Enable { object, on })
 }
 
-/// `["status",name]`: what is known of the object `name`.
+/// `["status",name]`: the standing of the object `name`.
 fn status_call(setup: &Setup, members: &[Value]) -> Result<Call, LineFault>
     ensures { result ≡ status_call setup.now (items_view members.now) }
 {

@@ -22,8 +22,8 @@ use std::alloc::{AllocError, Global};
 /// A command of a drill.
 #[derive(Drop)]
 pub enum DrillCommand {
-    /// What the plugin of the object with this number returns, run by run and over and over: one
-    /// code or more.
+    /// The return codes of the plugin of the object with this number, at least one. The runs get them
+    /// one by one, over and over.
     Plugin { object: u32, codes: Vec<Code> },
     /// One more moment, in milliseconds, at which each worker asks for a check.
     Moment { now: u64 },
@@ -101,7 +101,7 @@ impl DrillCommand {
     }
 }
 
-/// A name, and after it whole numbers, one or more.
+/// A name, and after it whole numbers, at least one.
 fn name_and_returned(members: &[Value]) -> Option<(&str, &[Value])>
     ensures { option_map (λ p. (p.0.now, items_view p.1.now)) result
         ≡ name_and_returned (items_view members.now) }
@@ -117,7 +117,7 @@ fn name_and_returned(members: &[Value]) -> Option<(&str, &[Value])>
     }
 }
 
-/// Whether values are whole numbers, one or more.
+/// Whether values are whole numbers, at least one.
 fn are_some_numbers(values: &[Value]) -> bool
     ensures { result ≡ are_some_numbers (items_view values.now) }
 {
@@ -145,7 +145,7 @@ fn number_in(members: &[Value]) -> Option<u64>
     }
 }
 
-/// The return codes that values are, or None where some value isn't one.
+/// The return codes that values are. None if some value isn't a return code.
 fn codes_in(alloc: Global, values: &[Value]) -> Result<Option<Vec<Code>>, AllocError>
     ensures { IfOk result (λ codes.
         option_map (λ list. list.items) codes ≡ codes_in (items_view values.now)) }

@@ -1,4 +1,4 @@
-//! The script of a drill: what the commands of an input say together.
+//! The script of a drill: the meaning of all commands of an input together.
 ghost use Rattle.std.specs.Prelude.{◌≡◌, [], IfOk, filter_map, map, replicate};
 ghost use Rattle.check_script.specs.DrillCommanded.{drill_command};
 ghost use Rattle.check_script.specs.DrillScript.{drill_script_of, drill_over};
@@ -14,12 +14,13 @@ use check_objects::Setup;
 use check_rules::Code;
 use std::alloc::{AllocError, Global};
 
-/// A setup, what its objects' plugins return, and the moments at which each worker asks for a check.
+/// A setup, the return codes of its objects' plugins, and the moments at which each worker asks for a
+/// check.
 #[derive(Drop)]
 pub struct DrillScript {
     pub setup: Setup,
-    /// Of each object by number the return codes of its plugin, and none where no command gives it
-    /// any.
+    /// The return codes of each object's plugin, by the object's number. No codes if no command gives
+    /// the object any.
     pub codes: Vec<Vec<Code>>,
     /// The moments, in milliseconds, in the order of their commands.
     pub moments: Vec<u64>,
@@ -28,8 +29,8 @@ pub struct DrillScript {
 impl DrillScript {
     ghost use Rattle.check_script.specs.DrillScripted.{drill_script};
 
-    /// Reads an input, every line of it, or gives its first refusal, in the order in which a script
-    /// is tested. Of several commands for the plugin of one object the last counts. Out of memory is
+    /// Reads every line of an input, or returns its first refusal, in the order in which a script is
+    /// tested. If several commands name the plugin of one object, the last one counts. Out of memory is
     /// an error of its own.
     #[tactic(auto, unfolding(crate::specs::DrillScript::drill_script_of))]
     pub fn read(alloc: Global, input: &[u8]) -> Result<DrillScript, ScriptError>
@@ -44,7 +45,7 @@ impl DrillScript {
         Ok(DrillScript::over(alloc, setup, commands)?)
     }
 
-    /// What commands say together over a setup.
+    /// The script that commands make together over a setup.
     fn over(
         alloc: Global,
         setup: Setup,
@@ -91,7 +92,7 @@ fn codes_below(
     Ok(lists)
 }
 
-/// So many lists without a code.
+/// This many lists without a code.
 fn no_codes(alloc: Global, count: usize) -> Result<Vec<Vec<Code>>, AllocError>
     ensures { IfOk result (λ lists. map (λ list. list.items) lists.items ≡ replicate count []) }
 {
@@ -102,7 +103,7 @@ fn no_codes(alloc: Global, count: usize) -> Result<Vec<Vec<Code>>, AllocError>
     Ok(lists)
 }
 
-/// Puts the codes of a command in the place of those that its object had.
+/// Replaces the codes of the command's object by those of the command.
 fn place_codes(lists: &mut Vec<Vec<Code>>, command: DrillCommand)
     ensures { map (λ list. list.items) lists.new.items
         ≡ given_by (drill_command command) (map (λ list. list.items) lists.old.items) }

@@ -1,4 +1,4 @@
-//! The bytes of an input and its lines. What a line says is read in `script` and `command`.
+//! The bytes of an input and its lines. The modules `script` and `command` read what a line says.
 ghost use Rattle.std.specs.Prelude.{◌≡◌, ◌==◌, ◌<◌, ◌≤◌, ◌++◌, ℕ, List, length, position, ◌≢◌, take};
 ghost use Rattle.std.specs.Prelude.{IfOk, IfErr, IfSome, IsOkUnless, OnOk};
 ghost use Rattle.std.specs.Iterator.{YieldsFirstRef, item_count};
@@ -11,20 +11,20 @@ use memchr::memchr;
 use std::alloc::Global;
 use std::io::Read;
 
-/// How many bytes of an input are read at most: one more than it may have, so that a longer one is
-/// known to be too long.
+/// The most bytes of an input that are read: one more than it may have. So a longer input is known to
+/// be too long.
 pub const MAX_READ_BYTES: usize = 67_108_865;
 
-/// How many bytes are asked of the reader at a time.
+/// The number of bytes that the reader is asked for at a time.
 const CHUNK: usize = 65_536;
 
 const LINE_FEED: u8 = b'\n';
 
 /// Reads to the end of the input or to `most` bytes, whichever comes first.
 ///
-/// Each error of the reader is a fault, an interruption among them: nothing is tried again. An Err is
-/// `Read`, where the reader fails, or `Memory`, and what was read is lost then. `Memory` comes only where
-/// a byte was read, or there was none.
+/// Each error of the reader is a fault, an interruption too: nothing is tried again. The error is
+/// `Read` if the reader fails, or `Memory`, and the bytes that were read are lost then. `Memory` comes
+/// only if a byte was read, or if the reader had none.
 pub fn read_at_most<R: Read>(
     alloc: Global,
     reader: &mut R,
@@ -52,7 +52,7 @@ pub fn read_at_most<R: Read>(
     Ok(input)
 }
 
-/// Appends bytes that were read. An Err is `Memory`, and never the reader's.
+/// Appends bytes that were read. The error is `Memory`, and never the reader's.
 fn append(input: &mut Vec<u8>, bytes: &[u8]) -> Result<(), DriveError>
     ensures added { OnOk result (input.new.items ≡ input.old.items ++ bytes.now) }
     ensures kind { IsOkUnless result DriveError.Memory }
@@ -61,8 +61,8 @@ fn append(input: &mut Vec<u8>, bytes: &[u8]) -> Result<(), DriveError>
     Ok(())
 }
 
-/// The lines of an input, each without its line feed. A last line needs none, and a line feed at
-/// the end begins no further line.
+/// The lines of an input, each without its line feed. The last line needs no line feed, and a line feed
+/// at the end begins no further line.
 #[derive(Drop)]
 pub struct Lines<'a> {
     /// The bytes of the lines that are still to come.
@@ -70,7 +70,7 @@ pub struct Lines<'a> {
 }
 
 impl<'a> Lines<'a> {
-    /// The lines of these bytes. They are their lines by `AreLines`, and no other lines are.
+    /// The lines of these bytes. By `AreLines` these are their lines, and no others are.
     pub fn new(input: &'a [u8]) -> Self
         ensures bytes { result.rest.now ≡ input.now }
         ensures lines { AreLines input.now (lines_of input.now) }
@@ -98,8 +98,8 @@ impl<'a> Iterator for Lines<'a> {
     }
 }
 
-/// The first line of these bytes, and the bytes after its line feed. Without a line feed all of them are
-/// the line.
+/// The first line of these bytes, and the bytes after its line feed. Without a line feed the line is
+/// all bytes.
 pub fn split_line(bytes: &[u8]) -> (&[u8], &[u8])
     ensures line { result.0.now ≡ first_line_of bytes.now }
     ensures rest { result.1.now ≡ behind_line bytes.now }

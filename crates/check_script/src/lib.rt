@@ -1,16 +1,21 @@
 #![tactic(auto)]
-//! What an input says: bytes from a reader, lines, a setup, and commands, or the input's first
-//! refusal.
+//! Reads an input: its bytes, lines, setup and commands, or its first refusal.
 //!
-//! A byte goes through these modules in this order: `input` (bytes from a reader, and lines),
-//! `script` (a setup, a saved state where the scheduler starts from one, and a command for each later
-//! line), `line` (the command of one line: its length, its tree, its word; the trait [`Command`], which
-//! each vocabulary implements). The vocabularies are `command`, the words of `run`, and `drill_command`,
-//! the words of `drill`, whose commands `drill_script` puts together. `start` says how a scheduler
-//! starts, and starts it. `refusal`
-//! has the errors of an input, and `drive_error` why a run or a drill ends early; `reader` is where a
-//! reader is asked, `live_input` the lines of a conversation, and `live_error` why it ends early. `laws`
-//! says the limits of an input as numbers.
+//! The modules (a byte goes through `input`, `script` and `line`, in this order):
+//!
+//! - `input`: bytes from a reader, and lines. `reader` asks a reader.
+//! - `script`: a setup, a saved state if the scheduler starts from one, and a command for each later
+//!   line.
+//! - `line`: the command of one line by its length, its tree and its word. Each vocabulary implements
+//!   the trait [`Command`].
+//! - `command`: the vocabulary of `run`.
+//! - `drill_command`: the vocabulary of `drill`. `drill_script` puts its commands together.
+//! - `start`: how a scheduler starts; it also starts one.
+//! - `refusal`: the errors of an input.
+//! - `drive_error`: why a run or a drill ends early.
+//! - `live_input`: the lines of a conversation.
+//! - `live_error`: why a conversation ends early.
+//! - `laws`: the limits of an input as numbers.
 
 mod command;
 mod drill_command;

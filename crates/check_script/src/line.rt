@@ -15,11 +15,11 @@ use check_objects::Setup;
 use serde_json::Value;
 use std::alloc::Global;
 
-/// How many bytes a line may have without its line feed.
+/// The most bytes that a line may have without its line feed.
 const MAX_LINE_BYTES: usize = 4096;
 
 /// A command of a vocabulary. An implementation names a command as the definitions see it (`Seen`,
-/// `seen`), and what a word with the members after it means over a setup (`meaning`).
+/// `seen`). It also names the meaning of a word with the members after it over a setup (`meaning`).
 pub trait Command: Drop {
     ghost Seen: { Type 0 };
 
@@ -27,9 +27,9 @@ pub trait Command: Drop {
 
     ghost meaning: { Configuration → List ℕ → Items → Result Seen LineFault };
 
-    /// The command of a word with these members after it, or its first fault: another shape, then a
-    /// return code above 3, then a name that the setup doesn't have. A fault is reported as that of the
-    /// line with this number. Out of memory is an error of its own.
+    /// The command of a word with these members after it, or its first fault. The faults are, in order:
+    /// another shape, a return code above 3, a name that the setup doesn't have. A fault is reported as
+    /// that of the line with this number. Out of memory is an error of its own.
     fn read(
         alloc: Global,
         setup: &Setup,
@@ -41,8 +41,7 @@ pub trait Command: Drop {
             (at_line number (meaning setup.now word.now (items_view members.now))) };
 }
 
-/// Whether a line has only spaces, tabs and carriage returns, or nothing. Such a line is passed
-/// over.
+/// Whether a line has only spaces, tabs and carriage returns, or nothing. Such a line is skipped.
 pub fn is_blank(line: &[u8]) -> bool
     ensures { result ≡ is_blank line.now }
 {
@@ -50,8 +49,8 @@ pub fn is_blank(line: &[u8]) -> bool
         .all(|byte| *byte == b' ' || *byte == b'\t' || *byte == b'\r')
 }
 
-/// The command of the line with this number, or its first fault: too long, then no JSON, then those
-/// of the command.
+/// The command of the line with this number, or its first fault: too long, then not JSON, then those of
+/// the command.
 #[tactic(auto, unfolding(crate::specs::Line::command_of))]
 pub fn read_command<C: Command>(
     alloc: Global,

@@ -6,7 +6,7 @@ use crate::drive_error::DriveError;
 use crate::reader::ReaderFault;
 use std::alloc::AllocError;
 
-/// Why a conversation ended early. Its caller is given the [`DriveError`] of it.
+/// Why a conversation ended early. Its caller gets the [`DriveError`] for it.
 #[derive(Debug, Drop)]
 pub enum LiveError {
     /// The reader failed or was interrupted.
@@ -15,10 +15,10 @@ pub enum LiveError {
     Writer,
     /// Out of memory.
     Memory,
-    /// Each line with a number below 2^64 - 1 was answered. Those are 2^64 - 3 lines where they begin at
-    /// line 2, and 2^64 - 4 where line 2 is what was saved and they begin at line 3.
+    /// Each line with a number below 2^64 - 1 was answered. These are 2^64 - 3 lines if they begin at
+    /// line 2. They are 2^64 - 4 lines if line 2 is the saved state and they begin at line 3.
     LinesSpent,
-    /// A line has so many bytes that 2^64 - 1 reads didn't bring its end.
+    /// A line is so long that 2^64 - 1 reads didn't bring its end.
     ReadsSpent,
 }
 

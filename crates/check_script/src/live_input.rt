@@ -1,5 +1,6 @@
-//! An input that is taken line by line as it comes, in memory that doesn't grow with it: what a
-//! reader has given and nobody has taken, and what is kept of the line that is being taken.
+//! An input that is taken line by line as it comes, in memory that doesn't grow with it. The memory
+//! holds the bytes that a reader has given and nobody has taken, and the kept part of the line that is
+//! being taken.
 ghost use Rattle.std.specs.Prelude.{◌≡◌, ◌≢◌, ◌<◌, ◌≤◌, ◌+◌, ◌⊎◌, ◌++◌, ◌&&◌, ℕ, List, [], IfOk, IfErr, OnErr, OnOk, false, length, true, drop, vec_len, ◌==◌, option_map};
 ghost use Rattle.std.specs.Io.KnownBytes.{Consumes, IsAtEnd};
 ghost use Rattle.check_script.specs.Input.{first_line_of};
@@ -17,20 +18,20 @@ use std::alloc::{AllocError, Global};
 use std::io::Read;
 use std::marker::Model;
 
-/// How many bytes are asked of the reader at a time.
+/// The number of bytes that the reader is asked for at a time.
 pub const ASKED_BYTES: usize = 8192;
 
-/// How many bytes of line 1 are kept: one more than a setup document may have, so that a longer one is
-/// known to be too long.
+/// The most bytes of line 1 that are kept: one more than a setup document may have. So a longer
+/// document is known to be too long.
 pub const KEPT_SETUP_BYTES: usize = 16_777_217;
 
-/// How many bytes are kept of what was saved, on line 2: one more than it may have.
+/// The most bytes of a saved state, on line 2, that are kept: one more than it may have.
 pub const KEPT_SAVED_BYTES: usize = 16_777_217;
 
-/// How many bytes of a later line are kept: one more than it may have.
+/// The most bytes of a later line that are kept: one more than it may have.
 pub const KEPT_LINE_BYTES: usize = 4097;
 
-/// What is kept of a line: its first bytes, at most so many, and whether all of it is blank.
+/// The kept part of a line: at most `most` of its first bytes, and whether all of the line is blank.
 #[derive(Drop)]
 pub struct KeptLine {
     most: usize,
@@ -50,7 +51,7 @@ impl Model for KeptLine {
 }
 
 impl KeptLine {
-    /// A line that has no byte yet, of which at most so many are kept.
+    /// A line that has no byte yet. At most `most` bytes of it are kept.
     pub fn new(alloc: Global, most: usize) -> KeptLine
         ensures { result ≡ front_of most [] }
     {
@@ -69,7 +70,7 @@ impl KeptLine {
         self.blank = true;
     }
 
-    /// Puts bytes at the end of the line. An Err means out of memory, and the line stays as it was.
+    /// Appends bytes to the line. An error means out of memory, and the line stays as it was.
     pub fn push(&mut self, bytes: &[u8]) -> Result<(), AllocError>
         ensures kept { (line : List ℕ) → self.old ≡ front_of self.old.most line
             → OnOk result (self.new ≡ front_of self.old.most (line ++ bytes.now)) }
@@ -103,8 +104,8 @@ impl KeptLine {
     }
 }
 
-/// The bytes that a reader has given and that aren't taken yet. It holds no more than one read gave, what
-/// was taken of it too.
+/// The bytes that a reader has given and that aren't taken yet. The buffer holds at most the bytes of
+/// one read, including those already taken.
 #[derive(Drop)]
 pub struct InputBuffer {
     given: Vec<u8>,
@@ -123,7 +124,7 @@ impl Model for InputBuffer {
 }
 
 impl InputBuffer {
-    /// A buffer with nothing at hand.
+    /// An empty buffer.
     pub fn new(alloc: Global) -> InputBuffer
         ensures { result ≡ [] }
     {
@@ -133,9 +134,10 @@ impl InputBuffer {
         }
     }
 
-    /// Takes the bytes up to the next line feed, and the line feed, and puts them without it at the
-    /// end of a line. Where no line feed is at hand it takes all. It returns whether one was at hand. An
-    /// Err means out of memory: nothing was taken, and the line stays as it was.
+    /// Takes the bytes up to the next line feed, and the line feed. It appends the bytes without the
+    /// line feed to a line. If the buffer has no line feed, it takes all bytes. It returns whether
+    /// there was a line feed. An error means out of memory: nothing was taken, and the line stays as it
+    /// was.
     pub fn take_line(&mut self, line: &mut KeptLine) -> Result<bool, AllocError>
         ensures whole { IfOk result (λ whole. whole ≡ has_feed self.old) }
         ensures rest { OnOk result (self.new ≡ behind_line self.old) }
@@ -158,9 +160,9 @@ impl InputBuffer {
         }
     }
 
-    /// Asks the reader once, where nothing is at hand, and returns whether it gave anything: it gives
-    /// nothing at its end. An Err is the reader's fault or `Memory`, and nothing is at hand then: after
-    /// `Memory` what the reader gave is lost.
+    /// Asks the reader once, with an empty buffer, and returns whether it gave anything. The reader
+    /// gives nothing at its end. The error is the reader's fault or `Memory`, and the buffer is empty
+    /// then. After `Memory` the bytes that the reader gave are lost.
     pub fn read_more<R: Read>(&mut self, reader: &mut R) -> Result<bool, LiveError>
         requires { self.old ≡ [] }
         ensures given { (given : List ℕ)
@@ -181,10 +183,10 @@ impl InputBuffer {
     }
 }
 
-/// Takes the next line, a document's, and returns whether its line feed came. Where it didn't, the
-/// input has ended, or as many bytes of the line have come as are kept of it at most: the reader isn't
-/// asked for more than that, nor where the whole line is at hand. An Err is the reader's fault, `Memory`,
-/// or `ReadsSpent` where 2^64 - 1 reads each gave something.
+/// Takes the next line, a document's, and returns whether its line feed came. If it didn't, the input
+/// has ended, or as many bytes of the line have come as are kept at most. The reader isn't asked for
+/// more than that, and it isn't asked if the buffer holds the whole line. The error is the reader's
+/// fault, `Memory`, or `ReadsSpent` if each of 2^64 - 1 reads gave something.
 pub fn take_document<R: Read>(
     at_hand: &mut InputBuffer,
     line: &mut KeptLine,
@@ -214,7 +216,7 @@ pub fn take_document<R: Read>(
     Err(LiveError::ReadsSpent)
 }
 
-/// What a line says of which this is kept: nothing where it is blank, or the command of the line with
+/// The meaning of the line with this kept part: nothing if it is blank, or the command of the line with
 /// this number, or its first fault. Out of memory is an error of its own.
 pub fn read_kept<C: Command>(
     alloc: Global,

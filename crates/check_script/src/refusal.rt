@@ -1,4 +1,4 @@
-//! What an input can be refused for. The text of a refusal is in `text`.
+//! The reasons for which an input can be refused. The text of a refusal is in `text`.
 ghost use Rattle.std.specs.Prelude.{◌≡◌, ok_or};
 ghost use Rattle.check_script.specs.declared.refusal.ScriptError.TheVariants.{Memory};
 ghost use Rattle.check_script.specs.Agreement.{refusal};
@@ -8,15 +8,15 @@ use check_objects::LoadError;
 use check_saved::SavedFault;
 use std::alloc::AllocError;
 
-/// What is wrong with a line of a script, in the order in which a line is tested.
+/// The faults of a line of a script, in the order in which a line is tested.
 #[derive(Clone, Copy, Debug, PartialEq, Eq)]
 pub enum LineFault {
-    /// The line has more than 4,096 bytes without its line feed. As the fault of line 0: the input
-    /// has more than 67,108,864 bytes.
+    /// The line has more than 4,096 bytes without its line feed. As the fault of line 0: the input has
+    /// more than 67,108,864 bytes.
     TooLong,
-    /// `serde_json` gives no reading of the line, for another cause than memory.
+    /// `serde_json` gives no reading of the line, for a cause other than memory.
     NotJson,
-    /// The line is no array, its word is unknown, or its members are wrong in number or kind.
+    /// The line isn't an array, its word is unknown, or its members are wrong in number or kind.
     Shape,
     /// A return code above 3. (Manual: "Plugin API"; a plugin may return no other.)
     Code,
@@ -29,7 +29,7 @@ pub enum LineFault {
 pub enum InputRefusal {
     /// The setup document, which is line 1, was refused.
     Setup(LoadError),
-    /// What was saved, which is line 2 of an input that goes on from it, was refused.
+    /// The saved state, which is line 2 of an input that resumes it, was refused.
     Saved(SavedFault),
     /// A later line was refused, or with line 0 the whole input.
     Line { fault: LineFault, line: usize },
@@ -40,13 +40,13 @@ pub enum InputRefusal {
 pub enum ScriptError {
     /// The input is refused, and the run writes this refusal.
     Refused(InputRefusal),
-    /// Out of memory, which says nothing of the input.
+    /// Out of memory, which says nothing about the input.
     Memory,
 }
 
 impl ScriptError {
-    /// The refusal that the input met, which is to be written. Out of memory there is none, and the
-    /// run ends as `Memory`.
+    /// The refusal of the input, which is to be written. Out of memory there is no refusal, and the run
+    /// ends as `Memory`.
     pub fn refusal(self) -> Result<InputRefusal, DriveError>
         ensures { result ≡ ok_or (refusal self) DriveError.Memory }
     {

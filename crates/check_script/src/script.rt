@@ -1,5 +1,5 @@
-//! The script of an input: line 1 is the setup document, line 2 a saved state if the scheduler starts
-//! from one, and each later line that isn't blank is one command.
+//! The script of an input. Line 1 is the setup document, and line 2 a saved state if the scheduler
+//! starts from one. Each later line that isn't blank is one command.
 ghost use Rattle.std.specs.Prelude.{◌≤◌, length, map};
 ghost use Rattle.check_objects.specs.Setup.{setup_of};
 ghost use Rattle.check_saved.specs.Text.{saved_of_text};
@@ -18,7 +18,7 @@ use check_saved::{Saved, SavedFault};
 use check_sched::Sched;
 use std::alloc::Global;
 
-/// How many bytes an input may have at most.
+/// The most bytes that an input may have.
 pub const MAX_INPUT_BYTES: usize = 67_108_864;
 
 /// A scheduler that has started, and the commands for it in their order.
@@ -31,10 +31,10 @@ pub struct Script {
 impl Script {
     ghost use Rattle.check_script.specs.Scripted.{script};
 
-    /// Reads an input, every line of it, or gives its first refusal: the input's length is tested
-    /// first, then the setup document, then the saved state if there is to be one, then the lines in
-    /// their order. A saved state on a line that is blank or missing is no JSON. Out of memory is an
-    /// error of its own.
+    /// Reads every line of an input, or returns its first refusal. The tests come in this order: the
+    /// input's length, the setup document, the saved state if there is to be one, the lines in their
+    /// order. A saved state on a blank or missing line isn't JSON. Out of memory is an error of its
+    /// own.
     #[tactic(auto, unfolding(crate::specs::Script::script_of))]
     pub fn read(alloc: Global, start: Start, input: &[u8]) -> Result<Script, ScriptError>
         requires { CanStart start }
@@ -65,7 +65,7 @@ impl Script {
         }
     }
 
-    /// The script of a scheduler and of the lines for it, of which the first has this number.
+    /// The script of a scheduler and of the lines for it. The first line has this number.
     fn of_lines(
         alloc: Global,
         sched: Sched,
@@ -104,8 +104,8 @@ pub fn read_saved(alloc: Global, text: &[u8]) -> Result<Saved, ScriptError>
     }
 }
 
-/// The commands of the lines of these bytes, of which the first has this number. A blank line is
-/// passed over, whatever its length, but counted.
+/// The commands of the lines of these bytes. The first line has this number. A blank line of any length
+/// is skipped, but counted.
 pub(crate) fn read_commands<C: Command>(
     alloc: Global,
     setup: &Setup,

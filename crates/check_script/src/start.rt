@@ -13,7 +13,7 @@ use std::alloc::{AllocError, Global};
 pub enum Start {
     /// Fresh, at this moment. Commands begin at line 2.
     Fresh(u64),
-    /// From the saved state on line 2, at this moment, or at the saved start if there is none.
+    /// From the saved state on line 2, at this moment, or at the saved start if no moment is given.
     /// Commands begin at line 3.
     Resumed(Option<u64>),
 }
@@ -45,7 +45,7 @@ pub fn resume(
     }
 }
 
-/// This moment, or the saved start if there is none.
+/// This moment, or the saved start if no moment is given.
 pub fn moment_of(start: Option<u64>, saved: &Saved) -> u64
     requires { IfSome start (λ moment. moment ≤ LAST_MOMENT) }
     ensures value { result ≡ unwrap_or start saved.now.start }

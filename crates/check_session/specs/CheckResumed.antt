@@ -1,4 +1,4 @@
--- What a check prints of a setup and a saved state.
+-- The text that a check prints for a setup and a saved state.
 use Rattle.std.specs.Prelude.{ℕ, ◌≡◌, List, [], ◌∷◌, ◌++◌, codes, length, nat_lt, unwrap_or, Option, Some, None, Result, Ok, Err, if◌then◌else◌}
 use Rattle.check_changes.specs.Text.{changes_text, saved_explanation}
 use Rattle.check_objects.specs.Configuration.{Configuration}
@@ -18,25 +18,25 @@ use Rattle.check_drive.specs.declared.drive.Outcome.{Outcome}
 use Rattle.check_drive.specs.declared.drive.Outcome.TheVariants as outcome
 use Rattle.check_session.specs.Check.{IsToldBy}
 
--- What is printed of a good setup and a saved state. Of a good one: the figures of the setup, of which the first checks are those of a scheduler
--- that starts at this moment, or at the saved start, and what becomes of the objects. Of a refused one: the line of a run, and one line
--- more, which explains the fault.
+-- The text for a good setup and a saved state. For a good saved state it is the figures of the setup, and what becomes of the objects. The first checks
+-- in the figures are those of a scheduler that starts at this moment, or at the saved start. For a refused saved state it is the line of a run, and one
+-- line more, which explains the fault.
 abbrev pub IsSavedTold : Option ℕ → Configuration → Result Saved SavedFault → List ℕ → Outcome → Type 0
 IsSavedTold start c (Ok saved) text told =
     (text ≡ summary_text (summary_of c (unwrap_or start saved.start)) ++ changes_text c saved) × (told ≡ outcome.Ran)
 IsSavedTold start c (Err e) text told = (text ≡ refusal_line (refusal.Saved e) ++ saved_explanation e) × (told ≡ outcome.Refused)
 
--- what is printed of a setup document and of the text of a saved state: the setup is tested first
+-- the text for a setup document and the text of a saved state: the setup is tested first
 abbrev pub AreBothTold : Option ℕ → List ℕ → List ℕ → List ℕ → Outcome → Type 0
 AreBothTold start document text = IsToldBy (λ c. IsSavedTold start c (saved_of_text text)) document (setup_of document)
 
--- Line 1 is the setup document, and line 2 the text of the saved state, where the input isn't longer than that of a run may be. A line that is
--- missing is one without a byte, and what stands behind the two is no matter of a check.
+-- Line 1 is the setup document, and line 2 the text of the saved state, if the input isn't longer than that of a run may be. A missing line counts as
+-- an empty one. A check ignores the bytes after the two lines.
 abbrev pub two_lines_of : List ℕ → Option (List ℕ × List ℕ)
 two_lines_of input =
     if nat_lt MAX_INPUT_BYTES (length input) then None else Some (first_line_of input, first_line_of (behind_line input))
 
--- an input that is longer
+-- the text for a longer input
 abbrev pub IsLengthTold : List ℕ → Outcome → Type 0
 IsLengthTold text told =
     (text ≡ refusal_line (refusal.Line line_fault.TooLong 0) ++ codes "the input has more than 67108864 bytes\n") × (told ≡ outcome.Refused)
@@ -45,6 +45,6 @@ abbrev pub AreLinesTold : Option ℕ → Option (List ℕ × List ℕ) → List 
 AreLinesTold start None = IsLengthTold
 AreLinesTold start (Some (document, text)) = AreBothTold start document text
 
--- what is printed of an input: its length is tested first
+-- the text for an input: its length is tested first
 abbrev pub IsResumedTold : Option ℕ → List ℕ → List ℕ → Outcome → Type 0
 IsResumedTold start input = AreLinesTold start (two_lines_of input)

@@ -1,4 +1,4 @@
--- What the workers of a drill leave in the history, and what a drill writes.
+-- The history that the workers of a drill leave, and the text that a drill writes.
 use Rattle.std.specs.Prelude.{◌≡◌, ◌≢◌, ◌⊎◌, ℕ, ◌+◌, ◌<◌, ◌≤◌, ⊤, List, [], ◌∷◌, filter_map, length, Option, Some, None, Result, Ok, Err, IfErr, IfOk, IfSome, OnErr, OnOk}
 use Rattle.std.specs.Io.KnownBytes.{Appends, Keeps}
 use Rattle.ticket_steps.specs.declared.kept.Entry.{Entry}
@@ -20,12 +20,12 @@ use Rattle.check_text.specs.Output.{WroteFront, WroteLinesUpTo}
 use Rattle.check_session.specs.ScriptedCodes.{scripted_code}
 use Rattle.check_text.specs.Text.{drill_text, refusal_line}
 
--- the plugin of a drill gives the scripted code and no other, whatever the moment
+-- the plugin of a drill gives the scripted code and no other, at any moment
 abbrev pub gives_scripted : List (List Code) → ℕ → ℕ → ℕ → Code → Type 0
 gives_scripted codes object run now code = code ≡ scripted_code codes object run
 
--- The entries of the pass with this number are those of this shift: a take for each moment in order, and behind each check
--- that was taken its report with the scripted code; where the worker stopped early, only a beginning of that.
+-- The entries of the pass with this number are those of this shift. They are a take for each moment in order, and after each check that was taken its
+-- report with the scripted code. If the worker stopped early, they are only a beginning of that.
 pub record IsWorkerOf (s : DrillScript) (number : ℕ) (entries : List (Entry Call Reply)) (shift : Shift) : Type 0 where
   pub number_is : shift.number ≡ number
   pub worked : IsShift (gives_scripted s.returns) s.moments shift
@@ -36,14 +36,14 @@ abbrev pub AreWorkersOf : DrillScript → List (Entry Call Reply) → ℕ → Li
 AreWorkersOf s history number [] = ⊤
 AreWorkersOf s history number (shift ∷ shifts) = IsWorkerOf s number (of number history) shift × AreWorkersOf s history (number + 1) shifts
 
--- how many of the shifts stopped early
+-- the number of shifts that stopped early
 abbrev pub stopped_in : List Shift → ℕ
 stopped_in shifts = length (filter_map (λ shift. shift.stopped) shifts)
 
--- A history that so many workers can leave over a script, from this start and with this room, and how many calls were
--- refused when out of memory.
+-- A history that this many workers can leave over a script, from this start and with this room. With it comes the number of calls that were refused
+-- when out of memory.
 pub record IsDrill (s : DrillScript) (start workers room : ℕ) (history : List (Entry Call Reply)) (refused : ℕ) : Type 0 where
-  -- it is one thread's
+  -- it is that of one thread
   pub legal : IsLegal step (opening s.setup start) history
   -- the pass numbers are those below the number of workers
   pub numbers : (number : ℕ) → workers ≤ number → of number history ≡ []
@@ -53,7 +53,7 @@ pub record IsDrill (s : DrillScript) (start workers room : ℕ) (history : List 
   pub each : AreWorkersOf s history 0 shifts
   -- a worker stops at its first call without memory, and there are no other refusals
   pub refusals : refused ≡ stopped_in shifts
-  -- memory isn't wanted below the room
+  -- no call is refused below the room
   pub within_room : length history < room → refused ≡ 0
 
 -- the text of a history that the workers can leave over this script
@@ -82,13 +82,13 @@ pub record WroteDrill (start workers room : ℕ) (input : List ℕ) (held holds 
   pub is_text : IsTextOf start workers room input text
   pub written : Appends held holds text
 
--- a prefix of such a text was
+-- a prefix of such a text was written
 pub record WroteDrillFront (start workers room : ℕ) (input : List ℕ) (held holds : Option (List ℕ)) : Type 0 where
   pub text : List ℕ
   pub is_text : IsTextOf start workers room input text
   pub written : WroteFront held holds text
 
--- whole lines from the beginning of such a text were, and not all of it
+-- whole lines from the beginning of such a text were written, and not all of it
 pub record WroteDrillPart (start workers room : ℕ) (input : List ℕ) (held holds : Option (List ℕ)) : Type 0 where
   pub text : List ℕ
   pub is_text : IsTextOf start workers room input text
@@ -100,24 +100,24 @@ pub record WroteDrillPart (start workers room : ℕ) (input : List ℕ) (held ho
 abbrev pub WroteDrillShort : ℕ → ℕ → ℕ → List ℕ → Option (List ℕ) → Option (List ℕ) → Type 0
 WroteDrillShort start workers room input held holds = Keeps held holds ⊎ WroteDrillPart start workers room input held holds
 
--- What a drill on an input that was read has written when it ended so: such a text, or after an error nothing or a prefix of one, which is
--- whole lines and isn't all of it where memory ran out. It is no fault of a reader.
+-- The output of a drill on an input that was read, by how the drill ended. Without an error it is such a text. After an error it is nothing or a prefix
+-- of such a text. Out of memory this prefix is whole lines, and not all of the text. The error isn't a fault of a reader.
 pub record IsDrillWritten (start workers room : ℕ) (input : List ℕ) (ended : Result Outcome DriveError) (held holds : Option (List ℕ)) : Type 0 where
   pub written : OnOk ended (WroteDrill start workers room input held holds)
   pub front : OnErr ended (Keeps held holds ⊎ WroteDrillFront start workers room input held holds)
   pub kind : IfErr ended (λ e. e ≢ errors.Read)
   pub short : IfErr ended (λ e. e ≡ errors.Memory → WroteDrillShort start workers room input held holds)
 
--- What an error of a drill leaves: after a fault of the reader nothing was written. After
--- any other error nothing was, or the input was read and a prefix of a text that a drill can write on it was written.
+-- The output that an error of a drill leaves. After a fault of the reader it is nothing. After any other error it is nothing, or the input was read and
+-- the output is a prefix of a text that a drill can write on it.
 abbrev pub AfterDrillFault : DriveError → ℕ → ℕ → ℕ → Option (List ℕ) → Option (List ℕ) → Option (List ℕ) → Option (List ℕ) → Type 0
 AfterDrillFault errors.Read start workers room had left held holds = Keeps held holds
 AfterDrillFault e start workers room None left held holds = ⊤
 AfterDrillFault e start workers room (Some input) left held holds =
     Keeps held holds ⊎ (HasRead (Some input) left input × WroteDrillFront start workers room input held holds)
 
--- Whatever is known of reader and writer, a drill that ended so is that of one input: it let workers work over that input or
--- refused it, and wrote such a text on it, or after an error nothing or a prefix of one.
+-- A drill that ended like this is a drill on one input, even if the reader and the writer aren't known. It let workers work over that input or refused
+-- it, and wrote such a text on it. After an error it wrote nothing or a prefix of such a text.
 pub record IsDrillOnInput (start workers room : ℕ) (ended : Result Outcome DriveError) (had held holds : Option (List ℕ)) : Type 0 where
   pub input : List ℕ
   pub is_input : IsInput had input
@@ -125,10 +125,10 @@ pub record IsDrillOnInput (start workers room : ℕ) (ended : Result Outcome Dri
   pub written : OnOk ended (WroteDrill start workers room input held holds)
   pub front : OnErr ended (Keeps held holds ⊎ WroteDrillFront start workers room input held holds)
 
--- how a drill ended, by all that is known of it
+-- all that is known about how a drill ended
 pub record Drilled (start workers room : ℕ) (ended : Result Outcome DriveError) (io : Streams) : Type 0 where
   pub input : IsDrillOnInput start workers room ended io.had io.held io.holds
   pub read : OnOk ended (IfSome io.had (HasRead io.had io.left))
-  -- what an error leaves; out of memory the whole of what was to be written never was
+  -- the output that an error leaves; out of memory it is never the whole text
   pub fault : IfErr ended (λ e. AfterDrillFault e start workers room io.had io.left io.held io.holds)
   pub memory : IfErr ended (λ e. e ≡ errors.Memory → IfSome io.had (λ input. WroteDrillShort start workers room input io.held io.holds))

@@ -3,8 +3,8 @@ use Rattle.std.specs.Prelude.{ℕ, ◌==◌, ◌-◌, ◌%◌, if◌then◌else�
 use Rattle.check_rules.specs.declared.state.Code.{Code}
 use Rattle.check_rules.specs.declared.state.Code.TheVariants as code
 
--- The code of a run over these codes: runs count from 1, and after the last code the first comes again. Run 0 gives Ok, and
--- so does every run where there is no code.
+-- The code of a run over these codes. Runs count from 1, and after the last code the first comes again. Run 0 gives Ok, and so does every run if there
+-- is no code.
 abbrev pub code_of_run : List Code → ℕ → Code
 code_of_run [] run = code.Ok
 code_of_run (c ∷ cs) run = if run == 0 then code.Ok else slice_index_or (c ∷ cs) ((run - 1) % length (c ∷ cs)) code.Ok

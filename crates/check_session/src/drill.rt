@@ -25,18 +25,23 @@ use std::sync::Wait;
 use std::thread::Threads;
 use ticket_steps::{Entry, Kept};
 
-/// Reads a setup and the script of a drill, checks every line, then lets so many workers work at the
-/// script's moments on one scheduler that starts at the moment `start`, in milliseconds. Each asks
-/// for a check at each moment and reports the scripted code of the check that it is given. When all
-/// have returned, the history is written, an entry a line with the number of its pass, and then the
-/// total. An input that is refused writes the line of its first refusal and nothing else. The writer
-/// is flushed once, at the end.
+/// Runs a drill. It reads a setup and the script of a drill, and checks every line. Then it lets
+/// `workers` workers work at the script's moments on one scheduler that starts at the moment `start`,
+/// in milliseconds. Each worker asks for a check at each moment, and reports the scripted code of the
+/// check that it gets. When all workers have returned, the history is written, and then the total. Each
+/// entry is a line with the number of its pass. For a refused input only the line of its first refusal
+/// is written. The writer is flushed once, at the end.
 ///
-/// The book has room for so many entries: memory for more is asked for as they come. A worker stops
-/// at its first call without memory, which the total counts. The error `Memory` comes where there is
-/// no memory elsewhere, as for a thread, `Read` where the reader fails, `Write` where the writer or
-/// its flush fails. After `Read` nothing was written, after the others nothing or a prefix of a text
-/// that the drill can write, after `Memory` whole lines and never all of it. (A drill is our own profile.)
+/// The book has room for `room` entries, and memory for more is asked for as they come. A worker stops
+/// at its first call without memory, and the total counts this call.
+///
+/// - `Read`: the reader failed, and nothing was written.
+/// - `Write`: the writer or its flush failed. Nothing was written, or a prefix of a text that the drill
+///   can write.
+/// - `Memory`: out of memory elsewhere, for example for a thread. The output is as after `Write`, but
+///   whole lines, and never all of the text.
+///
+/// (A drill is our own profile.)
 pub fn drill<H: Threads + Wait + Sync, R: Read, W: Write>(
     rt: &H,
     alloc: Global,
@@ -98,7 +103,7 @@ fn answer<H: Threads + Wait + Sync, W: Write>(
     }
 }
 
-/// Lets the workers work, and gives the book that they leave.
+/// Lets the workers work, and returns the book that they leave.
 fn work_all<H: Threads + Wait + Sync>(
     rt: &H,
     alloc: Global,
@@ -148,11 +153,11 @@ fn write_book<W: Write>(alloc: Global, book: &Book, writer: &mut W) -> Result<Ou
     Ok(Outcome::Ran)
 }
 
-/// Writes the line of each entry of a history, in order, and then the total: how many entries there
-/// are, and how many calls were refused when out of memory. One buffer serves all lines. Nothing is
-/// flushed.
+/// Writes the line of each entry of a history, in order, and then the total. The total is the number of
+/// entries, and the number of calls that were refused when out of memory. One buffer serves all lines.
+/// Nothing is flushed.
 ///
-/// An Err is `Write`, where the writer fails or takes no byte, or `Memory`. A prefix of the text was
+/// The error is `Write` if the writer fails or takes no byte, or `Memory`. A prefix of the text was
 /// written then.
 pub fn write_history<W: Write>(
     alloc: Global,
@@ -171,7 +176,7 @@ pub fn write_history<W: Write>(
     write_total(entries.len(), refused, &mut line, writer)
 }
 
-/// Writes the line of an entry by way of the buffer `line`.
+/// Writes the line of an entry through the buffer `line`.
 #[tactic(auto, using(check_text::proofs::WrittenLemmas::line_written, check_text::proofs::WrittenLemmas::line_unwritten))]
 fn write_entry<W: Write>(
     setup: &Setup,
@@ -187,7 +192,7 @@ fn write_entry<W: Write>(
     write_text(writer, line.as_bytes())
 }
 
-/// Writes the total by way of the buffer `line`.
+/// Writes the total through the buffer `line`.
 #[tactic(auto, using(check_text::proofs::WrittenLemmas::line_written, check_text::proofs::WrittenLemmas::line_unwritten))]
 fn write_total<W: Write>(
     entries: usize,

@@ -1,4 +1,4 @@
-//! The whole of what a job prints, and the flush behind it.
+//! Prints the whole text of a job, and flushes it.
 ghost use Rattle.std.specs.Prelude.{IsOkUnless, OnErr, OnOk};
 ghost use Rattle.std.specs.Io.KnownBytes.{Appends};
 ghost use Rattle.check_text.specs.Output.{WroteFront};
@@ -7,7 +7,7 @@ use check_script::DriveError;
 use check_text::{flush, write_text};
 use std::io::Write;
 
-/// Writes a text and flushes it. An Err is `Write`, and a prefix of the text was written then.
+/// Writes a text and flushes it. The error is `Write`, and a prefix of the text was written then.
 pub(crate) fn print_text<W: Write>(writer: &mut W, text: &[u8]) -> Result<(), DriveError>
     ensures written { OnOk result
         (Appends (W.contents writer.old) (W.contents writer.new) text.now) }

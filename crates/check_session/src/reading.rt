@@ -1,4 +1,4 @@
-//! What a check reads of its input, and the document in it.
+//! Reads the input of a check, and finds the document in it.
 ghost use Rattle.std.specs.Prelude.{◌≡◌, ◌≢◌, IfOk, IfErr, IfSome};
 ghost use Rattle.check_script.specs.Input.{HasBegun, HasBegunBy, without_last_feed};
 ghost use Rattle.check_session.specs.Reading.{is_undecided, read_for, read_of};
@@ -7,12 +7,12 @@ use check_script::{DriveError, MAX_READ_BYTES, Start, read_at_most};
 use std::alloc::Global;
 use std::io::Read;
 
-/// How many bytes of a document are read at first: one more than it may have, so that a longer one is
-/// known to be too long.
+/// The most bytes of a document that are read at first: one more than it may have. So a longer document
+/// is known to be too long.
 pub const MAX_CHECKED_BYTES: usize = 16_777_217;
 
-/// Reads what a check needs of its input: of a document alone, or of the input of a run that starts from a
-/// saved state. Errors come as [`read_checked`] has them.
+/// Reads the part of its input that a check needs: of a document alone, or of the input of a run that
+/// starts from a saved state. The errors are those of [`read_checked`].
 pub(crate) fn read_input<R: Read>(
     alloc: Global,
     start: Start,
@@ -32,12 +32,12 @@ pub(crate) fn read_input<R: Read>(
     }
 }
 
-/// Reads to the end of the input or to `MAX_CHECKED_BYTES` bytes, whichever comes first, and one byte
-/// more where the last of these is a line feed: it is no part of the document where the input ends
-/// behind it.
+/// Reads to the end of the input or to `MAX_CHECKED_BYTES` bytes, whichever comes first. If the last of
+/// these bytes is a line feed, it reads one byte more: the line feed isn't part of the document if the
+/// input ends after it.
 ///
-/// Each error of the reader is a fault, an interruption among them: nothing is tried again. `Memory`
-/// comes only where a byte was read, or there was none.
+/// Each error of the reader is a fault, an interruption too: nothing is tried again. `Memory` comes
+/// only if a byte was read, or if the reader had none.
 pub(crate) fn read_checked<R: Read>(alloc: Global, reader: &mut R) -> Result<Vec<u8>, DriveError>
     ensures all { IfOk result (λ input.
         IfSome (R.remaining reader.old) (λ bytes. input.items ≡ read_of bytes)) }
@@ -55,15 +55,15 @@ pub(crate) fn read_checked<R: Read>(alloc: Global, reader: &mut R) -> Result<Vec
     Ok(input)
 }
 
-/// Whether these bytes are one more than a document may have and the last is a line feed. Where the
-/// input ends behind them they hold a document, and else it is too long.
+/// Whether these bytes are one more than a document may have and the last is a line feed. If the input
+/// ends after them, they hold a document. Otherwise the document is too long.
 fn is_undecided(read: &[u8]) -> bool
     ensures { result ≡ is_undecided read.now }
 {
     read.len() == MAX_CHECKED_BYTES && document(read).len() < MAX_CHECKED_BYTES
 }
 
-/// The document of an input: the bytes without the line feed at their end, where there is one.
+/// The document of an input: its bytes without the line feed at their end, if they end with one.
 pub(crate) fn document(input: &[u8]) -> &[u8]
     ensures { result.now ≡ without_last_feed input.now }
 {

@@ -5,7 +5,7 @@ ghost use Rattle.check_session.specs.ScriptedCodes.{code_of_run, scripted_code};
 use check_rules::Code;
 use check_workers::Plugin;
 
-/// A plugin that returns what a script says, whatever the moment.
+/// A plugin that returns the codes of a script, at any moment.
 #[derive(Drop)]
 pub struct Scripted {
     /// The return codes of each object, by the object's number, in the order of its runs.
@@ -13,9 +13,9 @@ pub struct Scripted {
 }
 
 impl Scripted {
-    /// What the check of the object returns under the number `run`: run 1 the first of the object's
-    /// codes, run 2 the second, and after the last the first again. `Ok` for run 0, which no check
-    /// has, for an object without codes, and for a number that no object has.
+    /// The code that the check of the object returns under the number `run`. Run 1 returns the first of
+    /// the object's codes, run 2 the second, and after the last code the first comes again. It is `Ok`
+    /// for run 0, which no check has, for an object without codes, and for a number that no object has.
     pub fn code(&self, object: u32, run: u64) -> Code
         ensures { result ≡
             scripted_code (map (λ list. list.items) self.now.codes.items) object run }

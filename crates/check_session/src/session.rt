@@ -1,4 +1,4 @@
-//! What the program does, by its words, and its exit statuses.
+//! Does the job that the program's arguments ask for, and gives the exit status.
 ghost use Rattle.std.specs.Prelude.{◌≡◌, codes, Result, OnOk, OnErr, IsOkUnless};
 ghost use Rattle.std.specs.Io.KnownBytes.{Appends};
 ghost use Rattle.clap.specs.Walk.{texts};
@@ -23,27 +23,27 @@ use std::io::{Read, Write};
 use std::sync::Wait;
 use std::thread::Threads;
 
-/// How a session ended that met no fault and wasn't out of memory.
+/// How a session ended, if it met no fault and wasn't out of memory.
 #[derive(Clone, Copy, Debug, PartialEq, Eq)]
 pub enum Ending {
-    /// The words were accepted, and the input was run or refused; or the schema was written, for which
-    /// no input is read.
+    /// The arguments were accepted, and the input was run or refused. Or the schema was written, which
+    /// reads no input.
     Drove(Outcome),
-    /// The words asked for help or for the version, which was written. The input wasn't read.
+    /// The arguments asked for help or for the version, and it was written. The input wasn't read.
     Helped,
-    /// The words were refused, which was written. The input wasn't read.
+    /// The arguments were refused, and the line that says so was written. The input wasn't read.
     RefusedWords,
 }
 
-/// Does what the program's words ask for, its own name first, and gives the exit status. Words are
-/// tested first: where they are refused, or ask for help or the version, the input isn't read, and the
-/// line `refused words` or the text that is asked for is written. The writer is flushed once, at the end, but by `live`
-/// before each read too.
+/// Does the job that the program's arguments ask for, and returns the exit status. The first argument
+/// is the program's name. The arguments are tested first. If they are refused, the line `refused words`
+/// is written; if they ask for help or the version, that text. In both cases the input isn't read. The
+/// writer is flushed once, at the end. Only `live` flushes it before each read too.
 ///
-/// The status is that of [`exit_status`]. Where it means a fault or that there was no memory, a job
-/// leaves what `run`, `live`, `check`, `write_setup_line` or `drill` says of that error. Without a job, and
-/// where the job is the schema, the reader is as it was, and the writer has got a prefix of what it was to
-/// be handed, or nothing.
+/// The status is that of [`exit_status`]. If it means a fault or out of memory, a job leaves what
+/// `run`, `live`, `check`, `write_setup_line` or `drill` says about that error. Without a job, and if
+/// the job is the schema, the reader is as it was, and the writer has got nothing or a prefix of the
+/// text.
 ///
 /// `rt` is the machine that starts threads and waits, which only a drill uses.
 pub fn session<H: Threads + Wait + Sync, R: Read, W: Write>(
@@ -61,7 +61,7 @@ pub fn session<H: Threads + Wait + Sync, R: Read, W: Write>(
     exit_status(serve(rt, alloc, words, reader, writer))
 }
 
-/// Does what the words ask for.
+/// Does the job that the arguments ask for, or answers them.
 fn serve<H: Threads + Wait + Sync, R: Read, W: Write>(
     rt: &H,
     alloc: Global,
@@ -119,7 +119,7 @@ fn tell_schema<W: Write>(alloc: Global, writer: &mut W) -> Result<Outcome, Drive
     }
 }
 
-/// Writes a text and flushes it, as the whole of a job.
+/// Writes the whole text of a job, and flushes it.
 fn tell_text<W: Write>(writer: &mut W, told: &str) -> Result<Outcome, DriveError>
     ensures { IsTextTold told.now result (W.contents writer.old) (W.contents writer.new) }
 {
@@ -127,8 +127,8 @@ fn tell_text<W: Write>(writer: &mut W, told: &str) -> Result<Outcome, DriveError
     Ok(Outcome::Ran)
 }
 
-/// Answers words that ask for no job: by the text that they ask for, or by the line that refuses them. Out of
-/// memory it writes nothing.
+/// Answers arguments that ask for no job: by the text that they ask for, or by the line that refuses
+/// them. Out of memory it writes nothing.
 fn tell_words<W: Write>(error: WordsError, writer: &mut W) -> Result<Ending, DriveError>
     ensures { Tells error result (W.contents writer.old) (W.contents writer.new) }
 {
@@ -145,8 +145,8 @@ fn tell_words<W: Write>(error: WordsError, writer: &mut W) -> Result<Ending, Dri
     }
 }
 
-/// Writes the line that refuses the program's words, and flushes it. An Err is `Write`: the writer or
-/// its flush failed, or a write took no byte. A prefix of the line was written then.
+/// Writes the line that refuses the program's arguments, and flushes it. The error is `Write`: the
+/// writer or its flush failed, or a write took no byte. A prefix of the line was written then.
 pub fn refuse_words<W: Write>(writer: &mut W) -> Result<(), DriveError>
     ensures written { OnOk result
         (Appends (W.contents writer.old) (W.contents writer.new) (codes "refused words\n")) }
@@ -157,8 +157,13 @@ pub fn refuse_words<W: Write>(writer: &mut W) -> Result<(), DriveError>
     print_text(writer, b"refused words\n")
 }
 
-/// The exit status of a session: 0 ran or printed its help or version, 1 input refused, 2 words refused, 3 a fault
-/// of the reader or the writer, 4 out of memory.
+/// The exit status of a session:
+///
+/// - 0: done, or the help or the version was printed.
+/// - 1: the input was refused.
+/// - 2: the arguments were refused.
+/// - 3: a fault of the reader or the writer.
+/// - 4: out of memory.
 pub fn exit_status(ended: Result<Ending, DriveError>) -> u8
     ensures { result ≡ exit_status ended }
 {

@@ -1,4 +1,4 @@
--- The text that a conversation writes: a function of how its scheduler starts and of the input, with the words of a run's text.
+-- The text that a conversation writes: a function of how its scheduler starts and of the input. Its wording is that of a run's text.
 use Rattle.std.specs.Prelude.{ℕ, ◌≡◌, ◌+◌, ⊤, true, List, [], ◌∷◌, ◌++◌, Option, Some, None, Result, Ok, Err}
 use Rattle.check_objects.specs.Configuration.{Configuration}
 use Rattle.check_objects.specs.Setup.{setup_of}
@@ -15,23 +15,23 @@ use Rattle.check_script.specs.LiveInput.{behind_line, has_feed, said_by}
 use Rattle.check_script.specs.Script.{Beginning, beginning_of}
 use Rattle.check_text.specs.Text.{answer_line, refusal_line, state_by}
 
--- the answer to what a line says: nothing to a blank one, the line of the answer to a command, or the line of the refusal
+-- the answer to a line: nothing to a blank one, the line of the answer to a command, or the line of the refusal
 abbrev pub answer_to : State → Result (Option RunCommand) InputRefusal → List ℕ
 answer_to s (Ok None) = []
 answer_to s (Ok (Some command)) = answer_line s command
 answer_to s (Err why) = refusal_line why
 
--- the state after it: only calls change it
+-- the state after that line: only calls change it
 abbrev pub state_after : State → Result (Option RunCommand) InputRefusal → State
 state_after s (Ok None) = s
 state_after s (Ok (Some command)) = state_by s command
 state_after s (Err why) = s
 
--- what the line with number n says to a scheduler in this state
+-- the meaning of the line with number n for a scheduler in this state
 abbrev pub said : State → ℕ → List ℕ → Result (Option RunCommand) InputRefusal
 said s n line = said_by (command_by s.setup) n line
 
--- the answers to these lines, one after another, from this state on, where the first has the number n
+-- the answers to these lines, one after another, from this state on; the first line has the number n
 abbrev pub answers_from : State → ℕ → List (List ℕ) → List ℕ
 answers_from s n [] = []
 answers_from s n (line ∷ lines) = answer_to s (said s n line) ++ answers_from (state_after s (said s n line)) (n + 1) lines
@@ -41,14 +41,14 @@ abbrev pub answers_over : Result Beginning InputRefusal → List ℕ
 answers_over (Ok b) = answers_from b.state b.number (lines_of b.rest)
 answers_over (Err why) = refusal_line why
 
--- What a conversation writes on the input: the line of the refusal of its setup, or of its saved state; or else for each later line
--- nothing, the line of its refusal or the line of its answer, in order.
+-- The text that a conversation writes on the input. If its setup or its saved state is refused, it is the line of this refusal. Otherwise it is, for
+-- each later line in order, nothing, the line of its refusal or the line of its answer.
 unfoldable pub live_text : Start → List ℕ → List ℕ
 live_text how input = answers_over (beginning_of how input)
 
--- ---- what the laws speak of
+-- ---- conditions of the laws
 
--- the bytes after the setup document have what a scheduler starts with: the whole line of a saved state, if it starts from one
+-- the bytes after the setup document contain what a scheduler starts with: the whole line of a saved state, if it starts from one
 abbrev pub HasStart : Start → List ℕ → Type 0
 HasStart (start.Fresh moment) bytes = ⊤
 HasStart (start.Resumed moment) bytes = has_feed bytes ≡ true

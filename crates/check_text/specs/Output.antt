@@ -1,4 +1,4 @@
--- What a writer holds after writes that a fault may have cut short.
+-- The bytes that a writer holds after writes that a fault may have cut short.
 use Rattle.std.specs.Prelude.{◌≡◌, ◌≢◌, ◌⊎◌, ℕ, List, [], ◌∷◌, Option, ◌++◌}
 use Rattle.std.specs.Io.KnownBytes.{Appends, Keeps}
 
@@ -6,11 +6,11 @@ use Rattle.std.specs.Io.KnownBytes.{Appends, Keeps}
 abbrev pub EndsLine : List ℕ → Type 0
 EndsLine bytes = (xs : List ℕ) × (bytes ≡ xs ++ 10 ∷ [])
 
--- or there are none
+-- these bytes end a line, or there are no bytes
 abbrev pub AreWholeLines : List ℕ → Type 0
 AreWholeLines bytes = (bytes ≡ []) ⊎ EndsLine bytes
 
--- the writer took the text up to where `rest` begins, and no more
+-- the writer took the text up to the beginning of `rest`, and no more
 pub record WroteUpTo (old new : Option (List ℕ)) (text rest : List ℕ) : Type 0 where
   pub front : List ℕ
   pub parts : text ≡ front ++ rest
@@ -20,7 +20,7 @@ pub record WroteUpTo (old new : Option (List ℕ)) (text rest : List ℕ) : Type
 abbrev pub WroteFront : Option (List ℕ) → Option (List ℕ) → List ℕ → Type 0
 WroteFront old new text = (rest : List ℕ) × WroteUpTo old new text rest
 
--- and what it took is whole lines
+-- the same, and the bytes that it took are whole lines
 abbrev pub WroteLinesUpTo : Option (List ℕ) → Option (List ℕ) → List ℕ → List ℕ → Type 0
 WroteLinesUpTo old new text rest = (wrote : WroteUpTo old new text rest) × AreWholeLines wrote.front
 

@@ -1,8 +1,9 @@
--- How much room a line needs for what is pushed to it.
+-- The room that a line needs for the bytes that are pushed to it.
 use Rattle.std.specs.Prelude.{ℕ, ◌+◌, ◌<◌, ◌≤◌, Result, OnOk, OnErr, String, string_len, string_capacity}
 use Rattle.std.specs.declared.alloc.Global.{Global}
 
--- at most so many bytes are pushed: the line keeps its room and is that much longer at most, and the push is refused only where that much didn't fit
+-- At most this many bytes are pushed. The line keeps its room and gets at most that much longer. The push is refused only if this many bytes didn't
+-- fit.
 abbrev pub FitsIn : {A E : Type 0} → ℕ → Result A E → String Global → String Global → Type 0
 FitsIn most result old new =
     (string_capacity old ≤ string_capacity new)

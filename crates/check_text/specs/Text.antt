@@ -1,5 +1,4 @@
--- The text that a run writes: a function of how its scheduler starts and of the input. The words of each line are
--- said once, here.
+-- The text that a run writes: a function of how its scheduler starts and of the input. The wording of each line is defined once, here.
 use Rattle.std.specs.Prelude.{ℕ, Bool, true, false, if◌then◌else◌, List, [], ◌∷◌, ◌++◌, Option, Some, None, Result, Ok, Err, codes, decimal, flat_map, length}
 use Rattle.ticket_steps.specs.declared.kept.Entry.{Entry}
 use Rattle.check_objects.specs.Configuration.{Configuration, name_of}
@@ -54,7 +53,7 @@ putoff_text until name = codes "putoff " ++ (time_text until ++ (codes " " ++ na
 abbrev pub idle_text : Option ℕ → List ℕ
 idle_text next = codes "idle " ++ time_text next
 
--- the state of an object, or PENDING where it was never checked
+-- the state of an object, or PENDING if it was never checked
 abbrev pub state_text : Standing → List ℕ
 state_text s = if s.checked then state_word s.state else codes "PENDING"
 
@@ -63,21 +62,21 @@ abbrev pub changed_text : Bool → List ℕ
 changed_text true = codes "yes"
 changed_text false = codes "no"
 
--- how the object with this full name stands, and when it is checked next
+-- the standing of the object with this full name, and the time of its next check
 abbrev pub standing_text : Standing → Bool → Option ℕ → List ℕ → List ℕ
 standing_text s changed next name = codes "standing " ++ (state_text s ++ (codes " " ++ (kind_word s.kind ++ (codes " " ++
     (decimal s.attempt ++ (codes " " ++ (changed_text changed ++ (codes " " ++ (flapping_word s.flapping ++ (codes " " ++
     (time_text next ++ (codes " " ++ name))))))))))))
 
--- the check of the object with this full name was given up, and this is the time of its next one
+-- the check of the object with this full name was abandoned, and this is the time of its next one
 abbrev pub freed_text : ℕ → List ℕ → List ℕ
 freed_text next name = codes "freed " ++ (decimal next ++ (codes " " ++ name))
 
--- what was asked for the object with this full name was done
+-- the request for the object with this full name was carried out
 abbrev pub done_text : List ℕ → List ℕ
 done_text name = codes "done " ++ name
 
--- the full name of the object that a call asks for, or nothing where it asks for none
+-- the full name of the object that a call asks for, or nothing if it asks for no object
 abbrev pub asked_name : Configuration → Call → List ℕ
 asked_name c (call.Take now) = []
 asked_name c (call.Report object run code) = name_of c object
@@ -118,11 +117,11 @@ abbrev pub index_text : Option ℕ → List ℕ
 index_text None = []
 index_text (Some i) = codes " " ++ decimal i
 
--- where in a setup document: the part, and the index where there is one
+-- a place in a setup document: the part, and the index if there is one
 abbrev pub place_text : Place → List ℕ
 place_text p = part_name p.part ++ index_text p.index
 
--- what is wrong with a setup document
+-- the fault of a setup document
 abbrev pub load_text : LoadError → List ℕ
 load_text load.NotJson = codes "L1 NotJson"
 load_text (load.Shape p) = codes "L2 Shape " ++ place_text p
@@ -137,7 +136,7 @@ load_text load.ParentCycle = codes "L10 ParentCycle"
 load_text load.Memory = codes "L11 Memory"
 load_text load.TooLong = codes "L12 TooLong"
 
--- What is wrong with what was saved. Want of memory is no fault of it, and is never the refusal of an input.
+-- The fault of a saved state. Out of memory isn't a fault of it, and is never the refusal of an input.
 abbrev pub saved_fault_text : SavedFault → List ℕ
 saved_fault_text saved.TooLong = codes "K1 TooLong"
 saved_fault_text saved.NotJson = codes "K2 NotJson"
@@ -150,7 +149,7 @@ saved_fault_text (saved.Range index) = codes "K8 Range" ++ index_text index
 saved_fault_text (saved.Unlawful index) = codes "K9 Unlawful" ++ index_text (Some index)
 saved_fault_text saved.Memory = codes "Memory"
 
--- what is wrong with a line of a script
+-- the fault of a line of a script
 abbrev pub fault_text : LineFault → List ℕ
 fault_text fault.TooLong = codes "S1 TooLong"
 fault_text fault.NotJson = codes "S2 NotJson"
@@ -158,7 +157,7 @@ fault_text fault.Shape = codes "S3 Shape"
 fault_text fault.Code = codes "S4 Code"
 fault_text fault.UnknownName = codes "S5 UnknownName"
 
--- why an input is refused, and where
+-- why an input is refused, and at which place
 abbrev pub input_refusal_text : InputRefusal → List ℕ
 input_refusal_text (refusal.Setup e) = load_text e
 input_refusal_text (refusal.Saved e) = saved_fault_text e
@@ -173,16 +172,16 @@ refusal_line r = line_of (refused_text (input_refusal_text r))
 abbrev pub line_from : State → Call → List ℕ
 line_from s c = reply_line s.setup c (step s c).1
 
--- the line of what is saved of a scheduler in this state
+-- the line of the saved state of a scheduler in this state
 unfoldable pub saved_line : State → List ℕ
 saved_line s = line_of (codes "saved " ++ saved_text (saved_of s))
 
--- The line of the answer to a command, in this state: to a call that of the reply, and to `save` that of the state itself.
+-- The line of the answer to a command, in this state: the line of the reply to a call, or for `save` the line of the state itself.
 abbrev pub answer_line : State → RunCommand → List ℕ
 answer_line s (command.Call call) = line_from s call
 answer_line s command.Save = saved_line s
 
--- the state after it: `save` leaves it as it is
+-- the state after the command: `save` leaves it as it is
 abbrev pub state_by : State → RunCommand → State
 state_by s (command.Call call) = (step s call).0
 state_by s command.Save = s
@@ -197,8 +196,8 @@ abbrev pub script_text : Result Script InputRefusal → List ℕ
 script_text (Ok s) = text_from s.state s.commands
 script_text (Err r) = refusal_line r
 
--- What a run on the input writes, by how its scheduler starts: the one line of the input's first refusal, or the lines of the
--- answers to its commands, in order.
+-- The text that a run writes on the input, by how its scheduler starts. It is the line of the input's first refusal, or the lines of the answers to its
+-- commands, in order.
 unfoldable pub text : Start → List ℕ → List ℕ
 text how input = script_text (script_of how input)
 
@@ -208,13 +207,13 @@ text how input = script_text (script_of how input)
 abbrev pub entry_line : Configuration → Entry Call Reply → List ℕ
 entry_line c e = decimal e.pass ++ (codes " " ++ reply_line c e.call e.reply)
 
--- how many entries there are, and how many calls were refused when out of memory
+-- the number of entries, and the number of calls that were refused when out of memory
 abbrev pub total_text : ℕ → ℕ → List ℕ
 total_text entries refused = codes "total " ++ (decimal entries ++ (codes " " ++ decimal refused))
 
 abbrev pub total_line : ℕ → ℕ → List ℕ
 total_line entries refused = line_of (total_text entries refused)
 
--- What a drill writes of a history: the lines of its entries, in order, and then the total.
+-- The text that a drill writes for a history: the lines of its entries, in order, and then the total.
 abbrev pub drill_text : Configuration → List (Entry Call Reply) → ℕ → List ℕ
 drill_text c entries refused = flat_map (entry_line c) entries ++ total_line (length entries) refused

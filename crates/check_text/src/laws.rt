@@ -1,5 +1,5 @@
-//! Laws of the text that a conversation writes, and of the limit of a reply, each the contract of a
-//! function without parameters and code.
+//! Laws of the text that a conversation writes, and of the limit of a reply. Each law is the contract
+//! of a function without parameters and code.
 ghost use Rattle.std.specs.Prelude.{ℕ, ◌≡◌, ◌+◌, ◌++◌, false, List, [], ◌∷◌, Some, None, Ok, Err, length};
 ghost use Rattle.check_objects.specs.Configuration.{Configuration};
 ghost use Rattle.check_saved.specs.Saved.{Saved};
@@ -26,8 +26,9 @@ pub fn live_agrees_with_run()
         → script_of how input ≡ Ok script → live_text how input ≡ text how input }
 {}
 
-/// What a conversation writes on whole lines, which have what its scheduler starts with, is a prefix of
-/// what it writes on them and what comes later: no answer depends on what comes later.
+/// No answer depends on later input. The law speaks of whole lines that contain what the scheduler
+/// starts with. The text that a conversation writes on them is a prefix of its text on them and later
+/// input.
 pub fn live_goes_on()
     ensures { (how : Start) → (front back : List ℕ)
         → HasStart how (behind_line (front ++ 10 ∷ [])) → (rest : List ℕ)
@@ -35,9 +36,9 @@ pub fn live_goes_on()
         ≡ live_text how (front ++ 10 ∷ []) ++ rest) }
 {}
 
-/// With an empty line in the place of a refused one, a conversation writes the same except for the line of
-/// that refusal. `front` has what the scheduler starts with and the lines before the refused one, each with
-/// its line feed, except for the last one's.
+/// If an empty line replaces a refused one, a conversation writes the same except for the line of that
+/// refusal. `front` contains what the scheduler starts with and the lines before the refused one, each
+/// with its line feed, except for the last one's.
 pub fn live_passes_refusals()
     ensures { (how : Start) → (beginning : Beginning) → (front line back : List ℕ)
         → (why : InputRefusal) → HasStart how (behind_line (front ++ 10 ∷ []))
@@ -51,8 +52,8 @@ pub fn live_passes_refusals()
 {}
 
 /// A run that continues from a saved state, at the moment `start`, carries out its commands on the
-/// scheduler that check_sched resumes at that moment. Where no moment is given it does what it does with
-/// the saved start as that moment.
+/// scheduler that check_sched resumes at that moment. If no moment is given, it does the same with the
+/// saved start as that moment.
 pub fn start_takes_the_place_of_the_saved_one()
     ensures given { (start : ℕ) → (input : List ℕ) → (setup : Configuration) → (saved : Saved)
         → (script : Script) → BeginsWith input setup saved

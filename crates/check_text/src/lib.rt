@@ -1,9 +1,11 @@
 #![tactic(auto)]
-//! What is written of a scheduler's calls: the lines of replies, standings and refusals, and how they
-//! are written.
+//! The text for a scheduler's calls: makes and writes the lines of replies, standings and refusals.
 //!
-//! `text` has the text of each line, one definition each, whatever subcommand writes it; `output`
-//! hands bytes to a writer, whole or up to a fault.
+//! The modules:
+//!
+//! - `text`: the text of each line, with one definition for all subcommands.
+//! - `output`: gives bytes to a writer, all of them or up to a fault.
+//! - `laws`: laws of the text of a conversation, and the limit of a reply.
 
 pub mod laws;
 mod output;

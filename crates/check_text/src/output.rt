@@ -1,5 +1,5 @@
-//! Bytes to a writer: a text, the line of a refusal or of what is saved, and the flush at the end. The lines that are
-//! written are made in `text`.
+//! Gives bytes to a writer: a text, the line of a refusal or of a saved state, and the flush at the
+//! end. The module `text` makes the lines.
 ghost use Rattle.std.specs.Prelude.{OnOk, OnErr, IsOkUnless};
 ghost use Rattle.std.specs.Io.KnownBytes.{Appends, Keeps};
 ghost use Rattle.check_text.specs.Output.{WroteFront};
@@ -12,10 +12,10 @@ use check_script::{DriveError, InputRefusal};
 use std::alloc::Global;
 use std::io::Write;
 
-/// Writes all of the text, or before a fault the prefix of it that the writer took.
+/// Writes all of the text, or up to a fault the prefix that the writer took.
 ///
-/// Each error of the writer is a fault, an interruption among them, and so is a write that takes no
-/// byte: nothing is tried again.
+/// Each error of the writer is a fault, an interruption too, and so is a write that takes no byte:
+/// nothing is tried again.
 pub fn write_text<W: Write>(writer: &mut W, text: &[u8]) -> Result<(), DriveError>
     ensures ok { OnOk result (Appends (W.contents writer.old) (W.contents writer.new) text.now) }
     ensures err { OnErr result
@@ -35,8 +35,8 @@ pub fn write_text<W: Write>(writer: &mut W, text: &[u8]) -> Result<(), DriveErro
     Ok(())
 }
 
-/// Writes the line of a refusal. An Err is `Write`, and a prefix of the line was written then, or
-/// `Memory`, and nothing was. Nothing is flushed.
+/// Writes the line of a refusal. Nothing is flushed. The error is `Write`, and a prefix of the line was
+/// written then, or `Memory`, and nothing was written.
 #[tactic(auto, using(crate::proofs::WrittenLemmas::line_written, crate::proofs::WrittenLemmas::line_unwritten))]
 pub fn write_refusal<W: Write>(
     alloc: Global,
@@ -51,8 +51,9 @@ pub fn write_refusal<W: Write>(
     write_text(writer, line.as_bytes())
 }
 
-/// Writes the line of what is saved of a scheduler, which stays as it is. An Err is `Write`, and a
-/// prefix of the line was written then, or `Memory`, and nothing was. Nothing is flushed.
+/// Writes the line of a scheduler's saved state. The scheduler stays as it is, and nothing is flushed.
+/// The error is `Write`, and a prefix of the line was written then, or `Memory`, and nothing was
+/// written.
 #[tactic(auto, using(crate::proofs::WrittenLemmas::line_written, crate::proofs::WrittenLemmas::line_unwritten))]
 pub fn write_saved<W: Write>(alloc: Global, sched: &Sched, writer: &mut W) -> Result<(), DriveError>
     ensures { IsLineWritten result (W.contents writer.old) (W.contents writer.new)
@@ -62,7 +63,7 @@ pub fn write_saved<W: Write>(alloc: Global, sched: &Sched, writer: &mut W) -> Re
     write_text(writer, &line)
 }
 
-/// Flushes what was written. An Err is `Write`.
+/// Flushes the writer. The error is `Write`.
 pub fn flush<W: Write>(writer: &mut W) -> Result<(), DriveError>
     ensures kept { Keeps (W.contents writer.old) (W.contents writer.new) }
     ensures kind { IsOkUnless result DriveError.Write }

@@ -1,5 +1,5 @@
-//! The text of replies and refusals. Each has one definition, in `specs/Text.antt`, whatever
-//! subcommand writes it.
+//! The text of replies and refusals. Each has one definition, in `specs/Text.antt`, for all
+//! subcommands.
 ghost use Rattle.std.specs.Prelude.{◌≡◌, ◌+◌, ◌≤◌, ◌++◌, IfOk, OnOk, codes, decimal, length, string_bytes};
 ghost use Rattle.check_objects.specs.Configuration.{name_of};
 ghost use Rattle.check_text.specs.Text.{reply_text, reply_line, refusal_line, entry_line, total_line};
@@ -19,12 +19,12 @@ use std::alloc::{AllocError, Global};
 use std::fmt;
 use ticket_steps::Entry;
 
-/// How many bytes the line of a reply has at most, with its line feed.
+/// The most bytes that the line of a reply has, with its line feed.
 pub const REPLY_BYTES: usize = 1024;
 
-/// Appends the line of the reply to a call, with its line feed. Objects are named by their full
-/// names, and by nothing where the setup has no object of the number. An Err comes only where the
-/// line had no room for `REPLY_BYTES` more.
+/// Appends the line of the reply to a call, with its line feed. Objects have their full names in it,
+/// and a number without an object has no name. An error comes only if the line had no room for
+/// `REPLY_BYTES` more.
 pub fn push_reply(
     line: &mut String,
     setup: &Setup,
@@ -103,7 +103,7 @@ fn push_idle(line: &mut String, next: Option<u64>) -> Result<(), AllocError>
     push_time(line, next)
 }
 
-/// Appends how the object with this full name stands, and when it is checked next.
+/// Appends the standing of the object with this full name, and the time of its next check.
 fn push_standing(
     line: &mut String,
     standing: Standing,
@@ -126,7 +126,7 @@ fn push_standing(
     Ok(())
 }
 
-/// Appends that the check of the object with this full name was given up.
+/// Appends that the check of the object with this full name was abandoned.
 fn push_freed(line: &mut String, next: u64, name: &str) -> Result<(), AllocError>
     ensures text { OnOk result
         (string_bytes line.new ≡ string_bytes line.old ++ freed_text next name.now) }
@@ -138,7 +138,7 @@ fn push_freed(line: &mut String, next: u64, name: &str) -> Result<(), AllocError
     line.push_str(name)
 }
 
-/// Appends that what was asked for the object with this full name was done.
+/// Appends that the request for the object with this full name was carried out.
 fn push_done(line: &mut String, name: &str) -> Result<(), AllocError>
     ensures text { OnOk result (string_bytes line.new ≡ string_bytes line.old ++ done_text name.now) }
     ensures room { FitsIn (length name.now + 64) result line.old line.new }
@@ -188,7 +188,7 @@ fn push_time(line: &mut String, time: Option<u64>) -> Result<(), AllocError>
     }
 }
 
-/// The full name of the object that a call asks for, or nothing where it asks for none.
+/// The full name of the object that a call asks for, or nothing if it asks for no object.
 fn asked_name(setup: &Setup, call: Call) -> &str
     ensures text { result.now ≡ asked_name setup.now call }
     ensures few { length result.now ≤ 511 }
@@ -203,7 +203,7 @@ fn asked_name(setup: &Setup, call: Call) -> &str
     }
 }
 
-/// The full name of an object, or nothing where the setup has no object of this number.
+/// The full name of an object, or nothing if the setup has no object of this number.
 #[tactic(auto, using(crate::proofs::RoomLemmas::name_short))]
 fn name_or_nothing(setup: &Setup, number: u32) -> &str
     ensures text { result.now ≡ name_of setup.now number }
@@ -216,7 +216,7 @@ fn name_or_nothing(setup: &Setup, number: u32) -> &str
     }
 }
 
-/// The state of an object, or `PENDING` where it was never checked.
+/// The state of an object, or `PENDING` if it was never checked.
 fn state_text(standing: Standing) -> &'static str
     ensures text { result.now ≡ state_text standing }
     ensures few { length result.now ≤ 11 }
@@ -241,9 +241,9 @@ fn marks_between_spaces(changed: bool, flapping: bool) -> &'static str
     }
 }
 
-/// Appends the line of an entry of a history, with its line feed: the number of the pass that made
-/// the call, a space, and the line of the reply. An Err means out of memory, and a part of the line may
-/// have been appended.
+/// Appends the line of an entry of a history, with its line feed. The line is the number of the pass
+/// that made the call, a space, and the line of the reply. An error means out of memory, and a part of
+/// the line may have been appended.
 pub fn push_entry(
     line: &mut String,
     setup: &Setup,
@@ -258,9 +258,9 @@ pub fn push_entry(
     push_reply(line, setup, call, reply)
 }
 
-/// Appends the last line of a drill, with its line feed: how many entries its history has, and how
-/// many calls were refused when out of memory. An Err means out of memory, and a part of the line may
-/// have been appended.
+/// Appends the last line of a drill, with its line feed. It has the number of entries in the history,
+/// and the number of calls that were refused when out of memory. An error means out of memory, and a
+/// part of the line may have been appended.
 pub fn push_total(line: &mut String, entries: usize, refused: u64) -> Result<(), AllocError>
     ensures { OnOk result
         (string_bytes line.new ≡ string_bytes line.old ++ total_line entries refused) }
@@ -268,8 +268,8 @@ pub fn push_total(line: &mut String, entries: usize, refused: u64) -> Result<(),
     writeln!(line, "total {entries} {refused}")
 }
 
-/// The line of what is saved of a scheduler, with its line feed: the word `saved`, a space, and the
-/// text of what is saved. The scheduler stays as it is.
+/// The line of a scheduler's saved state, with its line feed: the word `saved`, a space, and the text
+/// of the saved state. The scheduler stays as it is.
 #[tactic(auto, unfolding(crate::specs::Text::saved_line))]
 pub(crate) fn saved_line(alloc: Global, sched: &Sched) -> Result<Vec<u8>, AllocError>
     ensures { IfOk result (λ line. line.items ≡ saved_line sched.now) }
@@ -282,8 +282,8 @@ pub(crate) fn saved_line(alloc: Global, sched: &Sched) -> Result<Vec<u8>, AllocE
     Ok(line)
 }
 
-/// Appends the line of an input's refusal, with its line feed. An Err means out of memory, and a part of
-/// the line may have been appended.
+/// Appends the line of an input's refusal, with its line feed. An error means out of memory, and a part
+/// of the line may have been appended.
 pub fn push_refusal(line: &mut String, refusal: InputRefusal) -> Result<(), AllocError>
     ensures { OnOk result
         (string_bytes line.new ≡ string_bytes line.old ++ refusal_line refusal) }
@@ -292,7 +292,7 @@ pub fn push_refusal(line: &mut String, refusal: InputRefusal) -> Result<(), Allo
     writeln!(line, "refused {reason}")
 }
 
-/// Why an input is refused, and where.
+/// Why an input is refused, and at which place.
 #[derive(Clone, Copy)]
 struct RefusalText(InputRefusal);
 
@@ -320,7 +320,7 @@ impl fmt::Display for RefusalText {
     }
 }
 
-/// Why a call was refused. The call has changed nothing.
+/// Why a call was refused. A refused call has changed nothing.
 fn call_refusal_text(refusal: Refusal) -> &'static str
     ensures text { result.now ≡ call_refusal_text refusal }
     ensures few { length result.now ≤ 16 }
@@ -334,7 +334,7 @@ fn call_refusal_text(refusal: Refusal) -> &'static str
     }
 }
 
-/// What is wrong with a line.
+/// The fault of a line.
 fn fault_text(fault: LineFault) -> &'static str
     ensures { result.now ≡ fault_text fault }
 {
@@ -347,7 +347,7 @@ fn fault_text(fault: LineFault) -> &'static str
     }
 }
 
-/// What is wrong with a setup document, and where.
+/// The fault of a setup document, and its place.
 #[derive(Clone, Copy)]
 struct LoadText(LoadError);
 
@@ -376,7 +376,7 @@ impl fmt::Display for LoadText {
     }
 }
 
-/// What is wrong with what was saved, and where.
+/// The fault of a saved state, and its place.
 #[derive(Clone, Copy)]
 struct SavedText(SavedFault);
 
@@ -404,7 +404,7 @@ impl fmt::Display for SavedText {
     }
 }
 
-/// A place in a setup document: its part, and the index where there is one.
+/// A place in a setup document: its part, and the index if there is one.
 #[derive(Clone, Copy)]
 struct PlaceText(Place);
 

@@ -1,4 +1,4 @@
--- What the program's words ask for, as `clap` reads them.
+-- The job that the program's arguments ask for, as `clap` reads them.
 use Rattle.std.specs.Prelude.{ℕ, ◌^◌, ◌≤◌, ◌≡◌, ◌≢◌, ◌⊎◌, ⊤, Bool, true, false, List, [], ◌∷◌, if◌then◌else◌, string_bytes}
 use Rattle.std.specs.Prelude.{IfSome, Option, Some, None, Result, Ok, Err, codes, option_map, option_and_then, unwrap_or}
 use Rattle.std.specs.Option.{option_map_or}
@@ -18,9 +18,9 @@ use Rattle.check_words.specs.declared.words.Job.TheVariants as job
 use Rattle.check_words.specs.declared.words.WordsError.{WordsError}
 use Rattle.check_words.specs.declared.words.WordsError.TheVariants as error
 
--- ---- the words that the program takes
+-- ---- the arguments that the program takes
 
--- an option `--name N` of a number, which is `otherwise` where it isn't given
+-- an option `--name N` of a number, with the default `otherwise`
 abbrev pub number_option : Text → Text → Rule
 number_option name otherwise = record (new_rule name) {
   long = Some name;
@@ -28,26 +28,26 @@ number_option name otherwise = record (new_rule name) {
   defaults = otherwise ∷ [];
 }
 
--- the option `--start N`, which is 0 where it isn't given
+-- the option `--start N`, with the default 0
 abbrev pub start_option : Rule
 start_option = number_option (codes "start") (codes "0")
 
--- the option `--workers N`, which is 2 where it isn't given
+-- the option `--workers N`, with the default 2
 abbrev pub workers_option : Rule
 workers_option = number_option (codes "workers") (codes "2")
 
--- the option `--room N`, which is 1000 where it isn't given
+-- the option `--room N`, with the default 1000
 abbrev pub room_option : Rule
 room_option = number_option (codes "room") (codes "1000")
 
--- the option `--start N` of `run`, `live` and `check`, which has no value where it isn't given
+-- the option `--start N` of `run`, `live` and `check`, without a default
 abbrev pub open_start_option : Rule
 open_start_option = record (new_rule (codes "start")) {
   long = Some (codes "start");
   value_names = 1;
 }
 
--- a flag `--name`, which has no value of its own
+-- a flag `--name`, which takes no value
 abbrev pub flag : Text → Rule
 flag name = record (new_rule name) {
   long = Some name;
@@ -90,14 +90,14 @@ schema_subcommand = new_app (codes "schema")
 abbrev pub with_version : App → App
 with_version = on_top (λ s. record s { has_version = true })
 
--- the program's words, with its version and its five subcommands
+-- the program, with its version and its five subcommands
 abbrev pub program : App
 program = with_subcommand (with_subcommand (with_subcommand (with_subcommand
     (with_subcommand (with_version (new_app (codes "nagsched"))) run_subcommand.top) live_subcommand.top) check_subcommand.top) drill_subcommand.top) schema_subcommand.top
 
--- ---- what the words ask for
+-- ---- the meaning of the arguments
 
--- the number that std reads as a `u64` from a text, where it is within these limits
+-- the number that std reads as a `u64` from a text, if it is within these limits
 abbrev pub number_between : ℕ → ℕ → Text → Option ℕ
 number_between least most text = if is_unsigned_in least most text then Some (digits_value 10 (without_leading_plus text)) else None
 
@@ -109,15 +109,15 @@ number_of name least most options = option_and_then (number_between least most) 
 abbrev pub start_of : List Row → Option ℕ
 start_of = number_of (codes "start") 0 (2 ^ 60)
 
--- how many workers there are, 1 to 64, by the options that were read
+-- the number of workers, 1 to 64, by the options that were read
 abbrev pub workers_of : List Row → Option ℕ
 workers_of = number_of (codes "workers") 1 64
 
--- for how many entries there is room, 0 to 1,000,000, by the options that were read
+-- the number of entries for which there is room, 0 to 1,000,000, by the options that were read
 abbrev pub room_of : List Row → Option ℕ
 room_of = number_of (codes "room") 0 1000000
 
--- whether a flag was given, by the options that were read: `clap` has the text "true" for it then
+-- whether a flag was given, by the options that were read: `clap` then has the text "true" for it
 abbrev pub flag_of : Text → List Row → Bool
 flag_of name options = option_map_or (λ text. bytes_eq text (codes "true")) (first_of name options) false
 
@@ -129,7 +129,7 @@ line_of options = flag_of (codes "line") options
 abbrev pub resume_of : List Row → Bool
 resume_of options = flag_of (codes "resume") options
 
--- the start of `run`, `live` and `check`: none where the option isn't given, or the moment that it gives, 0 to 2^60
+-- the start of `run`, `live` and `check`: none if the option isn't given, otherwise the moment that it gives, 0 to 2^60
 abbrev pub start_by : Option Text → Option (Option ℕ)
 start_by None = Some None
 start_by (Some text) = option_map Some (number_between 0 (2 ^ 60) text)
@@ -137,7 +137,7 @@ start_by (Some text) = option_map Some (number_between 0 (2 ^ 60) text)
 abbrev pub open_start_of : List Row → Option (Option ℕ)
 open_start_of options = start_by (first_of (codes "start") options)
 
--- how a scheduler starts with this flag `--resume` and this moment: from a saved state, or fresh, at 0 where no moment is given
+-- how a scheduler starts with this flag `--resume` and this moment: from a saved state, or fresh, at 0 if no moment is given
 abbrev pub start_from : Bool → Option ℕ → Start
 start_from true moment = start.Resumed moment
 start_from false moment = start.Fresh (unwrap_or moment 0)
@@ -181,8 +181,8 @@ job_of (Some (name, options)) =
     else (if bytes_eq name (codes "drill") then drill_of options
     else (if bytes_eq name (codes "schema") then Some job.Schema else None))))
 
--- The job that the words ask for, the program's name first: of the subcommand that `clap` reads
--- from them, with the first value of each of its options.
+-- The job that the arguments ask for. The first argument is the program's name. It is the job of the subcommand that `clap` reads from them, with the
+-- first value of each of its options.
 abbrev pub job_asked : List Text → Option Job
 job_asked words = job_of (subcommand_of program words)
 
@@ -195,37 +195,37 @@ IsWithinLimits job.SetupLine = ⊤
 IsWithinLimits job.Schema = ⊤
 IsWithinLimits (job.Drill start workers room) = (start ≤ 2 ^ 60) × (1 ≤ workers) × (workers ≤ 64) × (room ≤ 1000000)
 
--- ---- where the words are no job
+-- ---- arguments that are no job
 
--- what the program answers to `--version`
+-- the program's answer to `--version`
 abbrev pub version_line : Text
 version_line = codes "nagsched 1.0.0\n"
 
--- `clap` reads from the words that help is asked for
+-- `clap` reads from the arguments that help is asked for
 abbrev pub AsksHelp : List Text → Type 0
 AsksHelp words = IsAmong kind.DisplayHelp (fault_of program words)
 
--- `clap` reads from the words that the version is asked for
+-- `clap` reads from the arguments that the version is asked for
 abbrev pub AsksVersion : List Text → Type 0
 AsksVersion words = IsAmong kind.DisplayVersion (fault_of program words)
 
--- the words ask for this text: help, of which nothing more is said, or the version
+-- the arguments ask for this text: help, about which nothing more is said, or the version
 abbrev pub AsksText : List Text → Text → Type 0
 AsksText words text = AsksHelp words ⊎ (AsksVersion words × (text ≡ version_line))
 
--- an error of this kind says that the words are no job, and ask for no text
+-- an error of this kind says that the arguments are no job, and ask for no text
 abbrev pub IsFault : ErrorKind → Type 0
 IsFault k = (k ≢ kind.DisplayHelp) × (k ≢ kind.DisplayVersion)
 
--- `clap` finds another fault in the words
+-- `clap` finds another fault in the arguments
 abbrev pub HasFault : List Text → Type 0
 HasFault words = (k : ErrorKind) × IsFault k × IsAmong k (fault_of program words)
 
--- the words are no job, and ask for no text
+-- the arguments are no job, and ask for no text
 abbrev pub IsRefused : List Text → Type 0
 IsRefused words = HasFault words ⊎ (job_asked words ≡ None)
 
--- why the words are no job; out of memory says nothing of them
+-- why the arguments are no job; out of memory says nothing about them
 abbrev pub Explains : List Text → WordsError → Type 0
 Explains words (error.Help text) = AsksText words (string_bytes text)
 Explains words error.Refused = IsRefused words
@@ -233,13 +233,13 @@ Explains words error.Memory = ⊤
 
 -- ---- steps of the reading
 
--- a job that is read is the one that is expected; a refusal comes only where none is
+-- the job that was read is the expected one; a refusal comes only if no job is expected
 abbrev pub Reads : Result Job WordsError → Option Job → Type 0
 Reads (Ok job) expected = expected ≡ Some job
 Reads (Err error.Refused) expected = expected ≡ None
 Reads (Err e) expected = ⊥
 
--- what an error of this kind says; its text may want memory too
+-- the meaning of an error of this kind; making its text may run out of memory too
 abbrev pub Tells : ErrorKind → WordsError → Type 0
 Tells k (error.Help text) = (k ≡ kind.DisplayHelp) ⊎ ((k ≡ kind.DisplayVersion) × (string_bytes text ≡ version_line))
 Tells k error.Refused = IsFault k × (k ≢ kind.OutOfMemory)

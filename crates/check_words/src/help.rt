@@ -1,9 +1,9 @@
-//! The texts of the help, with line breaks for 80 columns.
+//! The help texts, with line breaks for 80 columns.
 
 /// The help text of the program or of a subcommand.
 #[derive(Clone, Copy)]
 pub(crate) struct Help {
-    /// What it does.
+    /// The text about its purpose.
     pub(crate) about: &'static str,
     /// The text at the end of its own help.
     pub(crate) notes: &'static str,
@@ -174,24 +174,24 @@ Example:
   nagsched schema",
 };
 
-/// What the help of `drill` says of the option `--start`.
+/// The help text of the option `--start` of `drill`.
 pub(crate) const ABOUT_START: &str = "Moment of the start, in ms, from 0 to 2^60";
 
-/// What the help of `run`, `live` and `check` says of the option `--start`.
+/// The help text of the option `--start` of `run`, `live` and `check`.
 pub(crate) const ABOUT_OPEN_START: &str =
     "Start in ms, 0 to 2^60 [default: 0, with --resume the saved]";
 
-/// What the help of `run` and `live` says of the flag `--resume`.
+/// The help text of the flag `--resume` of `run` and `live`.
 pub(crate) const ABOUT_RESUME: &str = "Resumes a saved state, which is line 2";
 
-/// What the help of `check` says of the flag `--resume`.
+/// The help text of the flag `--resume` of `check`.
 pub(crate) const ABOUT_CHECK_RESUME: &str = "Checks a saved state too, which is line 2";
 
-/// What the help says of the flag `--line`.
+/// The help text of the flag `--line`.
 pub(crate) const ABOUT_LINE: &str = "Writes the setup as one line, for `run` and `live`";
 
-/// What the help says of the option `--workers`.
+/// The help text of the option `--workers`.
 pub(crate) const ABOUT_WORKERS: &str = "Workers, 1 to 64; N take N - 1 threads";
 
-/// What the help says of the option `--room`.
+/// The help text of the option `--room`.
 pub(crate) const ABOUT_ROOM: &str = "Calls to make room for, from 0 to 1000000";

@@ -1,5 +1,4 @@
-//! What the program's words ask for, as `clap` reads them. What the program then does is no
-//! matter of this crate.
+//! Reads the program's arguments with `clap`. This crate doesn't do the jobs that they ask for.
 ghost use Rattle.std.specs.Prelude.{◌≡◌, ◌≤◌, ◌^◌, if◌then◌else◌, Some, [], false, option_map, IfOk, OnOk, IfErr, IfSome, string_bytes};
 ghost use Rattle.clap.specs.declared.builder.command.Command.TheViews.{out-Command};
 ghost use Rattle.clap.specs.Words.{app_of, fault_of, kind_of, new_app, rows_of, rule_of, found_of, subcommand_rows_of};
@@ -29,14 +28,24 @@ const MAX_WORKERS: u64 = 64;
 /// The most entries for which a drill may have room from the outset.
 const MAX_ROOM: u64 = 1_000_000;
 
-/// Reads the program's words, its own name first: `run [--start N] [--resume]`, `live` with the same,
-/// `check [--start N] [--line | --resume]`, `drill [--start N] [--workers N] [--room N]` or `schema`, or
-/// nothing, which is `run --start 0`. N is read as std reads a `u64` from a text. Options without a
-/// subcommand are refused, and of an option that is given twice `clap` decides.
+/// Reads the program's arguments. The first is the program's name. One of these follows it:
 ///
-/// Without `--start` a scheduler starts at 0, and with `--resume` at the saved start. `--help` and
-/// `--version`, or `-h` and `-V`, give the error `Help` with the text that is asked for; it is `Refused`
-/// where the words ask for nothing that there is, and `Memory` where memory ran out.
+/// - `run [--start N] [--resume]`
+/// - `live [--start N] [--resume]`
+/// - `check [--start N] [--line | --resume]`
+/// - `drill [--start N] [--workers N] [--room N]`
+/// - `schema`
+/// - nothing, which means `run --start 0`
+///
+/// N is read as std reads a `u64` from a text. Options without a subcommand are refused. If an option
+/// is given twice, `clap` decides. Without `--start` a scheduler starts at 0, and with `--resume` at
+/// the saved start.
+///
+/// The errors:
+///
+/// - `Help`: the arguments ask for this text, by `--help` or `-h`, or by `--version` or `-V`.
+/// - `Refused`: the arguments ask for nothing that there is.
+/// - `Memory`: out of memory.
 pub fn job(alloc: Global, words: &[&str]) -> Result<Job, WordsError>
     ensures asked { IfOk result (λ job. job_asked (texts words.now) ≡ Some job) }
     ensures faultless { OnOk result (fault_of program (texts words.now) ≡ []) }
@@ -49,7 +58,7 @@ pub fn job(alloc: Global, words: &[&str]) -> Result<Job, WordsError>
     }
 }
 
-/// The words that the program takes, with their help.
+/// The arguments that the program takes, with their help.
 fn build_program<'a>(alloc: Global) -> Result<Command<'a>, AllocError>
     ensures { IfOk result (λ c. app_of c ≡ program) }
 {
@@ -88,8 +97,8 @@ fn build_check<'a>(alloc: Global) -> Result<Command<'a>, AllocError>
     ))
 }
 
-/// A subcommand of this name, with the option `--start` and the flag `--resume`, of which the help says
-/// this.
+/// A subcommand of this name, with the option `--start` and the flag `--resume`, and with these help
+/// texts.
 fn build_opener<'a>(
     alloc: Global,
     name: &'a str,
@@ -123,7 +132,7 @@ fn build_schema<'a>(alloc: Global) -> Command<'a>
     begin(alloc, "schema", HELP_SCHEMA)
 }
 
-/// The program or a subcommand, by its name and its help, with no words of its own.
+/// The program or a subcommand, by its name and its help, without arguments of its own.
 fn begin<'a>(alloc: Global, name: &'a str, help: Help) -> Command<'a>
     ensures app { app_of result ≡ new_app name.now }
     ensures local { (out-Command result).has_globals ≡ false }
@@ -144,7 +153,7 @@ fn open_start_option<'a>(alloc: Global) -> Arg<'a>
         .help(ABOUT_OPEN_START)
 }
 
-/// The flag `--name`, of which the help says this.
+/// The flag `--name`, with this help text.
 fn flag<'a>(alloc: Global, name: &'a str, about: &'a str) -> Arg<'a>
     ensures rule { rule_of result ≡ flag name.now }
     ensures local { result.global ≡ false }
@@ -155,8 +164,7 @@ fn flag<'a>(alloc: Global, name: &'a str, about: &'a str) -> Arg<'a>
         .help(about)
 }
 
-/// The option `--name N`, a number, which is `otherwise` where it isn't given, and of which the help says
-/// this.
+/// The option `--name N`, a number, with the default `otherwise` and this help text.
 fn number_option<'a>(alloc: Global, name: &'a str, otherwise: &'a str, about: &'a str) -> Arg<'a>
     ensures rule { rule_of result ≡ number_option name.now otherwise.now }
     ensures local { result.global ≡ false }
@@ -215,7 +223,7 @@ fn read_check(options: &ArgMatches<'_>) -> Option<Job>
     check_from(read_flag(options, "line"), start)
 }
 
-/// The job of `check` with this flag `--line` and this start, if they go together.
+/// The job of `check` with this flag `--line` and this start, if the two can be combined.
 fn check_from(line: bool, start: Start) -> Option<Job>
     ensures asked { result ≡ check_from line start }
     ensures limits { CanStart start → IfSome result IsWithinLimits }
@@ -260,7 +268,7 @@ fn read_drill(options: &ArgMatches<'_>) -> Option<Job>
     })
 }
 
-/// The number of the option `--start`, where a scheduler may start then.
+/// The number of the option `--start`, if a scheduler may start then.
 fn read_start(options: &ArgMatches<'_>) -> Option<u64>
     ensures value { result ≡ start_of (rows_of (found_of options.now)) }
     ensures limits { IfSome result (λ start. start ≤ 2 ^ 60) }
@@ -268,8 +276,8 @@ fn read_start(options: &ArgMatches<'_>) -> Option<u64>
     read_number(options, "start", 0, LAST_MOMENT)
 }
 
-/// The number of the option `--start` of `run`, `live` and `check`, if it is given, where a scheduler may start
-/// then.
+/// The number of the option `--start` of `run`, `live` and `check`. None if a scheduler may not start
+/// then, and `Some(None)` if the option isn't given.
 fn read_open_start(options: &ArgMatches<'_>) -> Option<Option<u64>>
     ensures value { result ≡ open_start_of (rows_of (found_of options.now)) }
     ensures limits { IfSome result (λ start. IfSome start (λ moment. moment ≤ 2 ^ 60)) }
@@ -277,7 +285,8 @@ fn read_open_start(options: &ArgMatches<'_>) -> Option<Option<u64>>
     start_by(options.get_str("start"))
 }
 
-/// The start that a text is, if there is one.
+/// The start that the text of the option `--start` gives. None if a scheduler may not start then, and
+/// `Some(None)` if there is no text.
 fn start_by(text: Option<&str>) -> Option<Option<u64>>
     ensures value { result ≡ start_by (option_map (λ t. t.now) text.entry) }
     ensures limits { IfSome result (λ start. IfSome start (λ moment. moment ≤ 2 ^ 60)) }
@@ -305,7 +314,7 @@ fn read_flag(options: &ArgMatches<'_>, name: &str) -> bool
     }
 }
 
-/// The number of the option `--workers`, where a drill may have so many.
+/// The number of the option `--workers`, if a drill may have this many.
 fn read_workers(options: &ArgMatches<'_>) -> Option<u32>
     ensures value { result ≡ workers_of (rows_of (found_of options.now)) }
     ensures limits { IfSome result (λ workers. (1 ≤ workers) × (workers ≤ 64)) }
@@ -314,7 +323,7 @@ fn read_workers(options: &ArgMatches<'_>) -> Option<u32>
     Some(workers as u32)
 }
 
-/// The number of the option `--room`, where a drill may have that room.
+/// The number of the option `--room`, if a drill may have that room.
 fn read_room(options: &ArgMatches<'_>) -> Option<usize>
     ensures value { result ≡ room_of (rows_of (found_of options.now)) }
     ensures limits { IfSome result (λ room. room ≤ 1000000) }
@@ -323,7 +332,7 @@ fn read_room(options: &ArgMatches<'_>) -> Option<usize>
     Some(room as usize)
 }
 
-/// The number of an option, where it is within these limits.
+/// The number of an option, if it is within these limits.
 fn read_number(options: &ArgMatches<'_>, name: &str, least: u64, most: u64) -> Option<u64>
     ensures value { result ≡ number_of name.now least most (rows_of (found_of options.now)) }
     ensures limits { IfSome result (λ number. (least ≤ number) × (number ≤ most)) }
@@ -331,7 +340,7 @@ fn read_number(options: &ArgMatches<'_>, name: &str, least: u64, most: u64) -> O
     parse_number(options.get_str(name)?, least, most)
 }
 
-/// The number that std reads as a `u64` from a text, where it is within these limits.
+/// The number that std reads as a `u64` from a text, if it is within these limits.
 fn parse_number(text: &str, least: u64, most: u64) -> Option<u64>
     ensures value { result ≡ number_between least most text.now }
     ensures limits { IfSome result (λ number. (least ≤ number) × (number ≤ most)) }
@@ -343,7 +352,7 @@ fn parse_number(text: &str, least: u64, most: u64) -> Option<u64>
     }
 }
 
-/// What an error of `clap` says of the words.
+/// The meaning of an error of `clap` for the arguments.
 fn explain(alloc: Global, error: &clap::Error) -> WordsError
     ensures { Tells (kind_of error.now) result }
 {
@@ -361,7 +370,7 @@ fn explain(alloc: Global, error: &clap::Error) -> WordsError
     }
 }
 
-/// What the program answers to `--version`.
+/// The program's answer to `--version`.
 fn version_line(alloc: Global) -> Result<String, AllocError>
     ensures { IfOk result (λ text. string_bytes text ≡ version_line) }
 {

@@ -1,8 +1,13 @@
 #![tactic(auto)]
-//! What the program's words ask for, its own name first, as `clap` reads them.
+//! Reads the program's arguments with `clap`. The first argument is the program's name.
 //!
-//! `words` has what they can ask for, `job` reads them, and `help` has the texts of the help. The first
-//! two are public, since a function `job` and a type `Job` can't stand side by side at the root.
+//! The modules:
+//!
+//! - `words`: the jobs that the arguments can ask for.
+//! - `job`: reads the arguments.
+//! - `help`: the help texts.
+//!
+//! The first two are public, because a function `job` and a type `Job` can't both be at the root.
 
 mod help;
 pub mod job;

@@ -1,31 +1,31 @@
-//! What the program's words can ask for. They are read in `job`.
+//! The jobs that the program's arguments can ask for. The module `job` reads the arguments.
 
 use check_script::Start;
 use std::alloc::AllocError;
 use thiserror::Error;
 
-/// What the program's words ask it to do.
+/// A job that the program's arguments ask for.
 #[derive(Clone, Copy, Debug, PartialEq, Eq)]
 pub enum Job {
-    /// To make the calls of a script on a scheduler that starts so, at a moment from 0 to 2^60.
+    /// To make the calls of a script on a scheduler that starts like this, at a moment from 0 to 2^60.
     Run {
         start: Start,
     },
-    /// To answer lines one after another as they come, on a scheduler that starts so, as above.
+    /// To answer lines one after another as they come, on a scheduler that starts like this, as above.
     Live {
         start: Start,
     },
-    /// To check a setup, and a saved state if the scheduler starts from one, and to report what is in the
-    /// setup and what becomes of the saved objects in it, or why one of the two is refused. The first checks
-    /// are those of a scheduler that starts so, as above.
+    /// To check a setup, and a saved state if the scheduler starts from one. The report says what the
+    /// setup contains and what becomes of the saved objects in it, or why one of the two is refused.
+    /// The first checks in the report are those of a scheduler that starts like this, as above.
     Check {
         start: Start,
     },
     /// To check a setup, and to write it on one line or report why it is refused.
     SetupLine,
-    /// To have workers, 1 to 64 of them, check what is due at the moments of a script, on one
-    /// scheduler that starts fresh at the moment `start`, from 0 to 2^60. The scheduler's book has room for
-    /// `room` entries from the outset, 0 to 1,000,000.
+    /// To let 1 to 64 workers take the checks that are due at the moments of a script. They share one
+    /// scheduler that starts fresh at the moment `start`, from 0 to 2^60. The scheduler's book has room
+    /// for `room` entries from the outset, 0 to 1,000,000.
     Drill {
         start: u64,
         workers: u32,
@@ -38,16 +38,16 @@ pub enum Job {
 /// The version of the program.
 pub const VERSION: &str = "1.0.0";
 
-/// Why the program's words ask for no job.
+/// Why the program's arguments ask for no job.
 #[derive(Debug, Drop, Error)]
 pub enum WordsError {
     /// They ask for help or for the version, which is this text.
     #[error("{0}")]
     Help(String),
-    /// They name no job, or a value that is no number within its limits.
+    /// They name no job, or a value that isn't a number within its limits.
     #[error("refused words")]
     Refused,
-    /// Out of memory, which says nothing of the words.
+    /// Out of memory, which says nothing about the arguments.
     #[error("out of memory")]
     Memory,
 }

@@ -14,7 +14,7 @@ use std::alloc::Global;
 use std::sync::Wait;
 
 /// A desk with one pass, over the objects of the scheduler's workloads, with room for the entries of
-/// so many checks. None where there is no memory, or there can't be so many objects.
+/// this many checks. None if there is no memory, or if there can't be this many objects.
 pub(crate) fn open(alloc: Global, objects: u32, checks: u64) -> Option<(Desk, Pass)>
     ensures { IfSome result (λ made. IsPassOf made.0 made.1) }
 {

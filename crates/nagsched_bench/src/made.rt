@@ -1,4 +1,4 @@
-//! What a workload took and saw.
+//! The time that a workload took, and the sum of what it saw.
 
 use std::io;
 use std::time::{Clock, Instant};
@@ -10,7 +10,7 @@ pub(crate) struct Made {
     pub(crate) sum: u64,
 }
 
-/// The nanoseconds since then, 0 where the clock can't be read.
+/// The nanoseconds since then; 0 if the clock can't be read.
 pub(crate) fn nanos_since(rt: &impl Clock, start: io::Result<Instant>) -> u128 {
     match start {
         Ok(start) => start.elapsed(rt).map_or(0, |took| took.as_nanos()),

@@ -1,24 +1,31 @@
 #![tactic(auto)]
-//! The program `nagsched_bench`: makes a workload so many times, and prints how long it took. It is
-//! timed by hand, by the scripts of `bench/`.
+//! The program `nagsched_bench`: makes many cycles of a workload, and prints how long they took. The
+//! scripts of `bench/` time it, when somebody runs them.
 //!
-//! Its words are `WORKLOAD N CYCLES [untimed]`; it writes one line, `ns=TIME ops=CYCLES sum=SUM`, or
-//! without the time where the last word says so. The sum stands for all that the workload saw, so
-//! that two programs that make the same workload can be compared.
+//! Its arguments are `WORKLOAD N CYCLES [untimed]`. It writes one line: `ns=TIME ops=CYCLES sum=SUM`,
+//! or the same without the time if the last argument is `untimed`. The sum is made from all that the
+//! workload saw. So two programs that make the same workload can be compared.
 //!
-//! | Workload | A cycle |
-//! |---|---|
-//! | `steady` | takes the first of n entries out, and puts it back 5 minutes later |
-//! | `cycle` | takes a check of one of n objects, and reports that it is OK |
-//! | `depend` | as `cycle`, where every service but the first depends on the first |
-//! | `inherit` | as `depend`, where these dependencies inherit, and the first service depends on the second |
-//! | `vary` | takes the check that is due first at its moment, and reports a random code |
-//! | `lines` | as `cycle`, and the replies are written as lines of text |
-//! | `ask` | as `cycle`, by the only pass of a desk |
+//! A cycle of each workload:
 //!
-//! `queue_work` has the workload of the queue, `sched_work` those of the scheduler, `desk_work` that of
-//! a desk, `random` the numbers. What a shared scheduler costs is measured over the C library, by
-//! `bench/c_asks.c`.
+//! - `steady`: takes the first of n entries out, and puts it back 5 minutes later.
+//! - `cycle`: takes a check of one of n objects, and reports that it is OK.
+//! - `depend`: as `cycle`, but every service except the first depends on the first.
+//! - `inherit`: as `depend`, but these dependencies inherit, and the first service depends on the
+//!   second.
+//! - `vary`: takes the check that is due first at its moment, and reports a random code.
+//! - `lines`: as `cycle`, and the replies are written as lines of text.
+//! - `ask`: as `cycle`, by the only pass of a desk.
+//!
+//! The modules:
+//!
+//! - `queue_work`: the workload of the queue.
+//! - `sched_work`: the workloads of the scheduler.
+//! - `desk_work`: the workload of a desk.
+//! - `random`: the pseudo-random numbers, and the sum.
+//! - `made`: the time and the sum of a workload.
+//!
+//! `bench/c_asks.c` measures the cost of a shared scheduler, over the C library.
 
 mod desk_work;
 mod made;
@@ -35,10 +42,10 @@ use std::process::ExitCode;
 use std::sync::Wait;
 use std::time::{Clock, Instant};
 
-/// The most numbers of a workload.
+/// The most numbers that a workload may have.
 const MAX_NUMBERS: u32 = 1_000_000;
 
-/// What a workload works on.
+/// The kinds of workloads.
 #[derive(Clone, Copy)]
 enum Workload {
     Queue,
@@ -51,7 +58,7 @@ enum Workload {
     Ask,
 }
 
-/// What the words ask for.
+/// The job that the arguments ask for.
 #[derive(Drop)]
 struct Job {
     workload: Workload,
@@ -99,7 +106,7 @@ fn tell(rt: &HostRuntime, job: &Job, made: Made) -> ExitCode {
     ExitCode::from(if written.is_ok() { 0 } else { 2 })
 }
 
-/// What the words ask for, if they are right.
+/// The job that the arguments ask for, if they are right.
 fn job_of(words: &[String]) -> Option<Job> {
     let workload = workload_of(words.get(1)?.as_str())?;
     let numbers = words.get(2)?.as_str().parse::<u32>().ok()?;
@@ -120,7 +127,7 @@ fn job_of(words: &[String]) -> Option<Job> {
     })
 }
 
-/// The workload that a word names.
+/// The workload with this name.
 fn workload_of(word: &str) -> Option<Workload> {
     match word {
         "steady" => Some(Workload::Queue),

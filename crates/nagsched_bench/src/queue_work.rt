@@ -57,7 +57,7 @@ fn put_all(queue: &mut Queue, times: &[u64])
     }
 }
 
-/// A queue of numbers, each with its moment of the first minute. An Err means out of memory.
+/// A queue of numbers, each with its moment of the first minute. An error means out of memory.
 pub(crate) fn queue(alloc: Global, numbers: u32) -> Result<Queue, AllocError>
     requires { 0 < numbers }
 {
@@ -67,7 +67,8 @@ pub(crate) fn queue(alloc: Global, numbers: u32) -> Result<Queue, AllocError>
     Ok(queue)
 }
 
-/// Takes the first out and puts it back 5 minutes later, so many times; returns a sum of what was taken.
+/// Takes the first number out and puts it back 5 minutes later, `cycles` times. Returns a sum of the
+/// numbers and times taken.
 pub(crate) fn steady(queue: &mut Queue, cycles: u64) -> u64 {
     let mut sum = 1;
     for _cycle in 0..cycles {

@@ -12,7 +12,8 @@ use std::alloc::{AllocError, Global};
 /// The time between two checks of an object, in milliseconds.
 const INTERVAL: u64 = 300_000;
 
-/// What the services of a setup depend on. No dependency holds a check back, since all are OK.
+/// The services on which the services of a setup depend. No dependency holds a check back, since all
+/// are OK.
 #[derive(Clone, Copy)]
 pub(crate) enum Masters {
     None,
@@ -22,19 +23,19 @@ pub(crate) enum Masters {
     FirstAndItsMasters,
 }
 
-/// A scheduler over so many objects, one of them a host that is never due and the others its
-/// services, all due at 0. None where there is no memory, or there can't be so many objects.
+/// A scheduler over this many objects. One is a host that is never due, and the others are its
+/// services, all due at 0. None if there is no memory, or if there can't be this many objects.
 pub(crate) fn scheduler(alloc: Global, objects: u32, masters: Masters) -> Option<Sched> {
     Sched::new(alloc, setup(alloc, objects, masters)?, 0).ok()
 }
 
-/// The setup of so many objects. None where there is no memory, or there can't be so many.
+/// The setup of this many objects. None if there is no memory, or if there can't be this many.
 pub(crate) fn setup(alloc: Global, objects: u32, masters: Masters) -> Option<Setup> {
     let document = document(alloc, objects, masters).ok()?;
     Setup::read(alloc, document.as_bytes()).ok()
 }
 
-/// A document of so many objects, with the dependencies of their masters.
+/// A document of this many objects, with the dependencies of their masters.
 fn document(alloc: Global, objects: u32, masters: Masters) -> Result<String, AllocError> {
     let mut document = String::new(alloc);
     document.push_str("{\"options\":{\"service_inter_check_delay_method\":\"n\"},")?;
@@ -51,7 +52,7 @@ fn document(alloc: Global, objects: u32, masters: Masters) -> Result<String, All
     Ok(document)
 }
 
-/// The services, behind the host.
+/// The services, which follow the host.
 fn push_services(document: &mut String, objects: u32) -> Result<(), AllocError> {
     document.push_str("\"services\":[")?;
     for service in 1..objects {
@@ -64,7 +65,8 @@ fn push_services(document: &mut String, objects: u32) -> Result<(), AllocError> 
     document.push_str("]")
 }
 
-/// Dependencies of the services from `first` on, on the first; where they inherit, it depends on the second.
+/// Dependencies of the services from `first` on, on the first service. If they inherit, the first
+/// service depends on the second.
 fn push_dependencies(
     document: &mut String,
     first: u32,
@@ -84,7 +86,7 @@ fn push_dependencies(
     document.push_str("]")
 }
 
-/// A dependency that holds its dependent back where the master is CRITICAL.
+/// A dependency that holds its dependent back if the master is CRITICAL.
 fn push_dependency(
     document: &mut String,
     dependent: u32,
@@ -106,7 +108,7 @@ pub(crate) struct Moments {
 }
 
 impl Moments {
-    /// The moments of a scheduler over so many objects.
+    /// The moments of a scheduler over this many objects.
     pub(crate) fn of(objects: u32) -> Moments {
         let services = u64::from(objects.max(2) - 1);
         Moments {
@@ -127,8 +129,8 @@ impl Moments {
     }
 }
 
-/// Takes a check at the time of the first of `objects` objects and reports that it is OK, so many
-/// times; returns a sum of what was taken.
+/// Takes a check when the first of `objects` objects is due, and reports that it is OK, `cycles` times.
+/// Returns a sum of the objects taken.
 pub(crate) fn cycle(scheduler: &mut Sched, objects: u32, cycles: u64) -> u64 {
     let mut moments = Moments::of(objects);
     let mut sum = 1;
@@ -143,8 +145,8 @@ pub(crate) fn cycle(scheduler: &mut Sched, objects: u32, cycles: u64) -> u64 {
     sum
 }
 
-/// Takes the check that is due first, at its moment, and reports a random code, so many times; returns a sum
-/// of what was taken and of the standings and times that the reports answered.
+/// Takes the check that is due first, at its moment, and reports a random code, `cycles` times. Returns
+/// a sum of the objects taken and of the standings and times in the replies to the reports.
 pub(crate) fn vary(scheduler: &mut Sched, cycles: u64) -> u64 {
     let mut random = Random::new();
     let mut now = 0;
@@ -164,7 +166,7 @@ pub(crate) fn vary(scheduler: &mut Sched, cycles: u64) -> u64 {
     sum
 }
 
-/// The code that a random number stands for: each of the four is as frequent.
+/// The code for a random number. Each of the four codes is equally frequent.
 fn code_of(drawn: u64) -> Code {
     match drawn % 4 {
         0 => Code::Ok,
@@ -174,7 +176,7 @@ fn code_of(drawn: u64) -> Code {
     }
 }
 
-/// Adds what a report of this object answered to a sum.
+/// Adds the reply to a report of this object to a sum.
 fn mixed_reply(sum: u64, object: u32, reported: Reply) -> u64 {
     let Reply::Standing { standing, next, .. } = reported else {
         return sum;
@@ -184,7 +186,7 @@ fn mixed_reply(sum: u64, object: u32, reported: Reply) -> u64 {
     mixed(sum, next.unwrap_or(0))
 }
 
-/// As [`cycle`], and writes the lines of both replies into a text, each in place of the one before.
+/// As [`cycle`], and writes the lines of both replies into a text. Each line replaces the one before.
 pub(crate) fn lines(
     alloc: Global,
     scheduler: &mut Sched,
@@ -211,7 +213,7 @@ pub(crate) fn lines(
     Ok(sum)
 }
 
-/// The line of a reply, in place of the text.
+/// Replaces the text by the line of a reply.
 fn put_line(text: &mut String, setup: &Setup, call: Call, reply: Reply) -> Result<(), AllocError> {
     text.clear();
     push_reply(text, setup, call, reply)

@@ -1,4 +1,4 @@
--- What C gets of passes that are gathered, of a desk that is closed, and of a book that is renewed.
+-- The results for C of gathering passes, closing a desk and renewing a book.
 use Rattle.std.specs.Prelude.{◌≡◌, ◌⊎◌, ℕ, Option, Some, None}
 use Rattle.check_handles.specs.declared.target.NamedBook.{NamedBook}
 use Rattle.check_handles.specs.declared.target.HandleTarget.{HandleTarget}

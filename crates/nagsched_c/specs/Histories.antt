@@ -1,4 +1,4 @@
--- What C gets of histories.
+-- The results of histories for C.
 use Rattle.std.specs.Prelude.{◌≡◌, ℕ, List, slice_get, Option, Some, None}
 use Rattle.ticket_steps.specs.declared.kept.Entry.{Entry}
 use Rattle.check_sched.specs.declared.call.Call.{Call}
@@ -25,7 +25,7 @@ abbrev pub MatchKept : {X : Type 0} → Option X → (X → Type 0) → Type 0 �
 MatchKept (Some kept) P Q = P kept
 MatchKept None P Q = Q
 
--- what C gets of an entry, and if there is none
+-- the result for C of an entry, or of no entry
 abbrev pub IsEntryTold : Option (Entry Call Reply) → PlainEntry → ℕ → PlainEntry → Type 0
 IsEntryTold (Some entry) before status told = (status ≡ OK) × (told ≡ plain_entry entry)
 IsEntryTold None before status told = (status ≡ WRONG) × (told ≡ before)

@@ -1,4 +1,4 @@
--- What C gets of an object's name, number and host.
+-- The results for C of asking for an object's name, number and host.
 use Rattle.std.specs.Prelude.{◌≡◌, ◌⊎◌, ◌<◌, ◌≤◌, ◌++◌, ℕ, List, length, drop, IsUtf8, Some, None}
 use Rattle.check_objects.specs.Configuration.{Configuration, host_of, name_of, number_of, object_count}
 use Rattle.nagsched_c.specs.declared.status.TheConstants.{MISSING, OK, WRONG}

@@ -1,4 +1,4 @@
--- What C gets of opening a desk.
+-- The result for C of opening a desk.
 use Rattle.std.specs.Prelude.{◌≡◌, ◌<◌, ◌≤◌, ℕ, Bool, true, not, is_some, List, length, Option, Some, None}
 use Rattle.std.specs.List.{list_all}
 use Rattle.check_handles.specs.declared.handle.Handle.{Handle}

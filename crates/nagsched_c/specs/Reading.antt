@@ -1,4 +1,4 @@
--- What C gets of a document that is no setup.
+-- The result for C of a document that isn't a setup.
 use Rattle.std.specs.Prelude.{◌≡◌, ℕ, List, Err}
 use Rattle.check_drafts.specs.declared.error.LoadError.{LoadError}
 use Rattle.check_objects.specs.Setup.{setup_of}

@@ -1,4 +1,4 @@
--- What C gets of a saved state, of a book that resumes one, and of running checks.
+-- The results for C of saving a state, of resuming one in a book, and of asking for running checks.
 use Rattle.std.specs.Prelude.{◌≡◌, ◌≢◌, ◌⊎◌, ◌<◌, ◌≤◌, ◌^◌, ℕ, List, false, is_some, Ok, Err, Option, Some, None, option_and_then, slice_get}
 use Rattle.check_objects.specs.Configuration.{object_count}
 use Rattle.check_saved.specs.Saved.{Saved}
@@ -63,7 +63,7 @@ IsRunTold None run start status run' start' = (status ≡ MISSING) × (run' ≡ 
 abbrev pub run_of : State → ℕ → Option OpenRun
 run_of sched object = option_and_then (λ o. o.run) (slice_get sched.objects object)
 
--- what C gets of the object with this number; or there is no such object, and nothing was written
+-- the result for C of the object with this number; or there is no such object, and nothing was written
 abbrev pub HasRun : State → ℕ → ℕ → ℕ → ℕ → ℕ → ℕ → Type 0
 HasRun sched object run start status run' start' =
     ((object < object_count sched.setup) × IsRunTold (run_of sched object) run start status run' start')

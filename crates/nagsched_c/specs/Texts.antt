@@ -28,8 +28,8 @@ IsUntold why room before status after bytes = (status ≡ why) × (after ≡ roo
 abbrev pub IsTold : List ℕ → List ℕ → ℕ → ℕ → List ℕ → ℕ → Type 0
 IsTold line room before status after bytes = IsPut line room status after bytes ⊎ IsUntold NO_MEMORY room before status after bytes
 
--- the line of the refusal with this struct was written, of a document or of a saved state; or no refusal but out of memory has this struct, and nothing was
--- written
+-- The line of the refusal with this struct was written, of a document or of a saved state. Or no refusal except out of memory has this struct, and
+-- nothing was written.
 abbrev pub HasRefusalText : PlainRefusal → List ℕ → ℕ → ℕ → List ℕ → ℕ → Type 0
 HasRefusalText told room before status after bytes =
     ((error : LoadError) × (error ≢ load.Memory) × (plain_refusal error ≡ told)

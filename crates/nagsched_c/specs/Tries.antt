@@ -1,4 +1,4 @@
--- What C gets of a try of one of the six calls.
+-- The result for C of a try of one of the six calls.
 use Rattle.std.specs.Prelude.{◌≡◌, ℕ, Option, Some, None}
 use Rattle.check_sched.specs.declared.call.Call.{Call}
 use Rattle.check_handles.specs.declared.desk_pass.DeskPass.{DeskPass}

@@ -1,7 +1,7 @@
-//! The six calls, a try each.
+//! Tries each of the six calls.
 //!
-//! A try looks once whether the pass's turn has come, and makes the call then. C tries again until it has.
-//! So no pass holds the book between two calls of C.
+//! A try looks once whether the pass's turn has come, and makes the call then. C tries again until it
+//! has. So no pass holds the book between two calls of C.
 
 ghost use Rattle.std.specs.Prelude.{◌≡◌, Option, Some, None};
 ghost use Rattle.check_rules.specs.Numbers.{numbered_code};

@@ -1,4 +1,4 @@
-//! Passes gathered, a desk closed, and its book renewed.
+//! Gathers passes, closes a desk, and renews its book.
 
 ghost use Rattle.std.specs.Prelude.{◌≡◌, ◌≢◌, ◌⊎◌, ◌↔◌, is_some, true, None};
 ghost use Rattle.check_handles.specs.Closing.{AreOfOneDesk, MayBeGathered, MissesPasses};
@@ -11,11 +11,11 @@ use check_handles::{Handle, HandleTarget};
 use std::alloc::Global;
 use std::mem::replace;
 
-/// Gathers two passes of one desk: the first stays, and answers for the calls of both. The second handle is
-/// empty afterwards.
+/// Gathers two passes of one desk: the first stays, and answers for the calls of both. The second
+/// handle is empty afterwards.
 ///
-/// Wrong exactly if one of the two is no pass or waits for its turn, or if their desks have two marks. Then
-/// both are as they were.
+/// `WRONG` exactly if one of the two is no pass or waits for its turn, or if their desks have two
+/// marks. Then both are as they were.
 #[unsafe(no_mangle)]
 pub extern "C" fn nagsched_gather(alloc: Global, pass: &mut Handle, other: &mut Handle) -> u32
     requires one_desk { AreOfOneDesk (contents_of pass.old) (contents_of other.old) }
@@ -43,8 +43,8 @@ pub extern "C" fn nagsched_gather(alloc: Global, pass: &mut Handle, other: &mut 
 
 /// Ends the desk, if all its passes were gathered into this one. The handle has the book afterwards.
 ///
-/// Missing if they weren't, and wrong exactly if the handle has no pass or the pass waits for its turn. Then
-/// the handle is as it was.
+/// `MISSING` if they weren't, and `WRONG` exactly if the handle has no pass or the pass waits for its
+/// turn. Then the handle is as it was.
 #[unsafe(no_mangle)]
 pub extern "C" fn nagsched_close(alloc: Global, pass: &mut Handle) -> u32
     ensures status { (result ≡ OK) ⊎ ((result ≡ MISSING) ⊎ (result ≡ WRONG)) }
@@ -78,8 +78,8 @@ pub extern "C" fn nagsched_close(alloc: Global, pass: &mut Handle) -> u32
 /// Renews a book: it opens in its present state, without entries and with room for `room` entries. Its
 /// entries move to the other handle, which must be empty.
 ///
-/// Wrong exactly if the first handle has no book or the second isn't empty. Then, and if memory is refused
-/// (`NO_MEMORY`), both are as they were.
+/// `WRONG` exactly if the first handle has no book or the second isn't empty. Then, and if memory is
+/// refused (`NO_MEMORY`), both are as they were.
 #[unsafe(no_mangle)]
 pub extern "C" fn nagsched_renew(
     alloc: Global,

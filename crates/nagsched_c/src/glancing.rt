@@ -10,8 +10,8 @@ use std::alloc::Global;
 
 /// Reads the standing of an object, by one load: it never waits for another call.
 ///
-/// Wrong if the handle has no pass, if the pass waits for its turn, or if there is no object of this number.
-/// Then nothing was done.
+/// `WRONG` if the handle has no pass, if the pass waits for its turn, or if there is no object of this
+/// number. Then nothing was done.
 #[unsafe(no_mangle)]
 pub extern "C" fn nagsched_glance(
     alloc: Global,

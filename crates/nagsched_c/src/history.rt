@@ -1,4 +1,4 @@
-//! Histories: the number of entries, each entry by its index, and the number of refused calls.
+//! Reads histories: the number of entries, each entry by its index, and the number of refused calls.
 
 ghost use Rattle.std.specs.Prelude.{◌≡◌, length};
 ghost use Rattle.check_book.specs.Books.{refused_of};
@@ -14,7 +14,7 @@ use ticket_steps::{Entry, Kept};
 
 /// The number of entries of a book or a history.
 ///
-/// Wrong exactly if the handle has neither. Then nothing is written.
+/// `WRONG` exactly if the handle has neither. Then nothing is written.
 #[unsafe(no_mangle)]
 pub extern "C" fn nagsched_entries(alloc: Global, kept: &mut Handle, count: &mut u64) -> u32
     ensures handle { contents_of kept.new ≡ contents_of kept.old }
@@ -38,7 +38,7 @@ pub extern "C" fn nagsched_entries(alloc: Global, kept: &mut Handle, count: &mut
 
 /// The entry of a book or a history with this index, from 0.
 ///
-/// Wrong exactly if the handle has neither, or no entry of this index. Then nothing is written.
+/// `WRONG` exactly if the handle has neither, or no entry of this index. Then nothing is written.
 #[unsafe(no_mangle)]
 pub extern "C" fn nagsched_entry(
     alloc: Global,
@@ -77,7 +77,7 @@ fn put_entry(entries: &[Entry<Call, Reply>], index: u64, entry: &mut PlainEntry)
 
 /// The number of calls that a book refused when out of memory.
 ///
-/// Wrong exactly if the handle has no book. Then nothing is written.
+/// `WRONG` exactly if the handle has no book. Then nothing is written.
 #[unsafe(no_mangle)]
 pub extern "C" fn nagsched_refused(alloc: Global, book: &mut Handle, count: &mut u64) -> u32
     ensures handle { contents_of book.new ≡ contents_of book.old }

@@ -1,17 +1,25 @@
 #![tactic(auto)]
-//! The desk for C: what `nagsched.h` declares.
+//! The desk for C: the functions that `nagsched.h` declares.
 //!
-//! C has one type, a [`Handle`](check_handles::Handle), and passes a pointer to it to each function. All other
-//! arguments and results are numbers, texts and structs of numbers. A function that is called wrongly reports
-//! it, if it can see the mistake, and changes nothing. Each function that uses what a handle leads to takes
-//! this target out of the handle, works on it, and puts it back.
+//! C has one type, a [`Handle`](check_handles::Handle), and passes a pointer to it to each function.
+//! All other arguments and results are numbers, texts and structs of numbers. A function that is called
+//! wrongly reports it, if it can see the mistake, and changes nothing. Each function that uses what a
+//! handle leads to takes this target out of the handle, works on it, and puts it back.
 //!
-//! The handle and its target are in check_handles, the structs in check_records.
+//! The crate check_handles has the handle and its target, and check_records the structs.
 //!
-//! The modules: `status` has the statuses of the functions, `laws` their numbers. The functions are in
-//! `reading` (a setup, and freeing), `naming` (objects), `opening` (a desk), `calls` (the six calls),
-//! `glancing`, `closing` (passes gathered, a desk closed, a book renewed), `saving` (states saved and resumed,
-//! running checks), `history` and `texts`.
+//! The modules:
+//!
+//! - `status`: the statuses of the functions; `laws` has their numbers.
+//! - `reading`: reads a setup, and frees a handle.
+//! - `naming`: the objects.
+//! - `opening`: opens a desk.
+//! - `calls`: the six calls.
+//! - `glancing`: a glance at an object.
+//! - `closing`: gathers passes, closes a desk, and renews a book.
+//! - `saving`: saves and resumes states, and reports running checks.
+//! - `history`: the entries of a history.
+//! - `texts`: the lines of a refusal, a reply and an entry.
 
 ghost use Rattle.std.specs.Prelude.{◌≡◌};
 

@@ -1,4 +1,4 @@
-//! Objects by number and by name, of a setup, a pass or a book.
+//! Finds objects by number and by name, in a setup, a pass or a book.
 
 ghost use Rattle.std.specs.Prelude.{◌≡◌, ◌<◌, ◌≤◌, ◌++◌, ℕ, ⊤, length, drop, Some};
 ghost use Rattle.check_objects.specs.Configuration.{host_count, object_count};
@@ -11,9 +11,10 @@ use check_objects::Setup;
 use std::alloc::Global;
 use std::str::from_utf8;
 
-/// The number of objects, 0 to 4,096, and the number of hosts among them. Hosts have the numbers from 0 on.
+/// The number of objects, 0 to 4,096, and the number of hosts among them. Hosts have the numbers from 0
+/// on.
 ///
-/// Wrong exactly if the handle has neither a setup, a pass nor a book. Then nothing is written.
+/// `WRONG` exactly if the handle has neither a setup, a pass nor a book. Then nothing is written.
 #[unsafe(no_mangle)]
 pub extern "C" fn nagsched_count(
     alloc: Global,
@@ -48,8 +49,8 @@ fn count_objects(setup: &Setup, objects: &mut u32, hosts: &mut u32) -> u32
 
 /// The number of the object with this full name.
 ///
-/// Missing exactly if there is no such object; wrong exactly if the handle has neither a setup, a pass nor a
-/// book. The number is written only if it was found.
+/// `MISSING` exactly if there is no such object; `WRONG` exactly if the handle has neither a setup, a
+/// pass nor a book. The number is written only if it was found.
 #[unsafe(no_mangle)]
 pub extern "C" fn nagsched_number(
     alloc: Global,
@@ -91,8 +92,8 @@ fn find_number(setup: &Setup, name: &[u8], number: &mut u32) -> u32
 
 /// The full name of the object with this number, into the room at `name`; `bytes` is its length.
 ///
-/// Wrong if the handle has neither a setup, a pass nor a book, if there is no such object, or if the name is
-/// longer than the room. Then nothing is written, except in the last case its length.
+/// `WRONG` if the handle has neither a setup, a pass nor a book, if there is no such object, or if the
+/// name is longer than the room. Then nothing is written, except in the last case its length.
 #[unsafe(no_mangle)]
 pub extern "C" fn nagsched_name(
     alloc: Global,
@@ -143,8 +144,8 @@ pub(crate) fn put(text: &[u8], room: &mut [u8], bytes: &mut usize) -> u32
 
 /// The number of the service's host.
 ///
-/// Missing exactly if the object is a host; wrong exactly if the handle has neither a setup, a pass nor a
-/// book, or if there is no object of this number. The number is written only if there is one.
+/// `MISSING` exactly if the object is a host. `WRONG` exactly if the handle has neither a setup, a pass
+/// nor a book, or if there is no object of this number. The number is written only if there is one.
 #[unsafe(no_mangle)]
 pub extern "C" fn nagsched_host_of(
     alloc: Global,

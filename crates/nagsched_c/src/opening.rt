@@ -1,4 +1,4 @@
-//! Desks opened on a setup, or on a book without entries.
+//! Opens desks on a setup, or on a book without entries.
 
 ghost use Rattle.std.specs.Prelude.{◌≡◌, ◌≢◌, ◌⊎◌, ◌↔◌, ◌<◌, true};
 ghost use Rattle.check_handles.specs.Handles.{contents_of};
@@ -41,18 +41,19 @@ pub extern "C" fn nagsched_open(
     open_desk(alloc, source, terms, passes)
 }
 
-/// Opens a desk, with a pass for each of the handles, 1 to 1,024 empty ones. Each pass has `calls` calls, 1
-/// to 2^32 - 1, and has made no call and seen nothing. The first has the number 0, and so on. The handle of
-/// the source is empty afterwards.
+/// Opens a desk, with a pass for each of the handles, 1 to 1,024 empty ones. Each pass has `calls`
+/// calls, 1 to 2^32 - 1, and has made no call and seen nothing. The first has the number 0, and so on.
+/// The handle of the source is empty afterwards.
 ///
-/// No other desk has the mark, which keeps the passes of two desks apart. The guard in C gives each desk
-/// another mark.
+/// No other desk has the mark, which keeps the passes of two desks apart. The guard in C gives each
+/// desk another mark.
 ///
-/// The source is a setup: scheduling starts at the moment `start`, in milliseconds, at most 2^60, and the
-/// history has memory for `room` entries at once. Or the source is a book without entries and refusals, which
-/// keeps its start and its room: then both are 0 here. It is `WRONG` exactly in all other cases, and then
-/// nothing was done. If memory is refused (`NO_MEMORY`), all handles are as they were. (No clause excludes
-/// that the source's handle then has the desk's only pass: that would need a count of 2^63 owners.)
+/// The source is a setup: scheduling starts at the moment `start`, in milliseconds, at most 2^60, and
+/// the history has memory for `room` entries at once. Or the source is a book without entries and
+/// refusals, which keeps its start and its room: then both are 0 here. The status is `WRONG` exactly in
+/// all other cases, and then nothing was done. If memory is refused (`NO_MEMORY`), all handles are as
+/// they were. (No clause excludes that the source's handle then has the desk's only pass: that would
+/// need a count of 2^63 owners.)
 #[unsafe(no_mangle)]
 pub extern "C" fn nagsched_open_with(
     alloc: Global,

@@ -1,4 +1,4 @@
-//! A setup read from a document, and handles that are freed.
+//! Reads a setup from a document, and frees handles.
 
 ghost use Rattle.std.specs.Prelude.{◌≡◌, ◌≢◌, ◌⊎◌, ◌↔◌, true, is_some, None};
 ghost use Rattle.check_handles.specs.Handles.{contents_of};
@@ -12,12 +12,12 @@ use check_handles::reading::{prepare, waits};
 use check_records::{PlainRefusal, plain_refusal};
 use std::alloc::Global;
 
-/// Reads a setup from a JSON document into an empty handle. The document is read twice, since the passes of a
-/// desk need the names of its objects outside its lock.
+/// Reads a setup from a JSON document into an empty handle. The document is read twice, since the
+/// passes of a desk need the names of its objects outside its lock.
 ///
-/// Refused if the document is no setup: the struct says why and where. Wrong exactly if the handle isn't
-/// empty. If memory is refused, the status says so, and says nothing of the document. The handle changes only
-/// if the setup was made, and the struct only with a refusal.
+/// `REFUSED` if the document isn't a setup: the struct has the reason and the place. `WRONG` exactly if
+/// the handle isn't empty. If memory is refused, the status says so, and says nothing about the
+/// document. The handle changes only if the setup was made, and the struct only with a refusal.
 #[unsafe(no_mangle)]
 pub extern "C" fn nagsched_read(
     alloc: Global,
@@ -50,8 +50,8 @@ pub extern "C" fn nagsched_read(
 
 /// Frees what the handle leads to, and makes the handle empty. An empty handle stays empty.
 ///
-/// Wrong exactly if it is a pass that waits for its turn. Then the handle is as it was, since the lost ticket
-/// would stop all other passes.
+/// `WRONG` exactly if it is a pass that waits for its turn. Then the handle is as it was, since the
+/// lost ticket would stop all other passes.
 #[unsafe(no_mangle)]
 pub extern "C" fn nagsched_free(alloc: Global, handle: &mut Handle) -> u32
     ensures freed { (result ≡ OK) × (contents_of handle.new ≡ None)

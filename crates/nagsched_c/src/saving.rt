@@ -1,4 +1,5 @@
-//! The saved state of a book's scheduler, a book that resumes it, and the running checks.
+//! Saves the state of a book's scheduler, resumes a saved state in a new book, and reports running
+//! checks.
 
 ghost use Rattle.std.specs.Prelude.{◌≡◌, ◌≢◌, ◌⊎◌, ◌↔◌, ◌≤◌};
 ghost use Rattle.check_book.specs.Books.{sched_of};
@@ -18,11 +19,11 @@ use check_saved::{Saved, SavedFault};
 use check_sched::{LAST_MOMENT, Sched};
 use std::alloc::Global;
 
-/// The text of the saved state of a book's scheduler, into the room at `text`; `bytes` is its length, at most
-/// 16,777,216. It is one line of JSON, without a line feed.
+/// The text of the saved state of a book's scheduler, into the room at `text`; `bytes` is its length,
+/// at most 16,777,216. It is one line of JSON, without a line feed.
 ///
-/// Wrong exactly if the handle has no book, or if the text is longer than the room. Then nothing is written,
-/// except in the last case its length. If memory is refused, nothing is written.
+/// `WRONG` exactly if the handle has no book, or if the text is longer than the room. Then nothing is
+/// written, except in the last case its length. If memory is refused, nothing is written.
 #[unsafe(no_mangle)]
 pub extern "C" fn nagsched_save(
     alloc: Global,
@@ -60,13 +61,13 @@ fn put_saved(alloc: Global, book: &Book, text: &mut [u8], bytes: &mut usize) -> 
 }
 
 /// Makes the book over a setup that resumes the saved state of a text, from the moment `start` on, in
-/// milliseconds, at most 2^60, with memory for `room` entries at once. It has no entries. The setup's handle
-/// is empty afterwards.
+/// milliseconds, at most 2^60. The book has memory for `room` entries at once, and no entries. The
+/// setup's handle is empty afterwards.
 ///
-/// Refused if the text is no saved state: the struct says why and where. Wrong exactly if the first handle
-/// has no setup, the other isn't empty, or the start is later. If memory is refused, the status says so, and
-/// nothing is known of the text. The handles change only if a book was made, and the struct only with a
-/// refusal.
+/// `REFUSED` if the text isn't a saved state: the struct has the reason and the place. `WRONG` exactly
+/// if the first handle has no setup, the other isn't empty, or the start is later. If memory is
+/// refused, the status says so, and nothing is known about the text. The handles change only if a book
+/// was made, and the struct only with a refusal.
 #[unsafe(no_mangle)]
 pub extern "C" fn nagsched_resume(
     alloc: Global,
@@ -143,11 +144,11 @@ fn resume_text(
     }
 }
 
-/// The running check of an object of a book: the number of its run, and the moment at which it was handed
-/// out, in milliseconds.
+/// The running check of an object of a book: the number of its run, and the moment at which it was
+/// handed out, in milliseconds.
 ///
-/// Missing exactly if the object isn't being checked; wrong exactly if the handle has no book or the book no
-/// object of this number. The two are written only if the check is running.
+/// `MISSING` exactly if the object isn't being checked; `WRONG` exactly if the handle has no book or
+/// the book no object of this number. The two are written only if the check is running.
 #[unsafe(no_mangle)]
 pub extern "C" fn nagsched_running(
     alloc: Global,

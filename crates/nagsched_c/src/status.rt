@@ -12,7 +12,7 @@ pub(crate) const SPENT: u32 = 2;
 /// Out of memory.
 pub(crate) const NO_MEMORY: u32 = 3;
 
-/// The document is no setup, or the text no saved state.
+/// The document isn't a setup, or the text isn't a saved state.
 pub(crate) const REFUSED: u32 = 4;
 
 /// Passes aren't gathered, no object has that name, the object is a host, or no check of it is running.

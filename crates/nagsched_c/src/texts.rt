@@ -17,10 +17,11 @@ use check_script::InputRefusal;
 use check_text::{push_entry, push_refusal, push_reply};
 use std::alloc::Global;
 
-/// The text of a refusal of a document or of a saved state, into the room at `text`; `bytes` is its length.
+/// The text of a refusal of a document or of a saved state, into the room at `text`; `bytes` is its
+/// length.
 ///
-/// Wrong exactly if no such refusal has this struct, or if the text is longer than the room. Then nothing is
-/// written, except in the last case its length. If memory is refused, nothing is written.
+/// `WRONG` exactly if no such refusal has this struct, or if the text is longer than the room. Then
+/// nothing is written, except in the last case its length. If memory is refused, nothing is written.
 #[unsafe(no_mangle)]
 pub extern "C" fn nagsched_refusal_text(
     alloc: Global,
@@ -50,12 +51,12 @@ fn put_refusal(alloc: Global, refusal: InputRefusal, text: &mut [u8], bytes: &mu
     }
 }
 
-/// The text of the reply to a call, into the room at `text`; `bytes` is its length. The objects are those of
-/// a setup, a pass or a book. A number without an object has no name in the text.
+/// The text of the reply to a call, into the room at `text`; `bytes` is its length. The objects are
+/// those of a setup, a pass or a book. A number without an object has no name in the text.
 ///
-/// Wrong exactly if the handle has none of these, if no call or no reply has such a struct, or if the text is
-/// longer than the room. Then nothing is written, except in the last case its length. If memory is refused,
-/// nothing is written.
+/// `WRONG` exactly if the handle has none of these, if no call or no reply has such a struct, or if the
+/// text is longer than the room. Then nothing is written, except in the last case its length. If memory
+/// is refused, nothing is written.
 #[unsafe(no_mangle)]
 pub extern "C" fn nagsched_reply_text(
     alloc: Global,

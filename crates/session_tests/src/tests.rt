@@ -1,5 +1,5 @@
-//! Tests of facts that no clause states and the built program doesn't show: runs over readers and writers
-//! that fail, flushes, and the statuses of words.
+//! Tests of facts that no clause states and the built program doesn't show: runs over readers and
+//! writers that fail, flushes, and the statuses of arguments.
 
 mod devices;
 mod faults;

@@ -9,7 +9,7 @@ use std::io;
 use std::io::{Read, Write};
 use std::test::Fail;
 
-/// What a reader and the writer beside it have seen of each other.
+/// The events that a reader and its writer note for each other.
 #[derive(Drop)]
 struct Notes {
     /// How many lines were flushed.
@@ -27,7 +27,8 @@ impl Notes {
     }
 }
 
-/// A reader that gives so many bytes a call, and notes each call that came while an answer was out.
+/// A reader that gives at most `most` bytes in one call. It notes whether a call came before an answer
+/// was flushed.
 #[derive(Drop)]
 struct Asker<'a> {
     rest: &'a [u8],

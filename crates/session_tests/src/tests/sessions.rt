@@ -1,4 +1,4 @@
-//! Sessions: the exit statuses of words over one host.
+//! Sessions: the exit statuses of arguments over one host.
 
 use super::devices::ShortWriter;
 use super::with_host;
@@ -9,10 +9,11 @@ use std::test::Fail;
 /// Two takes on the setup with one host, whose check is due at the scheduler's start.
 const TAKES: &str = "[\"take\",7]\n[\"take\",7]\n";
 
-/// What they write from the start 0 or 7 on.
+/// The output of these takes from the start 0 or 7 on.
 const TAKEN: &[u8] = b"taken 1 h\nidle none\n";
 
-/// Words that run, no words, and words that are refused, which leave the input as it is.
+/// Arguments that run, no arguments, and arguments that are refused. Refused ones leave the input as it
+/// is.
 #[test]
 fn words_decide_the_status(rt: HostRuntime) -> Result<(), Fail> {
     let alloc = rt.alloc();
