@@ -19,7 +19,7 @@ __attribute__((constructor)) static void begin(void) {
     requests = shared;
 }
 
-/* Counts a request, and tells whether it is the one to be refused. */
+/* Counts a request, and returns whether it is the one to be refused. */
 static int is_refused(void) {
     return requests && atomic_fetch_add(requests, 1) + 1 == refused;
 }

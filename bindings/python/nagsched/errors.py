@@ -40,7 +40,7 @@ class Missing(Error, LookupError):
 
 
 class Wrong(Error, ValueError):
-    """A mistake of the caller's: a number out of its range, a closed object, or a pass that another thread uses."""
+    """A mistake of the caller: a number out of its range, a closed object, or a pass that another thread uses."""
 
     status = Result.WRONG
 

@@ -1,4 +1,4 @@
-"""The log: lines on standard output, written by a thread of their own, so that nobody who doesn't read them holds up the monitor."""
+"""The log: lines on standard output, written by a separate thread, so that a reader who doesn't read them never holds up the monitor."""
 import os
 import queue
 import threading

@@ -19,10 +19,10 @@ from .pool import Pool
 from .runner_program import runner_words
 from .runners import raise_file_limit
 
-# The pause before a lost server is tried again, the time between two signs of life of it, the delay after its limit at which a result is late, and the time
-# that running plugins have to end when the worker stops; in seconds.
+# In seconds: the pause before a lost server is tried again, the time between two signs of life of it, the delay after its limit at which a result is late, and
+# the time that running plugins have to end when the worker stops.
 RETRY, SIGN, GRACE, STOPPING = 1.0, 10.0, 10.0, 10.0
-# How often the log says that jobs are refused, in seconds, and the longest time from one turn to the next, in milliseconds.
+# The time between two log lines about refused jobs, in seconds, and the longest time from one turn to the next, in milliseconds.
 SAYING, TURN = 60.0, 500
 SLOTS, MOST_SLOTS = 32, 1_000
 NOT_SIGNED = b"it isn't signed with this worker's key, or is no job"
@@ -39,7 +39,7 @@ class Running(NamedTuple):
 
 
 class Worker:
-    """One connection, which has as many jobs at once as there are slots. Its runner is handed in."""
+    """One connection, which has at most one job for each slot. Its runner is a parameter."""
 
     def __init__(self, connect: Callable[[], Connection], queues: Sequence[str], slots: int, seal: Seal, door: Door, runner: Pool, log: Callable[[str], None],
                  clock: Callable[[], float] = time.monotonic) -> None:
@@ -48,10 +48,10 @@ class Worker:
         self.connection: Optional[Connection] = None
         self._not_before = 0.0
         self._trouble: Optional[str] = None
-        # When the server was asked for a sign of life, whether it has given it, how many jobs it is asked for, and how many more are to be asked for.
+        # When the server was asked for a sign of life, whether it has answered, the number of jobs requested from it, and the number still to request.
         self._asked, self._is_alive, self._grabbing, self._wanted = 0.0, True, 0, 0
         self._running: Dict[int, Running] = {}
-        # The command lines whose plugins were killed and are still there, by the identities of their jobs.
+        # The command lines whose plugins were killed but haven't ended, by the identities of their jobs.
         self._stuck: Dict[int, Sequence[str]] = {}
         self._refused, self._said = 0, -SAYING
         self.is_stopping = False
@@ -60,7 +60,7 @@ class Worker:
         return not self._running
 
     def turn(self) -> None:
-        """Does all that there is to do now."""
+        """Does all the work that is due now."""
         now = self._clock()
         for step in (self._listen, self._end_jobs, self._ask_for_jobs):
             try:
@@ -111,7 +111,7 @@ class Worker:
                 connection.send(Code.PRE_SLEEP)
         elif packet.code == Code.JOB_ASSIGN:
             self._grabbing -= 1
-            self._wanted += 2  # where one was there are more
+            self._wanted += 2  # there may be more
             handle, _, workload = packet.parts
             connection.send(Code.WORK_STATUS, handle, b"0", b"1")
             answer = self.begin(connection, handle, workload)
