@@ -11,7 +11,6 @@ of the run. The stack isn't counted. Lines that one caller's calls often come to
 Constants of the program, which nobody writes, are counted separately: each core has its own copy. A pass's trace is cut when a call draws its
 ticket. Needs cc, nm, objdump and valgrind.
 """
-"""
 import collections
 import os
 import pathlib

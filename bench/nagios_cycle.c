@@ -1,5 +1,5 @@
 /* A whole check cycle of Nagios Core 4.4.6, by its own event loop, handler of results and queue: the earliest event is handled, which begins a
- *  * check of its service. The result comes at once, and the service is scheduled again.
+ * check of its service. The result comes at once, and the service is scheduled again.
  *
  *   cycle SERVICES CYCLES     writes ns=TIME ops=CYCLES
  *

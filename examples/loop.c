@@ -1,9 +1,9 @@
 /* A small monitor over the C library, built like one that runs for years. Workers take due checks by the clock, run a plugin with a time limit, and
  * report. The state is saved every few seconds and at the end. The next start resumes it, over the same setup or over a changed one.
- * 
+ *
  *     tools/build_c.sh && cc -O2 -Iinclude examples/loop.c out/c/lib/libnagsched.a -lpthread -o loop
  *     ./loop SETUP STATE SECONDS COMMAND
- * 
+ *
  * SETUP is a file with a setup, STATE the file for the state, and COMMAND a line for /bin/sh that checks the object $1 and exits with 0 to 3. It
  * works for this number of seconds, prints the answer to each report, and at the end the standing of each object.
  */
@@ -76,7 +76,7 @@ static void sleep_ms(uint64_t milliseconds) {
 
 /* ---- a plugin */
 
-/* Runs the command for an object, and returns its code. CRITICAL if the plugin is killed after the limit or exits with no code; -1 if it couldn't be started. */
+/* Runs the command for an object, returning its code. CRITICAL if the plugin is killed after the limit or exits with no code; -1 if it couldn't be started. */
 static int run_plugin(const struct monitor *monitor, const char *name) {
     const char *words[] = {"/bin/sh", "-c", monitor->command, "plugin", name, NULL};
     const uint64_t deadline = now() + LIMIT_MS;

@@ -9,7 +9,7 @@ prefix=${1:-$top/out/c}
 work=$(mktemp -d)
 trap 'rm -rf "$work"' EXIT
 
-# Compiles a program with these words, and runs it.
+# Compiles a program with these arguments, and runs it.
 checked() {
     local name=$1
     shift

@@ -65,7 +65,7 @@ class Pipe:
         self._path.unlink(missing_ok=True)
 
 
-# Each command: the request's word, the kind of object that it names, the other members of the line, and whether it is forced. A service is a host and its description.
+# Each command: the request's word, the kind of object, the other members of the line, and whether it is forced. A service is a host and its description.
 AT, RESULT = ("at",), ("code", "output")
 HOST, SERVICE, SERVICES = 1, 2, 0
 COMMANDS: Mapping[str, Tuple[str, int, Tuple[str, ...], bool]] = {

@@ -56,7 +56,7 @@ class Picture:
         return counts
 
     def silence(self) -> Optional[float]:
-        """The seconds for which the monitor has written nothing, if they are too many; None while it is at work."""
+        """The seconds for which the monitor has written nothing, if it counts as silent; None while it is at work."""
         silent = self.now - self.figures.get("written_at", 0.0)
         return silent if silent > SILENCE else None
 

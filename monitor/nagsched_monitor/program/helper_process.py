@@ -10,8 +10,8 @@ from typing import Callable, Optional, Sequence
 
 from .reading import process_words
 
-# The least time from one start to the next, and the limit for its end, in seconds. If a process ends sooner than that, the pause doubles each time, up to the
-# longest.
+# The least time from one start to the next, and the limit for the end of a process, in seconds. The pause doubles each time, up to the longest. After a
+# process that ran for the longest pause, the pause is the first one again.
 PAUSE, LONGEST_PAUSE = 5.0, 60.0
 GRACE = 5.0
 

@@ -119,7 +119,7 @@ class Worker:
                 connection.send(Code.WORK_COMPLETE, handle, answer)
 
     def _lose(self, why: str, now: float) -> None:
-        """The server hands what this worker has to another one; what runs here ends without an answer."""
+        """The server gives this worker's jobs to another one; what runs here ends without an answer."""
         if self._trouble is None:
             self._log(f"the server isn't reached: {why}")
         self._trouble = why
@@ -130,7 +130,7 @@ class Worker:
     # ---- jobs
 
     def begin(self, connection: Connection, handle: bytes, workload: bytes) -> Optional[bytes]:
-        """Has a job run. Returns the answer to a job that isn't run."""
+        """Has a job run. Returns the answer if the job isn't run."""
         try:
             document = self._seal.open(JOB, workload)
             if document is None:
@@ -148,7 +148,7 @@ class Worker:
             self._runner.start(job)
             self._running[id(job)] = Running(job, number, connection, handle, self._clock() + limit + GRACE)
             return None
-        except Exception as error:  # the worker goes on, and the job is made again elsewhere
+        except Exception as error:  # the worker continues, and the job is made again elsewhere
             self._refuse(f"{type(error).__name__}: {error}")
             return NOT_SIGNED
 
@@ -179,7 +179,7 @@ class Worker:
             self.connection.send(Code.WORK_COMPLETE, running.handle, self._answer(running.number, result))
 
     def _refuse(self, why: str) -> None:
-        """Logs once a minute how many jobs were refused."""
+        """Logs once a minute the number of refused jobs."""
         self._refused += 1
         if self._clock() - self._said >= SAYING:
             self._log(f"{self._refused} jobs were refused; the last one: {why}")
@@ -198,7 +198,7 @@ def words_of(given: Optional[List[str]]) -> argparse.Namespace:
 
 
 def runner_of(only: Optional[pathlib.Path]) -> List[str]:
-    """The command of the worker's runner. A `MonitorFault` if it doesn't start."""
+    """The command of the worker's runner. Raises `MonitorFault` if it doesn't start."""
     words = [*runner_words(), *([] if only is None else ["--only", str(only)])]
     try:
         tried = subprocess.run(words, input=b"", stderr=subprocess.PIPE, timeout=10, check=False)
@@ -210,7 +210,7 @@ def runner_of(only: Optional[pathlib.Path]) -> List[str]:
 
 
 def log(line: str) -> None:
-    """Writes a line to standard output, which doesn't block: a line that isn't read is lost."""
+    """Writes a line to standard output, which doesn't block: a line that nobody reads is lost."""
     try:
         os.write(sys.stdout.fileno(), line.encode(errors="replace") + b"\n")
     except OSError:
@@ -241,7 +241,7 @@ def main(given: Optional[List[str]] = None) -> int:
 
 
 def work(worker: Worker, poller: FilePoller) -> None:
-    """Works until it is asked to stop; plugins that run then may end."""
+    """Works until it is asked to stop; running plugins may then end."""
     stop_at: Optional[float] = None
     watched: Optional[Connection] = None
     while stop_at is None or time.monotonic() < stop_at and not worker.is_idle():
