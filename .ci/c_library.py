@@ -59,7 +59,7 @@ UNNUMBERED = {"MEMORY"}
 
 
 def ran(*words, given=None, **how):
-    """What a program writes, its errors and its status."""
+    """A program's output, its errors and its status."""
     return subprocess.run([str(word) for word in words], input=given, stdout=subprocess.PIPE, stderr=subprocess.PIPE, timeout=SECONDS, **how)
 
 
@@ -276,7 +276,7 @@ def words_of(call):
 
 
 def cases():
-    """The cases of a run from an opening: the name, what the C program reads, and what is wanted."""
+    """The cases of a run from an opening: the name, the C program's input, and the wanted output."""
     for case in runs():
         found = re.fullmatch(r"run( --start[ =]\+?(\d+))?( --)?", " ".join(case.arguments))
         if found is None:

@@ -1,7 +1,7 @@
 #!/usr/bin/env python3
 """Inputs that are cut after each of their bytes, and inputs with a byte flipped, doubled or dropped, on the built program.
 
-        .ci/damage.py [PROGRAM]     crates/nagsched/out/nagsched if no program is named
+    .ci/damage.py [PROGRAM]     crates/nagsched/out/nagsched if no program is named
 
 A cut inside a line is refused with that line's number. After a cut at a line's end the lines so far count, and are answered as in the whole
 input. A damaged input runs or is refused: status 0 or 1, with whole lines. The damaged bytes follow from one seed.

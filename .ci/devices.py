@@ -49,7 +49,7 @@ CONVERSATION = {
 
 
 class Job(NamedTuple):
-    """A run of the program: its words, its input, what it writes, and its exit status."""
+    """A run of the program: its arguments, its input, its output, and its exit status."""
 
     name: str
     words: list[str]

@@ -21,7 +21,7 @@ DAYS, DAY = 4, 86_400_000
 ENTRY = re.compile(r"(\[.*\])\t0 (.*)")
 # In milliseconds: how long a plugin may run, and how long the loop sleeps at the limit of checks and when none is due.
 PLUGIN_LIMIT, AT_LIMIT, WITHOUT_WORK = 300_000, 1_000, 3_600_000
-# A check whose number can be divided by the first can't be started. Of the others, those whose number can be divided by the second hang.
+# A check whose number can be divided by the first can't be started. If the number of another check can be divided by the second, its plugin hangs.
 NOT_STARTED, HANGS = 31, 17
 
 # A command and its reply; a setup, the state that was saved, and the entries of the generation before it.

@@ -1,7 +1,7 @@
 #!/usr/bin/env python3
 """Setups and inputs at their limits, and one past them, on the built program.
 
-        .ci/limits.py [PROGRAM]     crates/nagsched/out/nagsched if no program is named
+    .ci/limits.py [PROGRAM]     crates/nagsched/out/nagsched if no program is named
 
 The wanted results follow from docs/program.md and docs/rules.md and are written down here; nothing is taken from the program.
 """

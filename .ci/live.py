@@ -68,7 +68,7 @@ def answers_to(live, pieces):
 
 
 def told(what, wanted, came):
-    """A line about a difference from what was wanted, shortened, or nothing."""
+    """A line about a difference from the wanted output, shortened, or nothing."""
     return None if came == wanted else f"{what}: wanted {repr(wanted)[:200]}, came {repr(came)[:200]}"
 
 

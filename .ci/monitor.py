@@ -37,7 +37,7 @@ def loop(program):
 
 
 def site(program):
-    """What the monitor prints about a site made from Nagios's own files, in which plugins replace those that the files name."""
+    """The monitor's output about a site made from Nagios's own files, in which plugins replace those that the files name."""
     with tempfile.TemporaryDirectory() as folder:
         work = pathlib.Path(folder)
         text = (TOP / "conformance/nagios/objects.precache").read_text()
@@ -54,7 +54,7 @@ def site(program):
 
 
 def complaints():
-    """What mypy prints about the monitor, from_nagios.py, the Python module and its loop; nothing if mypy isn't installed."""
+    """mypy's report about the monitor, from_nagios.py, the Python module and its loop; nothing if mypy isn't installed."""
     if not shutil.which("mypy"):
         print("monitor: passed over what mypy says of the types, which isn't here")
         return ""

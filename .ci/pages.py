@@ -34,7 +34,7 @@ def output(lines, *words):
 
 
 def compare(what, wanted, written):
-    """Counts a comparison, and keeps the difference if there is one."""
+    """Counts a comparison, and stores the difference if there is one."""
     global checked
     checked += 1
     if wanted != written:

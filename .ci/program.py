@@ -1,11 +1,11 @@
-"""What the parts of the gate share that run the built program: running it, and counting the differences."""
+"""Shared by the parts of the gate that run the built program: running it, and counting the differences."""
 import pathlib
 import subprocess
 import sys
 
 TOP = pathlib.Path(__file__).resolve().parent.parent
 EXAMPLES = TOP / "examples"
-# Where the module `cases` is.
+# The folder of the module `cases`.
 sys.path.append(str(TOP / "conformance"))
 SECONDS = 120
 REFUSED_WORDS = b"refused words\n"

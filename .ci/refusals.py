@@ -1,7 +1,7 @@
 #!/usr/bin/env python3
 """Refuses the built program each request for memory in turn.
 
-        .ci/refusals.py [PROGRAM]     crates/nagsched/out/nagsched if no program is named; needs a C compiler, cc
+    .ci/refusals.py [PROGRAM]     crates/nagsched/out/nagsched if no program is named; needs a C compiler, cc
 
 A run is made with its first request refused, then with its second and so on, until a run makes fewer requests. Each run has to end in the answer
 of ample memory, in status 4 with whole lines from the beginning of that answer, or, for a drill, in a total that counts the refusal.

@@ -165,7 +165,7 @@ def limits(part):
 
 
 def probes():
-    """Documents, each with what was changed. No name that others use is lost, and no missing name is used."""
+    """Documents, each with its change. No name that others use is lost, and no missing name is used."""
     yield "nothing", DOCUMENT
     for path, value in places(DOCUMENT):
         told = ".".join(map(str, path))

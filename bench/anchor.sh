@@ -8,7 +8,7 @@
 # contains its instruction counts, which are the same on every machine. Its times, of another machine, are left out.
 set -eu
 repeats=${1:-5}
-# Valgrind counts a string store byte by byte, so the C library is told to store by words.
+# Valgrind counts a string store byte by byte, so the C library is set to store by words.
 export GLIBC_TUNABLES=glibc.cpu.x86_rep_stosb_threshold=100000000:glibc.cpu.x86_rep_movsb_threshold=100000000
 top=$(cd "$(dirname "$0")/.." && pwd)
 crate=$top/crates/nagsched_bench

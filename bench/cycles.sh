@@ -2,8 +2,8 @@
 # Times how long `nagsched check` takes to refuse and explain a setup whose 4,096 objects are one cycle, and one of 2,048. Run
 # manually; no part of the gate.
 #   bench/cycles.sh
-# The first setup's hosts are each the parent of the next one. Of the second one host has services each of which depends on
-# the next one. Each time is the best of five runs.
+# The first setup's hosts are each the parent of the next one. The second one has a host with services, each of
+# which depends on the next one. Each time is the best of five runs.
 set -eu
 crate=$(cd "$(dirname "$0")/../crates/nagsched" && pwd)
 program=$crate/out/nagsched

@@ -15,7 +15,7 @@
 #   inherit  the same, but the dependency inherits, and the first service depends on the second
 #   lines    a check whose two replies are written as lines of text
 set -eu
-# Valgrind counts a string store byte by byte, so the C library is told to store by words.
+# Valgrind counts a string store byte by byte, so the C library is set to store by words.
 export GLIBC_TUNABLES=glibc.cpu.x86_rep_stosb_threshold=100000000:glibc.cpu.x86_rep_movsb_threshold=100000000
 top=$(cd "$(dirname "$0")/.." && pwd)
 crates=$top/crates

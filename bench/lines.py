@@ -6,7 +6,7 @@ is no part of the gate.
     bench/lines.py --pass [OBJECTS] [TAKES]     the same for the only pass of a desk, by the workload `ask` of nagsched_bench, which rt has built
 
 Valgrind's lackey traces the loads and stores of the workload `turns` of bench/c_asks.c: two passes in alternation take a check and report it.
-The trace is cut at the places where the program counts its calls. The distinct lines of 64 bytes between two cuts are counted, in the second half
+The trace is cut when the program counts its calls. The distinct lines of 64 bytes between two cuts are counted, in the second half
 of the run. The stack isn't counted. Lines that one caller's calls often come to, and the other's never, are that caller's own and aren't counted.
 Constants of the program, which nobody writes, are counted separately: each core has its own copy. A pass's trace is cut when a call draws its
 ticket. Needs cc, nm, objdump and valgrind.
@@ -75,7 +75,7 @@ def owned(calls):
 
 
 def traced(words):
-    """What lackey prints of a run, line by line."""
+    """lackey's output for a run, line by line."""
     words = ["valgrind", "--tool=lackey", "--trace-mem=yes", *words, "untimed"]
     return subprocess.Popen(words, stdout=subprocess.DEVNULL, stderr=subprocess.PIPE, text=True).stderr
 

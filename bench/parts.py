@@ -5,8 +5,8 @@
 
 Two networks of Nagios's own files, one behind a single gateway and one in a tree of ten children each, every object checked every five minutes. For each:
 parts and mirrors; seconds, processor seconds and megabytes of `tools/from_nagios.py --site`. Then the monitor runs it for SECONDS (300) with plugins that
-end at once: checks per second over the second half; their lateness at the median and the 95th percentile, in milliseconds; processor milliseconds per
-check; resident megabytes of all processes except plugins; seconds of a restart until it answers, and of a reload.
+end at once. The figures of that run are checks per second over the second half, and their lateness at the median and the 95th percentile, in milliseconds.
+Then processor milliseconds per check, and resident megabytes of all processes except plugins. Last the seconds of a restart until it answers, and of a reload.
 """
 import json
 import os

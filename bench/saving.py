@@ -59,7 +59,7 @@ def setup_of(count):
 
 
 def results_of(count):
-    """Calls that leave 21 results of each service, of which one in seven is a problem."""
+    """Calls that leave 21 results of each service; one result in seven is a problem."""
     run = 0
     for turn in range(RESULTS):
         for number in range(count - 1):

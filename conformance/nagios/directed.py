@@ -16,7 +16,7 @@ ANY = object()  # a value that Nagios draws at random
 
 @dataclasses.dataclass(frozen=True)
 class Shown:
-    """What a history shows: the row, the answer, and its value on both sides."""
+    """The result of a history: the row, the answer, and its value on both sides."""
 
     row: str
     history: History
@@ -27,7 +27,7 @@ class Shown:
 
 @dataclasses.dataclass(frozen=True)
 class Told:
-    """What Nagios does over a history (words of the harness's lines, times from the start), and nagsched's answers to calls."""
+    """Nagios's actions over a history (words of the harness's lines, times from the start), and nagsched's answers to calls."""
 
     row: str
     history: History

@@ -38,7 +38,7 @@ class Command:
 
 @dataclasses.dataclass(frozen=True)
 class History:
-    """What is played. `keeps`: checks on demand stay in Nagios's queue, with its horizon for cached results and its predictive checks."""
+    """A history. `keeps`: checks on demand stay in Nagios's queue, with its horizon for cached results and its predictive checks."""
 
     setup: Setup
     plans: dict[str, Plan]

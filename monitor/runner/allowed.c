@@ -32,7 +32,7 @@ struct allowed {
 
 /* ---- reading */
 
-/* Reads one word in place, and returns where the line continues; NULL if a quote or a backslash has no end. The word never gets longer. */
+/* Reads one word in place, and returns the place after it in the line; NULL if a quote or a backslash has no end. The word never gets longer. */
 static char *read_word(char *at, char **to) {
     char quote = '\0';
     for (; *at != '\0' && (quote != '\0' || (*at != ' ' && *at != '\t')); at++) {

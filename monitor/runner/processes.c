@@ -15,7 +15,7 @@
 
 extern char **environ;
 
-/* A plugin, as its process, the runner and the guard see it: its process group, and the error because of which it couldn't be run. */
+/* A plugin, as its process, the runner and the guard see it: its process group, and the error that kept it from running. */
 struct entry {
     volatile pid_t group;
     volatile int error;

@@ -24,13 +24,13 @@ struct started {
 };
 
 /* Starts a process with these words, in a group of its own. The process itself loads the program, so that this never waits for a file system. Returns 0, or the
- * number of the error because of which it couldn't be started. */
+ * number of the error that kept it from starting. */
 int process_start(char *const *words, struct started *started);
 
 /* Kills a process with its group, which may have ended just now, or belong to another user. */
 void process_kill(const struct started *started);
 
-/* Frees the place of a process that has ended. Returns 0, or the number of the error because of which its program couldn't be run. */
+/* Frees the place of a process that has ended. Returns 0, or the number of the error that kept its program from running. */
 int process_forget(const struct started *started);
 
 /* Whether an error is caused by this machine at this moment, not by the command line. */

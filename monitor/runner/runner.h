@@ -23,7 +23,7 @@ struct plugin {
     long long job;
     struct started started;
     double deadline;
-    int trouble; /* the error because of which nothing waits for its output; 0 if there is none */
+    int trouble; /* the error that prevents waiting for its output; 0 without one */
     char program[256];
     enum { RUNS, IS_KILLED, IS_STUCK } phase;
     struct stream output, errors;

@@ -68,7 +68,7 @@ class Faulty:
         self.folder, self.refused, self.last, self.ends, self.start = folder, refused, last, ends, start
         self.writes = self.exchanges = self.starts = 0
         self.clock = SimulatedClock()
-        # What was accepted and what was reported, by the words; documents that were stored and that were accepted; the answers to requests.
+        # Accepted and reported results, by their words; stored and accepted documents; the answers to requests.
         self.accepted: List[str] = []
         self.reported: List[str] = []
         self.documents: Set[str] = set()

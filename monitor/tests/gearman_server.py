@@ -22,7 +22,7 @@ class StandInServer:
     waiting: List[ServedJob] = field(default_factory=list)
     clients: List["StandInClient"] = field(default_factory=list)
     is_there: bool = True
-    # It accepts what is sent, and answers nothing.
+    # It accepts all requests, and answers nothing.
     is_silent: bool = False
     seal: Seal = Seal(b"the key of the test's site")
 

@@ -17,7 +17,7 @@ WORKER = HERE / "nagsched-gearman-worker"
 
 
 def missing() -> Optional[str]:
-    """What a trial needs and this machine lacks; None if it has everything."""
+    """Missing requirements of a trial; None if this machine has everything."""
     return "gearmand" if shutil.which("gearmand", path=search_path()) is None else None
 
 

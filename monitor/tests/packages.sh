@@ -1,13 +1,13 @@
 #!/bin/bash
 # The monitor with Debian's packages: Nagios's pages (nagios4-cgi) and NSCA over its files (tests/packages.py), a browser and promtool
-# (tests/page_pictures.py), gearmand with workers, NRPE and SSH (tests/packages_gearman.py), a runner over SSH (tests/packages_ssh.py), and Alertmanager
+# (tests/page_pictures.py), gearmand with workers, NRPE and SSH (tests/packages_gearman.py). Then a runner over SSH (tests/packages_ssh.py), and Alertmanager
 # (tests/packages_alerts.py). A package that isn't installed is fetched and unpacked into a temporary folder. chromium-headless-shell and prometheus are
-# installed if PICTURES is named, they are missing and root runs this. What can't be fetched is skipped, and named.
+# installed if PICTURES is named, they are missing and root runs this. A package that can't be fetched is named, and its trial is skipped.
 #
 #     monitor/tests/packages.sh PROGRAM [pages [PICTURES] | gearman [WHAT..] | ssh [CUTS] | alerts [SECONDS]]
 #
-# PROGRAM is nagsched, PICTURES a folder for pictures of the pages, WHAT is described in packages_gearman.py, CUTS is how often the connection is cut. SECONDS
-# is how long Alertmanager is away. All parts are tried without a second word.
+# PROGRAM is nagsched, PICTURES a folder for pictures of the pages, and packages_gearman.py describes WHAT. CUTS is how often the connection is cut. SECONDS is
+# how long Alertmanager is away. Without a second argument all parts are tried.
 set -eu
 program=$(realpath "$1")
 part=${2:-all}

@@ -2,9 +2,9 @@
 
     tests/packages_gearman.py PROGRAM [WHAT..]
 
-PROGRAM is `nagsched`. WHAT is `rate` (500 checks per second through four workers), `kills` (20 kills of a worker and 3 of the server, as jobs and as a site),
-`wall` (a worker in a network namespace of its own; needs root and iproute2), or `remote` (NRPE and check_by_ssh, a line each). Without WHAT all of them are
-tried. Figures are printed. A missing requirement is named, and its trial is skipped. `packages.sh` runs this.
+PROGRAM is `nagsched`. WHAT is one or more of the following, by default all. `rate`: 500 checks per second through four workers. `kills`: 20 kills of a worker
+and 3 of the server, as jobs and as a site. `wall`: a worker in a network namespace of its own; needs root and iproute2. `remote`: NRPE and check_by_ssh, a
+line each. Figures are printed. A missing requirement is named, and its trial is skipped. `packages.sh` runs this.
 """
 import collections
 import json

@@ -2,7 +2,7 @@
 
     cd monitor; python3 -m tests.page_pictures FOLDER
 
-Three moments, quiet, an outage, and a site of 500 services, and the page of one object, each 1280 and 400 pixels wide. Missing programs are named.
+Quiet, an outage, a site of 500 services, and the page of one object, each 1280 and 400 pixels wide. Missing programs are named.
 """
 import pathlib
 import random

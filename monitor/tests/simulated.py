@@ -25,7 +25,7 @@ PROGRAM = os.environ.get("NAGSCHED", "nagsched")
 # 2026-11-27 08:00:00, in UTC.
 BEGIN = 1_795_766_400_000
 
-# What a plugin does at a moment: its duration in milliseconds, its exit code and its output.
+# The result of a plugin at a moment: its duration in milliseconds, its exit code and its output.
 Plugin = Callable[[str, int], Tuple[int, int, str]]
 
 

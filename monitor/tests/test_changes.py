@@ -88,7 +88,7 @@ class Command(SiteTest):
         self.assertEqual(names, ["h1", "h2", "h1", "h2"])
 
     def test_a_relay_that_is_away_for_ten_minutes(self) -> None:
-        """Nothing is lost, whatever number of times the command fails."""
+        """Nothing is lost, for any number of failures of the command."""
         self.keep(12)
         self.began = 12_000.0
         notifier = self.notifier(f"test -e {self.folder}/up && cat >> {self.folder}/taken")

@@ -188,7 +188,7 @@ class Runner(WorkerTest):
 
 
 class Starting(unittest.TestCase):
-    """What a worker needs before it begins."""
+    """The requirements of a worker before it begins."""
 
     def test_faults(self) -> None:
         for words, why in (("--unsigned --only /no/such/file", "No such file"), ("--slots 0 --unsigned", "--slots"), ("", "--key"),

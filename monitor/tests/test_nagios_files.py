@@ -195,7 +195,7 @@ class Process(ProcessTest):
         self.command("REMOVE_HOST_ACKNOWLEDGEMENT;h00", "ENABLE_HOST_CHECK;h07", "nonsense")
         self.wait(lambda: "CRITICAL HARD 1 h00;http: no answer;at all" in self.ask("status").stdout)
         self.wait(lambda: "DOWN SOFT 1 h01: it is gone" in self.ask("status").stdout)
-        # A burst, of which no result is lost: each is another state than the one before.
+        # A burst, and no result of it is lost: each is another state than the one before.
         self.command(*[f"PROCESS_SERVICE_CHECK_RESULT;h00;http;{number % 3};number {number}" for number in range(300)])
         self.wait(lambda: ": number 299" in self.ask("status", "h00;http").stdout)
         output = self.end(running)

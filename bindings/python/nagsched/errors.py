@@ -24,7 +24,7 @@ class NoMemory(Error, MemoryError):
 
 
 class Refused(Error, ValueError):
-    """The document is no setup, or the text no saved state: `refusal` says why and where."""
+    """The document is no setup, or the text no saved state: `refusal` has the reason and the place."""
 
     status = Result.REFUSED
 

@@ -45,7 +45,7 @@ class Checks:
     # ---- switches and periods
 
     def is_wanted_on(self, watched: Watched, switch: Optional[bool] = None) -> bool:
-        """Whether the active checks of an object have to be on: the operator's switch and its period both say so."""
+        """Whether the active checks of an object have to be on: both the operator's switch and its period have to allow them."""
         on = self._operator.get(watched.name, watched.enabled) if switch is None else switch
         return on and not watched.passive_only and self._is_in_period(watched)
 

@@ -61,7 +61,7 @@ class Engine:
         self._await_results(min(clock.wall(), figures.get("written_at", 0.0)))
 
     def _await_results(self, until: float) -> None:
-        """Awaits the result of each object since its last one, later by the time since the last monitor ended. Without a result, since its part began."""
+        """Awaits the result of each object since its last one, without the time in which no monitor ran. If it had none, since its part began."""
         starts = {part: made.generation.start for part, made in self.scheduling.schedulers.parts.items()}
         for known in self.objects.values():
             last = known.past.last_check

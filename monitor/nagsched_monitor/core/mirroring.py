@@ -9,7 +9,7 @@ from ..scheduler.protocol import Answer, Call, PutOff, Report, Reschedule, Take,
 from .rhythm import MIRROR_FIRST
 from .running import Owner, Place, Run, Running
 
-# A call, its part, and the words of the plugin that it reports.
+# A call, its part, and the output of the plugin that it reports.
 AskedOf = Tuple[int, Call, Optional[str]]
 
 
@@ -32,7 +32,7 @@ class Mirrors:
         """The parts in which an object has mirrors."""
         return self._parts.get(name, ())
 
-    # ---- what answers say
+    # ---- answers
 
     def owns(self, part: int, call: Call, answer: Answer) -> bool:
         """Whether an answer is about a mirror, which is then updated."""

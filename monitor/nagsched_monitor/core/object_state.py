@@ -1,4 +1,4 @@
-"""The state of each object by the scheduler's answers, and the due objects."""
+"""The state of each object according to the scheduler's answers, and the due objects."""
 import heapq
 from dataclasses import dataclass, field, replace
 from typing import Any, Dict, Iterable, List, Mapping, Optional, Set, Tuple

@@ -28,7 +28,7 @@ SWEEP = 1_000
 
 
 class PluginRuns:
-    """The plugins of a site, and the events by which they end."""
+    """The plugins of a site, and the events of their ends."""
 
     def __init__(self, scheduling: Scheduling, runners: Runners, clock: Clock, log: Callable[[str], None], counters: Counters) -> None:
         self._scheduling, self._runners, self._clock, self._log, self._counters = scheduling, runners, clock, log, counters

@@ -166,7 +166,7 @@ def ask(folder: pathlib.Path, request: bytes, seconds: float = 30) -> bytes:
 
 
 def ask_all(folder: pathlib.Path, requests: Sequence[bytes], seconds: float = 30) -> List[bytes]:
-    """The answers to requests that are made together. If the monitor ends meanwhile, they are those that came before: these requests were obeyed."""
+    """The answers to requests that are made together. If the monitor ends meanwhile, only those that came before, whose requests were obeyed."""
     answers: List[bytes] = []
     try:
         with socket.socket(socket.AF_UNIX, socket.SOCK_STREAM) as connection, connection.makefile("rb") as lines:

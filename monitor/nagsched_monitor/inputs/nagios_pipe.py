@@ -102,7 +102,7 @@ def requests_of(line: bytes, services: Services) -> Tuple[str, List[Request]]:
 
 
 def made(rest: str, services: Services, do: str, of: int, members: Sequence[str], forced: bool) -> List[Request]:
-    """The requests of a command. `ValueError` says what is wrong with its line."""
+    """The requests of a command. The text of a `ValueError` names the fault in its line."""
     count = max(of, 1)
     total = count + len(members)
     words = rest.split(";", total - 1)  # the last one may have semicolons in it

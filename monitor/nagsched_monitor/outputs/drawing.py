@@ -80,7 +80,7 @@ def link(name: str) -> str:
 
 
 def next_of(it: KeptStanding, times: Times) -> str:
-    """The time of an object's next check, or why there is none."""
+    """The time of an object's next check, or why it has no next check."""
     if it.out_since is not None:
         return f"runs since {times.ago(it.out_since)}"
     if not it.is_on:

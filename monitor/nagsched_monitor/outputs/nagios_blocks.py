@@ -72,7 +72,7 @@ def plain(text: str) -> str:
 
 
 def seconds(time: Optional[float]) -> int:
-    """A time in whole seconds, as in Nagios: 0 if there is none."""
+    """A time in whole seconds, as in Nagios; a missing time is 0."""
     return 0 if time is None else int(time)
 
 

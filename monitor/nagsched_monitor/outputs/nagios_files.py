@@ -77,7 +77,7 @@ class Reader:
 
 
 class NagiosFiles:
-    """The files of one site, while they are kept."""
+    """The files of one site, while this process updates them."""
 
     def __init__(self, site: pathlib.Path, folder: pathlib.Path, notifies: bool, every: float = EVERY) -> None:
         self._site, self._folder, self._every = site, folder, every

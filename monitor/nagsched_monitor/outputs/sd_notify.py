@@ -8,7 +8,7 @@ MICROSECOND = 1e-6
 
 
 class Service:
-    """The service manager that started the monitor; nothing is sent if there is none."""
+    """The service manager that started the monitor; without a manager nothing is sent."""
 
     def __init__(self, environment: MutableMapping[str, str] = os.environ, clock: Callable[[], float] = time.monotonic) -> None:
         """Takes the names of the socket out of the environment, so that no plugin gets them."""

@@ -123,7 +123,7 @@ class Happening:
 
 
 class Client(Protocol):
-    """One connection over which jobs are handed to a server. Jobs that no worker has taken end with it. It never waits."""
+    """One connection that submits jobs to a server. Jobs that no worker has taken end with it. It never waits."""
 
     def submit(self, number: int, queue: str, workload: bytes) -> None: ...
     def work(self) -> List[Happening]: ...

@@ -1,4 +1,4 @@
-"""A runner that hands its jobs to a queue of a Gearman server: it reads jobs and writes results as nagsched-runner does, and runs no plugin itself.
+"""A runner that sends its jobs to a queue of a Gearman server: it reads jobs and writes results as nagsched-runner does, and runs no plugin itself.
 
     nagsched-gearman-runner (--key FILE | --unsigned) [--wait SECONDS] ADDRESS:PORT QUEUE
 """
@@ -20,7 +20,7 @@ from .gearman_queue import Queue
 from .gearman_seal import seal_of
 
 READ_BYTES = 65_536
-# In seconds: a job's longest wait for a worker, and the time from one round to the next, while there are jobs and while there are none.
+# In seconds: a job's longest wait for a worker, and the time from one round to the next, with jobs and without.
 WAIT, BUSY, IDLE = 30.0, 0.01, 1.0
 # A round that takes longer, in seconds, ends the process by SIGALRM, and the monitor starts another.
 STUCK = 30

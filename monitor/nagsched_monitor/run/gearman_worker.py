@@ -19,8 +19,8 @@ from .pool import Pool
 from .runner_program import runner_words
 from .runners import raise_file_limit
 
-# In seconds: the pause before a lost server is tried again, the time between two signs of life of it, the delay after its limit at which a result is late, and
-# the time that running plugins have to end when the worker stops.
+# In seconds: the pause before a lost server is tried again, and the time between two signs of life of it. Then the delay after its limit at which a result is
+# late, and the time that running plugins have to end when the worker stops.
 RETRY, SIGN, GRACE, STOPPING = 1.0, 10.0, 10.0, 10.0
 # The time between two log lines about refused jobs, in seconds, and the longest time from one turn to the next, in milliseconds.
 SAYING, TURN = 60.0, 500

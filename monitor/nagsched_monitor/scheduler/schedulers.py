@@ -29,7 +29,7 @@ Got = TypeVar("Got")
 
 
 class Kept(NamedTuple):
-    """A stored call: its number and part, and the plugin's words if it reports them."""
+    """A stored call: its number and part, and the plugin's output if it reports one."""
 
     number: int
     part: int

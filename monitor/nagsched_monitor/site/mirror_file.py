@@ -77,7 +77,7 @@ def read_mirrors(folder: pathlib.Path, setups: Mapping[str, Mapping[str, Any]]) 
 
 
 def test_mirror(name: str, part: Part, home: object, parts: Mapping[str, Part], document: Mapping[str, Mapping[str, Any]]) -> None:
-    """A mirror is never checked, and has its original in another part, where results are judged in the same way."""
+    """A mirror is never checked, and has its original in another part, which judges results in the same way."""
     place = f"{FILE}: {part.stem}: {name}"
     if name not in part.objects:
         raise SiteFault(f"{place}: {part.stem}.json has no such object")

@@ -1,7 +1,7 @@
 """Time periods: the times at which an object is checked, in the local time of the site.
 
 A period has times for weekdays and for dates, and may exclude other periods. If a date of a period fits, its times replace those of the weekday, as in
-Nagios: first those with a year, then those of a month, of a day of any month, of a weekday of one month, of a weekday of any month.
+Nagios. The order is: dates with a year, of a month, of a day of any month, of a weekday of one month, of a weekday of any month.
 """
 import calendar
 import datetime
@@ -173,7 +173,7 @@ def read_day(text: object, place: str) -> datetime.date:
 
 
 def limited(value: object, least: int, most: int, place: str) -> Optional[int]:
-    """A number within its limits that isn't 0; None if there is none."""
+    """A number within its limits that isn't 0; None without one."""
     if value is None:
         return None
     if isinstance(value, bool) or not isinstance(value, int) or not least <= value <= most or value == 0:

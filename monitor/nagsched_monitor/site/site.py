@@ -1,10 +1,10 @@
 """A site: the folder that says which objects are monitored, and how. It is read and tested as a whole before anything runs.
 
-        setup.json        the setup of the scheduler, or several: part-1.json, part-2.json and so on
+    setup.json        the setup of the scheduler, or several: part-1.json, part-2.json and so on
     mirrors.json      which objects of a part are mirrors of those of another (may be left out)
     commands.json     the command of each object by its full name
-        periods.json      time periods, and which objects use which (may be left out)
-        passive.json      which objects are passive, and how fresh their results have to be (may be left out)
+    periods.json      time periods, and which objects use which (may be left out)
+    passive.json      which objects are passive, and how fresh their results have to be (may be left out)
     runners.json      which checks are made by runners elsewhere (may be left out)
     groups.json       the groups and contacts of objects (may be left out)
     monitor.json      options of the monitor (may be left out)

@@ -3,18 +3,18 @@
 The names of the stored figures, and their meanings:
 
     checks.STATE          results that were reported, by the state in which each left its object
-        checks.given_up       checks that were abandoned, since their runner ended
+    checks.given_up       checks that were abandoned, since their runner ended
     checks.not_started    checks that this machine couldn't start: it had no files, processes or memory for them
     faults                turns that ended with a fault of the monitor's own
     checks.refused        results that came too late
-        late.BOUND            checks that began at most this many seconds late, and more than the bound before; `late.more` those later than all bounds
-        late.sum              the seconds by which all of these were late, together
-        calls, saves          calls to the scheduler, and states that were saved
+    late.BOUND            checks that began at most this many seconds late, and more than the bound before; `late.more` those later than all bounds
+    late.sum              the seconds by which all of these were late, together
+    calls, saves          calls to the scheduler, and states that were saved
     saved_at              when the state was saved last, in seconds since 1970
     moment                the moment at which these were written
     begun_at, written_at  when this monitor began, and when it wrote its figures last
-        checks_a_second       results per second, over the last minute
-        latest_start          the most seconds by which a check was late, since this monitor began
+    checks_a_second       results per second, over the last minute
+    latest_start          the most seconds by which a check was late, since this monitor began
     latest_start_lately   the same of the last minute or two
 """
 import bisect

@@ -82,7 +82,7 @@ class KeptChange:
 
 
 class KeptStanding(NamedTuple):
-    """The state of an object. Times are seconds since 1970 of the wall clock, None if there is none."""
+    """The state of an object. Times are seconds since 1970 of the wall clock; a missing time is None."""
 
     name: str
     state: Optional[str]

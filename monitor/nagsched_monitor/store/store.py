@@ -1,16 +1,16 @@
 """The database of a site: one SQLite file, which holds everything that the monitor stores.
 
-        generations   for each part: the setup over which its scheduler was opened, the start, and the saved state that it resumed, if there was one
-        mirrors       for each part that has mirrors: their names, as JSON
-        calls         the calls that were made since, with the plugin's output if one reported; each is stored before it is made
+    generations   for each part: the setup over which its scheduler was opened, the start, and the saved state that it resumed, if there was one
+    mirrors       for each part that has mirrors: their names, as JSON
+    calls         the calls that were made since, with the plugin's output if one reported; each is stored before it is made
     switches      whether an operator has an object's checks on
     passive       results that came through the socket and weren't reported yet
     changes       changes of state, by the number of the call that made them
-        outbox        changes that the command for changes hasn't accepted yet
-        standings     the standing of each object, a second old at most
-        figures       the monitor's own figures, a name and a number each
+    outbox        changes that the command for changes hasn't accepted yet
+    standings     the standing of each object, a second old at most
+    figures       the monitor's own figures, a name and a number each
     requests      the answers to the last thousand requests that had numbers
-        aside         calls after which a scheduler ends, which aren't made again
+    aside         calls after which a scheduler ends, which aren't made again
     damaged       rows of changes, standings and figures that were changed since they were written
 
 Each row has a checksum over its table and its members, which shows whether the row was changed since.
