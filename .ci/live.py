@@ -6,7 +6,7 @@
 `live` answers each case of conformance/ that `run` accepts in the same way. A line is sent and its answer read, again and again. 200,000 lines
 are sent at once, while a thread reads. Setups come byte by byte, and with the most bytes that are allowed. A saved state is refused as soon as
 its fault shows, while its input continues. The reader of the answers goes away, or the device is full, which ends in status 3. A conversation's
-memory doesn't grow with the number of its lines: a line of 70 MB is answered in 64 MB, and memory after a million lines is that after a thousand.
+memory doesn't grow with the number of its lines. A line of 70 MB is answered in 64 MB, and memory after a million lines is that after a thousand.
 """
 import fcntl
 import pathlib

@@ -3,8 +3,8 @@
 
     .ci/refusals.py [PROGRAM]     crates/nagsched/out/nagsched if no program is named; needs a C compiler, cc
 
-A run is made with its first request refused, then with its second and so on, until a run makes fewer requests. Each run has to end in the answer
-of ample memory, in status 4 with whole lines from the beginning of that answer, or, for a drill, in a total that counts the refusal.
+A run is made with its first request refused, then with its second and so on, until a run makes fewer requests. Each run has to end in one of three
+ways: in the answer of ample memory; in status 4 with whole lines from the beginning of that answer; for a drill, in a total that counts the refusal.
 The lines of several workers come in any order, so only their total is compared.
 """
 import json

@@ -5,7 +5,7 @@
 
 Each refusal names its fault and the index of its object, and comes in its order. Each number is accepted at its limits and refused one past them. A state
 of 16 MiB is read, and one byte more is refused. 4,096 objects are saved and resumed. A state of three objects is damaged at each of its bytes, and each of
-its members is dropped: the result is a named refusal, or a scheduler whose later answers are lawful. `live` answers each refusal as `run` does.
+its members is dropped. The result is a named refusal, or a scheduler whose later answers are lawful. `live` answers each refusal as `run` does.
 """
 from __future__ import annotations
 

@@ -4,8 +4,8 @@
 # The rows are workloads of nagsched_bench at n objects: `cycle`, a check is taken and reported OK, and `vary`, each report
 # has a random code. `C` is bench/anchor.c, built here: the same tournament, the same rules, and only these two calls. The
 # sums of both programs show that they saw the same. `limit` is another scheduler in C, with all six calls, the fastest that
-# was found: a tournament without branches, and a byte for each object that says which code would change nothing. The script
-# contains its instruction counts, which are the same on every machine. Its times, of another machine, are left out.
+# was found. It has a tournament without branches, and a byte for each object that says which code would change nothing. The
+# script contains its instruction counts, which are the same on every machine. Its times, of another machine, are left out.
 set -eu
 repeats=${1:-5}
 # Valgrind counts a string store byte by byte, so the C library is set to store by words.

@@ -2,8 +2,8 @@
 # Counts instructions of reading by valgrind's callgrind, and prints them. Run it manually; it is no part of the gate.
 #   bench/reading.sh [PROFILE]     PROFILE: a file for the functions that use most instructions when a setup is read
 # Line feeds: the program looks for them in a first line of 20 MB and in one of 60 MB, both refused as too long;
-# the difference, divided by the bytes. A setup: at its limits of objects and dependencies, with names so long that it
-# has nearly 16 MiB, read by the program, and the same bytes read by Rust's serde_json into a tree. Cargo builds that
+# the difference, divided by the bytes. A setup: it is at its limits of objects and dependencies, with names so long that
+# it has nearly 16 MiB. The program reads it, and Rust's serde_json reads the same bytes into a tree. Cargo builds that
 # from Debian's librust-serde-json-dev. If that package isn't installed, its line is left out.
 set -eu
 export GLIBC_TUNABLES=glibc.cpu.x86_rep_stosb_threshold=100000000:glibc.cpu.x86_rep_movsb_threshold=100000000

@@ -3,9 +3,10 @@
 
     bench/saving.py [PROGRAM]     crates/nagsched/out/nagsched if no program is named; needs valgrind and Debian's librust-serde-json-dev
 
-Callgrind counts instructions. A figure is the difference of a run with the command `save`, or with `--resume`, and the same run without it: of 1,024, 2,048
-and 4,096 services with names of 30 bytes and 21 results each. serde_json reads the saved state into a tree, and writes that tree. A save makes a tree and
-writes it, so it is compared with both together and with the writing only. A restart is the time from the start of `live --resume` until its first answer.
+Callgrind counts instructions. A figure is the difference of a run with the command `save`, or with `--resume`, and the same run without it. The setups have
+1,024, 2,048 and 4,096 services with names of 30 bytes and 21 results each. serde_json reads the saved state into a tree, and writes that tree. A save makes
+a tree and writes it, so it is compared with both together and with the writing only. A restart is the time from the start of `live --resume` until its first
+answer.
 """
 import json
 import os

@@ -1,8 +1,8 @@
 """Divides a setup that is too large into several, with mirrors for objects that a part needs of another. For from_nagios.py.
 
 A piece is a set of objects connected by parents, dependencies and hosts of services. A piece that is too large for a setup is cut between hosts. A host or a
-master that another part needs is then a mirror there too: with all its parents up to the root, a service with its host, a master with its own masters.
-A mirror is never checked there: it is off, and its intervals are 0.
+master that another part needs is then a mirror there too. With a host come all its parents up to the root, with a service its host, and with a master its
+own masters. A mirror is never checked there: it is off, and its intervals are 0.
 """
 import collections
 from dataclasses import dataclass, field

@@ -42,7 +42,8 @@ Setup = Dict[str, Any]
 class LeftOut:
     """Settings without a counterpart here, by kind: how often each occurred, its effect, and for which objects."""
 
-    # The kinds by harm: first those that change which checks are made and what counts as a problem, then those that change who is notified, then others by name.
+    # The kinds by harm: first those that change which checks are made and what counts as a problem, then those that change who is notified.
+    # The others follow by name.
     WORST = (
         "quotes around values", "parents of services", "passive_checks_enabled 0", "is_volatile", "passive results of hosts", "dependency_period",
         "flap thresholds of an object", "flap_detection_enabled 0",

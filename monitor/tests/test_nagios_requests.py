@@ -1,7 +1,7 @@
 """The hosts that a result asks for, compared with the requests of Nagios Core 4.4.6's own code.
 
-conformance/nagios/requests.py has written nagios_requests.json: the kind of the result's object, its state before and after the result, the other
-object's relation to it, that object's state, and whether Nagios asks for a check of it.
+conformance/nagios/requests.py has written nagios_requests.json. A row has the kind of the result's object, its state before and after the result, and
+the other object's relation to it. Then that object's state, and whether Nagios asks for a check of it.
 """
 import json
 import pathlib
