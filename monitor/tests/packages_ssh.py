@@ -30,7 +30,7 @@ RATE, BETWEEN, AFTER = 100, 3.0, 40.0
 
 
 def write_site(folder: pathlib.Path, server: SshServer) -> None:
-    """A host with one service per check in a second, and one whose services are checked here."""
+    """A host with as many services as checks per second, and one whose services are checked here."""
     hosts = [{"name": name, "check_interval": 0, "max_check_attempts": 3, "enabled": False} for name in ("far", "here")]
     services = [{"host": "far", "description": f"s{number:03}", "check_interval": 1, "max_check_attempts": 3} for number in range(RATE)]
     services += [{"host": "here", "description": f"s{number}", "check_interval": 1, "max_check_attempts": 3} for number in range(5)]

@@ -19,7 +19,7 @@ def schedulers_of(monitor: SimulatedMonitor) -> Schedulers:
 
 class Faults(SiteTest):
     def test_a_full_disk(self) -> None:
-        """No call is made while nothing can be stored. Running plugins may end, and then all continues."""
+        """No call is made while nothing can be stored. The monitor waits for running plugins, and then all continues."""
         self.write_site([host("web"), host("db")], [])
         monitor = self.monitor(lambda name, moment: (5_000, 0, "fine"))
         monitor.run(1)

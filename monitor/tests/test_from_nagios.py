@@ -115,7 +115,7 @@ class TakingOver(unittest.TestCase):
             self.assertEqual(self.read("commands")[name]["line"], "/bin/echo " + " ".join(f"'{macro}={wanted}'" for macro, wanted in macros))
 
     def test_macros_that_nagios_knows_when_it_runs(self) -> None:
-        """An object without a usable command line is disabled, and named."""
+        """An object with such a macro is disabled, and named."""
         for name, macros in MACROS.items():
             for macro in (macro for macro, wanted in macros.items() if wanted is None):
                 told = self.take(self.network({**{each: "/bin/true" for each in {**HOSTS, **SERVICES}}, name: f"/bin/echo '${macro}$'"}))

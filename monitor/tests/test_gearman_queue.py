@@ -64,7 +64,7 @@ class OneQueue(unittest.TestCase):
         self.assertEqual([(it["job"], it["code"]) for it in self.answers], [(1, 0)])
 
     def test_a_server_that_is_restarted(self) -> None:
-        """Running jobs are submitted again, and an answer of the old server's worker isn't accepted for them."""
+        """Unanswered jobs are submitted again, and an answer of the old server's worker isn't accepted for them."""
         self.add(2)
         self.pass_by()
         old = self.take()

@@ -163,7 +163,7 @@ class Handed(Parted):
         self.assertGreater(self.assert_alike(), 10)
 
     def test_a_scheduler_that_took_another_object(self) -> None:
-        """If a call comes before a mirror's, the schedulers are opened again, and the result reaches both."""
+        """If another object is due before a mirror, the schedulers are opened again, and the result reaches both."""
         monitor = self.site()
         monitor.run(30)
         monitor.scheduling.store([(1, Reschedule("far;web", 0, True), None), (1, Reschedule("far", 0, True), None)])

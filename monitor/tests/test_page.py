@@ -18,7 +18,7 @@ EVIL = '"><script>alert(1)</script><img src=x onerror=\'alert(2)\'>&amp;'
 
 
 class Reader(html.parser.HTMLParser):
-    """Reads a page: its tables row by row, its texts, and each tag with its content; tags are closed in reverse order."""
+    """Reads a page: its tables row by row, its texts, and each tag with its attributes. Tags have to be closed in reverse order."""
 
     def __init__(self, text: str) -> None:
         super().__init__()

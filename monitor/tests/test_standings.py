@@ -144,5 +144,5 @@ class Table(SiteTest):
         monitor.run(50)
         self.assertEqual(writes, 0)
         monitor.run(20)
-        # Each of the three checks is taken and reported; the late rows are written once.
+        # Each of the three checks is taken and reported; the waiting rows are written once.
         self.assertTrue(1 <= writes <= 2 + 2 + 1, writes)

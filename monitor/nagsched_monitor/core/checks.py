@@ -115,7 +115,7 @@ class Checks:
                 del self._wanted[call.name]
 
     def _plan_freshness(self, now: int) -> None:
-        """Runs the command of each object that had no result within its freshness."""
+        """Asks for a check of each object that had no result within its freshness, which runs its command."""
         for name in self._scheduling.site.with_freshness:
             known = self._objects[name]
             if known.is_stale(now) and name not in self._passive and self._scheduling.is_known_open(known) and self._is_in_period(known.watched):

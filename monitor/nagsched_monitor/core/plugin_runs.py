@@ -16,7 +16,7 @@ from .rhythm import on_time
 from .running import Owner, Run
 from .verdict import verdict
 
-# The number of tries for a check whose runner ended, and its result after the last one.
+# How often a check whose runner ended is made again, and its result if it is lost once more.
 MOST_LOST = 2
 UNKNOWN = 3
 # The time after its limit within which a result may come, in milliseconds.

@@ -1,4 +1,4 @@
-"""Nagios's own files of a site: `status.dat`, which Nagios's pages show, and the pipe `nagios.cmd`, through which they send commands.
+"""Nagios's own files of a site: `status.dat`, which Nagios's pages show, and the pipe `nagios.cmd`, which takes commands.
 
 It is a process next to the monitor. Its arguments are the site's folder, the folder of the files, and `notifies` if a command is run for changes. It reads the
 database, and sends requests to the monitor through its socket.
@@ -21,7 +21,7 @@ from ..store.rows import KeptStanding
 from .nagios_blocks import Program, Settings, settings_of, status_file, with_files
 from .status_query import MEMBERS, NotShown, opened, standings_of
 
-# How often the status file is written, and the limit for the monitor's answer, in seconds.
+# How often the status file is written, and the longest pause before waiting requests are sent again, in seconds.
 EVERY = 10.0
 PAUSE = 1.0
 # Requests that are made together.

@@ -24,7 +24,7 @@ class Out:
     words: List[str]
     limit: float
     came: float
-    # When the server got it, and when a worker took it, over the current connection.
+    # When it was sent to the server, and when a worker took it, over the current connection.
     handed: Optional[float] = None
     is_known: bool = False
     taken: Optional[float] = None

@@ -63,7 +63,7 @@ class Scheduling:
         self.mirrors = Mirrors({part: generation.mirrors for part, generation in kept.items()}, self.known.running)
         self._stored_changes = self._store.changes_after(min((generation.last_call for generation in kept.values()), default=0))
         self.schedulers.open(kept)
-        # Parts that the site has no longer come first, so that an object's own part decides.
+        # Parts that the site no longer has come first, so that an object's own part decides.
         for part in sorted(kept, key=lambda part: part < len(self.site.setups)):
             self._resume(kept[part])
         for line in self._go_over(self.site):

@@ -151,5 +151,5 @@ def text_of(names: AbstractSet[str]) -> str:
 
 
 def names_of(text: Optional[str]) -> AbstractSet[str]:
-    """The names in a cell; an empty list if it is empty."""
+    """The names in a cell; an empty set if the cell is empty."""
     return frozenset() if text is None else frozenset(json.loads(text))
