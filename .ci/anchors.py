@@ -3,7 +3,7 @@
     <!-- example: NAME -->      the next code block is the example NAME, which .ci/pages.py runs
     <!-- from: FILE -->         the next code block is a part of the file
     <!-- generated: NAME -->    the text up to <!-- end --> is written by .ci/generated.py
-    <!-- repository: NAME -->   the text up to <!-- end --> is left out or replaced where the pages are installed (tools/pages.py)
+    <!-- repository: NAME -->   the text up to <!-- end --> is left out or replaced when the pages are installed (tools/pages.py)
 """
 import pathlib
 import re

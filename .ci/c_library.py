@@ -1,14 +1,14 @@
 #!/usr/bin/env python3
-"""Builds the C library, and holds it to its header, to the built program, and to what embeds it.
+"""Builds the C library, and compares it with its header, with the built program and with the programs that embed it.
 
-    .ci/c_library.py [PROGRAM [--proved]]     crates/nagsched/out/nagsched where no program is named; wants cc, c++ and the binutils
+    .ci/c_library.py [PROGRAM [--proved]]     crates/nagsched/out/nagsched if no program is named; needs cc, c++ and the binutils
 
-With --proved the library is built over what `rt ci` has just proved in this tree, by `tools/build_c.sh --proved`.
+With --proved the library is built from what `rt ci` has just proved in this tree, by `tools/build_c.sh --proved`.
 
-The examples, in C with four workers and an operator and in Python with two workers, tell their histories: each pass's entries
-are its calls, runs are 1, 2, 3 and on, and the answers are what the program answers to the same calls in that order. Mistakes change
-nothing; each request for memory is refused in turn; the conformance cases of `run` are answered alike by the library. Header, Python
-file and definition have the same numbers; two threads read the same handles at once, under ThreadSanitizer where the compiler has it.
+The examples print their histories: the one in C has four workers and an operator, the one in Python two workers. The entries of each pass are its
+calls, and runs are numbered 1, 2, 3 and so on. The answers are those of the program to the same calls in that order. Mistakes change nothing. Each
+request for memory is refused in turn. The library answers the conformance cases of `run` as the program does. Header, Python file and definition have
+the same numbers. Two threads read the same handles at once, under ThreadSanitizer if the compiler has it.
 """
 import collections
 import json
@@ -40,7 +40,7 @@ DEFINITIONS = [
 ]
 STATUSES = TOP / "crates" / "nagsched_c" / "src" / "status.rt"
 KINDS = TOP / "crates" / "check_records" / "src" / "kinds.rt"
-# Each enumeration of the header: its name in Python, what its names begin with in C, and which functions of the definition number it.
+# Each enumeration of the header: its name in Python, the prefix of its names in C, and the functions of the definition that number it.
 ENUMERATIONS = {
     "nagsched_result": ("Result", "NAGSCHED_"),
     "nagsched_code": ("Code", "NAGSCHED_CODE_", "code_number"),
@@ -51,20 +51,20 @@ ENUMERATIONS = {
     "nagsched_refusal_kind": ("RefusalKind", "NAGSCHED_REFUSAL_", "plain_refusal", "plain_fault"),
     "nagsched_part": ("Part", "NAGSCHED_PART_", "part_number"),
 }
-# What the names of a function of the definition begin with in C.
+# The prefix in C of the names of a function of the definition.
 PREFIXES = {"plain_fault": "SAVED_"}
-# A number that the definition has no name for, and names that have no number of their own in C.
+# A number without a name in the definition, and names in C without a number of their own.
 NUMBERED_APART = {"nagsched_part": {"NONE": 0}}
 UNNUMBERED = {"MEMORY"}
 
 
 def ran(*words, given=None, **how):
-    """What a program writes, its errors and its status."""
+    """A program's output, its errors and its status."""
     return subprocess.run([str(word) for word in words], input=given, stdout=subprocess.PIPE, stderr=subprocess.PIPE, timeout=SECONDS, **how)
 
 
 class Library:
-    """The library as tools/build_c.sh lays it down, and programs over it."""
+    """The library as tools/build_c.sh installs it, and programs over it."""
 
     def __init__(self, held, folder):
         self.held, self.folder, self.prefix = held, folder, folder / "prefix"
@@ -75,7 +75,7 @@ class Library:
         self.archive, self.shared = self.prefix / "lib" / "libnagsched.a", self.prefix / "lib" / "libnagsched.so"
 
     def compiled(self, source, *more):
-        """A C program over the archive, or None where it doesn't compile."""
+        """A C program over the archive, or None if it doesn't compile."""
         program = self.folder / source.stem
         made = ran("cc", *STRICT, f"-I{self.prefix}/include", source, *(more or [self.archive]), "-lpthread", "-o", program)
         self.held.compare(f"{source.name} compiles", (0, b""), (made.returncode, made.stderr))
@@ -88,7 +88,7 @@ class Library:
 
 
 def numbers_of(text, pattern):
-    """The numbers that a text gives to the names of each enumeration, by its name."""
+    """The numbers that a text gives to the names of each enumeration, by the enumeration's name."""
     return {name: {member: int(number) for member, number in re.findall(r"(\w+) = (\d+)", body)}
             for name, body in re.findall(pattern, text, re.M | re.S)}
 
@@ -130,12 +130,12 @@ def same_numbers(held):
 
 
 def names(words, kind):
-    """The names that a table of nm has, of this kind."""
+    """The names of this kind in a table of nm."""
     return sorted(re.findall(rf" {kind} (\w+)$", ran("nm", "--defined-only", *words).stdout.decode(), re.M))
 
 
 def surface(held, library):
-    """Both libraries show the names of the header and no other, and need only the C library; the header is C++ too."""
+    """Both libraries show exactly the names of the header, and need only the C library. The header is C++ too."""
     wanted = sorted(re.findall(r"^uint32_t (nagsched_\w+)\(", HEADER.read_text(encoding="utf-8"), re.M))
     held.compare("the names of the archive", wanted, names(["--extern-only", library.archive], "T"))
     held.compare("the names of the shared library", wanted, names(["--dynamic", library.shared], "T"))
@@ -151,7 +151,7 @@ def surface(held, library):
 
 
 def split(history):
-    """The calls and answers of a history as the examples tell it, each with its pass."""
+    """The calls and answers of a history as the examples print it, each with its pass."""
     entry = collections.namedtuple("entry", "call pass_number answer")
     for line in history:
         call, told = line.split("\t")
@@ -170,7 +170,7 @@ def of_worker(answers, minutes, code):
 
 
 def of_operator(answers, minutes):
-    """The calls that the operator has to make, but for whether the door's checks are switched on or off."""
+    """The calls that the operator has to make, except whether the door's checks are switched on or off."""
     for minute in range(minutes):
         yield from (f'["enable","room;door",{switch}]' for switch in [next(answers)])
         yield f'["reschedule","room;door",{minute * MINUTE},true]'
@@ -182,7 +182,7 @@ def of_operator(answers, minutes):
 
 
 def told_by(held, what, text, minutes, code):
-    """Holds a history, as an example printed it, to what its threads have to do, and to the program."""
+    """Compares a history, as an example printed it, with what its threads have to do, and with the program."""
     setup, *history = text.decode().splitlines()
     entries = list(split(history))
     script = "".join(f"{line}\n" for line in [setup, *(entry.call for entry in entries)]).encode()
@@ -203,14 +203,14 @@ def told_by(held, what, text, minutes, code):
 
 
 def operator(held, what, mine, minutes):
-    """The operator's calls: what it switches is what its glance saw, which is one of two."""
+    """The operator's calls: it switches according to its glance, which saw one of two standings."""
     told = iter([re.search(r",(\w+)\]", entry.call)[1] if entry.call.startswith('["enable"') else entry.answer
                  for entry in mine if entry.call.startswith(('["enable"', '["take"'))])
     held.compare(f"{what}: the operator's calls", list(of_operator(told, minutes)), [entry.call for entry in mine])
 
 
 def examples(held, library):
-    """The two examples, few calls and many; the one in C is linked with each library."""
+    """The two examples, with few calls and with many. The example in C is linked with each library."""
     for how, more in {"shared": [f"-L{library.prefix}/lib", "-lnagsched", f"-Wl,-rpath,{library.prefix}/lib"], "static": []}.items():
         program = library.compiled(EXAMPLES / "embed.c", *more)
         for minutes in MINUTES:
@@ -226,14 +226,14 @@ def examples(held, library):
 
 
 def counting(held, what, made):
-    """A program that counts: it ends well, and its last line counts no failure."""
+    """A program that counts: it ends without an error, and its last line counts no failure."""
     *told, last = made.stdout.decode().splitlines() or [""]
     held.compare(what, (0, True, b""), (made.returncode, bool(re.search(r": [1-9]\d* passed, 0 failed$", last)), made.stderr))
     print(*told, sep="\n", end="\n" if told else "")
 
 
 def mistakes(held, library):
-    """Each mistake, in C and in Python, texts that no case comes to, desks of several passes, books, and each request for memory refused."""
+    """Mistakes in C and in Python, texts that no case reaches, desks of several passes, books, and each request for memory refused."""
     common = [f"-I{TESTS}/c", library.archive]
     counting(held, "mistakes in C", ran(library.compiled(TESTS / "c" / "wrong.c", *common, *COUNTED)))
     counting(held, "texts in C", ran(library.compiled(TESTS / "c" / "texts.c", *common)))
@@ -250,7 +250,7 @@ def mistakes(held, library):
 
 
 def has_sanitizer(library):
-    """Whether the compiler has ThreadSanitizer, and a program that is built with it runs here."""
+    """Whether the compiler has ThreadSanitizer, and a program built with it runs here."""
     source = library.folder / "empty.c"
     source.write_text("int main(void) { return 0; }\n", encoding="utf-8")
     made = ran("cc", "-fsanitize=thread", source, "-o", library.folder / "empty")
@@ -258,8 +258,8 @@ def has_sanitizer(library):
 
 
 def readers(held, library, words):
-    """Two threads that read the same handles at once, and write nothing of them; under ThreadSanitizer too, where it is there. It sees
-    what the C code does and asks of the C library; that the proved functions don't write is seen by memory that can't be written."""
+    """Two threads that read the same handles at once, and write nothing in them; also under ThreadSanitizer if it is there.
+    ThreadSanitizer sees the C code and its calls of the C library. Memory that can't be written shows that the proved functions don't write."""
     source = TESTS / "c" / "readers.c"
     counting(held, "readers in C", ran(library.compiled(source, *words)))
     if has_sanitizer(library):
@@ -269,14 +269,14 @@ def readers(held, library, words):
 
 
 def words_of(call):
-    """A line of a script in plain words: its word, its numbers, and last its name."""
+    """A line of a script in plain words: first the command, then its numbers, and last its name."""
     word, *members = json.loads(call)
     numbers = [str(int(member)) for member in members if not isinstance(member, str)]
     return " ".join([word, *numbers, *(member for member in members if isinstance(member, str))])
 
 
 def cases():
-    """The cases of a run from an opening: its name, what the C program reads, and what is wanted."""
+    """The cases of a run from an opening: the name, the C program's input, and the wanted output."""
     for case in runs():
         found = re.fullmatch(r"run( --start[ =]\+?(\d+))?( --)?", " ".join(case.arguments))
         if found is None:
@@ -287,7 +287,7 @@ def cases():
 
 
 def conformance(held, library):
-    """The cases of one thread, made by the library: the same bytes."""
+    """The cases of one thread, made by the library, give the same bytes."""
     program = library.compiled(TESTS / "c" / "script.c")
     all_cases = list(cases())
     held.compare("more than a hundred cases", True, len(all_cases) > 100)
@@ -297,7 +297,7 @@ def conformance(held, library):
 
 
 def as_the_page_says(held, library, page):
-    """The commands that the page and the examples name link and run the examples, in a folder like the repository."""
+    """The commands on the page and in the examples link and run the examples, in a folder like the repository."""
     for name in ("include", "examples", "bindings"):
         (library.folder / name).symlink_to(TOP / name)
     (library.folder / "out").mkdir()
@@ -313,21 +313,21 @@ def as_the_page_says(held, library, page):
 
 
 def first_programs(held, library, pages):
-    """The first programs print what the pages show after them."""
+    """The first programs print the output that the pages show after them."""
     made = {"first.c": ran(library.compiled(EXAMPLES / "first.c")), "first.py": library.in_python(EXAMPLES / "first.py")}
     for name, ran_once in made.items():
         held.compare(f"{name}: its output is on a page", (0, True), (ran_once.returncode, f"```\n{ran_once.stdout.decode()}```" in pages))
 
 
 def page(held, library):
-    """The commands of the pages build and run the two examples, and the first programs print what the pages show."""
+    """The commands of the pages build and run the two examples, and the first programs print the output on the pages."""
     pages = "".join(anchors.text_of(page) for page in anchors.PAGES)
     as_the_page_says(held, library, pages)
     first_programs(held, library, pages)
 
 
 def loops(held, library):
-    """The loops for months: plugins run, the state is kept, and a restart goes on from it over another setup."""
+    """The loops for months: plugins run, the state is saved, and a restart resumes it over another setup."""
     program = library.compiled(EXAMPLES / "loop.c")
     runs = {"loop.c": lambda *words: ran(program, *words), "loop.py": lambda *words: library.in_python(EXAMPLES / "loop.py", *words)}
     for name, run in runs.items():
@@ -342,7 +342,7 @@ def loops(held, library):
 
 
 def installed(held, library):
-    """Both examples over what tools/install.sh puts down: the header, the library and its pkg-config file, the Python module."""
+    """Both examples over what tools/install.sh installs: the header, the library and its pkg-config file, the Python module."""
     prefix, env = library.folder / "installed", os.environ | {"NAGSCHED_BUILT": str(library.prefix)}
     ran(TOP / "monitor" / "build_runner.sh")
     made = ran("bash", TOP / "tools" / "install.sh", prefix, env=env)

@@ -17,7 +17,7 @@ LINE = re.compile(rf"^(?: {{4}}|\$ )?({BEGINS}(?: .*)?)$", re.M)
 SPAN = re.compile(rf"`({BEGINS} [^`\n]*|{SCRIPT})`")
 SYNOPSIS = re.compile(r"nagsched(?: [\w.]+)?|.* \[.*|.* DIRECTORY|.* SETUP .*|nagsched-\S+.*")
 
-# The commands that are run here, in a folder with these files: the file that each writes, "" for standard output, and how its output begins.
+# The commands that are run here, in a folder with these files: the file that each writes ("" for standard output), and how its output begins.
 FILES = {"setup.json": "setup", "my.setup.json": "setup", "input": "office.txt", "INPUT": "office.txt", "OUTPUT": "office.out"}
 OFFICE, PICTURE, SEQUENCE = ((TOP / file).read_text(encoding="utf-8") for file in ("examples/office.out", "docs/office.svg", "docs/sequence.svg"))
 SETUP = (TOP / "examples/office.txt").read_text(encoding="utf-8").split("\n", 1)[0]
@@ -86,12 +86,12 @@ MANUAL = {
 
 
 def is_manual(command):
-    """Whether the gate doesn't run it: those of bench/ and tests/ take minutes, on a machine with no other work."""
+    """Whether the gate leaves the command out: those of bench/ and tests/ take minutes, on a machine with no other work."""
     return command in MANUAL or re.fullmatch(r"(?:bench|tests)/\w+\.(?:sh|py)(?: .*)?", command) is not None
 
 
 def is_in_the_gate(command):
-    """Whether the gate runs it: a script of the gate, or what one of these runs."""
+    """Whether the gate runs it: a script of the gate, or a command that such a script runs."""
     part_of = IN_THE_GATE.get(command, SCRIPTS.get(command.split()[0], command))
     part = re.fullmatch(r"\.ci/(\w+)\.py", part_of)
     return part_of == ".ci/run" or part is not None and re.search(rf"\b{part[1]}\b", (TOP / ".ci/run").read_text(encoding="utf-8")) is not None
@@ -129,7 +129,7 @@ def prepare(folder, program):
 
 
 def check(program, pages, compare):
-    """Runs the commands of RUN, and names each command that isn't in a table, and each in a table that no page names."""
+    """Runs the commands of RUN. Names each command that isn't in a table, and each command in a table that no page names."""
     everywhere = {command: page.name for page in pages for command in named(page)}
     for command, page in everywhere.items():
         compare(f"{page}: `{command}`: where it is run", True, command in RUN or is_in_the_gate(command) or is_manual(command))

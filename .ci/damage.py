@@ -1,10 +1,10 @@
 #!/usr/bin/env python3
 """Inputs that are cut after each of their bytes, and inputs with a byte flipped, doubled or dropped, on the built program.
 
-    .ci/damage.py [PROGRAM]     crates/nagsched/out/nagsched where no program is named
+    .ci/damage.py [PROGRAM]     crates/nagsched/out/nagsched if no program is named
 
-A cut inside a line is refused by that line's number; at a line's end the lines so far count, and are answered as those of the whole
-input are. A damaged input runs or is refused: status 0 or 1, with whole lines. Which bytes are damaged follows from one seed.
+A cut inside a line is refused with that line's number. After a cut at a line's end the lines so far count, and are answered as in the whole
+input. A damaged input runs or is refused: status 0 or 1, with whole lines. The damaged bytes follow from one seed.
 """
 import os
 import random
@@ -16,7 +16,7 @@ from program import EXAMPLES, TOP, Held
 SEED, EACH = 7, 400
 CASES = TOP / "conformance"
 DRILL = ["drill", "--workers", "1"]
-# Name, words, input and what is written on all of it.
+# Name, arguments, input and output of the whole.
 RUNS = [
     ("each word", [], CASES / "worked/each-word", CASES / "worked/each-word.stdout"),
     ("the office", [], CASES / "worked/office-and-operators", CASES / "worked/office-and-operators.stdout"),
@@ -35,12 +35,12 @@ REFUSED = re.compile(rb"refused [LS]\d+ [^\n]*\n")
 
 
 def of_run(answers, commands):
-    """What a run writes that has got only so many of its commands."""
+    """The output of a run that has got only this number of its commands."""
     return b"".join(answers[: len(commands)])
 
 
 def of_drill(answers, commands):
-    """What one worker writes that has got only so many lines: two lines for a moment at which it took a check, else one."""
+    """The output of one worker that has got only this number of lines: two lines for a moment at which it took a check, otherwise one."""
     history = []
     for _ in (command for command in commands if command.startswith(b'["moment"')):
         at = len(history)
@@ -49,7 +49,7 @@ def of_drill(answers, commands):
 
 
 def wanted_of_cut(given, count, answers, written):
-    """What is wanted of an input that is cut after so many bytes: what is written, and the status."""
+    """The wanted output and status for an input that is cut after this number of bytes."""
     front = given[:count]
     if count and (given[count : count + 1] in (b"", b"\n") or front.endswith(b"\n")):
         return written(answers, [line for line in front.splitlines()[1:] if line]), 0

@@ -38,7 +38,7 @@ __attribute__((constructor)) static void begin(void) {
         abort();
 }
 
-/* Notes a call, and tells whether it fails. */
+/* Notes a call, and returns whether it fails. */
 static int fails(struct device *device, const char *letter) {
     if (real_write(calls, letter, 1) != 1)
         abort();

@@ -3,10 +3,10 @@
 
     .ci/devices.py PROGRAM     needs a C compiler, cc
 
-The answers, the exit status and the calls don't depend on the pieces: an input is read to its end and the text written by one call, and a
-conversation writes its answers before it reads on. A read that fails ends in status 3 with nothing written, in a conversation with the answers
-to the lines that came; it isn't made again. A write that fails, or takes no byte, ends in status 3 with the bytes that were taken, and nothing
-is read after it. Only a write that was interrupted is made again.
+The answers, the exit status and the calls don't depend on the pieces. An input is read to its end, and the text is written by one call. A
+conversation writes its answers before it reads more. A failed read ends in status 3 with nothing written; in a conversation, with the answers
+to the lines that came. It isn't repeated. A write that fails, or takes no byte, ends in status 3 with the bytes that were taken, and nothing
+is read after it. Only an interrupted write is made again.
 """
 from __future__ import annotations
 
@@ -30,7 +30,7 @@ FAILED = 3
 READ_ERRORS = (errno.EIO, errno.EINTR, errno.ENOMEM, errno.EAGAIN, errno.EPIPE)
 NO_BYTE = 0
 WRITE_ERRORS = (errno.EIO, errno.ENOMEM, errno.EAGAIN, errno.EPIPE, NO_BYTE)
-# At how many places an input or an output fails at the most, and from how many bytes on at three.
+# The most places at which an input or an output fails, and the number of bytes from which on it is three places.
 PLACES = 60
 LONG = 8_000
 
@@ -49,7 +49,7 @@ CONVERSATION = {
 
 
 class Job(NamedTuple):
-    """A run of the program: its words, its input, what it writes, and its exit status."""
+    """A run of the program: its arguments, its input, its output, and its exit status."""
 
     name: str
     words: list[str]
@@ -57,11 +57,11 @@ class Job(NamedTuple):
     text: bytes
     status: int
     reads: bool = True
-    # The lines of a conversation, each with its answer; none of another job, which reads its whole input first.
+    # The lines of a conversation, each with its answer; empty for another job, which reads its whole input first.
     answers: dict[bytes, bytes] = {}
 
     def answered(self, count: int) -> bytes:
-        """The answers that are written after so many bytes of the input, before its end is known."""
+        """The answers that are written after this number of bytes of the input, before its end is known."""
         answers, rest = b"", count
         for line, answer in self.answers.items():
             rest -= len(line)
@@ -189,7 +189,7 @@ class Trial(NamedTuple):
         yield "a read after the write", self.status == FAILED and "r" in "".join(behind)
 
     def fault(self, ran: Ran) -> str:
-        """How it came out otherwise, or nothing."""
+        """How the outcome differs, or nothing."""
         wrong = [what for what, differs in self.differences(ran) if differs]
         return f"{self.what}, {self.job.name}, {self.device}: {', '.join(wrong)}; came {ran}" if wrong else ""
 

@@ -1,8 +1,8 @@
 #!/usr/bin/env python3
-"""Tries the wrong bodies in crates/NAME/edits: the prover must refuse each.
+"""Tries the wrong bodies in crates/NAME/edits: the prover must refuse each of them.
 
-    .ci/edits.py [--proved]        in the gate: tries the edits of each crate whose file TRIED doesn't fit any more
-    tools/edits [NAME ..]          by hand: tries those of these crates, or of all, and writes TRIED
+    .ci/edits.py [--proved]        in the gate: tries the edits of each crate whose file TRIED is out of date
+    tools/edits [NAME ..]          manually: tries those of these crates, or of all, and writes TRIED
 
 An edit is a file as in must-fail/, which `rt ci` tries at each run. Its outcome depends on the sources of its crate, on the edits,
 and on what the crate sees of the libraries below: their signatures with their clauses, and their definitions. TRIED has a checksum
@@ -26,7 +26,7 @@ SHOWS_NOTHING = "(only because a proof file names"
 
 
 def judge():
-    """The kit's command `rt` as a module, for its own judgement of must-fail edits."""
+    """The kit's command `rt` as a module, for its judgement of must-fail edits."""
     kit = pathlib.Path(subprocess.run(["rt", "doc"], check=True, capture_output=True, text=True).stdout.strip()).parent / "bin"
     sys.path.insert(0, str(kit))
     loader = importlib.machinery.SourceFileLoader("rt", str(kit / "rt"))
@@ -47,7 +47,7 @@ def file_tried(crate):
 
 
 def checksum(crate):
-    """The checksum of all that the outcome of a crate's edits depends on, except the kit."""
+    """The checksum of everything that the outcome of a crate's edits depends on, except the kit."""
     folder = TOP / "crates" / crate.name
     files = [file for part in ("src", "specs", "proofs") for file in folder.glob(f"{part}/**/*") if file.suffix in (".rt", ".antt")]
     for library in crate.below():
@@ -60,7 +60,7 @@ def checksum(crate):
 
 
 def results_of(rt, crate):
-    """What the prover says of each edit of a crate: whether it refused it, and a line. It starts from the crate's kept proofs, if there are any."""
+    """For each edit of a crate, whether the prover refused it, and a line. It starts from the crate's stored proofs, if there are any."""
     edits = [str(edit) for edit in edits_of(crate)]
     kept = pathlib.Path(crate.folder) / "out" / "incremental"
     with tempfile.TemporaryDirectory(prefix="edits-") as room:
@@ -74,7 +74,7 @@ def results_of(rt, crate):
 
 
 def prepare(rt, crates):
-    """Builds the libraries below these crates where they aren't built, with no other rt at work in their folders. Whether all are proved."""
+    """Builds the libraries below these crates if they aren't built, while no other rt works in their folders. Returns whether all are proved."""
     libraries = {library.name: library for crate in crates for library in crate.below()}
     rt.rtlib.lock([*crates, *libraries.values()])
     in_order = sorted(libraries.values(), key=lambda library: len(library.below()))

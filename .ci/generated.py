@@ -3,8 +3,8 @@
 
     .ci/generated.py
 
-Tables of members come from docs/setup.schema.json, which is what `nagsched schema` writes. Counts of cases come from conformance/STATUS.tsv. The gate
-compares the pages with what this script would write.
+Tables of members come from docs/setup.schema.json, which `nagsched schema` writes. Counts of cases come from conformance/STATUS.tsv. The gate
+compares the pages with the output of this script.
 """
 import collections
 import json
@@ -25,7 +25,7 @@ OBJECTS = {
     "dependencies": SCHEMA["properties"]["service_dependencies"]["items"],
 }
 DELAY = "spread of first checks: `\"n\"` none, `\"d\"` one second apart, `\"s\"` by the average check interval, or a number of milliseconds"
-# Members whose meaning the page says in other words than the schema.
+# Members whose meaning the page describes in other words than the schema.
 MEANINGS = {
     "interval_length": "seconds per unit of the intervals",
     "service_inter_check_delay_method": DELAY,
@@ -56,7 +56,7 @@ MEANINGS = {
 
 
 def value_of(part: dict[str, object]) -> str:
-    """What a member can be, in words."""
+    """The possible values of a member, in words."""
     if "anyOf" in part:
         return ", ".join(value_of(one) for one in part["anyOf"])
     if "enum" in part or "const" in part:
@@ -71,7 +71,7 @@ def value_of(part: dict[str, object]) -> str:
 
 
 def members(what: str) -> str:
-    """The table of the members of an object of the setup. Members of a service that are those of a host are left out."""
+    """The table of the members of an object of the setup. Members that a service shares with a host are left out."""
     rows = ["| Member | Value | Default | Meaning |", "|---|---|---|---|"]
     of_hosts = OBJECTS["hosts"]["properties"] if what == "services" else {}
     for name, part in OBJECTS[what]["properties"].items():
@@ -83,7 +83,7 @@ def members(what: str) -> str:
 
 
 def counts() -> collections.Counter[str]:
-    """How many cases each folder has."""
+    """The number of cases in each folder."""
     found = collections.Counter(str(case.file.parent.relative_to(FOLDER)) for case in cases())
     found["resumed"] = sum(1 for folder in (FOLDER / "resumed").iterdir() if folder.is_dir())
     return found

@@ -1,11 +1,11 @@
 #!/usr/bin/env python3
-"""Runs `machine_room`, whose loop watches a room for months, and replays its generations by the built program.
+"""Runs `machine_room`, whose loop watches a room for months, and replays its generations with the built program.
 
-    .ci/generations.py [PROGRAM [ROOM]]     crates/nagsched/out/nagsched and crates/machine_room/out/machine_room where they aren't named
+    .ci/generations.py [PROGRAM [ROOM]]     crates/nagsched/out/nagsched and crates/machine_room/out/machine_room if they aren't named
 
-Four days of the loop, which takes over another setup on the way. Each generation, resumed from the state that was kept before it, is answered the
-same by `nagsched run`, and leaves the state that was kept after it. Each check ends as it has to: it is reported, or given up after five minutes, or
-at once where its plugin couldn't be started or another setup was taken over. And no sleep goes past what is due.
+The loop runs for four days, and takes over another setup on the way. Each generation is resumed from the state that was saved before it. `nagsched run`
+answers it in the same way, and leaves the state that was saved after it. Each check ends as it has to. It is reported, or abandoned after five minutes.
+If its plugin couldn't be started, or another setup was taken over, it is abandoned at once. No sleep goes past the time of the next check.
 """
 import itertools
 import json
@@ -19,24 +19,24 @@ from program import SECONDS, TOP, Held, lines
 ROOM = pathlib.Path(sys.argv[2] if len(sys.argv) > 2 else TOP / "crates/machine_room/out/machine_room").resolve()
 DAYS, DAY = 4, 86_400_000
 ENTRY = re.compile(r"(\[.*\])\t0 (.*)")
-# In milliseconds: how long a plugin may run, and how long the loop sleeps at the limit of checks and where none is due.
+# In milliseconds: how long a plugin may run, and how long the loop sleeps at the limit of checks and when none is due.
 PLUGIN_LIMIT, AT_LIMIT, WITHOUT_WORK = 300_000, 1_000, 3_600_000
-# Each check with a number that can be divided by the first can't be started; of the others, those by the second hang.
+# A check whose number can be divided by the first can't be started. If the number of another check can be divided by the second, its plugin hangs.
 NOT_STARTED, HANGS = 31, 17
 
-# A command and its reply; a setup, the state that was kept, and the entries of the generation before it.
+# A command and its reply; a setup, the state that was saved, and the entries of the generation before it.
 Entry = tuple[str, str]
 Generation = tuple[str, str, list[Entry]]
 
 
 def watched(*words: str | bytes) -> tuple[bytes, int]:
-    """What the room's program writes on these words, and its status."""
+    """The output and the status of the room's program with these arguments."""
     ran = subprocess.run([ROOM, *words], stdin=subprocess.DEVNULL, stdout=subprocess.PIPE, timeout=SECONDS)
     return ran.stdout, ran.returncode
 
 
 def kept_generations(text: bytes) -> list[Generation]:
-    """The generations of the loop: each with its setup, the state that was kept after it, and its commands with their replies."""
+    """The generations of the loop: each with its setup, the state that was saved after it, and its commands with their replies."""
     setup, generations = "", list[Generation]()
     for line in text.decode().splitlines():
         entry = ENTRY.fullmatch(line)
@@ -50,7 +50,7 @@ def kept_generations(text: bytes) -> list[Generation]:
 
 
 def replayed(held: Held, generations: list[Generation]) -> None:
-    """Each generation is answered and saved in the same way by the built program."""
+    """The built program answers and saves each generation in the same way."""
     before: tuple[str, str] | None = None
     for number, (setup, state, entries) in enumerate(generations):
         commands = [command for command, _ in entries]
@@ -66,14 +66,14 @@ def replayed(held: Held, generations: list[Generation]) -> None:
 
 
 def limit_of(run: int, start: int) -> int | None:
-    """When the check with this number, which was taken then, is given up, if it is."""
+    """When the check with this number, which was taken then, is abandoned, if it is."""
     if run % NOT_STARTED == 0:
         return start
     return start + PLUGIN_LIMIT if run % HANGS == 0 else None
 
 
 def ended(held: Held, entries: list[Entry], change: int) -> None:
-    """Each check that was taken ends as its number says, or at the change of the setup."""
+    """Each check that was taken ends as its number requires, or at the change of the setup."""
     taken, wrong = dict[int, int](), list[tuple[str, int]]()
     given_up = 0
     for command, reply in entries:
@@ -92,7 +92,7 @@ def ended(held: Held, entries: list[Entry], change: int) -> None:
 
 
 def slept(held: Held, entries: list[Entry]) -> None:
-    """After each take that found nothing, the next take comes no later than it has to."""
+    """After each take that found nothing, the next take comes no later than necessary."""
     takes = [(json.loads(command)[1], reply) for command, reply in entries if command.startswith('["take"')]
     late = []
     for (now, reply), (then, _) in itertools.pairwise(takes):
@@ -117,7 +117,7 @@ def months(held: Held) -> None:
 
 
 def faults(held: Held) -> None:
-    """Words that are wrong, and an output that nobody reads."""
+    """Wrong arguments, and an output that nobody reads."""
     wrong: list[list[str | bytes]] = [[], ["0"], ["10001"], ["x"], ["1", "1"], [b"\xff"]]
     for words in wrong:
         held.compare(f"{words}", (b"", 2), watched(*words))

@@ -1,10 +1,10 @@
 #!/usr/bin/env python3
-"""Installs into a folder what was built, and runs it from there.
+"""Installs the built files into a folder, and runs them from there.
 
     .ci/install.py PROGRAM
 
-The program answers, the monitor reads a site, the manual pages are shown without a warning where `mandoc` or `groff` is there, the completions can be read, and
-every word of the help of the program stands on its manual page.
+The program answers, and the monitor reads a site. The manual pages are shown without a warning if `mandoc` or `groff` is there. The completions can be
+read. The program's manual page has every word of its help.
 """
 import json
 import pathlib
@@ -25,12 +25,12 @@ def output(*words, **how):
 
 
 def warnings_of(page):
-    """What each program that shows manual pages complains of."""
+    """The complaints of each program that shows manual pages."""
     return "".join(output(*words, page)[0] for name, words in SHOWN.items() if shutil.which(name))
 
 
 def words_of_help(program):
-    """Subcommands and options, as the help of the program and its subcommands has them."""
+    """Subcommands and options, from the help of the program and of its subcommands."""
     told = output(program, "--help")[0]
     commands = re.findall(r"^  ([a-z]+)  ", told[told.index("Commands:"):], re.MULTILINE) if "Commands:" in told else []
     helps = [output(program, command, "--help")[0].split("Options:")[-1] for command in commands if command != "help"]

@@ -1,9 +1,9 @@
 #!/usr/bin/env python3
 """Setups and inputs at their limits, and one past them, on the built program.
 
-    .ci/limits.py [PROGRAM]     crates/nagsched/out/nagsched where no program is named
+    .ci/limits.py [PROGRAM]     crates/nagsched/out/nagsched if no program is named
 
-What is wanted follows from docs/program.md and docs/rules.md and is written down here; nothing is taken from the program.
+The wanted results follow from docs/program.md and docs/rules.md and are written down here; nothing is taken from the program.
 """
 import json
 import os
@@ -37,7 +37,7 @@ def setup(**members):
 
 
 def many(**last):
-    """The members of 4,000 services on 90 hosts, the last of them with these members besides."""
+    """The members of 4,000 services on 90 hosts; the last service also has these members."""
     services = [service(f"host{n % HOSTS:02}", f"service{n:04}") for n in range(SERVICES)]
     services[-1] |= last
     return {"hosts": [host(f"host{n:02}") for n in range(HOSTS)], "services": services}
@@ -52,7 +52,7 @@ def refused(held, what, line, explanation=None, **members):
 
 
 def many_objects(held):
-    """All objects are due at once, and are taken in the order of their numbers, whatever order the document names them in."""
+    """All objects are due at once, and are taken in the order of their numbers, in any order of the document."""
     members = many()
     names = [h["name"] for h in members["hosts"]]
     names += [f"{s['host']};{s['description']}" for s in sorted(members["services"], key=lambda s: (s["host"], s["description"]))]
@@ -71,14 +71,14 @@ def many_calls(held):
 
 
 def long_names(held):
-    """As many hosts as there can be, under long names: a document of more than a million bytes that say something."""
+    """The largest number of hosts, under long names: a document of more than a million bytes of content."""
     names = [f"{'h' * 240}{n}" for n in range(4_096)]
     document = lines(setup(hosts=[host(name) for name in names]), '["take",0]')
     held.compare("4,096 hosts under long names", (lines(f"taken 1 {names[0]}"), 0), held.run([], document))
 
 
 def many_parents(held):
-    """A host with 16,384 parents, 4,000 different ones, is UNREACHABLE once the last of them is down."""
+    """A host with 16,384 parents, 4,000 different ones, is UNREACHABLE when the last of them is down."""
     names = [f"parent{n:04}" for n in range(4_000)]
     parents = [names[n % len(names)] for n in range(PARENTS)]
     hosts = [host("router", parents=parents), *map(host, names)]
@@ -101,7 +101,7 @@ def many_parents(held):
 
 
 def too_many(held):
-    """One object and one dependency more than there can be."""
+    """One object and one dependency too many."""
     explanation = "there are 4097 hosts and services; there can be 4096"
     refused(held, "4,097 objects", "L3 TooMany", explanation, hosts=[host("h")], services=[service("h", f"s{n}") for n in range(4_096)])
     explanation = "there are 16385 dependencies of both sorts; there can be 16384"
@@ -109,7 +109,7 @@ def too_many(held):
 
 
 def explained_at_limits(held):
-    """Lists at their limits aren't reported as too many beside one that is past its own, and a count is reported before any other fault."""
+    """Lists at their limits aren't reported as too long next to a list past its limit, and a count is reported before any other fault."""
     full = {"hosts": [host(f"h{n}", parents=["h0"] * 4) for n in range(4_096)]}
     at_limits = [f"{word} {count}" for word, count in {
         "hosts": 4_096, "services": 0, "dependencies": PARENTS, "parents": PARENTS - 4, "dependency_chain": 1, "parent_chain": 1, "scheduled": 4_096,
@@ -131,7 +131,7 @@ def explained_at_limits(held):
 
 
 def most_dependencies(held):
-    """As many dependencies as there can be, all of one host on another."""
+    """The largest number of dependencies, all of one host on another."""
     members = {"hosts": [host("a"), host("b")], "host_dependencies": [depends("a", "b", criteria="d")] * PARENTS}
     held.compare("16,384 dependencies", (lines("taken 1 a"), 0), held.run([], lines(setup(**members), '["take",0]')))
 
@@ -151,7 +151,7 @@ def long_chain(held):
 
 
 def many_ways(held):
-    """Forty layers of two hosts, each of which depends on both of the next layer and inherits: 2^39 ways lead from the first to the last."""
+    """Forty layers of two hosts. Each host depends on both hosts of the next layer and inherits: 2^39 ways lead from the first to the last."""
     layers = [(f"a{layer}", f"b{layer}") for layer in range(10, 50)]
     pairs = [(one, other) for upper, lower in zip(layers, layers[1:]) for one in upper for other in lower]
     links = [depends("a10", "a11", criteria="d"), *(depends(one, other, criteria="d", inherits_parent=True) for one, other in pairs)]
@@ -182,7 +182,7 @@ def long_cycles(held):
 
 
 def last_of_many(held):
-    """A fault in the last of 4,000 services is reported with its index, of each test of services."""
+    """A fault in the last of 4,000 services is reported with its index, in each test of services."""
     for what, line, last in [
         ("an unknown member", "L2 Shape", {"check_period": 1}),
         ("a member of the wrong kind", "L2 Shape", {"enabled": 1}),
@@ -209,7 +209,7 @@ def places(held):
 
 
 def run_file(held, front, byte, size, words=()):
-    """Runs, by these words, on a file of a prefix and copies of a byte, and also returns how many bytes of it the program has read."""
+    """Runs, with these arguments, on a file of a prefix and copies of a byte. Also returns the number of its bytes that the program has read."""
     with tempfile.TemporaryFile() as file:
         file.write(front)
         for left in range(size - len(front), 0, -(1 << 20)):
@@ -220,7 +220,7 @@ def run_file(held, front, byte, size, words=()):
 
 
 def long_inputs(held):
-    """Inputs at the limits of bytes. No more than one byte past the greatest is read, and an input without an end is refused."""
+    """Inputs at the limits of bytes. At most one byte past the limit is read, and an endless input is refused."""
     too_long = lines("refused S1 TooLong 0"), 1
     held.compare("a document at its limit", (b"", 0, DOCUMENT), run_file(held, b"{}", b" ", DOCUMENT))
     past = (lines("refused L12 TooLong"), 1, DOCUMENT + 1)

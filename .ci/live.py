@@ -1,13 +1,12 @@
 #!/usr/bin/env python3
-"""Holds conversations with the program: `nagsched live` answers as `run` does, and each line before the next is sent.
+"""Holds conversations with the program: `nagsched live` answers as `run` does, and answers each line before the next is sent.
 
     .ci/live.py PROGRAM
 
-Each case of conformance/ that `run` accepts is answered alike by `live`. A line is sent, and its answer read, again and again;
-200,000 lines are sent at once, while a thread reads; setups come byte by byte, and of as many bytes as there may be; a saved state is
-refused as soon as it shows, while its input goes on; and who reads the answers goes away, or the device is full, which ends in
-status 3. A conversation's memory doesn't grow with what was said: a line
-of 70 MB is answered in 64 MB, and a million lines leave it as a thousand did.
+`live` answers each case of conformance/ that `run` accepts in the same way. A line is sent and its answer read, again and again. 200,000 lines
+are sent at once, while a thread reads. Setups come byte by byte, and with the most bytes that are allowed. A saved state is refused as soon as
+its fault shows, while its input continues. The reader of the answers goes away, or the device is full, which ends in status 3. A conversation's
+memory doesn't grow with the number of its lines. A line of 70 MB is answered in 64 MB, and memory after a million lines is that after a thousand.
 """
 import fcntl
 import pathlib
@@ -54,7 +53,7 @@ def send(live, rest):
 
 
 def answers_to(live, pieces):
-    """What is answered to these pieces, which are sent while a thread reads, and how the conversation ends."""
+    """The answers to these pieces, which are sent while a thread reads, and the end of the conversation."""
     answers = []
     reading = threading.Thread(target=lambda: answers.append(live.stdout.read()))
     reading.start()
@@ -69,7 +68,7 @@ def answers_to(live, pieces):
 
 
 def told(what, wanted, came):
-    """That something else came than was wanted, shortened, or nothing."""
+    """A line about a difference from the wanted output, shortened, or nothing."""
     return None if came == wanted else f"{what}: wanted {repr(wanted)[:200]}, came {repr(came)[:200]}"
 
 
@@ -92,13 +91,13 @@ def line_by_line(program):
 
 
 def all_at_once(program, count):
-    """So many lines at once, while a thread reads."""
+    """This many lines at once, while a thread reads."""
     with talk(program) as live:
         return told(f"{count} lines", (TAKEN + IDLE * (count - 1), 0), answers_to(live, [SETUP, TAKE * count]))
 
 
 def unread(live):
-    """How many bytes lie in the program's input."""
+    """The number of bytes that wait in the program's input."""
     return struct.unpack("i", fcntl.ioctl(live.stdin.fileno(), termios.FIONREAD, b"\0" * 4))[0]
 
 
@@ -116,7 +115,7 @@ def byte_by_byte(program):
 
 
 def long_setup(program):
-    """A setup of as many bytes as there may be, and one of one more: its refusal comes before its line ends."""
+    """A setup of the most bytes that are allowed, and one of one byte more, which is refused before its line ends."""
     for size, wanted in {DOCUMENT: (TAKEN, 0), DOCUMENT + 1: (b"refused L12 TooLong\n", 1)}.items():
         with talk(program) as live:
             behind = [b"\n", TAKE] if size == DOCUMENT else []
@@ -127,7 +126,7 @@ def long_setup(program):
 
 
 def while_open(live, pieces):
-    """What is answered to these pieces, and how the conversation ends, while its input stays open."""
+    """The answers to these pieces, and the end of the conversation, while its input stays open."""
     try:
         for piece in pieces:
             send(live, piece)
@@ -142,7 +141,7 @@ def while_open(live, pieces):
 
 
 def refused_state(program):
-    """A saved state is refused when its line has come, or as soon as it is too long, and nothing more is waited for."""
+    """A saved state is refused when its line has come, or as soon as it is too long. The program waits for nothing more."""
     for pieces, wanted in {
         (SETUP, b"{\n"): b"refused K2 NotJson\n",
         (SETUP + b"{\n", TAKE): b"refused K2 NotJson\n",
@@ -158,25 +157,25 @@ def refused_state(program):
 
 
 def few_addresses():
-    """Bounds what a program may have of memory, used or not."""
+    """Limits the program's memory, used or not."""
     resource.setrlimit(resource.RLIMIT_AS, (ADDRESSES, ADDRESSES))
 
 
 def long_line(program):
-    """A line of 70 MB is refused, and the next one answered, by a program that may have 64 MB of addresses."""
+    """A line of 70 MB is refused, and the next one answered, by a program with 64 MB of address space."""
     with talk(program, preexec_fn=few_addresses) as live:
         pieces = [SETUP, *[b"x" * MEGABYTE] * (LONG_LINE // MEGABYTE), b"x" * (LONG_LINE % MEGABYTE), b"\n", TAKE]
         return told("a line of 70 MB", (b"refused S1 TooLong 2\n" + TAKEN, 0), answers_to(live, pieces))
 
 
 def most_memory(live):
-    """How many bytes of memory a program had at most."""
+    """The most bytes of memory that a program had."""
     text = pathlib.Path(f"/proc/{live.pid}/status").read_text(encoding="utf-8")
     return int(re.search(r"VmHWM:\s+(\d+) kB", text)[1]) * 1024
 
 
 def answered(live, lines, wanted):
-    """Sends lines while as many answers are read as are wanted, and says whether those came."""
+    """Sends lines while the wanted number of answers is read, and returns whether those came."""
     sending = threading.Thread(target=send, args=(live, lines))
     sending.start()
     came = bytearray()
@@ -189,7 +188,7 @@ def answered(live, lines, wanted):
 
 
 def million_lines(program):
-    """The memory after a million lines is what it was after a thousand."""
+    """The memory after a million lines is the same as after a thousand."""
     with talk(program) as live:
         send(live, SETUP)
         came = answered(live, TAKE * 1_000, TAKEN + IDLE * 999)
@@ -203,7 +202,7 @@ def million_lines(program):
 
 
 def torn(program):
-    """Who reads the answers goes away."""
+    """The reader of the answers goes away."""
     with talk(program) as live:
         live.stdin.write(SETUP)
         live.stdout.close()
@@ -217,7 +216,7 @@ def torn(program):
 
 
 def full(program):
-    """Nothing can be written: the conversation ends while its input goes on."""
+    """Nothing can be written: the conversation ends while its input continues."""
     for given in (SETUP + TAKE, b"{\n"):
         with open("/dev/full", "wb") as device, talk(program, stdout=device) as live:
             send(live, given)

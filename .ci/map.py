@@ -12,7 +12,7 @@ TOP = pathlib.Path(__file__).resolve().parent.parent
 
 
 def first_sentence(file):
-    """The first sentence of a file's comment, or nothing where it has none."""
+    """The first sentence of a file's comment, or nothing if it has none."""
     mark = "//!" if file.suffix == ".rt" else "--"
     lines = [line for line in file.read_text(encoding="utf-8").splitlines() if not line.startswith("#!")]
     comment = []

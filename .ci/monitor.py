@@ -1,10 +1,10 @@
 #!/usr/bin/env python3
-"""Holds the monitor to its word, and the loop of examples/monitor.py to its own.
+"""Tests the monitor, and the loop of examples/monitor.py.
 
     .ci/monitor.py PROGRAM
 
-The tests of monitor/ run over the built program: simulated days, and processes that are killed, asked and reloaded. A site is made of Nagios's own files,
-and is one that the monitor accepts. The loop prints the change of a small site. mypy has nothing to say of the types, where it is there.
+The tests of monitor/ run over the built program: simulated days, and processes that are killed, queried and reloaded. A site is made from Nagios's own
+files, and the monitor accepts it. The loop prints the change of a small site. mypy finds no fault in the types, if it is installed.
 """
 import json
 import os
@@ -37,7 +37,7 @@ def loop(program):
 
 
 def site(program):
-    """What the monitor prints of the site that Nagios's own files become, with plugins in place of those that the files name."""
+    """The monitor's output about a site made from Nagios's own files, in which plugins replace those that the files name."""
     with tempfile.TemporaryDirectory() as folder:
         work = pathlib.Path(folder)
         text = (TOP / "conformance/nagios/objects.precache").read_text()
@@ -54,7 +54,7 @@ def site(program):
 
 
 def complaints():
-    """What mypy says of the monitor, of from_nagios.py, of the Python module and of its loop; nothing where it isn't here."""
+    """mypy's report about the monitor, from_nagios.py, the Python module and its loop; nothing if mypy isn't installed."""
     if not shutil.which("mypy"):
         print("monitor: passed over what mypy says of the types, which isn't here")
         return ""
@@ -68,7 +68,7 @@ def complaints():
 
 
 def tests_of(module):
-    """How many tests of a module passed, and how many didn't; what these print. Those that were passed over are named, and are neither."""
+    """The number of a module's tests that passed, and of those that failed, whose output is printed. Skipped tests are named, and count as neither."""
     ran = subprocess.run([sys.executable, "-m", "unittest", "-v", f"tests.{module}"], cwd=TOP / "monitor", stdout=subprocess.PIPE, stderr=subprocess.STDOUT, text=True)
     count = int((re.search(r"^Ran (\d+) tests?", ran.stdout, re.MULTILINE) or [0, "0"])[1])
     if ran.returncode == 0 and count > 0:

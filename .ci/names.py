@@ -3,8 +3,8 @@
 
     .ci/names.py
 
-A name is what looks like a function, a clause, a definition, a test, a must-fail edit, an option or a file. A file has to exist, at the top or in a folder
-of a crate. For any other name, each word has to be in some source, script, case or file name.
+Every text that looks like a function, a clause, a definition, a test, a must-fail edit, an option or a file is a name. A file has to exist, at the top
+or in a folder of a crate. For any other name, each word has to be in some source, script, case or file name.
 """
 import pathlib
 import re
@@ -18,22 +18,22 @@ ENDINGS = (".rt", ".antt", ".md", ".py", ".sh", ".json", ".txt", ".out", ".edit"
 WORD = re.compile(r"[A-Za-z_][A-Za-z0-9_]*")
 NAME = re.compile(r"[A-Za-z_][A-Za-z0-9_]*(::[A-Za-z_][A-Za-z0-9_]*)*(<[A-Z]>)?(\(\))?")
 FILE = re.compile(r"[\w./-]*\w\.\w+")
-# Names of the kit's and of Nagios's, which stand in no file of ours.
+# Names of the kit and of Nagios, which are in no file of ours.
 OF_OTHERS = {"Backoff::snooze", "Shared::exchange", "std::sync::atomic::raw", "test_checks.c", "retain_state_information",
              "use_retained_scheduling_info", "retention.dat", "group_wait", "group_interval", "repeat_interval", "mute_time_intervals", "send_resolved",
              "notification_interval", "notification_period", "first_notification_delay", "contact_groups"}
-# The files of a site, which stand in its folder.
+# The files of a site, which are in its folder.
 OF_A_SITE = {"/status.json", "setup.json", "commands.json", "periods.json", "passive.json", "monitor.json", "mirrors.json", "groups.json", "runners.json", "my.setup.json", "part-1.json", "part-2.json"}
 
 
 def files():
-    """The files of the repository but for the pages."""
+    """The files of the repository except the pages."""
     listed = subprocess.run(["git", "ls-files"], cwd=TOP, stdout=subprocess.PIPE, text=True, check=True).stdout.splitlines()
     return [TOP / name for name in listed if TOP / name not in PAGES]
 
 
 def words_of(all_files):
-    """Each word that stands in a file, or in a file's name."""
+    """Each word in a file, or in a file's name."""
     words = set()
     for file in all_files:
         words.update(WORD.findall(file.stem))
@@ -42,13 +42,13 @@ def words_of(all_files):
 
 
 def told(page):
-    """What stands between backticks on a page, its code blocks left out."""
+    """The texts between backticks on a page, without its code blocks."""
     text = re.sub(r"^```.*?^```", "", page.read_text(encoding="utf-8"), flags=re.MULTILINE | re.DOTALL)
     return re.findall(r"`([^`\n]+)`", text)
 
 
 def missing(name, all_files, words):
-    """Whether this looks like a name, and isn't there."""
+    """Whether this looks like a name, and doesn't exist."""
     if name in OF_OTHERS or name in OF_A_SITE:
         return False
     if name.endswith(ENDINGS) and FILE.fullmatch(name):

@@ -1,11 +1,11 @@
 #!/usr/bin/env python3
-"""Tests the pages: examples and commands on the built program, code and generated text against the files they come from, and the form of all.
+"""Tests the pages: examples and commands on the built program, code and generated text against their files, and the form of all pages.
 
     .ci/pages.py [PROGRAM]     crates/nagsched/out/nagsched if no program is named
 
-A part of the gate. It names each difference, and ends with status 1 then. Examples and code are found by anchors (.ci/anchors.py), generated text is
-that of .ci/generated.py, and .ci/style.py has the rules of form. A command of a page that isn't run here has to be listed in .ci/commands.py, with the
-part of the gate that runs it, or why none does.
+A part of the gate. It names each difference, and then ends with status 1. Anchors (.ci/anchors.py) mark examples and code. .ci/generated.py makes the
+generated text, and .ci/style.py has the rules of form. A command of a page that isn't run here has to be listed in .ci/commands.py, with the part of the
+gate that runs it, or with the reason why none does.
 """
 import ast
 import pathlib
@@ -28,13 +28,13 @@ wrong = []
 
 
 def output(lines, *words):
-    """What the program writes for these lines."""
+    """The program's output for these lines."""
     text = "".join(line + "\n" for line in lines)
     return subprocess.run([PROGRAM, *words], input=text.encode(), stdout=subprocess.PIPE).stdout.decode()
 
 
 def compare(what, wanted, written):
-    """Counts a comparison, and keeps the difference if there is one."""
+    """Counts a comparison, and stores the difference if there is one."""
     global checked
     checked += 1
     if wanted != written:
@@ -46,7 +46,7 @@ def on_one_line(block):
 
 
 def answered(block):
-    """The commands of a block that has each with its answer, and the answers."""
+    """The commands of a block that shows each with its answer, and the answers."""
     pairs = [re.split(r"\s{2,}", line.strip(), maxsplit=1) for line in block.splitlines()]
     return [pair[0] for pair in pairs], [pair[1] for pair in pairs]
 
@@ -58,13 +58,13 @@ def answers(examples):
 
 
 def conversation(examples):
-    """What is typed at `nagsched live` and what it answers, in one block."""
+    """The input and the answers of `nagsched live`, in one block."""
     lines = examples["conversation"].splitlines()[1:]
     typed = [line for line in lines if line.startswith(("{", "["))]
     return [line for line in lines if line not in typed], output(typed, "live").splitlines()
 
 
-# What is compared for an example: the names that it uses, and the function that gives what is wanted and what is written.
+# For each example, the names that it uses, and the function that returns the wanted and the written text.
 EXAMPLES = {
     ("whole-setup", "answers"): answers,
     ("conversation",): conversation,
@@ -112,7 +112,7 @@ def explained(text):
 
 
 def code():
-    """Code that a page shows stands in its file as it is, apart from the indentation."""
+    """Code that a page shows is in its file as it is, apart from the indentation."""
     for page, name, block in anchors.anchored("from"):
         file = TOP / name
         whole = file.read_text(encoding="utf-8") if file.is_file() else ""
@@ -124,7 +124,7 @@ def code():
 
 
 def signatures():
-    """The methods of the Python package: the parameters of each, by its name."""
+    """The methods of the Python package: the parameters of each, by name."""
     found = {}
     for node in ast.walk(ast.parse((TOP / "bindings/python/nagsched/desks.py").read_text(encoding="utf-8"))):
         if isinstance(node, ast.FunctionDef) and not node.name.startswith("_"):

@@ -1,16 +1,16 @@
-"""What the parts of the gate share that run the built program: running it, and counting what came out otherwise."""
+"""Shared by the parts of the gate that run the built program: running it, and counting the differences."""
 import pathlib
 import subprocess
 import sys
 
 TOP = pathlib.Path(__file__).resolve().parent.parent
 EXAMPLES = TOP / "examples"
-# Where the module `cases` is.
+# The folder of the module `cases`.
 sys.path.append(str(TOP / "conformance"))
 SECONDS = 120
 REFUSED_WORDS = b"refused words\n"
 
-# Setup A: a host that is never checked by itself, and its service.
+# Setup A: a host without regular checks, and its service.
 SERVICE = (
     b'{"options":{"service_inter_check_delay_method":"n","host_inter_check_delay_method":"n"},'
     b'"hosts":[{"name":"h","check_interval":0,"max_check_attempts":3}],'
@@ -19,7 +19,7 @@ SERVICE = (
 
 
 class Held:
-    """What a program is held to: it is run, each comparison is counted, and what came out otherwise is told."""
+    """Runs a program, counts each comparison, and prints the differences."""
 
     def __init__(self, part):
         self.part = part
@@ -30,7 +30,7 @@ class Held:
             self.end()
 
     def run(self, words, given, **how):
-        """What the program writes on an input, and its exit status. The input is bytes, or a file's number."""
+        """The program's output on an input, and its exit status. The input is bytes, or a file's number."""
         how |= {"input": given} if isinstance(given, bytes) else {"stdin": given}
         try:
             ran = subprocess.run([self.program, *words], stdout=subprocess.PIPE, timeout=SECONDS, **how)
@@ -39,7 +39,7 @@ class Held:
         return ran.stdout, ran.returncode
 
     def compare(self, what, wanted, came):
-        """Counts one thing that was wanted, and prints it where it came out otherwise."""
+        """Counts one comparison, and prints it if it differs."""
         if came == wanted:
             self.passed += 1
         else:
@@ -53,7 +53,7 @@ class Held:
 
 
 def shortened(value):
-    """A value as it is told: not all of a long text."""
+    """A value as it is printed; a long text is cut."""
     told = repr(value)
     return told if len(told) <= 300 else f"{told[:200]} .. {told[-80:]}"
 

@@ -1,11 +1,11 @@
 #!/usr/bin/env python3
 """Refuses the built program each request for memory in turn.
 
-    .ci/refusals.py [PROGRAM]     crates/nagsched/out/nagsched where no program is named; wants a C compiler, cc
+    .ci/refusals.py [PROGRAM]     crates/nagsched/out/nagsched if no program is named; needs a C compiler, cc
 
-A run is made with its first request refused, then with its second and so on, until one asks for less. Each has to end in the answer
-of ample memory, in status 4 with whole lines from the beginning of that answer, or, for a drill, in a total that counts the refusal.
-The lines of several workers come in any order: there only the total is compared.
+A run is made with its first request refused, then with its second and so on, until a run makes fewer requests. Each run has to end in one of three
+ways: in the answer of ample memory; in status 4 with whole lines from the beginning of that answer; for a drill, in a total that counts the refusal.
+The lines of several workers come in any order, so only their total is compared.
 """
 import json
 import os
@@ -27,7 +27,7 @@ TOTAL = re.compile(rb"(?:.*\n)*total \d+ (\d+)\n")
 
 
 def chain_drill():
-    """A drill over the chain of three services, whose first one fails and puts off the others: its input and its history."""
+    """A drill over the chain of three services, whose first service fails and puts off the others: its input and its history."""
     setup = (ROWS / "dependencies" / "inherited-dependency").read_bytes().splitlines(keepends=True)[0]
     given = setup + lines('["plugin","h;a",2]', *['["moment",0]'] * 3)
     history = ["taken 1 h;a", "standing CRITICAL HARD 1 yes STEADY 300000 h;a", "putoff 300000 h;b", "putoff 300000 h;c"]
@@ -35,7 +35,7 @@ def chain_drill():
 
 
 def checks(held):
-    """Checks of a setup, with its figures, its line, and a refusal that is explained: what ample memory gives is the program's word."""
+    """Checks of a setup with its figures, its line, and an explained refusal. The program's answer with ample memory counts as right."""
     office = (EXAMPLES / "office.txt").read_bytes().splitlines(keepends=True)[0]
     refused = lines('{"hosts":[{"name":"a","parents":["b"],"max_check_attempts":1},{"name":"b","parents":["a"],"max_check_attempts":1}]}')
     for name, words, given in (("its figures", ["check"], office), ("its line", ["check", "--line"], office), ("a refusal", ["check"], refused)):
@@ -43,7 +43,7 @@ def checks(held):
 
 
 def goings_on(held):
-    """A run that saves, and a run, a conversation and a check from its state over a setup with one object less and another maximum of attempts."""
+    """A run that saves; and a run, a conversation and a check from its state over a setup with one object less and another maximum of attempts."""
     office = (EXAMPLES / "office.txt").read_bytes()
     saving = office + b'["save"]\n'
     saved = held.run([], saving)[0]
@@ -61,7 +61,7 @@ def goings_on(held):
 
 
 def runs(held):
-    """Each run that is swept: its name, its words, its input, and what is written with ample memory, or nothing where that varies."""
+    """Each run to test: its name, its arguments, its input, and its output with ample memory, or nothing if that varies."""
     yield from checks(held)
     yield from goings_on(held)
     yield "schema", ["schema"], b"", (TOP / "docs/setup.schema.json").read_bytes()
@@ -90,7 +90,7 @@ class Refuser:
         subprocess.run(["cc", "-O2", "-shared", "-fPIC", "-o", self.library, HERE / "refuse.c", "-ldl"], check=True)
 
     def run(self, words, given, number):
-        """What is written, the status, and how many requests were made."""
+        """The output, the status, and the number of requests."""
         with tempfile.NamedTemporaryFile(dir=self.folder) as counter:
             counter.write(bytes(COUNTER.size))
             counter.flush()
@@ -113,7 +113,7 @@ def kind_of(written, status, ample):
 
 
 def sweep(held, refuser, several, name, words, given, ample):
-    """Sweeps one run, and returns how often it ended in which way."""
+    """Refuses each request of one run, and returns how often it ended in which way."""
     written, status, requests = refuser.run(words, given, 0)
     held.compare(f"{name}: with ample memory", "ample", kind_of(written, status, ample))
     held.compare(f"{name}: some requests", True, requests > 50)

@@ -1,5 +1,5 @@
-/* Refuses a program one of its requests for memory, and counts them all. refusals.py compiles it and has it loaded before the C library:
- * REFUSE_AT is the number of the request that is refused, from 1, or 0; the file REQUESTS, which is as long as a counter, holds the count. */
+/* Refuses a program one of its requests for memory, and counts them all. refusals.py compiles it and has it loaded before the C library.
+ * REFUSE_AT is the number of the request that is refused, from 1, or 0. The file REQUESTS, which is as long as a counter, holds the count. */
 #define _GNU_SOURCE
 #include <dlfcn.h>
 #include <fcntl.h>
@@ -19,7 +19,7 @@ __attribute__((constructor)) static void begin(void) {
     requests = shared;
 }
 
-/* Counts a request, and tells whether it is the one to be refused. */
+/* Counts a request, and returns whether it is the one to be refused. */
 static int is_refused(void) {
     return requests && atomic_fetch_add(requests, 1) + 1 == refused;
 }

@@ -1,11 +1,11 @@
 #!/usr/bin/env python3
-"""Holds runs that are cut, saved and gone on from: they answer as the whole run does.
+"""Cuts, saves and resumes runs: they answer as the whole run does.
 
     .ci/resume.py PROGRAM
 
-Each case of conformance/ that `run` accepts, and the office of examples/, is cut after each of its calls, or at 40 places where it
-has more: the first part with `["save"]` behind it, and the second part with `--resume` behind the saved line. The answers of both
-are together those of the whole, except for the line `saved`. `live` answers each of the two as `run` does, at the middle cut.
+Each case of conformance/ that `run` accepts, and the office of examples/, is cut after each of its calls, or at 40 places if it has more. The
+first part is followed by `["save"]`, and the second part is run with `--resume` after the saved line. The answers of both together are those of
+the whole, except for the line `saved`. `live` answers each of the two as `run` does, at the middle cut.
 """
 from __future__ import annotations
 
@@ -25,7 +25,7 @@ BLANK = b" \t\r"
 
 
 class Case(NamedTuple):
-    """An input that `run` accepts: its name, the words behind `run`, its lines, and what it writes."""
+    """An input that `run` accepts: its name, the arguments after `run`, its lines, and its output."""
 
     name: str
     words: list[str]
@@ -42,20 +42,20 @@ def cases() -> Iterator[Case]:
 
 
 def cuts(case: Case) -> list[int]:
-    """The places behind calls at which a case is cut: each, or some of them where there are many."""
+    """The places after calls at which a case is cut: each, or some of them if there are many."""
     calls = [place + 1 for place, line in enumerate(case.lines) if place > 0 and line.strip(BLANK)]
     step = max(1, -(-len(calls) // PLACES))
     return calls[::step]
 
 
 def run(program: str, words: list[str], lines: list[bytes]) -> Optional[bytes]:
-    """What the program writes, where it ends in 0."""
+    """The program's output, if it ends in 0."""
     ran = subprocess.run([program, *words], input=b"\n".join(lines), capture_output=True, timeout=SECONDS)
     return ran.stdout if ran.returncode == 0 else None
 
 
 def fault_at(program: str, case: Case, cut: int, subcommand: str) -> Optional[str]:
-    """How a case that is cut there comes out otherwise than the whole, or nothing."""
+    """How a case that is cut there differs from the whole, or nothing."""
     before = run(program, [subcommand, *case.words], [*case.lines[:cut], b'["save"]'])
     answers = before.splitlines(keepends=True) if before else [b""]
     if not answers[-1].startswith(b"saved "):
@@ -68,7 +68,7 @@ def fault_at(program: str, case: Case, cut: int, subcommand: str) -> Optional[st
 
 
 def faults(program: str, case: Case) -> Iterator[Optional[str]]:
-    """What comes of each cut of a case."""
+    """The results of each cut of a case."""
     places = cuts(case)
     for cut in places:
         yield fault_at(program, case, cut, "run")
@@ -77,7 +77,7 @@ def faults(program: str, case: Case) -> Iterator[Optional[str]]:
 
 
 def main() -> int:
-    """Cuts each case, and counts what came of it."""
+    """Cuts each case, and counts the results."""
     if len(sys.argv) != 2 or not pathlib.Path(sys.argv[1]).is_file():
         print(f"resume: no program {' '.join(sys.argv[1:])}\nresume: 0 passed, 1 failed")
         return 1

@@ -1,11 +1,11 @@
 #!/usr/bin/env python3
-"""Holds saved states to their refusals, their limits and to what a damaged one may lead to.
+"""Tests the refusals of saved states, their limits, and the effects of damage to them.
 
     .ci/saved.py PROGRAM
 
-Each refusal comes for the fault that it names, at the index of its object, and in its order; each number is taken at its limits and refused one past them. A
-state of 16 MiB is read, and one byte more refused; 4,096 objects are saved and gone on from. A state of three objects is damaged at each of its bytes, and each
-of its members is dropped: what comes is a named refusal, or a scheduler whose later answers are lawful. `live` answers each of the first as `run` does.
+Each refusal names its fault and the index of its object, and comes in its order. Each number is accepted at its limits and refused one past them. A state
+of 16 MiB is read, and one byte more is refused. 4,096 objects are saved and resumed. A state of three objects is damaged at each of its bytes, and each of
+its members is dropped. The result is a named refusal, or a scheduler whose later answers are lawful. `live` answers each refusal as `run` does.
 """
 from __future__ import annotations
 
@@ -25,7 +25,7 @@ LAST_MOMENT, LAST_TIME = 2**60, 2**61
 SECONDS = 60
 SETUP = {"hosts": [{"name": "h", "max_check_attempts": 3}],
          "services": [{"host": "h", "description": "s", "max_check_attempts": 4}, {"host": "h", "description": "t", "max_check_attempts": 1}]}
-# Behind the first takes: `h` is a soft problem, `h;s` is out and forced, `h;t` was never checked and is off.
+# After the first takes: `h` is a soft problem, `h;s` is running and forced, `h;t` was never checked and is off.
 BEFORE = ['["take",0]', '["report","h",1,2]', '["take",0]', '["reschedule","h;s",5,true]', '["enable","h;t",false]', '["save"]']
 BEHIND = ['["status","h"]', '["status","h;s"]', '["status","h;t"]', '["report","h;s",2,2]', '["take",99999999]', '["report","h",3,0]', '["take",99999999]',
           '["report","h;s",4,1]', '["save"]']
@@ -36,21 +36,21 @@ State = dict[str, Any]
 
 
 class Answer(NamedTuple):
-    """What the program wrote, and its status."""
+    """The program's output, and its status."""
 
     text: str
     status: int
 
 
 def asked(program: str, state: str, behind: list[str], word: str = "run", setup: State = SETUP) -> Answer:
-    """What the program answers behind a state."""
+    """The program's answers after a state."""
     given = "\n".join([json.dumps(setup), state, *behind, ""]).encode(errors="surrogateescape")
     ran = subprocess.run([program, word, "--resume"], input=given, stdout=subprocess.PIPE, stderr=subprocess.PIPE, timeout=SECONDS, check=False)
     return Answer(ran.stdout.decode(errors="replace"), ran.returncode)
 
 
 def saved(program: str, setup: State, commands: list[str]) -> str:
-    """The state behind these commands."""
+    """The state after these commands."""
     given = "\n".join([json.dumps(setup), *commands, ""]).encode()
     ran = subprocess.run([program, "run"], input=given, stdout=subprocess.PIPE, timeout=SECONDS, check=True)
     return ran.stdout.decode().splitlines()[-1].removeprefix("saved ")
@@ -60,7 +60,7 @@ def saved(program: str, setup: State, commands: list[str]) -> str:
 
 
 class Fault(NamedTuple):
-    """A change of the state, and the line that refuses it; none where it is taken."""
+    """A change of the state, and the line that refuses it, which is empty if it is accepted."""
 
     change: Callable[[State], Any]
     line: str
@@ -127,7 +127,7 @@ def shapes(state: State) -> Iterator[Fault]:
 
 
 def unlawful() -> Iterator[Fault]:
-    """What no scheduler can have."""
+    """States that no scheduler can have."""
     changes = {
         0: [{"state": "OK"}, {"last_hard_state": "OK"}, {"results": "w"}, {"attempt": 3}, {"kind": "HARD"}, {"checked": False},
             {"forced": True, "next_check": None}],
@@ -140,7 +140,7 @@ def unlawful() -> Iterator[Fault]:
 
 
 def standings() -> Iterator[Fault]:
-    """What may be known of a host with a maximum of 3 attempts, and what may not."""
+    """Facts of a host with a maximum of 3 attempts that are possible, and ones that aren't."""
     for state, kind, attempt, last, is_lawful_one in [
         ("DOWN", "SOFT", 2, "UP", True), ("DOWN", "SOFT", 3, "UP", False), ("DOWN", "SOFT", 1, "DOWN", False), ("DOWN", "HARD", 3, "DOWN", True),
         ("DOWN", "HARD", 3, "UP", True), ("DOWN", "HARD", 2, "DOWN", False), ("UP", "SOFT", 3, "UP", True), ("UP", "SOFT", 4, "UP", False),
@@ -151,7 +151,7 @@ def standings() -> Iterator[Fault]:
 
 
 def orders() -> Iterator[Fault]:
-    """Two faults: the one that is tested first, and of one test the first object."""
+    """Two faults: the one that is tested first is reported, and of one test the first object."""
     faults = [(put(format=2), "refused K3 Version"), (at(2, state=1), "refused K4 Shape 2"), (at(2, name=""), "refused K6 BadName 2"),
               (at(1, name="h"), "refused K7 Duplicate 1"), (at(0, attempt=0), "refused K8 Range 0"), (at(0, state="OK"), "refused K9 Unlawful 0")]
     for place, (first, line) in enumerate(faults):
@@ -233,7 +233,7 @@ def damaged(text: str) -> Iterator[str]:
 
 
 def damages(program: str, text: str) -> Iterator[tuple[str, bool]]:
-    """What each damaged state leads to."""
+    """The result of each damaged state."""
     states = list(damaged(text))
     with ThreadPoolExecutor(os.cpu_count()) as threads:
         for state, answer in zip(states, threads.map(lambda state: asked(program, state, BEHIND), states)):
@@ -241,7 +241,7 @@ def damages(program: str, text: str) -> Iterator[tuple[str, bool]]:
 
 
 def main() -> int:
-    """Makes all of it, and counts what came of it."""
+    """Makes all comparisons, and counts the results."""
     program = str(pathlib.Path(sys.argv[1]).resolve())
     text = saved(program, SETUP, BEFORE)
     found = [*refusals(program, text), *sizes(program, text), *damages(program, text)]

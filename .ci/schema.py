@@ -1,14 +1,13 @@
 #!/usr/bin/env python3
-"""Holds the schema of a setup, the program and the tools to each other: what the one accepts, the others do.
+"""Compares the schema of a setup, the program and the tools: what one of them accepts, the others accept.
 
-    .ci/schema.py [PROGRAM]     crates/nagsched/out/nagsched where no program is named
+    .ci/schema.py [PROGRAM]     crates/nagsched/out/nagsched if no program is named
 
-A part of the gate. docs/setup.schema.json is what `nagsched schema` writes. A document that names each member once is changed in one
-place at a time: each number to its limits and one past them, each member to values of other kinds, each required member left out,
-each object given an unknown member, each name to texts at and past its limits, each criteria to all short texts of its letters. The
-program's first refusals of kinds, ranges, counts and names have to come exactly where the schema refuses, and the explanation of
-`check` has to be of a member that the schema refuses too. What tools/from_nagios.py writes is a setup by the schema. The tables of the
-pages are made from it by .ci/generated.py.
+A part of the gate. `nagsched schema` writes docs/setup.schema.json. A document that names each member once is changed in one place at a time: each
+number to its limits and one past them, each member to values of other kinds. Each required member is left out, and each object is given an unknown
+member. Each name is changed to texts at and past its limits, and each criteria to all short texts of its letters. The program's first refusals of
+kinds, ranges, counts and names have to come exactly when the schema refuses. The explanation of `check` has to name a member that the schema refuses
+too. The setups that tools/from_nagios.py writes follow the schema. .ci/generated.py makes the tables of the pages from it.
 """
 import copy
 import itertools
@@ -58,9 +57,9 @@ KINDS = [None, True, -1, 1.5, "", "x", [], {}, ["x"], {"x": 1}]
 TEXTS = ["n" * 255, "n" * 256, "n;", ";", "n\n", "\n", "n\u001f", "n\u0020", "n\u007f", "\u00e9", ""]
 
 
-# What an explanation begins with: a part of the document, an index in it, the names that stand there.
+# The beginning of an explanation: a part of the document, an index in it, and the names there.
 PLACE = re.compile(r'(\w+)(?: (\d+))?(?: "(?:[^"\\]|\\.)*"\.*(?: on "(?:[^"\\]|\\.)*"\.*)?)?: (.*)', re.S)
-# How it goes on where one member is at fault: by its name, and by an index where it is one of a list.
+# The rest of an explanation if one member is at fault: its name, and an index if it is an item of a list.
 MEMBER = re.compile(r'(?:a member |the member |)"(\w+)"(?: (\d+)(?= is))?')
 
 
@@ -69,12 +68,12 @@ KINDS_BY_NAME = {"object": dict, "array": list, "string": str, "boolean": bool, 
 
 
 def is_of_type(name, value):
-    """Whether a value is of a kind of JSON. True and false are no numbers."""
+    """Whether a value is of a kind of JSON. True and false aren't numbers."""
     return isinstance(value, KINDS_BY_NAME[name]) and (name == "boolean" or not isinstance(value, bool))
 
 
 def value_faults(schema, value, path):
-    """Where a value itself is refused: by its kind, its limits, its spelling."""
+    """The faults of a value itself: its kind, its limits, its spelling."""
     tests = {
         "type": lambda name: is_of_type(name, value),
         "enum": lambda values: value in values,
@@ -94,7 +93,7 @@ def value_faults(schema, value, path):
 
 
 def faults(schema, value, path=()):
-    """Where a schema refuses a value, as the steps that lead there."""
+    """The places at which a schema refuses a value, as the steps that lead there."""
     yield from value_faults(schema, value, path)
     if isinstance(value, dict):
         known = schema.get("properties", {})
@@ -116,7 +115,7 @@ def runs(held, document):
 
 
 def explained(held, document):
-    """Where `check` says that the fault of the document is, as the steps that lead there; None where it says how many there are."""
+    """The place of the document's fault by `check`, as the steps that lead there; None if it only reports a count."""
     line = json.dumps(document, ensure_ascii=False).encode()
     told = held.run(["check"], line)[0].decode().splitlines()[1]
     if told.startswith("there are "):
@@ -142,7 +141,7 @@ def changed(path, value):
 
 
 def places(value, path=()):
-    """Each place of a value, with what stands there."""
+    """Each place of a value, with the value there."""
     if path:
         yield path, value
     inner = value.items() if isinstance(value, dict) else enumerate(value) if isinstance(value, list) else ()
@@ -166,7 +165,7 @@ def limits(part):
 
 
 def probes():
-    """Documents, each with what was changed. No name is lost that others go by, and none is named that isn't there."""
+    """Documents, each with its change. No name that others use is lost, and no missing name is used."""
     yield "nothing", DOCUMENT
     for path, value in places(DOCUMENT):
         told = ".".join(map(str, path))
@@ -191,7 +190,7 @@ def probes():
 
 
 def hold(held, told, document):
-    """Holds the program and its explanation to the schema on one document."""
+    """Compares the program and its explanation with the schema, on one document."""
     refused = set(faults(SCHEMA, document))
     if runs(held, document) == bool(refused):
         return f"{told}: the schema {'refuses' if refused else 'takes'} it, the program doesn't"
@@ -209,7 +208,7 @@ def documents(held):
 
 
 def from_nagios(held):
-    """The setup that tools/from_nagios.py makes of Nagios's own files is one by the schema."""
+    """The setup that tools/from_nagios.py makes of Nagios's own files follows the schema."""
     office = TOP / "conformance/nagios"
     words = [sys.executable, str(TOP / "tools/from_nagios.py"), str(office / "nagios.cfg"), str(office / "objects.precache")]
     made = subprocess.run(words, stdout=subprocess.PIPE, check=True).stdout

@@ -1,11 +1,11 @@
 #!/usr/bin/env python3
-"""The built program's own words and streams: what no case of a text says.
+"""Tests the built program's arguments and streams, which no case of a text can test.
 
-    .ci/session.py [PROGRAM]     crates/nagsched/out/nagsched where no program is named
+    .ci/session.py [PROGRAM]     crates/nagsched/out/nagsched if no program is named
 
-Words that are no text, help, the version, an input that can't be read, an output whose reader has gone away, a device that is full, how
-much of a long document is read, how often is written, and an input from a terminal. A folder stands for an input that can't be read: whoever reads it ends in status 3, and whoever doesn't,
-where words ask for help or the version or are refused, never notices.
+Arguments that are no text, help, the version, an unreadable input, an output whose reader has gone away, and a full device. The number of bytes read of
+a long document, the number of writes, and an input from a terminal. A folder serves as an unreadable input: a job that reads it ends in status 3. A job
+that doesn't read it never notices: arguments that ask for help or the version, or that are refused.
 """
 import os
 import pty
@@ -22,7 +22,7 @@ SAVE = b'["save"]\n'
 DOCUMENT = 16_777_216
 SECONDS = 20
 
-# The words that ask for each help, which is that of its case in conformance/words.
+# The arguments that ask for each help text, which is that of its case in conformance/words.
 HELPS = {
     "help-of-the-program": (["--help"], ["-h"], ["help"]),
     "help-of-run": (["run", "--help"], ["run", "--start", "7", "--help"], ["run", "--start", "x", "--help"], ["help", "run"]),
@@ -33,17 +33,17 @@ HELPS = {
 }
 COLUMNS = 80
 
-# The words that ask for the version, which decide at the first of them that asks for a text; and words that ask for none.
+# The arguments that ask for the version: the first of them that asks for a text decides. Then arguments that ask for no version.
 VERSIONS = (["--version"], ["-V"], ["--version", "run"], ["--version", "walk"], ["-V", "--help"], ["--version", "--version"], ["-Vh"])
 NO_VERSIONS = (["run", "--version"], ["check", "-V"], ["walk", "--version"], ["help", "--version"], ["--version=1"], ["-v"], ["version"])
 
-# Words that go with no job, and words that are no text.
+# Arguments that belong to no job, and arguments that are no text.
 NO_JOB = (["walk"], ["check", "--resume", "--line"], ["drill", "--resume"], ["schema", "--resume"], ["--resume"], ["run", "--resume=1"])
 NO_TEXT = ([b"\xff"], [b"run", b"--start", b"\xff"], [b"drill", b"--workers", b"1", b"\xc3"], [b"--help", b"\xed\xa0\x80"])
 
 
 def unread(held, words):
-    """What the program writes on these words, and its status, where the input can't be read."""
+    """The program's output on these arguments, and its status, if the input can't be read."""
     folder = os.open(EXAMPLES, os.O_RDONLY)
     try:
         return held.run(words, folder)
@@ -52,7 +52,7 @@ def unread(held, words):
 
 
 def into_torn_pipe(held, words, given):
-    """The status where nobody reads what the program writes."""
+    """The status when nobody reads the program's output."""
     reading, writing = os.pipe()
     os.close(reading)
     try:
@@ -62,13 +62,13 @@ def into_torn_pipe(held, words, given):
 
 
 def into_full_device(held, words, given):
-    """The status where no byte of what the program writes finds room."""
+    """The status when no byte of the program's output finds room."""
     with open("/dev/full", "wb") as full:
         return subprocess.run([held.program, *words], input=given, stdout=full).returncode
 
 
 def while_input_is_open(held, given, output):
-    """The status of a conversation that can't write its answers to these lines, while more of them may come."""
+    """The status of a conversation that can't write its answers to these lines, while more lines may come."""
     with subprocess.Popen([held.program, "live"], stdin=subprocess.PIPE, stdout=output) as live:
         live.stdin.write(given)
         live.stdin.flush()
@@ -80,7 +80,7 @@ def while_input_is_open(held, given, output):
 
 
 def of_file(held, words, given):
-    """What the program writes on a file of these bytes, its status, and how many of them it has read."""
+    """The program's output on a file of these bytes, its status, and the number of bytes that it has read."""
     with tempfile.TemporaryFile() as file:
         file.write(given)
         file.seek(0)
@@ -88,7 +88,7 @@ def of_file(held, words, given):
 
 
 def in_writes(held, words, given):
-    """What the program writes on these words, a piece for each write, and its status. A socket that keeps records apart shows the writes."""
+    """The program's output on these arguments, a piece for each write, and its status. A socket that keeps records apart shows the writes."""
     here, there = socket.socketpair(socket.AF_UNIX, socket.SOCK_SEQPACKET)
     with here, subprocess.Popen([held.program, *words], stdin=subprocess.PIPE, stdout=there) as ran:
         there.close()
@@ -106,7 +106,7 @@ def in_writes(held, words, given):
 
 
 def from_terminal(held, words, given):
-    """What the program writes where these lines are typed at a terminal, and Ctrl-D once behind them, and its status."""
+    """The program's output when these lines are typed at a terminal, followed by one Ctrl-D, and its status."""
     keyboard, terminal = pty.openpty()
     modes = termios.tcgetattr(terminal)
     modes[3] &= ~termios.ECHO
@@ -124,7 +124,7 @@ def from_terminal(held, words, given):
 
 
 def helps(held):
-    """Help has status 0, reads nothing, and is the same to the byte whatever words ask for it, in lines of 80 columns."""
+    """Help has status 0, reads nothing, and is the same to the byte for all arguments that ask for it, in lines of 80 columns."""
     for case, forms in HELPS.items():
         text = (TOP / "conformance/words" / f"{case}.stdout").read_bytes()
         for words in forms:
@@ -133,7 +133,7 @@ def helps(held):
 
 
 def versions(held):
-    """The version is that of the repository's file, has status 0 and reads nothing; where help stands before it, that is written."""
+    """The version is that of the repository's file, has status 0 and reads nothing. If help is asked for before it, help is written."""
     version = (TOP / "VERSION").read_text(encoding="utf-8").removesuffix("\n")
     held.compare("the file VERSION is three numbers", True, bool(re.fullmatch(r"\d+\.\d+\.\d+", version)))
     for words in VERSIONS:
@@ -145,18 +145,18 @@ def versions(held):
 
 
 def schema(held):
-    """The schema reads nothing. What it writes is held to docs/setup.schema.json by .ci/schema.py."""
+    """The schema reads nothing. .ci/schema.py compares its output with docs/setup.schema.json."""
     held.compare(["schema"], 0, unread(held, ["schema"])[1])
 
 
 def refused_words(held):
-    """Words that are no text or go with no job are refused, and nothing is read."""
+    """Arguments that are no text or belong to no job are refused, and nothing is read."""
     for words in (*NO_TEXT, *NO_JOB):
         held.compare(words, (REFUSED_WORDS, 2), unread(held, words))
 
 
 def faults(held):
-    """An input that can't be read, and an output that can't be written, have status 3, whatever was to be written."""
+    """An input that can't be read, and an output that can't be written, have status 3, for any output."""
     resumed = ["run", "--resume"], ["live", "--resume"], ["check", "--resume"]
     for words in ([], ["run", "--start", "7"], ["live"], ["check"], ["check", "--line"], ["drill", "--workers", "1"], *resumed):
         held.compare(f"{words}: no input", (b"", 3), unread(held, words))
@@ -192,7 +192,7 @@ def three_workers(held):
 
 
 def long_documents(held):
-    """A check reads no more of a document than shows that it is too long: one byte past its limit, and behind a line feed one more."""
+    """A check reads only enough of a document to see that it is too long: one byte past its limit, and after a line feed one more."""
     whole = b"{}" + b" " * (DOCUMENT - 2)
     held.compare("the longest document and its line feed", (b"{}\n", 0, DOCUMENT + 1), of_file(held, ["check", "--line"], whole + b"\n"))
     for what, given, read in [
@@ -207,7 +207,7 @@ def long_documents(held):
 
 
 def saved_state(held):
-    """The line of what is saved of a scheduler that was opened over the service, without its word."""
+    """The line of the saved state of a scheduler that was opened over the service, without its command."""
     return held.run([], SERVICE + SAVE)[0].removeprefix(b"saved ")
 
 
@@ -222,7 +222,7 @@ def inputs(held):
 
 
 def writes(held):
-    """What fits the program's buffer is written at once, at the end; of a conversation before more is read, whose lines come at once here."""
+    """Output that fits the program's buffer is written at once, at the end. A conversation, whose lines come at once here, writes before it reads more."""
     for words, given in inputs(held):
         text, status = held.run(words, given)
         held.compare(f"{words}: some text", (True, 0), (text.endswith(b"\n"), status))

@@ -1,11 +1,11 @@
 #!/usr/bin/env python3
-"""Holds the check of a setup to what a run makes of the same document, and its line to the document.
+"""Compares the check of a setup with a run on the same document, and its line with the document.
 
-    .ci/setups.py [PROGRAM]     crates/nagsched/out/nagsched where no program is named
+    .ci/setups.py [PROGRAM]     crates/nagsched/out/nagsched if no program is named
 
-The documents are line 1 of each case of conformance/, and the examples. A check begins with the line that a run on the document
-writes, or with `setup ok` where that writes none, and ends in its status; behind a refusal stands one line more. What `check --line`
-writes is the document in JSON's compact form; a run on it and a check of it come out as on the document.
+The documents are line 1 of each case of conformance/, and the examples. A check begins with the line that a run on the document writes, or with
+`setup ok` if the run writes none, and ends in the run's status. One line more follows a refusal. `check --line` writes the document in JSON's
+compact form. A run on that line, and a check of it, have the results of the document.
 """
 import json
 import os
@@ -15,7 +15,7 @@ from program import EXAMPLES, TOP, Held, lines
 
 LIMIT = 16_777_216
 HOST = '{"name":"h","max_check_attempts":3}'
-# A setup of that host on one line: members stand in the order of their names.
+# A setup of that host on one line: members are in the order of their names.
 LINE = b'{"hosts":[{"max_check_attempts":3,"name":"h"}]}'
 
 
@@ -27,7 +27,7 @@ def documents():
 
 
 def spread(document):
-    """The same over many lines, where it is JSON that can be written so."""
+    """The same over many lines, if it is JSON that can be written so."""
     try:
         return json.dumps(json.loads(document), indent=1).encode() + b"\n"
     except (ValueError, RecursionError):
@@ -35,12 +35,12 @@ def spread(document):
 
 
 def compact(document):
-    """The document in JSON's compact form, its members in the order of their names, which is how serde_json keeps them."""
+    """The document in JSON's compact form, its members in the order of their names, as serde_json orders them."""
     return json.dumps(json.loads(document), separators=(",", ":"), ensure_ascii=False, sort_keys=True).encode()
 
 
 def one(held, document):
-    """One document, checked in each way: pairs of what was wanted and what came."""
+    """One document, checked in each way: pairs of the wanted and the actual result."""
     told, status = held.run([], document + b"\n")
     checked, ended = held.run(["check"], document + b"\n")
     first, _, rest = checked.partition(b"\n")
@@ -59,7 +59,7 @@ def one(held, document):
 
 
 def all_documents(held):
-    """Each document, side by side."""
+    """Each document, several at a time."""
     found = documents()
     with ThreadPoolExecutor(os.cpu_count()) as threads:
         came = list(threads.map(lambda document: one(held, document), found))
@@ -69,17 +69,17 @@ def all_documents(held):
 
 
 def at_the_limit(held):
-    """Documents of as many bytes as one may have, and of one more; a line that is too long, of a document that isn't."""
+    """Documents of the most bytes that are allowed, and of one byte more; and a line that is too long, of a document that isn't."""
     good = f'{{"hosts":[{HOST}]}}'.encode()
     held.compare("as long as can be", 0, held.run(["check"], good + b" " * (LIMIT - len(good)) + b"\n")[1])
     told, status = held.run(["check"], good + b" " * (LIMIT + 1 - len(good)) + b"\n")
     held.compare("a byte longer", (b"refused L12 TooLong", 1), (told.partition(b"\n")[0], status))
-    # Nothing that a setup can have is written longer than it stands, so no good document has a line that is too long.
+    # No member that a setup can have is written longer than in the document, so no good document has a line that is too long.
     held.compare("its line", (LINE + b"\n", 0), held.run(["check", "--line"], good + b" " * (LIMIT - len(good)) + b"\n"))
 
 
 def ends(held):
-    """One line feed at the end belongs to no document, two do no harm, and no input is no document."""
+    """One line feed at the end is no part of the document, two do no harm, and an empty input is no document."""
     good = f'{{"hosts":[{HOST}]}}'
     held.compare("without a line feed", held.run(["check"], lines(good)), held.run(["check"], good.encode()))
     held.compare("with two", held.run(["check"], lines(good)), held.run(["check"], lines(good, "")))

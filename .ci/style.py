@@ -14,16 +14,16 @@ import anchors
 
 PAGE_BYTES, ALL_BYTES, CODE_LINES = 16_000, 250_000, 25
 SENTENCE_WORDS, MEAN_WORDS, HABITS = 40, 17.0, 150
-# The verbs by which the first sentence of a page says what the page does for its reader, or what the subject is.
+# The verbs with which the first sentence of a page says what the page does for its reader, or defines its subject.
 VERBS = r"(?:is|are|can|explains?|describes?|lists?|shows?|helps?|says?|tells?|decides?|contains?|compares?|leads?|takes?|guides?|names?|gives?|answers?|defines?|needs?)"
-# Words for which there is a plainer one, and the plainer one.
+# Words that have a plainer alternative, and that alternative.
 WORDS = {
     "anew": "again", "beside": "next to, with", "besides": "also", "whoever": "you, the caller", "whatever": "every, any", "by hand": "manually",
     "but for": "except", r"some \d": "about", "so many": "a number of", r"(?:is|are|was|were) none": "there is no", "at hand": "available", "stands?": "is",
     r"(?:go|goes|going|gone|went) on": "continue, resume", r"(?:give|gives|given|giving|gave) up": "abandon, time out", "alike": "in the same way",
     r"(?:is|are|be) had": "get", "want of": "lack of", r"goes by|go by": "follows",
 }
-# Words that are right now and then: over all pages they count as habits.
+# Words that are sometimes right: over all pages they count as habits.
 NOW_AND_THEN = r"\b(?:where|behind|tells?|told|by itself|by themselves|what (?:is|was|has|had|were|are)|of which|front)\b"
 OPENINGS = r"^(?:That|What|Of|Where) \w"
 
@@ -37,7 +37,7 @@ def prose_of(page: str) -> str:
 
 
 def sentences(prose: str) -> Iterator[str]:
-    """The sentences of paragraphs, items of lists and cells of tables."""
+    """The sentences of paragraphs, list items and table cells."""
     for block in re.split(r"\n\s*\n|\n(?=\s*(?:[-*] |\d+\. |\|))", prose):
         if not block.lstrip().startswith("#") and not re.match(r"\s*\|[-|: ]+$", block):
             parts = block.strip().strip("|").split(" | ") if block.lstrip().startswith("|") else [re.sub(r"^\s*(?:[-*]|\d+\.) ", "", block)]
@@ -51,7 +51,7 @@ def length(sentence: str) -> int:
 
 
 def whole_sentences(prose: str) -> list[str]:
-    """The same, where a colon or a semicolon ends no sentence."""
+    """The same, but a colon or a semicolon ends no sentence."""
     found, rest = [], ""
     for part in sentences(prose):
         rest = f"{rest} {part}".strip()
@@ -62,7 +62,7 @@ def whole_sentences(prose: str) -> list[str]:
 
 
 def opening_faults(prose: str) -> Iterator[str]:
-    """The first paragraph has to be for the reader, and its first sentence to have a verb."""
+    """The first paragraph has to address the reader, and its first sentence needs a verb."""
     first = next((block for block in re.split(r"\n\s*\n", prose) if block.strip() and not block.lstrip().startswith("#")), "")
     sentence = next(sentences(first), "")
     if not re.search(rf"\b{VERBS}\b", sentence) or not sentence.endswith((".", ":")):
@@ -83,7 +83,7 @@ def table_faults(page: str) -> Iterator[str]:
 
 
 def faults(page: str) -> Iterator[str]:
-    """What is wrong with the form of a page."""
+    """The faults of form of a page."""
     prose = prose_of(page)
     if len(page.encode()) > PAGE_BYTES:
         yield f"{len(page.encode()):,} bytes; at most {PAGE_BYTES:,}"
@@ -103,13 +103,13 @@ def faults(page: str) -> Iterator[str]:
 
 
 def slugs(page: str) -> set[str]:
-    """The fragments by which a link reaches the headings of a page."""
+    """The fragments with which a link reaches the headings of a page."""
     headings = re.findall(r"^#+ (.*)$", re.sub(r"^```.*?^```", "", page, flags=re.S | re.M), re.M)
     return {re.sub(r"[^\w -]", "", re.sub(r"[`*]", "", heading).lower()).replace(" ", "-") for heading in headings}
 
 
 def dead_links() -> Iterator[str]:
-    """Links of a page to a file or a heading that isn't there."""
+    """Links of a page to a file or a heading that doesn't exist."""
     for page in anchors.PAGES:
         text = re.sub(r"^```.*?^```", "", anchors.text_of(page), flags=re.S | re.M)
         for target, _, fragment in (link.partition("#") for link in re.findall(r"\]\(([^)\s]+)\)", text)):
@@ -119,7 +119,7 @@ def dead_links() -> Iterator[str]:
 
 
 def sums(pages: dict[str, str]) -> tuple[int, float, int]:
-    """The bytes of all pages, the mean length of their sentences outside of tables, and how often words occur that are right now and then."""
+    """The bytes of all pages, the mean length of their sentences outside of tables, and the number of words that are only sometimes right."""
     found = [sentence for page in pages.values() for sentence in whole_sentences(prose_of(page))]
     running = [sentence for page in pages.values() for sentence in whole_sentences(re.sub(r"^\|.*\n", "", prose_of(page), flags=re.M)) if sentence.endswith(".")]
     mean = sum(map(length, running)) / max(len(running), 1)
@@ -127,7 +127,7 @@ def sums(pages: dict[str, str]) -> tuple[int, float, int]:
 
 
 def all_faults() -> Iterator[str]:
-    """What is wrong with any page that has its new form, or with all of these together."""
+    """The faults of each page, and of all pages together."""
     pages = {anchors.name_of(page): anchors.text_of(page) for page in anchors.PAGES}
     for name, page in pages.items():
         yield from (f"{name}: {fault}" for fault in faults(page))

@@ -1,12 +1,12 @@
 #!/usr/bin/env python3
-"""Holds the scripts of tools/ to what they are for.
+"""Tests the scripts of tools/.
 
     .ci/tools.py PROGRAM
 
-The small network of conformance/nagios, as Nagios 4.4.6 wrote it out, becomes a setup whose counts, intervals and first checks are
-those that Nagios reports of its schedule (schedule.txt); a made network of 10,000 services goes into parts that the program accepts, and one
-behind a gateway into parts with mirrors; a template is refused with its place; the command line of each object is written out, with its
-macros; and the picture of README is drawn again.
+The small network of conformance/nagios, as Nagios 4.4.6 wrote it, becomes a setup. Its counts, intervals and first checks are those that Nagios reports
+in its schedule (schedule.txt). A generated network of 10,000 services is divided into parts that the program accepts. One behind a gateway is divided
+into parts with mirrors. A template is refused with its place. The command line of each object is written, with its macros. The picture of README is
+drawn again.
 """
 import json
 import pathlib
@@ -71,7 +71,7 @@ define host {
 	_PASSWORD	se cret
 	}
 """
-# Of each service: its check_command, and the words of the command line that is wanted, if there is one.
+# For each service: its check_command, and the arguments of the wanted command line, if there is one.
 LINES = {
     "args": ("plain!10%!5 6\\!7", ["/plugins/check", "-H", "127.0.0.4", "-n", "The host", "-w", "10%", "-c", "5 6!7", "-x"]),
     "shell": ("piped", ["/bin/sh", "-c", "/plugins/check -s \"shell\" -o .1.3 -p 'se cret' | head -1"]),
@@ -113,7 +113,7 @@ define timeperiod {
 	monday	08:00-12:00,13:00-17:00
 	}
 """
-# Of each service of a site: members beside its name, and what becomes of it in which file.
+# For each service of a site: members in addition to its name, and its entry in which file.
 SITE = {
     "plain": {"check_command": "plain!1%!2", "check_period": "always"},
     "piped": {"check_command": "piped", "check_period": "work", "is_volatile": "1"},
@@ -142,14 +142,14 @@ def first_checks(program, setup, names):
 
 
 def figures(program, setup, *words):
-    """The figures that a check prints of a setup, by word."""
+    """The figures that a check prints about a setup, by word."""
     ran = subprocess.run([program, "check", *words], input=json.dumps(setup, indent=1), capture_output=True, text=True)
     first, *lines = ran.stdout.splitlines()
     return dict(line.split(" ") for line in lines) if (first, ran.returncode) == ("setup ok", 0) else {}
 
 
 def scheduled_by_nagios():
-    """What Nagios reports of its schedule: by word of a check, the figures that both report."""
+    """Nagios's report of its schedule: by word of a check, the figures that both report."""
     told = re.findall(r"^([A-Z][\w -]+):\s+(.*)$", (OFFICE / "schedule.txt").read_text(), re.M)
     first_of = {}
     for word, value in told:
@@ -162,7 +162,7 @@ def scheduled_by_nagios():
 
 
 def office(program):
-    """The small network: six hosts, of which five are scheduled a quarter of a second apart, and nine services, of which eight are
+    """The small network: six hosts, five of which are scheduled a quarter of a second apart, and nine services, eight of which are
     scheduled 652.5 / 8 seconds apart."""
     status, told, left_out = from_nagios(OFFICE / "nagios.cfg", OFFICE / "objects.precache")
     setup = json.loads(told)
@@ -181,7 +181,7 @@ def office(program):
 
 
 def large(program, work):
-    """A thousand hosts behind ten others, with ten services each: none is parted from its parent."""
+    """A thousand hosts below ten others, with ten services each: no host is separated from its parent."""
     objects = work / "large.precache"
     with objects.open("w") as file:
         for number in range(1000):
@@ -199,7 +199,7 @@ def large(program, work):
 
 
 def needs_of(part, mirrors):
-    """The objects that stand in a part, those that its own objects need there, and whose dependencies count."""
+    """The objects in a part, those that its own objects need there, and those whose dependencies count."""
     hosts, services = names_of(part)
     parents = {host["name"]: host.get("parents", []) for host in part["hosts"]}
     dependencies = part["service_dependencies"] + part["host_dependencies"]
@@ -229,7 +229,7 @@ def networks(count):
 
 
 def mirrored(program, work):
-    """Pieces that are too large are cut: each object is checked in one part, and each part has what its objects need, and no more."""
+    """Pieces that are too large are cut: each object is checked in one part, and each part has exactly the objects that its objects need."""
     wrong, cuts = [], 0
     for setup in networks(200):
         for most in (12, 20, 31):
@@ -272,7 +272,7 @@ def template(work):
 
 
 def command_lines(work):
-    """The command line of each object, with macros written out; those without one are named, and disabled."""
+    """The command line of each object, with expanded macros; those without a command line are named, and disabled."""
     (work / "resource.cfg").write_text("# macros\n$USER1$=/plugins\n")
     objects, wanted = COMMANDS, {"h": ["/bin/sh", "-c", "/bin/echo costs $5 '$_HOSTMISSING$' h"]}
     for name, (command, line) in LINES.items():
@@ -300,7 +300,7 @@ def command_lines(work):
 
 
 def site(work):
-    """The folder of a site: commands with and without a shell, periods that objects go by, passive objects, the monitor's options."""
+    """The folder of a site: commands with and without a shell, the periods of objects, passive objects, the monitor's options."""
     services = "".join("define service {\n\thost_name\th\n\tservice_description\t%s\n\tmax_check_attempts\t3\n%s\t}\n"
                        % (name, "".join(f"\t{member}\t{value}\n" for member, value in members.items())) for name, members in SITE.items())
     (work / "site.precache").write_text(COMMANDS + PERIODS + services)

@@ -1,8 +1,8 @@
-/* A scheduler written by hand in C, for bench/anchor.sh to compare nagsched's with: the takes and reports that the
- * workloads `cycle` and `vary` of nagsched_bench make, over one host that is never due and services that are checked
- * every 5 minutes. Its queue is a tournament, as nagsched's is: a leaf a number, and above two nodes the first of both.
+/* A scheduler in C, for bench/anchor.sh to compare nagsched's with. It makes the takes and reports of the workloads
+ * `cycle` and `vary` of nagsched_bench, over one host that is never due and services that are checked every 5 minutes.
+ * Its queue is a tournament, as nagsched's is: a leaf for each number, and above two nodes the first of both.
  *   anchor WORKLOAD N CYCLES [untimed]
- * It has no dependencies, no limit, no calls of operators, and hosts only as what a service stands on. */
+ * It has no dependencies, no limit and no operators' calls, and hosts only as the objects that services belong to. */
 #define _POSIX_C_SOURCE 199309L
 #include <inttypes.h>
 #include <stdbool.h>
@@ -24,12 +24,12 @@ struct standing {
 
 struct object {
     uint64_t next; /* when it is due; NEVER while it runs */
-    uint64_t run;  /* the number of its run, 0 where it doesn't run */
+    uint64_t run;  /* the number of its run, 0 if it doesn't run */
     uint64_t started;
     uint32_t changes; /* a bit for each of the last 20 changes, the newest the lowest */
-    uint16_t weight;  /* what these weigh together */
-    uint8_t changed;  /* how many they are */
-    uint8_t results;  /* how many results there were, at most 21 */
+    uint16_t weight;  /* the sum of their weights */
+    uint8_t changed;  /* the number of changes */
+    uint8_t results;  /* the number of results, at most 21 */
     struct standing standing;
 };
 
@@ -38,7 +38,7 @@ struct entry {
     uint64_t number;
 };
 
-/* Of a number that doesn't wait: it comes after all others. */
+/* For a number that doesn't wait: it comes after all others. */
 static const struct entry BLANK = { NEVER, UINT64_MAX };
 
 struct scheduler {
@@ -60,12 +60,12 @@ struct reply {
 
 /* ---- the queue */
 
-/* The two words of an entry as one number: to compare two takes a subtraction and no branch. */
+/* The two words of an entry as one number, so that comparing two takes a subtraction and no branch. */
 static inline unsigned __int128 rank(struct entry e) {
     return (unsigned __int128)e.time << 64 | e.number;
 }
 
-/* Puts an entry at the leaf of a number. From there up each node gets the first of the two below, as far as that changes it. */
+/* Puts an entry at the leaf of a number. From there up each node gets the first of the two below, until nothing changes. */
 static void put(struct scheduler *s, uint32_t number, struct entry entry) {
     size_t node = (size_t)s->count + number;
     s->nodes[node] = entry;
@@ -84,7 +84,7 @@ static inline bool is_problem(uint8_t state) {
     return state != OK && state != UP;
 }
 
-/* Keeps one more result: the oldest change goes, each other one weighs 2 less, and the new one weighs 95. */
+/* Stores one more result: the oldest change is dropped, each other one weighs 2 less, and the new one weighs 95. */
 static void keep_result(struct object *o, uint8_t found) {
     uint32_t is_new = o->results > 0 && found != o->standing.state;
     uint32_t oldest = o->changes >> (CHANGES - 1);

@@ -1,14 +1,14 @@
 #!/usr/bin/env bash
-# Compares the scheduler with two that are written by hand in C, and prints one table. Run by hand; no part of the gate.
-#   bench/anchor.sh [REPEATS]     the best time of so many runs is printed, 5 where no number is given
+# Compares the scheduler with two schedulers in C, and prints one table. Run it manually; it is no part of the gate.
+#   bench/anchor.sh [REPEATS]     the best time of this number of runs is printed, 5 if no number is given
 # The rows are workloads of nagsched_bench at n objects: `cycle`, a check is taken and reported OK, and `vary`, each report
-# has a random code. `C` is bench/anchor.c, built here: the same tournament, the same rules, and no calls but these two. That
-# both programs saw the same is held by their sums. `limit` is another scheduler written by hand in C, with all six calls, the
-# fastest that was found: a tournament without branches, and a byte of each object that says which code would change nothing.
-# Its figures are written in: instructions count the same on every machine, and its times, of another machine, are left out.
+# has a random code. `C` is bench/anchor.c, built here: the same tournament, the same rules, and only these two calls. The
+# sums of both programs show that they saw the same. `limit` is another scheduler in C, with all six calls, the fastest that
+# was found. It has a tournament without branches, and a byte for each object that says which code would change nothing. The
+# script contains its instruction counts, which are the same on every machine. Its times, of another machine, are left out.
 set -eu
 repeats=${1:-5}
-# Valgrind counts a string store byte by byte; the C library is told to store by words.
+# Valgrind counts a string store byte by byte, so the C library is set to store by words.
 export GLIBC_TUNABLES=glibc.cpu.x86_rep_stosb_threshold=100000000:glibc.cpu.x86_rep_movsb_threshold=100000000
 top=$(cd "$(dirname "$0")/.." && pwd)
 crate=$top/crates/nagsched_bench
@@ -16,17 +16,17 @@ work=$(mktemp -d)
 trap 'rm -rf "$work"' EXIT
 . "$top/bench/best.sh"
 
-# Proves and builds the program where it isn't yet.
+# Proves and builds the program if it isn't built yet.
 mapfile -t words < "$crate/args"
 (cd "$crate" && rt run -- "${words[@]}" > "$work/build.log" 2>&1) || { cat "$work/build.log"; exit 1; }
 cc -std=c11 -O2 -Wall -Wextra "$top/bench/anchor.c" -o "$work/anchor"
 
-# A cycle's instructions of a program's workload, once 21 results of each object are kept.
+# The instructions of a cycle of a program's workload, after 21 results of each object.
 by_cycles() {
     echo $((($(instructions "$@" 140000 untimed) - $(instructions "$@" 100000 untimed)) / 40000))
 }
 
-# The least nanoseconds of a cycle, ours and C's, run after run.
+# The fewest nanoseconds of a cycle, of ours and of C's, run after run.
 least_times() {
     local ours=999999 c=999999 took
     for _ in $(seq "$repeats"); do

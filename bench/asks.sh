@@ -1,14 +1,14 @@
 #!/usr/bin/env bash
-# Times calls at one desk by threads that wait for each other, and prints one table. Run by hand; no part of the gate.
-#   bench/asks.sh [REPEATS]     the middle one of so many runs is printed, 5 where no number is given
-#   PREFIX=FOLDER               where tools/build_c.sh has installed the C library; out/c where none is named
-#   BEFORE=FOLDER               where another build of it lies: a row more, in alternation with ours
-# Microseconds of a call, takes and reports alike, over 4, 16 and 4,096 objects on all cores, and over 16 on two cores:
-# the time of the slowest thread, by the calls of all. Nothing is read or written meanwhile. The rows, in alternation:
+# Times calls at one desk by threads that wait for each other, and prints one table. Run it manually; it is no part of the gate.
+#   bench/asks.sh [REPEATS]     the median of this number of runs is printed, 5 if no number is given
+#   PREFIX=FOLDER               where tools/build_c.sh has installed the C library; out/c if none is named
+#   BEFORE=FOLDER               the folder of another build of it: one more row, in alternation with ours
+# Microseconds of a call, for takes and reports, over 4, 16 and 4,096 objects on all cores, and over 16 on two cores:
+# the time of the slowest thread, divided by the calls of all. Nothing is read or written meanwhile. The rows, in alternation:
 #   desk     each thread has a pass of its own
-#   apart    the same, where no two of these passes share a cache line
-#   ticket   all threads use one pass, behind a ticket lock of C's that yields while it waits
-#   mutex    the same behind a mutex
+#   apart    the same, but no two of these passes share a cache line
+#   ticket   all threads use one pass, with a ticket lock in C that yields while it waits
+#   mutex    the same with a mutex
 #   before   as desk, by the other build
 set -eu -o pipefail
 repeats=${1:-5}
@@ -25,17 +25,17 @@ if [[ -n ${BEFORE:-} ]]; then
     rows="$rows before"
 fi
 
-# The words before a program that keep it to some cores: none for all.
+# The command that keeps a program to some cores; empty for all.
 on_cores=()
 
-# The microseconds of a call: of a row, by so many threads over so many objects.
+# The microseconds of a call of a row, by this number of threads over this number of objects.
 one() {
     local program=$work/c_asks workload=$1
     [[ $1 != before ]] || program=$work/c_asks_before workload=desk
     ${on_cores[@]+"${on_cores[@]}"} "$program" "$workload" "$2" "$3" "$takes" | tr '=' ' ' | awk '{ printf "%.3f\n", $2 / $4 / 1000 }'
 }
 
-# The times of all rows by so many threads over so many objects, each row in alternation with the others.
+# The times of all rows by this number of threads over this number of objects, each row in alternation with the others.
 by_threads() {
     local row
     for _ in $(seq "$repeats"); do
@@ -45,7 +45,7 @@ by_threads() {
     done
 }
 
-# The rows over so many objects.
+# The rows over this number of objects.
 over() {
     local threads row
     rm -f "$work"/times.*

@@ -1,12 +1,12 @@
-# What the benchmarks share; each of them reads it in.
+# Functions that the benchmarks share; each benchmark reads this file.
 
-# Builds the program bench/c_asks.c over the C library that lies under a folder: tools/build_c.sh installs it there where it isn't yet.
+# Builds the program bench/c_asks.c over the C library under a folder: tools/build_c.sh installs it there if it isn't there yet.
 build_c_asks() {
     [[ -f $1/lib/libnagsched.a ]] || "$top/tools/build_c.sh" "$1"
     cc -std=c11 -O2 -Wall -Wextra -I"$1/include" "$top/bench/c_asks.c" "$1/lib/libnagsched.a" -lpthread -o "$2"
 }
 
-# The instructions of a program, from its words and standard input, by valgrind's callgrind.
+# The instructions of a program, for its arguments and standard input, by valgrind's callgrind.
 instructions() {
     valgrind --tool=callgrind --callgrind-out-file=/dev/null "$@" 2>&1 > "$work/output" | sed -n 's/.*Collected : //p'
 }
@@ -25,7 +25,7 @@ best() {
     echo "$least"
 }
 
-# The middle one of the numbers that it reads.
+# The median of the numbers that it reads.
 middle() {
     sort -n | awk '{ numbers[NR] = $1 } END { print numbers[int((NR + 1) / 2)] }'
 }

@@ -4,12 +4,12 @@
  *     c_asks WORKLOAD THREADS OBJECTS TAKES [untimed]     prints ns=TIME ops=CALLS sum=SUM, the slowest thread's time
  *
  * one     one pass takes a check at the time of the first object and reports it: the calls of the workload `cycle` of nagsched_bench
- * turns   as one, by two passes that share no cache line, in one thread: each for one check, after the other's
+ * turns   as one, by two passes in one thread that share no cache line, each for one check in alternation
  * desk    TAKES takes, each with its report, divided among the threads, each by a pass of its own
- * apart   as desk, where the passes that are used don't share a cache line
- * ticket  as desk, but all threads use one pass, behind a ticket lock that yields while it waits
- * mutex   the same behind a mutex
- * glance  each thread glances TAKES times, while one thread more takes and reports; with 0 threads one glances by itself
+ * apart   as desk, but the passes that are used don't share a cache line
+ * ticket  as desk, but all threads use one pass, with a ticket lock that yields while it waits
+ * mutex   the same with a mutex
+ * glance  each thread glances TAKES times, while one thread more takes and reports; with 0 threads one glances alone
  * entry   makes no call: prints the bytes that an entry of the history takes, by what a desk with room for TAKES of them asks for
  */
 #define _GNU_SOURCE

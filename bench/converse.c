@@ -2,8 +2,8 @@
 
        converse LINES FIRST TAKE PROGRAM [WORD..]
 
-   Sends the line FIRST, where it isn't empty, and then the line TAKE so many times, each time waiting for the
-   answer. Writes nanoseconds an exchange, and the program's resident memory in kilobytes at the end. */
+   Sends the line FIRST, if it isn't empty, and then the line TAKE this number of times (LINES), and waits for each
+   answer. Writes nanoseconds per exchange, and the program's resident memory in kilobytes at the end. */
 #include <stdio.h>
 #include <stdlib.h>
 #include <string.h>

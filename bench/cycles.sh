@@ -2,8 +2,8 @@
 # Times how long `nagsched check` takes to refuse and explain a setup whose 4,096 objects are one cycle, and one of 2,048. Run
 # manually; no part of the gate.
 #   bench/cycles.sh
-# The first setup's hosts are each the parent of the next one. Of the second one host has services each of which depends on
-# the next one. Each time is the best of five runs.
+# The first setup's hosts are each the parent of the next one. The second one has a host with services, each of
+# which depends on the next one. Each time is the best of five runs.
 set -eu
 crate=$(cd "$(dirname "$0")/../crates/nagsched" && pwd)
 program=$crate/out/nagsched
@@ -13,7 +13,7 @@ trap 'rm -rf "$work"' EXIT
 # Proves and builds the program if it isn't built yet.
 (cd "$crate" && rt run < stdin > "$work/build.log" 2>&1) || { cat "$work/build.log"; exit 1; }
 
-# So many hosts, each a parent of the one before it, and the first of the last.
+# This number of hosts, each a parent of the one before it, and the first of the last.
 parents() {
     awk -v count="$1" 'BEGIN {
         printf "{\"hosts\":["
@@ -23,7 +23,7 @@ parents() {
     }'
 }
 
-# A host with one service fewer, each of which depends on the next one, and the last on the first.
+# A host with one service fewer. Each service depends on the next one, and the last on the first.
 services() {
     awk -v count="$1" 'BEGIN {
         printf "{\"hosts\":[{\"name\":\"h\",\"max_check_attempts\":1}],\"services\":["

@@ -1,15 +1,15 @@
 #!/usr/bin/env bash
-# Times the workers of `nagsched drill`, and prints one table. Run by hand; no part of the gate.
-#   bench/drill.sh [REPEATS]     of so many runs, 3 where no number is given, the best is printed, and the middle one where workers wait for each other
-#   BEFORE=PROGRAM bench/drill.sh [REPEATS]     beside drills on 4, 16 and 4,096 hosts another build's, run in alternation with ours
-# At the end drills on 16 hosts keep to two cores, so that waiting workers stand in the way of the one whose turn it is.
-# 4,096 hosts are taken and reported 500,000 times: a million asks, which fill the largest room. So many
-# moments are made here that 1, 2 and 4 workers share the takes equally, each taking once at each moment.
-# Moments are 5 minutes apart, the hosts' check interval, so that each host which doesn't run is due,
-# also for a worker behind the others, up to 4,096 takes. A worker further behind finds nothing due and
-# reports nothing: `taken` is the share of the takes that found a host, and asks are those made.
+# Times the workers of `nagsched drill`, and prints one table. Run it manually; it is no part of the gate.
+#   bench/drill.sh [REPEATS]     of this number of runs, 3 if no number is given, the best is printed, and the median if workers wait for each other
+#   BEFORE=PROGRAM bench/drill.sh [REPEATS]     also drills another build on 4, 16 and 4,096 hosts, run in alternation with ours
+# At the end drills on 16 hosts keep to two cores, so that waiting workers obstruct the worker whose turn it is.
+# 4,096 hosts are taken and reported 500,000 times: a million asks, which fill the largest room. The script makes
+# enough moments that 1, 2 and 4 workers share the takes equally, each taking once at each moment.
+# Moments are 5 minutes apart, the hosts' check interval. So each host that doesn't run is due, also for a worker
+# that is late by up to 4,096 takes. A worker that is later finds nothing due and reports nothing: `taken` is the
+# share of the takes that found a host, and asks are those made.
 # The ratio is to `nagsched run`, one thread without a lock, on a script of the same million calls. All times
-# hold reading and writing: `run` reads a line for each call, `drill` one for each moment.
+# include reading and writing: `run` reads a line for each call, `drill` one for each moment.
 set -eu
 repeats=${1:-3}
 hosts=4096
@@ -24,10 +24,10 @@ fail() {
     exit 1
 }
 
-# Proves and builds the program where it isn't yet.
+# Proves and builds the program if it isn't built yet.
 (cd "$crate" && rt run < stdin > "$work/build.log" 2>&1) || { cat "$work/build.log"; exit 1; }
 
-# The setup: a line.
+# The setup: one line.
 setup() {
     awk -v hosts="$hosts" 'BEGIN {
         printf "{\"options\":{\"host_inter_check_delay_method\":\"n\"},\"hosts\":["
@@ -48,7 +48,7 @@ script() {
     }'
 }
 
-# The setup, and so many moments.
+# The setup, and this number of moments.
 moments() {
     setup
     awk -v count="$1" 'BEGIN {
@@ -93,24 +93,24 @@ for workers in 1 2 4; do
     moments $((takes / workers)) > "$work/moments"
     ms=$(best "$work/moments" "$program" drill --workers "$workers" --room $((2 * takes)) --start 0)
     found=$(check) || fail "$found"
-    # One worker makes the very calls of the script.
+    # One worker makes exactly the calls of the script.
     if ((workers == 1)); then
         head -n -1 "$work/output" | sed 's/^0 //' | cmp - "$work/run_output"
     fi
     tell "drill, $workers" $((takes + found)) "$ms" "$found"
 done
 
-# The words before a program that keep it to some cores: none for all.
+# The command that keeps a program to some cores; empty for all.
 on_cores=()
 
-# The microseconds of a call, also one that finds nothing due: of a program that drills on the moments so far.
+# The microseconds of a call, including calls that find nothing due, of a program that drills on the moments so far.
 one_drill() {
     local program=$1 workers=$2 repeats=1 ms
     ms=$(best "$work/moments" ${on_cores[@]+"${on_cores[@]}"} "$program" drill --workers "$workers" --room 1000000 --start 0)
     awk -v ms="$ms" -v calls=$(($(wc -l < "$work/output") - 1)) 'BEGIN { printf "%.3f\n", ms * 1000 / calls }'
 }
 
-# Drills with up to 64 workers, who on few hosts wait for each other: the microseconds of a call.
+# Drills with up to 64 workers, who wait for each other on few hosts: the microseconds of a call.
 drills() {
     hosts=$1
     printf '\n%-24s %12s %12s %8s\n' "$hosts hosts$2" microseconds before ratio

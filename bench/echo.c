@@ -1,4 +1,4 @@
-/* Writes each line back as soon as it has come: what a conversation over two pipes costs by itself. */
+/* Writes each line back as soon as it has come, to measure the cost of a conversation over two pipes alone. */
 #include <string.h>
 #include <unistd.h>
 

@@ -1,10 +1,10 @@
 #!/usr/bin/env bash
-# Times glances at the board of a desk, and prints one table. Run by hand; no part of the gate.
-#   bench/glance.sh [REPEATS]     the best of so many runs is printed, 5 where no number is given
-#   PREFIX=FOLDER                 where tools/build_c.sh has installed the C library; out/c where none is named
-# 1, 2 and 4 threads glance at 64 objects in turn, each so many times, while one thread more takes checks and
-# reports them. The ratio is to one thread, in the same run. Where valgrind is there, the instructions of a glance
-# are counted, with nobody reporting: the difference of two counts, so that reading the setup cancels.
+# Times glances at the board of a desk, and prints one table. Run it manually; it is no part of the gate.
+#   bench/glance.sh [REPEATS]     the best of this number of runs is printed, 5 if no number is given
+#   PREFIX=FOLDER                 where tools/build_c.sh has installed the C library; out/c if none is named
+# 1, 2 and 4 threads glance at 64 objects in turn, each the same number of times, while one thread more takes checks
+# and reports them. The ratio is to one thread, in the same run. If valgrind is installed, the instructions of a glance
+# are counted, while nobody reports: the difference of two counts, so that reading the setup cancels.
 set -eu -o pipefail
 export GLIBC_TUNABLES=glibc.cpu.x86_rep_stosb_threshold=100000000:glibc.cpu.x86_rep_movsb_threshold=100000000
 repeats=${1:-5}
@@ -16,7 +16,7 @@ trap 'rm -rf "$work"' EXIT
 . "$top/bench/best.sh"
 build_c_asks "${PREFIX:-$top/out/c}" "$work/c_asks"
 
-# The least time of the slowest thread, in nanoseconds, where so many threads glance.
+# The shortest time of the slowest thread, in nanoseconds, for this number of glancing threads.
 least() {
     for _ in $(seq "$repeats"); do
         "$work/c_asks" glance "$1" "$objects" "$glances"

@@ -1,21 +1,21 @@
 #!/usr/bin/env bash
-# Counts instructions by valgrind's callgrind, and prints one table. Run by hand; no part of the gate.
+# Counts instructions by valgrind's callgrind, and prints one table. Run it manually; it is no part of the gate.
 #   bench/instructions.sh
-#   PREFIX=FOLDER     where tools/build_c.sh has installed the C library; out/c where none is named
-# A figure is the difference of two lengths of the same workload, by their cycles, so that reading the
-# setup cancels. Instructions are steady on any machine, as times aren't. The rows:
+#   PREFIX=FOLDER     where tools/build_c.sh has installed the C library; out/c if none is named
+# A figure is the difference of two lengths of the same workload, divided by their cycles, so that reading the
+# setup cancels. Instruction counts are the same on any machine, unlike times. The rows:
 #   queue    the first of n entries is taken out and put back 5 minutes later
-#   calls    a check of one of n objects is taken and reported, by the scheduler by itself
-#   vary     the same, where each report has a random code
+#   calls    a check of one of n objects is taken and reported, by the scheduler alone
+#   vary     the same, but each report has a random code
 #   run      the same by the whole program: two lines read, two written
 #   ask      each of these two calls, by the only pass of a desk: what the lock, the turn and the history add to `calls`
 #   caller   each of them, by a caller of the C library: what the handle, the guard and C's own loop add to `ask`
-# and, without the instructions of `calls` at as many objects:
-#   depend   a check of a service that depends on the first service: what looking for masters that hold it back costs
-#   inherit  the same, where the dependency inherits, and the first service depends on the second
+# and, without the instructions of `calls` at the same number of objects:
+#   depend   a check of a service that depends on the first service: the cost of looking for masters that hold it back
+#   inherit  the same, but the dependency inherits, and the first service depends on the second
 #   lines    a check whose two replies are written as lines of text
 set -eu
-# Valgrind counts a string store byte by byte; the C library is told to store by words.
+# Valgrind counts a string store byte by byte, so the C library is set to store by words.
 export GLIBC_TUNABLES=glibc.cpu.x86_rep_stosb_threshold=100000000:glibc.cpu.x86_rep_movsb_threshold=100000000
 top=$(cd "$(dirname "$0")/.." && pwd)
 crates=$top/crates
@@ -23,7 +23,7 @@ work=$(mktemp -d)
 trap 'rm -rf "$work"' EXIT
 . "$top/bench/best.sh"
 
-# Proves and builds the programs where they aren't yet.
+# Proves and builds the programs if they aren't built yet.
 for crate in nagsched nagsched_bench; do
     input=/dev/null
     [[ -f $crates/$crate/stdin ]] && input=$crates/$crate/stdin
@@ -33,7 +33,7 @@ for crate in nagsched nagsched_bench; do
 done
 build_c_asks "${PREFIX:-$top/out/c}" "$work/c_asks"
 
-# A cycle's instructions of a program's workload, once 21 results of each object are kept.
+# The instructions of a cycle of a program's workload, after 21 results of each object.
 by_cycles() {
     local few many
     few=$(instructions "$@" 100000 untimed)
@@ -51,17 +51,17 @@ beyond_calls() {
     echo $(($(by_workload "$1" "$2") - $(by_workload cycle "$2")))
 }
 
-# What a pass of a desk adds to each of the two calls of a cycle at n objects.
+# The instructions that a pass of a desk adds to each of the two calls of a cycle at n objects.
 by_pass() {
     echo $((($(by_workload ask "$1") - $(by_workload cycle "$1")) / 2))
 }
 
-# What a caller of the C library adds to each of the two calls of such a pass.
+# The instructions that a caller of the C library adds to each of the two calls of such a pass.
 by_caller() {
     echo $((($(by_cycles "$work/c_asks" one 1 "$1") - $(by_workload ask "$1")) / 2))
 }
 
-# A setup of so many hosts, and so many takes with their reports.
+# A setup of this number of hosts, and this number of takes with their reports.
 input() {
     awk -v hosts="$1" -v runs="$2" 'BEGIN {
         setup = "{\"options\":{\"host_inter_check_delay_method\":\"n\"},\"hosts\":["

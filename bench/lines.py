@@ -1,15 +1,15 @@
 #!/usr/bin/env python3
-"""Counts the lines of the cache that a call over the C library writes and touches, and that another caller's call comes to as well. Run by
-hand; no part of the gate.
+"""Counts the cache lines that a call over the C library writes and touches, and that another caller's call comes to as well. Run it manually; it
+is no part of the gate.
 
-    bench/lines.py [OBJECTS] [TAKES]     16 and 1,500 where no number is given; PREFIX=FOLDER where tools/build_c.sh has installed it
-    bench/lines.py --pass [OBJECTS] [TAKES]     the same of the only pass of a desk, by the workload `ask` of nagsched_bench, which rt has built
+    bench/lines.py [OBJECTS] [TAKES]     16 and 1,500 if no number is given; PREFIX=FOLDER where tools/build_c.sh has installed it
+    bench/lines.py --pass [OBJECTS] [TAKES]     the same for the only pass of a desk, by the workload `ask` of nagsched_bench, which rt has built
 
 Valgrind's lackey traces the loads and stores of the workload `turns` of bench/c_asks.c: two passes in alternation take a check and report it.
-The trace is cut where the program counts its calls, and the distinct lines of 64 bytes between two cuts are counted, in the second half of
-the run. The stack isn't counted, and neither is what is one caller's own: lines that its calls come to often, and the other's never.
-Constants of the program, which nobody writes, are counted apart: each core keeps them. A pass's trace is cut where a call draws its ticket.
-Wants cc, nm, objdump and valgrind.
+The trace is cut when the program counts its calls. The distinct lines of 64 bytes between two cuts are counted, in the second half
+of the run. The stack isn't counted. Lines that one caller's calls often come to, and the other's never, are that caller's own and aren't counted.
+Constants of the program, which nobody writes, are counted separately: each core has its own copy. A pass's trace is cut when a call draws its
+ticket. Needs cc, nm, objdump and valgrind.
 """
 import collections
 import os
@@ -24,17 +24,17 @@ PREFIX = pathlib.Path(os.environ.get("PREFIX", TOP / "out/c"))
 LINE = 64
 # The count of calls in the first of the program's threads, by the order of its fields; an entry of that array is 128 bytes.
 CALLS, THREADS = 16, 66 * 128
-# Above this is the stack, and below that a program that may lie anywhere, where valgrind puts it.
+# The stack is above this, and valgrind puts a position-independent program below that.
 STACK, PLACED = 0x1F00000000, 0x4000000
 PLACED_AT = 0x108000
-# As often come to by one caller, and never by the other, a line is its own: a line of the history is written by a call or two.
+# A line that one caller comes to this often, and the other never, is that caller's own. A line of the history is written by only a call or two.
 OFTEN = 8
 ACCESS = re.compile(r"^(?: ([LSM])|I ) +([0-9a-f]+),(\d+)$")
 DRAW = re.compile(r"^ *([0-9a-f]+):.*lock xadd", re.M)
 
 
 def built(folder):
-    """The program, where its threads lie, and where what it may write begins: its constants lie below."""
+    """The program, the address of its threads, and the beginning of its writable memory: its constants are below."""
     program = folder / "c_asks"
     library = [f"-I{PREFIX}/include", TOP / "bench/c_asks.c", PREFIX / "lib/libnagsched.a", "-lpthread"]
     subprocess.run(["cc", "-std=c11", "-O2", "-no-pie", *library, "-o", program], check=True)
@@ -44,14 +44,14 @@ def built(folder):
 
 
 def built_by_rt():
-    """The program of a desk's only pass, the place of the instruction that draws a ticket, and where what lies elsewhere begins."""
+    """The program of a desk's only pass, the address of the instruction that draws a ticket, and the beginning of other memory."""
     program = TOP / "crates/nagsched_bench/out/nagsched_bench"
     code = subprocess.run(["objdump", "-d", program], check=True, stdout=subprocess.PIPE, text=True).stdout
     return program, PLACED_AT + int(DRAW.search(code)[1], 16), PLACED
 
 
 def windows(trace, threads, draw):
-    """For each call the lines that it wrote and those that it touched, cut where threads count calls, or where a ticket is drawn."""
+    """For each call the lines that it wrote and those that it touched, cut when threads count calls, or when a ticket is drawn."""
     written, touched = set(), set()
     for line in trace:
         found = ACCESS.match(line)
@@ -75,13 +75,13 @@ def owned(calls):
 
 
 def traced(words):
-    """What lackey prints of a run, line by line."""
+    """lackey's output for a run, line by line."""
     words = ["valgrind", "--tool=lackey", "--trace-mem=yes", *words, "untimed"]
     return subprocess.Popen(words, stdout=subprocess.DEVNULL, stderr=subprocess.PIPE, text=True).stderr
 
 
 def calls_of(by_pass, objects, takes):
-    """For each call of the run's second half the lines that it wrote and those that it touched, and where what may be written begins."""
+    """For each call of the run's second half the lines that it wrote and those that it touched, and the beginning of writable memory."""
     with tempfile.TemporaryDirectory() as name:
         if by_pass:
             program, draw, writable = built_by_rt()

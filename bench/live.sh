@@ -1,8 +1,8 @@
 #!/usr/bin/env bash
-# Times `nagsched live`, and prints one table. Run by hand; no part of the gate.
-#   bench/live.sh [REPEATS]     of so many runs in alternation, 5 where no number is given, the middle one is printed; wants a C compiler
-# Lines a second beside `run` on the same bytes; a line there and its answer back beside a C program that echoes it; the resident memory
-# after 1,000 lines and after 1,000,000; and a line of 70 MB without an end, in 64 MB.
+# Times `nagsched live`, and prints one table. Run it manually; it is no part of the gate.
+#   bench/live.sh [REPEATS]     the median of this number of runs in alternation is printed, 5 if no number is given; needs a C compiler
+# Lines per second compared with `run` on the same bytes. The time of a line and its answer compared with a C program that
+# echoes it. The resident memory after 1,000 lines and after 1,000,000. And a line of 70 MB without an end, in 64 MB.
 set -eu
 top=$(cd "$(dirname "$0")/.." && pwd)
 work=$(mktemp -d)

@@ -1,13 +1,13 @@
 #!/usr/bin/env python3
-"""The monitor beside Nagios 4: checks a second, how late they start, processor time, memory.
+"""The monitor compared with Nagios 4: checks per second, their lateness, processor time, memory.
 
-    bench/monitor.py PROGRAM [RATE..]      by hand; wants cc, and Debian's package nagios4-core, which it fetches and unpacks into a temporary folder
+    bench/monitor.py PROGRAM [RATE..]      manually; needs cc, and Debian's package nagios4-core, which it fetches and unpacks into a temporary folder
 
-For each rate (18, 200, 500, 800 and 2,000 checks due a second) both run the same services for SECONDS, one after the other: each service every ten seconds,
-with a plugin in C that ends at once. At 500 the monitor also runs with a disk whose sync takes ten milliseconds more. Latency is how late the last check of
-each service started, in milliseconds: of Nagios as its status file has it, of the monitor as its database does. Processor time is that of all processes but plugins,
-in milliseconds a check. Restart is how long the monitor takes from its start until it answers, reload how long its word `reload` takes, both over the site of
-that rate.
+For each rate (18, 200, 500, 800 and 2,000 checks due per second) both run the same services for SECONDS, one after the other. Each service is checked every
+ten seconds, with a plugin in C that ends at once. At 500 the monitor also runs with a disk whose sync takes ten milliseconds more. Latency is the lateness
+of the last check of each service, in milliseconds: for Nagios from its status file, for the monitor from its database. Processor time is that of all
+processes except plugins, in milliseconds per check. Restart is the time from the monitor's start until it answers. Reload is the time of its command
+`reload`. Both are measured over the site of that rate.
 """
 import functools
 import json
@@ -45,7 +45,7 @@ def names_of(rate):
 
 
 def processes_below(process):
-    """A process and all that it began, but for plugins."""
+    """A process and all that it started, except plugins."""
     found, left = [], [process]
     while left:
         each = left.pop()
@@ -61,7 +61,7 @@ def processes_below(process):
 
 
 def usage(process):
-    """Processor seconds and resident megabytes of all processes but plugins."""
+    """Processor seconds and resident megabytes of all processes except plugins."""
     ticks = pages = 0
     for each in processes_below(process):
         try:
@@ -74,7 +74,7 @@ def usage(process):
 
 
 def watched(command, count, status, environment=None):
-    """Runs a command for so long: checks, processor seconds and megabytes over the second half, and the text of its status file at the end."""
+    """Runs a command for this time: checks, processor seconds and megabytes over the second half, and the text of its status file at the end."""
     running = subprocess.Popen([str(word) for word in command], stdout=subprocess.DEVNULL, stderr=subprocess.DEVNULL, env=environment)
     time.sleep(SECONDS / 2)
     before, made, begin = usage(running.pid), count.stat().st_size, time.monotonic()
@@ -147,7 +147,7 @@ def monitor(work, program, plugin, rate, environment=None):
 
 
 def restarted(folder, program):
-    """How many seconds a restart and a reload take."""
+    """The seconds of a restart and of a reload."""
     begin = time.monotonic()
     running = subprocess.Popen([sys.executable, MONITOR, "--program", program, folder], stdout=subprocess.DEVNULL, stderr=subprocess.DEVNULL)
     while asked(folder, "status", "h1").returncode:
@@ -165,7 +165,7 @@ def asked(folder, *words):
 
 
 def late_of(folder):
-    """How late the last check of each object started, in milliseconds, as the table of standings has it."""
+    """The lateness of the last check of each object, in milliseconds, from the table of standings."""
     with sqlite3.connect(folder / "monitor.db") as database:
         return [late * 1000 for (late,) in database.execute("SELECT late FROM standings WHERE late IS NOT NULL")]
 

@@ -1,9 +1,9 @@
 #!/usr/bin/env bash
-# Times Nagios Core 4.4.6 beside our scheduler, in alternation, and prints one table. Run by hand; no part of the gate.
-#   bench/nagios.sh DIRECTORY [REPEATS]     DIRECTORY for Nagios's sources and what is built of them (conformance/nagios/build.sh);
-#                                           of so many runs, 5 where no number is given, the least is printed
+# Times Nagios Core 4.4.6 and our scheduler, in alternation, and prints one table. Run it manually; it is no part of the gate.
+#   bench/nagios.sh DIRECTORY [REPEATS]     DIRECTORY for Nagios's sources and their builds (conformance/nagios/build.sh);
+#                                           the least time of this number of runs is printed, 5 if no number is given
 # The queue: the first of n is taken out and put back 5 minutes later. The cycle: the earliest service is taken, its result comes at once, and
-# it is scheduled anew. Nanoseconds each. Nagios's texts of times ask the system for the zone unless TZ is set, so it is set.
+# it is scheduled again. Nanoseconds each. Nagios asks the system for the time zone when it formats times, unless TZ is set, so it is set.
 set -eu
 export TZ=UTC
 top=$(cd "$(dirname "$0")/.." && pwd)
@@ -16,7 +16,7 @@ trap 'rm -rf "$work"' EXIT
 crate=$top/crates/nagsched_bench
 (cd "$crate" && rt run -- cycle 64 1000 > "$work/build.log" 2>&1) || { cat "$work/build.log"; exit 1; }
 
-# Nanoseconds a cycle, of a program's line.
+# Nanoseconds per cycle, from a program's line.
 each() {
     "$@" | tr '=' ' ' | awk '{ printf "%.0f\n", $2 / $4 }'
 }

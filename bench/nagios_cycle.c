@@ -1,5 +1,5 @@
 /* A whole check cycle of Nagios Core 4.4.6, by its own event loop, handler of results and queue: the earliest event is handled, which begins a
- * check of its service; the result comes at once; the service is scheduled anew.
+ * check of its service. The result comes at once, and the service is scheduled again.
  *
  *   cycle SERVICES CYCLES     writes ns=TIME ops=CYCLES
  *
@@ -52,7 +52,7 @@ int log_service_event(service *svc) { return OK; }
 int update_program_status(int aggregated_dump) { return OK; }
 int log_debug_info(int level, int verbosity, const char *format, ...) { return OK; }
 
-/* The stubs of these two give an empty command, and a check without one is given up: ours hand the command on. */
+/* The stubs of these two give an empty command, and a check without a command is abandoned, so ours pass the command on. */
 int command_line(nagios_macros *macros, command *one, char *words, char **line, int options) { *line = strdup("check"); return OK; }
 int macros_of(nagios_macros *macros, char *in, char **out, int options) { *out = strdup(in); return OK; }
 
@@ -76,7 +76,7 @@ static void schedule(service *svc, host *hst, unsigned number, time_t due)
 	schedule_service_check(svc, due, CHECK_OPTION_NONE);
 }
 
-/* One cycle; ends the program where no check was begun. */
+/* One cycle; ends the program if no check was begun. */
 static void cycle(service *services)
 {
 	timed_event *event = squeue_peek(nagios_squeue);

@@ -1,12 +1,12 @@
 #!/usr/bin/env python3
-"""Sites of 1,000 hosts and 20,000 services in parts with mirrors: what taking them over costs, and running them.
+"""Sites of 1,000 hosts and 20,000 services in parts with mirrors: the cost of taking them over, and of running them.
 
-    bench/parts.py PROGRAM [SECONDS]      by hand
+    bench/parts.py PROGRAM [SECONDS]      manually
 
 Two networks of Nagios's own files, one behind a single gateway and one in a tree of ten children each, every object checked every five minutes. For each:
-parts and mirrors; seconds, processor seconds and megabytes of `tools/from_nagios.py --site`; then the monitor runs it for SECONDS (300) with plugins that end
-at once: checks a second over the second half, how late they start at the median and at the 95th percent in milliseconds, processor milliseconds a check,
-resident megabytes of all processes but plugins; seconds of a restart until it answers, and of a reload.
+parts and mirrors; seconds, processor seconds and megabytes of `tools/from_nagios.py --site`. Then the monitor runs it for SECONDS (300) with plugins that
+end at once. The figures of that run are checks per second over the second half, and their lateness at the median and the 95th percentile, in milliseconds.
+Then processor milliseconds per check, and resident megabytes of all processes except plugins. Last the seconds of a restart until it answers, and of a reload.
 """
 import json
 import os
@@ -43,7 +43,7 @@ def taken_over(folder, children):
 
 
 def checks_of(folder):
-    """How many results the monitor has counted, and when it wrote that."""
+    """The number of results that the monitor has counted, and when it wrote that."""
     with sqlite3.connect(folder / "monitor.db") as database:
         figures = dict(database.execute("SELECT name, value FROM figures"))
     return sum(value for name, value in figures.items() if name.startswith("checks.")), figures.get("written_at", 0)

@@ -1,10 +1,10 @@
 #!/usr/bin/env bash
-# Counts instructions of reading by valgrind's callgrind, and prints them. Run by hand; no part of the gate.
-#   bench/reading.sh [PROFILE]     PROFILE: a file for the functions that reading a setup spends most in
+# Counts instructions of reading by valgrind's callgrind, and prints them. Run it manually; it is no part of the gate.
+#   bench/reading.sh [PROFILE]     PROFILE: a file for the functions that use most instructions when a setup is read
 # Line feeds: the program looks for them in a first line of 20 MB and in one of 60 MB, both refused as too long;
-# the difference, by the bytes. A setup: at its limits of objects and dependencies, with names so long that it has nearly
-# 16 MiB, read by the program, and the same bytes read by Rust's serde_json into a tree. That is built by cargo of
-# Debian's librust-serde-json-dev; where it isn't there, its line is left out.
+# the difference, divided by the bytes. A setup: it is at its limits of objects and dependencies, with names so long that
+# it has nearly 16 MiB. The program reads it, and Rust's serde_json reads the same bytes into a tree. Cargo builds that
+# from Debian's librust-serde-json-dev. If that package isn't installed, its line is left out.
 set -eu
 export GLIBC_TUNABLES=glibc.cpu.x86_rep_stosb_threshold=100000000:glibc.cpu.x86_rep_movsb_threshold=100000000
 profile=${1:-}
@@ -14,21 +14,21 @@ registry=/usr/share/cargo/registry
 work=$(mktemp -d)
 trap 'rm -rf "$work"' EXIT
 
-# Proves and builds the program where it isn't yet.
+# Proves and builds the program if it isn't built yet.
 (cd "$crate" && rt run < stdin > "$work/build.log" 2>&1) || { cat "$work/build.log"; exit 1; }
 
-# The instructions of a program, from its words and standard input. A refused input ends in status 1.
+# The instructions of a program, for its arguments and standard input. A refused input ends in status 1.
 instructions() {
     valgrind --tool=callgrind --callgrind-out-file="${profile:-/dev/null}" "$@" 2>&1 > "$work/output" \
         | sed -n 's/.*Collected : //p'
 }
 
-# One line of so many bytes.
+# One line of this number of bytes.
 line() {
     head -c "$1" /dev/zero | tr '\0' ' '
 }
 
-# A host and 4,095 services, and 16,384 dependencies of two names of `letters` and some bytes more each.
+# A host and 4,095 services, and 16,384 dependencies of two names, each of `letters` and some more bytes.
 setup() {
     awk -v objects=4096 -v dependencies=16384 -v letters="$1" 'BEGIN {
         for (more = 0; more < letters; more++)
@@ -50,7 +50,7 @@ setup() {
     }'
 }
 
-# Builds a program that reads its input into a tree of serde_json, of the sources that are installed.
+# Builds a program that reads its input into a tree of serde_json, from the installed sources.
 build_serde() {
     mkdir -p "$work/tree/src" "$work/tree/.cargo"
     cat > "$work/tree/Cargo.toml" <<'T'

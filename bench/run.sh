@@ -1,6 +1,6 @@
 #!/usr/bin/env bash
-# Times the built program on long scripts, and prints one table. Run by hand; no part of the gate.
-#   bench/run.sh [REPEATS]     the best of so many runs is printed, 3 where no number is given
+# Times the built program on long scripts, and prints one table. Run it manually; it is no part of the gate.
+#   bench/run.sh [REPEATS]     the best of this number of runs is printed, 3 if no number is given
 # For 64, 512 and 4,096 hosts an input of 60 MB is made here: round after round each host is taken and
 # its result reported. The ratio is to the time in which `jq -c .` reads the same bytes, in the same run.
 set -eu
@@ -9,10 +9,10 @@ crate=$(cd "$(dirname "$0")/../crates/nagsched" && pwd)
 work=$(mktemp -d)
 trap 'rm -rf "$work"' EXIT
 
-# Proves and builds the program where it isn't yet.
+# Proves and builds the program if it isn't built yet.
 (cd "$crate" && rt run < stdin > "$work/build.log" 2>&1) || { cat "$work/build.log"; exit 1; }
 
-# A setup of so many hosts, each checked every 5 minutes, and takes and reports that fill 60 MB.
+# A setup of this number of hosts, each checked every 5 minutes, and takes and reports that fill 60 MB.
 input() {
     awk -v hosts="$1" -v bytes=60000000 'BEGIN {
         setup = "{\"options\":{\"host_inter_check_delay_method\":\"n\"},\"hosts\":["

@@ -1,11 +1,12 @@
 #!/usr/bin/env python3
-"""What it costs to save a scheduler and to go on from what was saved, beside Rust's serde_json on the same bytes. By hand; no part of the gate.
+"""The cost of saving a scheduler and resuming the saved state, compared with Rust's serde_json on the same bytes. Run it manually; no part of the gate.
 
-    bench/saving.py [PROGRAM]     crates/nagsched/out/nagsched where no program is named; wants valgrind and Debian's librust-serde-json-dev
+    bench/saving.py [PROGRAM]     crates/nagsched/out/nagsched if no program is named; needs valgrind and Debian's librust-serde-json-dev
 
-Instructions are counted by callgrind, as the difference of a run with the command `save`, or with `--resume`, and the same run without it: of 1,024, 2,048 and
-4,096 services with names of 30 bytes and 21 results each. serde_json reads the saved state into a tree, and writes that tree: a save makes a tree and writes
-it, and is compared with both together and with the writing only. A restart is the time from the start of `live --resume` until it has answered its first call.
+Callgrind counts instructions. A figure is the difference of a run with the command `save`, or with `--resume`, and the same run without it. The setups have
+1,024, 2,048 and 4,096 services with names of 30 bytes and 21 results each. serde_json reads the saved state into a tree, and writes that tree. A save makes
+a tree and writes it, so it is compared with both together and with the writing only. A restart is the time from the start of `live --resume` until its first
+answer.
 """
 import json
 import os
@@ -35,7 +36,7 @@ fn main() {
 
 
 def instructions(words, given):
-    """How many instructions a program takes on an input."""
+    """The number of instructions that a program takes on an input."""
     told = subprocess.run(["valgrind", "--tool=callgrind", "--callgrind-out-file=/dev/null", *words], input=given, env=STEADY, stdout=subprocess.DEVNULL,
                           stderr=subprocess.PIPE, check=True)
     return int(re.search(rb"Collected : (\d+)", told.stderr).group(1))
@@ -59,7 +60,7 @@ def setup_of(count):
 
 
 def results_of(count):
-    """Calls that leave 21 results of each service, of which one in seven is a problem."""
+    """Calls that leave 21 results of each service; one result in seven is a problem."""
     run = 0
     for turn in range(RESULTS):
         for number in range(count - 1):
@@ -69,7 +70,7 @@ def results_of(count):
 
 
 def restart(program, given):
-    """Milliseconds until the first answer of a conversation that goes on."""
+    """Milliseconds until the first answer of a conversation that resumes."""
     times = []
     for _ in range(5):
         begin = time.perf_counter()

@@ -1,10 +1,10 @@
 #!/usr/bin/env bash
-# What sharing one scheduler costs, in one table. Run by hand; no part of the gate.
-#   bench/sharing.sh [REPEATS]    the middle one of so many times is printed, 5 where no number is given
-#   PREFIX=FOLDER                 where tools/build_c.sh has installed the C library; out/c where none is named
-# Lines of the cache by bench/lines.py over 16 objects, as two passes come to them in alternation, and as one pass of a desk does; times of
-# threads by bench/asks.sh, whose table comes first; a take and its report by themselves, by nagsched_bench, which rt has built; the bytes of an
-# entry by the C library.
+# The cost of sharing one scheduler, in one table. Run it manually; it is no part of the gate.
+#   bench/sharing.sh [REPEATS]    the median of this number of times is printed, 5 if no number is given
+#   PREFIX=FOLDER                 where tools/build_c.sh has installed the C library; out/c if none is named
+# Cache lines by bench/lines.py over 16 objects, as two passes come to them in alternation, and as one pass of a desk does. Times of
+# threads by bench/asks.sh, whose table comes first. A take and its report alone, by nagsched_bench, which rt has built. The bytes of
+# an entry by the C library.
 set -eu -o pipefail
 repeats=${1:-5}
 top=$(cd "$(dirname "$0")/.." && pwd)
@@ -18,14 +18,14 @@ alone=("$top/crates/nagsched_bench/out/nagsched_bench" cycle 4096)
 "$top/bench/asks.sh" "$repeats" | tee "$work/times"
 echo
 
-# A desk's time of a call to that behind the ticket lock, over 16 objects: of a column of times, on all cores or on so many.
+# A desk's time of a call divided by that with the ticket lock, over 16 objects, from a column of times, on all cores or on some.
 ratio() {
     awk -v column="$1" -v cores="$2" '
         $1 == 16 && (/cores/ ? $3 == cores : cores == "") { time[$(NF - 5)] = $(NF - 5 + column) }
         END { printf "%.2f", time["desk"] / time["ticket"] }' "$work/times"
 }
 
-# The least nanoseconds of a pair.
+# The fewest nanoseconds of a pair.
 nanoseconds() {
     for _ in $(seq "$repeats"); do
         "${alone[@]}" 500000
@@ -36,7 +36,7 @@ row() {
     printf '%-66s %10s %8s\n' "$@"
 }
 
-# The lines of a call, whose caller is named; the words are those of bench/lines.py.
+# The lines of a call by the named caller; the arguments are those of bench/lines.py.
 lines() {
     local caller=$1 written touched constants
     shift

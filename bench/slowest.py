@@ -1,10 +1,10 @@
 #!/usr/bin/env python3
-"""Tells which functions of a crate take longest to prove, by what a check of it left.
+"""Prints which functions of a crate take longest to prove, from the files that a check of it left.
 
-    bench/slowest.py CRATE [COUNT]     behind `rt check --jobs 1` in the crate's folder, with no out/ there before
+    bench/slowest.py CRATE [COUNT]     after `rt check --jobs 1` in the crate's folder, with no out/ there before
 
-By hand, and no part of the gate. A check with one job writes a file for each part of a function as it is done: what lies between
-two of them is what the later one took. Files that came from another clone are listed as they were written there.
+Run it manually; it is no part of the gate. A check with one job writes a file for each part of a function when it is done: the time between
+two of them is the later one's. Files that came from another clone are listed with the times at which they were written there.
 """
 import collections
 import pathlib
@@ -12,7 +12,7 @@ import re
 import sys
 
 TOP = pathlib.Path(__file__).resolve().parent.parent
-# The parts that a function's proof is made of stand behind its path.
+# The names of a proof's parts follow the path of its function.
 PARTS = "Answers|AnswersTried|Carried|Code|Given|Goals|Invariants|Kinds|Layout|Lts|Met|Named|Proof|Reads|Statement|Symbol|TheLink|Tie"
 FUNCTION = re.compile(rf"-proofs\.(.+?)\.(?:{PARTS})\b")
 # A longer pause is another check.

@@ -1,11 +1,11 @@
 #!/usr/bin/env python3
-"""Measures where the gate's time goes: the processor minutes of each crate's proofs, of its tests and of each must-fail edit.
+"""Measures the gate's time: the processor minutes of each crate's proofs, of its tests and of each must-fail edit.
 
     bench/times.py [COMMAND..]     runs `bash .ci/run` if no command is named
 
-It writes the table to bench/results/gate.md. Run it by hand, in a fresh clone; it is no part of the gate. It looks at the command's
-processes twice a second, and sums what each check used, with everything that the check started. The rest, which no check used, is
-programs and tests that run, links, and what ended between two looks.
+It writes the table to bench/results/gate.md. Run it manually, in a fresh clone; it is no part of the gate. It looks at the command's
+processes twice a second, and adds up what each check used, with everything that the check started. The rest, which no check used, is
+programs and tests that run, links, and processes that ended between two looks.
 """
 import collections
 import os
@@ -26,7 +26,7 @@ EDIT_FOLDER = re.compile(r"/rt-edit-[^/]*$")
 
 
 def processes():
-    """Each process: its number and start, its parent, and what it and the children that it waited for used, in ticks."""
+    """Each process: its number and start, its parent, and the ticks that it and the children that it waited for used."""
     for number in filter(str.isdecimal, os.listdir("/proc")):
         try:
             with open(f"/proc/{number}/stat", encoding="utf-8", errors="replace") as file:
@@ -44,7 +44,7 @@ def edit_pairs(edit):
 
 
 def edit_in(crate, folder):
-    """The edit that was made in a copy of the crate, or the copy as it stands, which its edits begin with."""
+    """The edit that was made in a copy of the crate, or the unchanged copy, which its edits begin with."""
     for edit in sorted((CRATES / crate).glob("*/*.edit")):
         file, pairs = edit_pairs(edit)
         text = (CRATES / crate / file).read_text(encoding="utf-8")
@@ -56,7 +56,7 @@ def edit_in(crate, folder):
 
 
 def work_of(number):
-    """What a process works on, as a crate and a kind of work, or nothing where it is no check."""
+    """The work of a process, as a crate and a kind of work, or nothing if it is no check."""
     folder = pathlib.Path(f"/proc/{number}")
     try:
         words = (folder / "cmdline").read_text(errors="replace").split("\0")
@@ -71,7 +71,7 @@ def work_of(number):
 
 
 class Times:
-    """What each check has used so far. A check is a process with all below it."""
+    """The time that each check has used so far. A check is a process with all its descendants."""
 
     def __init__(self, root):
         self.root = root
@@ -89,7 +89,7 @@ class Times:
             self.used[check] = max(self.used.get(check, 0), ticks)
 
     def line(self, number, seen):
-        """A process and those above it, up to the command and without it; nothing where it isn't below the command."""
+        """A process and its ancestors, up to the command and without it; nothing if it isn't a descendant of the command."""
         found = []
         while number in seen and number != self.root:
             found.append((number, seen[number][0]))

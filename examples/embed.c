@@ -2,7 +2,7 @@
  *
  *     tools/build_c.sh && cc -O2 -Iinclude examples/embed.c out/c/lib/libnagsched.a -lpthread -o embed && ./embed
  *
- * It writes the setup, and then a line for each call of the history: the call, a tab, who made it and the answer. The
+ * It writes the setup, and then a line for each call of the history: the call, a tab, the caller and the answer. The
  * calls are as `nagsched run` reads them: `./embed | cut -f 1 | nagsched run` writes the same answers.
  */
 #include "nagsched.h"
@@ -24,7 +24,7 @@ SIZE(nagsched_entry, 96); AT(nagsched_entry, call, 8); AT(nagsched_entry, reply,
 
 enum { WORKERS = 4, PASSES = WORKERS + 1, MINUTE = 60000 };
 
-/* A machine room, which is never checked itself, and its thermometers. */
+/* A machine room, which is never checked, and its thermometers. */
 static const char ROOM[] = "{\"options\":{\"service_inter_check_delay_method\":\"n\"},"
                            "\"hosts\":[{\"name\":\"room\",\"check_interval\":0,\"max_check_attempts\":1}],"
                            "\"services\":[{\"host\":\"room\",\"description\":\"door\",\"check_interval\":1,\"max_check_attempts\":3},"
@@ -37,19 +37,19 @@ struct thread {
     pthread_t id;
 };
 
-/* Ends the program where a function gave another status than OK. */
+/* Ends the program if a function returned another status than OK. */
 static void must(uint32_t status, const char *what) {
     if (status == NAGSCHED_OK) return;
     fprintf(stderr, "embed: %s: status %u\n", what, (unsigned)status);
     exit(1);
 }
 
-/* The plugin: stands for a check that takes its time. No one waits for it, since no turn is held meanwhile. */
+/* The plugin: a model of a check that takes its time. No one waits for it, since no turn is held meanwhile. */
 static uint32_t check(uint64_t run) {
     return run % 5 < 3 ? NAGSCHED_CODE_OK : NAGSCHED_CODE_CRITICAL;
 }
 
-/* A worker: takes what is due at each minute, checks it, and reports what came of it. */
+/* A worker: takes each check that is due at each minute, runs it, and reports its result. */
 static void *work(void *given) {
     struct thread *me = given;
     struct nagsched_reply reply;
@@ -61,7 +61,7 @@ static void *work(void *given) {
     return NULL;
 }
 
-/* The operator: looks at the door, has it checked at once, or gives up a check that was taken. */
+/* The operator: looks at the door, has it checked at once, or abandons a check that was taken. */
 static void *operate(void *given) {
     struct thread *me = given;
     struct nagsched_reply reply;
@@ -96,7 +96,7 @@ static void write_call(const struct nagsched_handle *book, const struct nagsched
     }
 }
 
-/* Writes the history: each call, and behind it who made it and what it was answered. */
+/* Writes the history: each call, followed by its caller and its answer. */
 static void write_history(const struct nagsched_handle *book) {
     uint64_t count;
     uint8_t text[1024];

@@ -4,7 +4,7 @@
     tools/build_c.sh && NAGSCHED_LIBRARY=out/c/lib/libnagsched.so PYTHONPATH=bindings/python examples/embed.py [MINUTES]
 
 It writes the setup, then a line for each call of the history, as examples/embed.c does: the call, as `nagsched run` reads it,
-a tab, and who made it with the answer. The last line, to standard error, is what the dashboard saw.
+a tab, and the caller with the answer. The last line, on standard error, is the dashboard's view.
 """
 import json
 import sys
@@ -14,7 +14,7 @@ import nagsched
 from nagsched import CallKind, Code, ReplyKind, State
 
 MINUTE = 60_000
-# A house, which is never checked itself, and its doors.
+# A house, which is never checked, and its doors.
 HOUSE = json.dumps({
     "options": {"service_inter_check_delay_method": "n"},
     "hosts": [{"name": "house", "check_interval": 0, "max_check_attempts": 1}],
@@ -23,12 +23,12 @@ HOUSE = json.dumps({
 
 
 def check(run):
-    """The plugin, which stands for a check that takes its time: no one waits for it."""
+    """The plugin: a model of a check that takes its time. No one waits for it."""
     return Code.WARNING if run % 4 == 0 else Code.OK
 
 
 def work(mine, minutes):
-    """A worker: takes what is due at each minute, checks it, and reports what came of it."""
+    """A worker: takes each check that is due at each minute, runs it, and reports its result."""
     for minute in range(minutes):
         reply = mine.take(minute * MINUTE)
         if reply.kind == ReplyKind.TAKEN:
@@ -36,7 +36,7 @@ def work(mine, minutes):
 
 
 def watch(mine, ended, seen):
-    """The dashboard: glances at each door for as long as the workers work. That is no call, and it never waits."""
+    """The dashboard: glances at each door for as long as the workers work. A glance is no call, and it never waits."""
     while not ended.wait(0.001):
         for door in range(mine.hosts, mine.objects):
             seen.add((mine.name(door), mine.glance(door).state))

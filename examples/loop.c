@@ -1,11 +1,11 @@
-/* A small monitor over the C library, as one that runs for years is built: workers take what is due by the clock, run a plugin with a time limit, and
- * report; the state is saved every few seconds and at the end, and the next start goes on from it, over the same setup or over a changed one.
+/* A small monitor over the C library, built like one that runs for years. Workers take due checks by the clock, run a plugin with a time limit, and
+ * report. The state is saved every few seconds and at the end. The next start resumes it, over the same setup or over a changed one.
  *
  *     tools/build_c.sh && cc -O2 -Iinclude examples/loop.c out/c/lib/libnagsched.a -lpthread -o loop
  *     ./loop SETUP STATE SECONDS COMMAND
  *
- * SETUP is a file with a setup, STATE the file that keeps the state, and COMMAND a line for /bin/sh that checks the object $1 and exits with 0 to 3. It
- * works for so many seconds, prints the answer to each report, and last how the objects stand.
+ * SETUP is a file with a setup, STATE the file for the state, and COMMAND a line for /bin/sh that checks the object $1 and exits with 0 to 3. It
+ * works for this number of seconds, prints the answer to each report, and at the end the standing of each object.
  */
 #define _GNU_SOURCE
 #include "nagsched.h"
@@ -24,14 +24,14 @@
 
 extern char **environ;
 
-/* Room for the entries of one generation, the most bytes of a name or a line; how long a plugin may run, a generation lasts, a worker waits at the limit. */
+/* Room for the entries of one generation; the most bytes of a name or a line; the times of a plugin, of a generation, and of a wait at the limit. */
 enum { WORKERS = 4, ROOM = 10000, TEXT = 1024, LIMIT_MS = 5000, GENERATION_MS = 2000, AT_LIMIT_MS = 1000 };
 
 struct monitor {
     struct nagsched_handle passes[2][WORKERS];  /* of the desk: each is opened from the book that the one before becomes */
     size_t generation;                          /* the desk is that of passes[generation % 2] */
-    pthread_rwlock_t desk;                      /* of both: held to read by whoever makes a call, to write while the desk is closed */
-    pthread_mutex_t lock;                       /* of what follows */
+    pthread_rwlock_t desk;                      /* of both: held for reading during a call, and for writing while the desk is closed */
+    pthread_mutex_t lock;                       /* of the following members */
     pthread_cond_t news;                        /* a result came, or the end */
     uint64_t results;
     int is_ended;
@@ -55,7 +55,7 @@ static void must(uint32_t status, const char *what) {
     exit(1);
 }
 
-/* The clock: milliseconds since 1970 at the start, and from there on by a clock that nobody sets. */
+/* The clock: milliseconds since 1970 at the start, and from then on by a clock that nobody sets. */
 static uint64_t now(void) {
     static uint64_t first, began;
     struct timespec wall, since;
@@ -76,7 +76,7 @@ static void sleep_ms(uint64_t milliseconds) {
 
 /* ---- a plugin */
 
-/* Runs the command for an object: its code. A plugin that is killed behind the limit is CRITICAL, as any exit that is no code. -1: it couldn't be started. */
+/* Runs the command for an object, returning its code. CRITICAL if the plugin is killed after the limit or exits with no code; -1 if it couldn't be started. */
 static int run_plugin(const struct monitor *monitor, const char *name) {
     const char *words[] = {"/bin/sh", "-c", monitor->command, "plugin", name, NULL};
     const uint64_t deadline = now() + LIMIT_MS;
@@ -94,7 +94,7 @@ static int run_plugin(const struct monitor *monitor, const char *name) {
     return WIFEXITED(status) && WEXITSTATUS(status) <= NAGSCHED_CODE_UNKNOWN ? WEXITSTATUS(status) : NAGSCHED_CODE_CRITICAL;
 }
 
-/* Checks what was taken and reports it; gives it up where it couldn't be checked. */
+/* Runs a check that was taken and reports it; abandons it if it couldn't be run. */
 static void check(const struct worker *me, const struct nagsched_reply *taken) {
     struct monitor *monitor = me->monitor;
     struct nagsched_call call = {.kind = NAGSCHED_CALL_REPORT, .object = taken->object, .run = taken->run};
@@ -120,7 +120,7 @@ static void check(const struct worker *me, const struct nagsched_reply *taken) {
 
 /* ---- a worker */
 
-/* Waits until a result has come behind the first `seen`, until the moment `until`, or until the end. */
+/* Waits until a result has come after the first `seen`, until the moment `until`, or until the end. */
 static void wait_for_news(struct monitor *monitor, uint64_t seen, uint64_t until) {
     struct timespec deadline;
     const uint64_t left = until > now() ? until - now() : 0;
@@ -157,7 +157,7 @@ static void *work(void *given) {
             monitor->results++;
             pthread_cond_broadcast(&monitor->news);
             pthread_mutex_unlock(&monitor->lock);
-        } else if (reply.kind == NAGSCHED_REPLY_IDLE) { /* until the next is due; an hour at most, where none is */
+        } else if (reply.kind == NAGSCHED_REPLY_IDLE) { /* until the next is due; an hour at most, if none is */
             wait_for_news(monitor, seen, reply.has_time ? reply.time : moment + 3600000);
         } else if (reply.kind == NAGSCHED_REPLY_AT_LIMIT) { /* a report makes room: for that, or a second */
             wait_for_news(monitor, seen, moment + AT_LIMIT_MS);
@@ -167,7 +167,7 @@ static void *work(void *given) {
     }
 }
 
-/* ---- saving and going on */
+/* ---- saving and resuming */
 
 static uint8_t *read_file(const char *path, size_t *length) {
     FILE *file = fopen(path, "rb");
@@ -183,7 +183,7 @@ static uint8_t *read_file(const char *path, size_t *length) {
     return bytes;
 }
 
-/* Writes the state of the book: a new file in place of the old one, so that one of the two is always whole. */
+/* Writes the state of the book: a new file replaces the old one, so that one of the two is always whole. */
 static void save(const struct nagsched_handle *book, const char *path) {
     char fresh[4096];
     size_t length = 0;
@@ -202,7 +202,7 @@ static void save(const struct nagsched_handle *book, const char *path) {
     free(text);
 }
 
-/* Closes the desk, saves, lets go of the entries, and opens it again. Calls wait meanwhile, plugins don't. */
+/* Closes the desk, saves, frees the entries, and opens it again. Calls wait meanwhile, plugins don't. */
 static void begin_generation(struct monitor *monitor, const char *path) {
     struct nagsched_handle history = NAGSCHED_EMPTY;
     pthread_rwlock_wrlock(&monitor->desk);
@@ -211,7 +211,7 @@ static void begin_generation(struct monitor *monitor, const char *path) {
     must(nagsched_close(&before[0]), "close");
     save(&before[0], path);
     must(nagsched_renew(&before[0], ROOM, &history), "renew");
-    must(nagsched_free(&history), "free"); /* who keeps histories writes its entries out first */
+    must(nagsched_free(&history), "free"); /* a program that stores histories writes its entries first */
     monitor->generation++;
     must(nagsched_open(&before[0], 0, 0, passes(monitor), WORKERS), "open");
     pthread_rwlock_unlock(&monitor->desk);
@@ -226,7 +226,7 @@ static void refused(const char *path, const struct nagsched_refusal *refusal) {
     exit(1);
 }
 
-/* Opens the desk: from the state that was kept, if one was. Checks that were out then are given up: nobody runs their plugins any more. */
+/* Opens the desk: from the saved state, if there is one. Checks that were running then are abandoned: nobody runs their plugins any more. */
 static void open_desk(struct monitor *monitor, const char *setup_path, const char *state_path) {
     struct nagsched_handle setup = NAGSCHED_EMPTY, book = NAGSCHED_EMPTY;
     struct nagsched_refusal refusal;
@@ -261,7 +261,7 @@ static void open_desk(struct monitor *monitor, const char *setup_path, const cha
     free(runs);
 }
 
-/* Prints how each object stands. */
+/* Prints the standing of each object. */
 static void print_standings(struct nagsched_handle *pass) {
     struct nagsched_reply reply;
     uint32_t objects, hosts;

@@ -1,11 +1,11 @@
 #!/usr/bin/env python3
-"""A small monitor over the Python module, as one that runs for years is built.
+"""A small monitor over the Python module, built like one that runs for years.
 
     tools/build_c.sh && NAGSCHED_LIBRARY=out/c/lib/libnagsched.so PYTHONPATH=bindings/python examples/loop.py SETUP STATE SECONDS COMMAND
 
-It is examples/loop.c in Python: workers take what is due by the clock, run a plugin with a time limit, and report; the state is saved every few seconds and at
-the end, and the next start goes on from it, over the same setup or over a changed one. SETUP is a file with a setup, STATE the file that keeps the state, and
-COMMAND a line for /bin/sh that checks the object $1 and exits with 0 to 3. It prints the answer to each report, and last how the objects stand.
+It is examples/loop.c in Python. Workers take due checks by the clock, run a plugin with a time limit, and report. The state is saved every few seconds and at
+the end. The next start resumes it, over the same setup or over a changed one. SETUP is a file with a setup, STATE the file for the state, and COMMAND a line
+for /bin/sh that checks the object $1 and exits with 0 to 3. It prints the answer to each report, and at the end the standing of each object.
 """
 from __future__ import annotations
 
@@ -21,13 +21,13 @@ import nagsched
 from nagsched import Call, CallKind, Code, Reply, ReplyKind
 
 WORKERS = 4
-# Entries that a generation has memory for at once; seconds that a plugin may take, a generation lasts, and a worker waits at the limit or with nothing to do.
+# Entries for which a generation has memory at once. In seconds: the limit of a plugin, the length of a generation, and the longest wait of a worker.
 ROOM = 10_000
 PLUGIN_LIMIT = 5.0
 GENERATION = 2.0
 AT_LIMIT_WAIT = 1.0
 LONGEST_WAIT = 3_600.0
-# The clock: milliseconds since 1970 at the start, and from there on by a clock that nobody sets.
+# The clock: milliseconds since 1970 at the start, and from then on by a clock that nobody sets.
 FIRST, BEGAN = time.time_ns() // 1_000_000, time.monotonic_ns() // 1_000_000
 
 
@@ -36,7 +36,7 @@ def now() -> int:
 
 
 def run_plugin(command: str, name: str) -> Optional[Code]:
-    """The code of a plugin; CRITICAL where it is killed behind the limit or exits with no code, None where it couldn't be started."""
+    """The code of a plugin; CRITICAL if it is killed after the limit or exits with no code, None if it couldn't be started."""
     try:
         code = subprocess.run(["/bin/sh", "-c", command, "plugin", name], timeout=PLUGIN_LIMIT, check=False).returncode
     except subprocess.TimeoutExpired:
@@ -51,7 +51,7 @@ class Monitor:
 
     def __init__(self, desk: nagsched.Desk, state: pathlib.Path, command: str) -> None:
         self._desk, self._state, self._command = desk, state, command
-        # Held for each call, and while the desk is closed. `news` is that a result came, or the end.
+        # Held for each call, and while the desk is closed. `news` reports a result, or the end.
         self._gate = threading.Lock()
         self._news = threading.Condition()
         self._results = 0
@@ -63,7 +63,7 @@ class Monitor:
             return made(self._desk.passes[place])
 
     def _check(self, place: int, taken: Reply) -> None:
-        """Checks what was taken and reports it; gives it up where it couldn't be checked. Nothing is held while the plugin runs."""
+        """Runs a check that was taken and reports it; abandons it if it couldn't be run. Nothing is held while the plugin runs."""
         number, run = taken.object, taken.run
         with self._gate:
             name = self._desk.passes[place].name(number)
@@ -77,12 +77,12 @@ class Monitor:
             print(mine.text((Call(CallKind.REPORT, number, run, code=code), reply)), end="", flush=True)
 
     def _wait_for_news(self, seen: int, seconds: float) -> None:
-        """Waits until a result has come behind the first `seen`, for so many seconds, or until the end."""
+        """Waits until a result has come after the first `seen`, for this number of seconds, or until the end."""
         with self._news:
             self._news.wait_for(lambda: self._is_ended or self._results != seen, max(0.0, seconds))
 
     def work(self, place: int) -> None:
-        """A worker: takes what is due until the end."""
+        """A worker: takes due checks until the end."""
         while True:
             with self._news:
                 seen = self._results
@@ -101,7 +101,7 @@ class Monitor:
                 self._wait_for_news(seen, AT_LIMIT_WAIT)
 
     def begin_generation(self) -> None:
-        """Closes the desk, saves, lets go of the entries, and opens it again. Calls wait meanwhile, plugins don't."""
+        """Closes the desk, saves, frees the entries, and opens it again. Calls wait meanwhile, plugins don't."""
         with self._gate:
             book = self._desk.close()
             save(book, self._state)
@@ -124,7 +124,7 @@ class Monitor:
             thread.join()
 
     def print_standings(self) -> None:
-        """Prints how each object stands."""
+        """Prints the standing of each object."""
         mine = self._desk.passes[0]
         for number in range(mine.objects):
             reply = mine.status(number)
@@ -132,7 +132,7 @@ class Monitor:
 
 
 def save(book: nagsched.Book, path: pathlib.Path) -> None:
-    """Writes the state of the book: a new file in place of the old one, so that one of the two is always whole."""
+    """Writes the state of the book: a new file replaces the old one, so that one of the two is always whole."""
     fresh = path.with_name(path.name + ".new")
     with fresh.open("wb") as file:
         file.write(book.save())
@@ -142,7 +142,7 @@ def save(book: nagsched.Book, path: pathlib.Path) -> None:
 
 
 def opened(setup: nagsched.Setup, state: pathlib.Path) -> nagsched.Desk:
-    """Opens the desk: from the state that was kept, if one was. Checks that were out then are given up: nobody runs their plugins any more."""
+    """Opens the desk: from the saved state, if there is one. Checks that were running then are abandoned: nobody runs their plugins any more."""
     if not state.exists():
         return setup.open(passes=WORKERS, start=now(), room=ROOM)
     book = setup.resume(state.read_bytes(), now(), ROOM)

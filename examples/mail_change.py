@@ -3,7 +3,7 @@
 
     nagsched-monitor --on-change "examples/mail_change.py monitor@example.org oncall@example.org" DIR
 
-It reads changes from its standard input, a JSON object on each line, and hands one mail for all of them to the server on this machine (or to `--server
+It reads changes from its standard input, a JSON object on each line, and sends one mail for all of them to the server on this machine (or to `--server
 HOST[:PORT]`). It exits with 1 if the server doesn't take the mail; the monitor tries again then.
 """
 import argparse

@@ -1,10 +1,10 @@
 #!/usr/bin/env python3
-"""The shortest monitor that is right: it takes what is due, runs it, and reports it, on the scheduler that `nagsched live` is.
+"""The shortest correct monitor: it takes each due check, runs it, and reports it, with `nagsched live` as the scheduler.
 
     examples/monitor.py SETUP COMMANDS [SECONDS [PROGRAM]]
 
-SETUP is a setup document, COMMANDS a JSON object with a command line for each full name. It prints a line for each change of state. It keeps nothing: each
-start begins anew. It is meant to be read, and begun from; monitor/nagsched-monitor is the one to use.
+SETUP is a setup document, COMMANDS a JSON object with a command line for each full name. It prints a line for each change of state. It stores nothing: each
+start begins from scratch. Read it, and begin your own program from it; to monitor a site, use monitor/nagsched-monitor.
 """
 import concurrent.futures
 import json
@@ -40,7 +40,7 @@ class Scheduler:
 
 
 def code_of(command):
-    """Runs a plugin, and returns its code: UNKNOWN where it has none that a plugin may have."""
+    """Runs a plugin, and returns its code: UNKNOWN if the plugin's code isn't one of the four."""
     try:
         code = subprocess.run(command, shell=True, stdin=subprocess.DEVNULL, stdout=subprocess.DEVNULL, timeout=LIMIT).returncode
     except subprocess.TimeoutExpired:

@@ -1,6 +1,6 @@
 #!/usr/bin/env bash
-# Builds nagsched-runner, the program that starts the monitor's plugins; needs cc. It is linked statically: that makes starting a plugin cheaper, and the program
-# runs on other machines of the same kind. CFLAGS replaces that option.
+# Builds nagsched-runner, the program that starts the monitor's plugins; needs cc. It is linked statically, so that starting a plugin is cheaper, and the
+# program runs on other machines of the same kind. CFLAGS replaces that option.
 #   monitor/build_runner.sh [FILE]     monitor/out/nagsched-runner if no file is named; the monitor finds it there
 set -eu
 here=$(cd "$(dirname "$0")" && pwd)

@@ -1,15 +1,15 @@
 #!/usr/bin/env bash
 # Runs programs over the C library under valgrind's memcheck, to find forbidden accesses and blocks that are left. Run it manually.
 #   tests/memcheck.sh [PREFIX]     the folder in which tools/build_c.sh has installed the library; the default is out/c
-# The programs are examples/embed.c, with its four workers and an operator, tests/c/wrong.c, tests/c/saved.c, which saves and resumes
-# books, and tests/c/refused.c, which refuses each request for memory in turn.
+# The programs are examples/embed.c, with its four workers and an operator, and three of tests/c: wrong.c; saved.c, which saves and
+# resumes books; and refused.c, which refuses each request for memory in turn.
 set -eu -o pipefail
 top=$(cd "$(dirname "$0")/.." && pwd)
 prefix=${1:-$top/out/c}
 work=$(mktemp -d)
 trap 'rm -rf "$work"' EXIT
 
-# Compiles a program with these words, and runs it.
+# Compiles a program with these arguments, and runs it.
 checked() {
     local name=$1
     shift

@@ -3,7 +3,7 @@
 #   tests/refusals.sh [PROGRAM]     the default is crates/nagsched/out/nagsched; needs a C compiler, cc
 # The program runs over 4,096 hosts with its Nth request refused, for the first 2,000 numbers and every 61st after them. Each run has to end
 # with the same output as with enough memory, or with status 4. Then the tests of a core and a lock run with each of their requests refused
-# in turn: the call whose request was refused hands back its arguments, and succeeds when it is made again.
+# in turn. The call whose request was refused returns its arguments, and succeeds when it is made again.
 set -eu
 top=$(cd "$(dirname "$0")/.." && pwd)
 program=${1:-$top/crates/nagsched/out/nagsched}

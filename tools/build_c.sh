@@ -1,10 +1,10 @@
 #!/usr/bin/env bash
 # Proves and builds the C library, and installs it in a folder.
-#   tools/build_c.sh [--proved] [PREFIX]     out/c where no folder is named
-# With --proved it stands on the libraries that `rt ci` has just proved and left in this tree: `rt lib` proves them once more.
-# PREFIX gets include/nagsched.h, lib/libnagsched.a, lib/libnagsched.so and lib/pkgconfig/nagsched.pc. Of both libraries
-# only the names that the header declares are to be seen, and they need only the C library.
-# Wants rt, cc and the binutils: ld, ar, objcopy.
+#   tools/build_c.sh [--proved] [PREFIX]     out/c if no folder is named
+# With --proved it uses the libraries that `rt ci` has just proved and left in this tree; otherwise `rt lib` proves them once more.
+# PREFIX gets include/nagsched.h, lib/libnagsched.a, lib/libnagsched.so and lib/pkgconfig/nagsched.pc. Both libraries show
+# only the names that the header declares, and need only the C library.
+# Needs rt, cc and the binutils: ld, ar, objcopy.
 set -eu -o pipefail
 top=$(cd "$(dirname "$0")/.." && pwd)
 header=$top/include/nagsched.h
@@ -20,7 +20,7 @@ prefix=$(cd "${1:-$top/out/c}" && pwd)
 work=$(mktemp -d)
 trap 'rm -rf "$work"' EXIT
 
-# Proves nagsched_c over the libraries that lie there, and builds it.
+# Proves nagsched_c over the existing libraries, and builds it.
 over_proved() {
     local name folder words=(--extern "std=$kit/rlibs/std.rlib")
     for name in $(sed -n 's/^nagsched_c staticlib: //p' "$top/crates.txt"); do
@@ -44,13 +44,13 @@ version=$(sed -n 's/^#define NAGSCHED_VERSION \([0-9]*\)u$/\1/p' "$header")
 sed -n 's/^uint32_t \(nagsched_[a-z_]*\)(.*/\1/p' "$header" > "$work/names"
 { echo '{ global:'; sed 's/$/;/' "$work/names"; echo 'local: *; };'; } > "$work/names.map"
 
-# The proved functions step behind the guard, by another name: all but those without a pointer.
+# The guard replaces the proved functions that take a pointer, which get another name.
 sed -n '/(void)/d; s/^uint32_t nagsched_\([a-z_]*\)(.*/nagsched_\1 nagsched_proved_\1/p' "$header" > "$work/names.proved"
 ld -r -o "$work/proved.o" --whole-archive "$top/crates/nagsched_c/out/libnagsched_c.a" --no-whole-archive "$heap"
 objcopy --redefine-syms="$work/names.proved" "$work/proved.o"
 cc -std=c11 -O2 -Wall -Wextra -Werror -fPIC -I"$top/include" -c "$top/bindings/c/guard.c" -o "$work/guard.o"
 
-# One object with all that the library needs, whose other names are its own.
+# One object with everything that the library needs, whose other names are local.
 ld -r -o "$work/nagsched.o" "$work/guard.o" "$work/proved.o"
 objcopy --keep-global-symbols="$work/names" "$work/nagsched.o"
 

@@ -1,27 +1,26 @@
 #!/usr/bin/env python3
-"""Makes a setup of a configuration of Nagios Core 4.
+"""Makes a setup from a configuration of Nagios Core 4.
 
     tools/from_nagios.py [--parts DIRECTORY] [--commands FILE] nagios.cfg objects.precache > setup.json
     tools/from_nagios.py --site DIRECTORY nagios.cfg objects.precache
 
-The second file is what Nagios makes of its object files, with templates, groups and inheritance written out:
-`nagios4 -vp nagios.cfg` writes it where `precached_object_file` says, and a running Nagios keeps the same as its
-`object_cache_file`. The setup is one line, as `nagsched run` wants it. What has no counterpart is named on standard
-error, each kind once; what can't be taken over is an error with its file and line, and then there is no setup.
+The second file is Nagios's version of its object files, with templates, groups and inheritance expanded. `nagios4 -vp nagios.cfg`
+writes it to the `precached_object_file`, and a running Nagios stores the same in its `object_cache_file`. The setup is one line, as
+`nagsched run` needs it. Settings without a counterpart are named on standard error, each kind once. A setting that can't be taken over
+is an error with its file and line, and then there is no setup.
 
-With --parts the objects go into few setups, DIRECTORY/part-1.json and on, such that no parent, no dependency and no
-service's host stands in another part.
+With --parts the objects are divided into several setups, DIRECTORY/part-1.json and so on. No parent, dependency or service's host is
+in another part.
 
-With --commands the command line of each object goes into FILE, by its full name, as examples/monitor.py wants it: macros
-are written out, and a line that needs a shell is given to one. The file is for its owner only, since command lines may hold
-passwords. An object that has no such line is named on standard error; it is disabled in the setup, so that nothing stands
-as checked that isn't.
+With --commands the command line of each object is written to FILE, by its full name, as examples/monitor.py needs it. Macros are
+expanded, and a line that needs a shell is given to one. Only its owner can read the file, since command lines may contain passwords.
+An object without such a line is named on standard error. It is disabled in the setup, so that no unchecked object seems to be checked.
 
-With --site DIRECTORY gets the files of a site, as nagsched-monitor reads them: the setup, or few of them, the command lines, time
-periods, passive objects, the groups of each object and the monitor's options. They take their places together. Of monitor.json the
-members stay that nagios.cfg says nothing of. The limit of concurrent checks is the monitor's then, over all parts. Parts have
-mirrors: a host, a parent or a master that stands in another part stands there too, never checked, and the monitor hands it the results
-of its original. What is left out is named with the objects that it matters to: a few of them, or with --all each.
+With --site the files of a site are written to DIRECTORY, as nagsched-monitor reads them. They are one or more setups, the command
+lines, time periods, passive objects, the groups of each object and the monitor's options. All are replaced together. In monitor.json
+the members that nagios.cfg doesn't set stay. The limit of concurrent checks is then the monitor's, over all parts. Parts have mirrors:
+a host, a parent or a master of another part is also in the part that needs it. It is never checked there, and the monitor reports the
+results of its original to it. Settings that are left out are named with the objects that they affect: a few of these, or with --all each.
 """
 import argparse
 import json
@@ -42,7 +41,7 @@ from nagios_values import (
     read_objects, read_options, switch, whole,
 )
 
-# Each option with a counterpart: how it is read, and what Nagios takes where it isn't there.
+# Each option with a counterpart: how it is read, and Nagios's default.
 OPTIONS: Dict[str, Tuple[Callable[[Value], object], str]] = {
     "interval_length": (between(1, 86_400), "60"),
     "service_inter_check_delay_method": (delay, "s"),
@@ -58,7 +57,7 @@ OPTIONS: Dict[str, Tuple[Callable[[Value], object], str]] = {
     "low_host_flap_threshold": (percent, "20"),
     "high_host_flap_threshold": (percent, "30"),
 }
-# Options that change what Nagios schedules: the value at which they don't, and what leaving them out means.
+# Options that change what Nagios schedules: the value at which they don't, and the effect of leaving them out.
 TELLING = {
     "enable_flap_detection": ("1", "flapping is reported of every object"),
     "execute_service_checks": ("1", "services are checked all the same"),
@@ -74,7 +73,7 @@ TELLING = {
     "accept_passive_host_checks": ("1", "passive results of hosts are taken"),
     "log_passive_checks": ("1", "changes are logged however their results came"),
 }
-# Options that a site has, and a setup alone doesn't.
+# Options that a site has, but a setup alone doesn't.
 OF_A_SITE = {"use_timezone": "times are those of the machine's zone"}
 
 
@@ -104,7 +103,7 @@ NOTHING_HERE = {
 
 
 def documents_of(options: Members, objects: Sequence[Definition], left_out: LeftOut) -> Setup:
-    """One setup of all: its options, and each object and dependency in the order of the file."""
+    """One setup of everything: its options, and each object and dependency in the order of the file."""
     setup: Setup = {"options": options_of(options, left_out), "hosts": [], "services": [], "service_dependencies": [], "host_dependencies": []}
     left_out.always = nagios_periods.always(objects)
     for kind, place, members in objects:
@@ -127,7 +126,7 @@ def documents_of(options: Members, objects: Sequence[Definition], left_out: Left
 
 
 def in_whole_units(setup: Setup) -> None:
-    """Makes every interval whole: where one isn't, the unit becomes the longest that divides them all."""
+    """Makes every interval whole: if one isn't, the unit becomes the longest that divides them all."""
     timed = setup["hosts"] + setup["services"]
     length = setup["options"]["interval_length"]
     unit = length
@@ -153,7 +152,7 @@ def is_one(setup: Setup) -> bool:
 
 
 def parts_of(setup: Setup, with_mirrors: bool) -> Tuple[List[Setup], Dict[str, Dict[str, str]]]:
-    """Few setups, and their mirrors where they may have some."""
+    """Several setups, and their mirrors if mirrors are allowed."""
     try:
         return nagios_parts.parts_of(setup, with_mirrors=with_mirrors)
     except nagios_parts.CannotBeParted as error:
@@ -164,7 +163,7 @@ def parts_of(setup: Setup, with_mirrors: bool) -> Tuple[List[Setup], Dict[str, D
 
 
 def macros_of_file(words: argparse.Namespace, options: Members) -> Dict[str, str]:
-    """The macros of the resource file, where there is one."""
+    """The macros of the resource file, if there is one."""
     path = nagios_commands.resource_file(options, words.options, words.resource)
     try:
         return nagios_commands.read_resource(lines_of(path)) if path is not None else {}
@@ -173,7 +172,7 @@ def macros_of_file(words: argparse.Namespace, options: Members) -> Dict[str, str
 
 
 def take_commands(words: argparse.Namespace, options: Members, objects: Sequence[Definition], setup: Setup) -> None:
-    """Writes the command line of each object, and disables those that have none."""
+    """Writes the command line of each object, and disables those without one."""
     resource = macros_of_file(words, options)
     lines, without = nagios_commands.commands_of(objects, resource)
     disable(setup, without)
@@ -185,7 +184,7 @@ def take_commands(words: argparse.Namespace, options: Members, objects: Sequence
 
 
 def disable(setup: Setup, without: Mapping[str, str]) -> None:
-    """Disables the objects that have no command line, and says why they have none."""
+    """Disables the objects that have no command line, and prints why."""
     for host in setup["hosts"]:
         if host["name"] in without:
             host["enabled"] = False
@@ -200,7 +199,7 @@ def disable(setup: Setup, without: Mapping[str, str]) -> None:
 
 
 def take_site(words: argparse.Namespace, options: Members, objects: Sequence[Definition], setup: Setup, left_out: LeftOut) -> None:
-    """Writes the files of a site, and says what is left out."""
+    """Writes the files of a site, and prints what is left out."""
     unit = setup["options"]["interval_length"]
     interval_of = {it["name"]: it["check_interval"] * unit for it in setup["hosts"]}
     interval_of |= {f"{it['host']};{it['description']}": it["check_interval"] * unit for it in setup["services"]}

@@ -1,7 +1,7 @@
 #!/usr/bin/env bash
-# Installs what was built: the program, the C library, the Python module, the monitor, manual pages, the unit of systemd and its user, completions.
-#   tools/install.sh [PREFIX]     /usr/local where no folder is named; DESTDIR is put before it
-# It builds and proves nothing. What wasn't built is named, with the command that builds it, and then nothing is installed.
+# Installs the built files: the program, the C library, the Python module, the monitor, manual pages, the unit of systemd and its user, completions.
+#   tools/install.sh [PREFIX]     /usr/local if no folder is named; DESTDIR is put before it
+# It builds and proves nothing. A missing file is named, with the command that builds it, and then nothing is installed.
 # --without-library leaves the C library and the Python module out.
 set -eu -o pipefail
 top=$(cd "$(dirname "$0")/.." && pwd)
@@ -71,7 +71,7 @@ place 644 "$top/crates/machine_room/src/months.rt" share/doc/nagsched/examples/l
 for module in fault outside restart round runs; do
     place 644 "$top/crates/machine_room/src/$module.rt" "share/doc/nagsched/examples/loop/$module.rt"
 done
-# The first programs of the pages on C and Python.
+# The first programs on the pages about C and Python.
 place 644 "$top/examples/first.c" share/doc/nagsched/examples/first.c
 place 755 "$top/examples/first.py" share/doc/nagsched/examples/first.py
 [ -n "$library" ] || exit 0
@@ -83,7 +83,7 @@ for library in "$built"/lib/libnagsched.so.*; do
 done
 sed "s#^prefix=.*#prefix=$prefix#" "$built/lib/pkgconfig/nagsched.pc" > "$unit"
 place 644 "$unit" lib/pkgconfig/nagsched.pc
-# py.typed says that the package's types are to be used.
+# py.typed declares that type checkers may use the package's types.
 for file in "$top"/bindings/python/nagsched/*.py "$top/bindings/python/nagsched/py.typed"; do
     place 644 "$file" "lib/python3/dist-packages/nagsched/$(basename "$file")"
 done

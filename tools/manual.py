@@ -3,7 +3,7 @@
 
     tools/manual.py DIRECTORY
 
-Each is made of sections of the pages in docs/, under the headings that manual pages have, so that nothing is written twice.
+Each is made from sections of the pages in docs/, under the usual headings of manual pages, so that nothing is written twice.
 """
 import pathlib
 import re
@@ -20,7 +20,7 @@ SUMMARY = {
     ("nagsched-monitor", 1): "run the checks of a site",
     ("nagsched-from-nagios", 1): "convert a Nagios configuration",
 }
-# What has another name in an installation.
+# Names that differ in an installation.
 INSTALLED = {
     "tools/from_nagios.py": "nagsched-from-nagios",
     "monitor/nagsched-monitor": "nagsched-monitor",
@@ -29,7 +29,7 @@ INSTALLED = {
     "examples/": "share/doc/nagsched/examples/",
     "docs/": "share/doc/nagsched/",
 }
-# The sections of each manual page: a text, or the parts that each is made of, a page and a title there. The title "" is what is before the first section.
+# The sections of each manual page: a text, or the parts of each, as a page and a title there. The title "" is the text before the first section.
 PARTS = {
     ("nagsched", 1): {
         "Synopsis": [("program", "Synopsis")],
@@ -93,12 +93,12 @@ def sections_of(page: pathlib.Path) -> Dict[str, List[str]]:
 
 
 def escaped(text):
-    """A text whose letters mean nothing to roff."""
+    """A text whose characters mean nothing to roff."""
     return text.replace("\\", "\\e").replace("-", "\\-").replace("'", "\\(aq").replace("`", "\\(ga").replace("^", "\\(ha").replace("~", "\\(ti")
 
 
 def inline(text):
-    """A text with its links as words, and what stands between backticks in bold."""
+    """A text with its links as words, and texts between backticks in bold."""
     text = re.sub(r"!\[[^]]*\]\([^)]*\)", "", text)
     text = re.sub(r"\[([^]]*)\]\([^)]*\)", r"\1", text)
     text = installed(text)
@@ -193,7 +193,7 @@ def body(lines: List[str]) -> Iterator[str]:
 
 
 def tidy(lines):
-    """The lines without paragraphs that have nothing in them, long ones of text broken at spaces."""
+    """The lines without empty paragraphs, with long lines of text broken at spaces."""
     kept, in_code = [], False
     for text in lines:
         in_code = text == ".nf" or in_code and text != ".fi"

@@ -1,4 +1,4 @@
-"""The command lines of a configuration of Nagios Core 4, with macros written out. For from_nagios.py --commands and --site."""
+"""The command lines of a configuration of Nagios Core 4, with expanded macros. For from_nagios.py --commands and --site."""
 import pathlib
 import re
 import shlex
@@ -8,15 +8,15 @@ from typing import Callable, Dict, Iterable, List, Mapping, NamedTuple, Optional
 
 from nagios_groups import Definition, Groups, Members, listed
 
-# What can be known of an object before Nagios runs; every other macro of capital letters has a value only then. Of each the member that it stands for.
+# The macros whose values are known before Nagios runs, each with its member; every other macro of capital letters has a value only at run time.
 HOST_MACROS = {"NAME": "host_name", "ALIAS": "alias", "DISPLAYNAME": "display_name", "ADDRESS": "address", "CHECKCOMMAND": "check_command"}
 SERVICE_MACROS = {"DESC": "service_description", "DISPLAYNAME": "display_name", "CHECKCOMMAND": "check_command"}
 GROUP_MACROS = {"NAME": "{}group_name", "ALIAS": "alias"}
-# Members in which macros are written out too, and whether what is written out is encoded for an URL.
+# Members in which macros are expanded too, and whether the value is encoded for a URL.
 NOTES = {"NOTES": ("notes", False), "NOTESURL": ("notes_url", True), "ACTIONURL": ("action_url", True)}
 MACRO = re.compile(r"\$([^$\n]*)\$")
 AT_RUN_TIME = re.compile(r"[A-Z]+\d*(:.*)?")
-# What only a shell understands, outside quotes: Nagios gives such a line to one.
+# Characters that only a shell understands, outside quotes: Nagios gives such a line to one.
 QUOTED = re.compile(r"""'[^']*'|"[^"$`\\]*\"""")
 FOR_A_SHELL = re.compile(r"""[|&;<>()$`\\"'*?\[\]#~{}!]""")
 
@@ -24,7 +24,7 @@ Lookup = Callable[[str], Optional[str]]
 
 
 class Line(NamedTuple):
-    """A command line; whether a shell has to run it, and whether only because of the value of a macro, such as an alias with a semicolon."""
+    """A command line; whether it needs a shell, and whether only because of the value of a macro, such as an alias with a semicolon."""
 
     text: str
     needs_shell: bool
@@ -47,8 +47,8 @@ def read_resource(lines: Iterable[Tuple[str, str]]) -> Dict[str, str]:
 
 
 def written_out(text: str, lookup: Lookup, encoded: bool = False) -> str:
-    """The text with its macros written out; `$$` is one dollar. A custom variable that the object doesn't have stays as it is, as does
-    any other text between two dollars: so Nagios does too."""
+    """The text with expanded macros; `$$` is one dollar. A custom variable that the object doesn't have stays unchanged, and so does
+    any other text between two dollars, as in Nagios."""
     def value(match: "re.Match[str]") -> str:
         name = match[1]
         found = lookup(name) if name else "$"
@@ -60,13 +60,13 @@ def written_out(text: str, lookup: Lookup, encoded: bool = False) -> str:
 
 
 class Macros:
-    """The values that macros have before Nagios runs, for a check of a host or of a service on it."""
+    """The values of macros before Nagios runs, for a check of a host or of a service on it."""
 
     def __init__(self, network: "Network", host: Members, service: Optional[Members]) -> None:
         self._network, self._host, self._service = network, host, service
 
     def lookup(self, name: str) -> Optional[str]:
-        """The value of a macro; None if it has none that is known here."""
+        """The value of a macro; None if its value isn't known here."""
         name, colon, of = name.partition(":")
         if name in self._network.resource and not colon:
             return self._network.resource[name]
@@ -91,7 +91,7 @@ class Macros:
         return Macros(self._network, host, None).of_member(host, name, HOST_MACROS)
 
     def _of_service(self, name: str, of: str) -> Optional[str]:
-        """A macro of the service, or of another one: of the same host where none is named."""
+        """A macro of the service, or of another one, which is on the same host if none is named."""
         host, colon, description = of.partition(":")
         service = self._network.services.get(f"{host or self._host['host_name']};{description}") if colon else None if of else self._service
         if service is None:
@@ -112,7 +112,7 @@ class Macros:
         return self._of_group("service", name, of, self._network.groups.of_service.get(own, []))
 
     def _of_group(self, kind: str, name: str, of: str, own: Sequence[str]) -> Optional[str]:
-        """A macro of a group, or of the object's first one; as text where it is in none, as Nagios leaves it."""
+        """A macro of a group, or of the object's first one; the macro's text if the object is in no group, as Nagios leaves it."""
         groups = self._network.groups.hosts if kind == "host" else self._network.groups.services
         if not of and not own:
             return f"${kind.upper()}GROUP{name}$"
@@ -124,7 +124,7 @@ class Macros:
         return self.of_member(group, name, {macro: member.format(kind) for macro, member in GROUP_MACROS.items()})
 
     def of_member(self, members: Members, name: str, names: Mapping[str, str]) -> Optional[str]:
-        """What a macro stands for in an object's members. One that is missing is the first of the names, the object's own."""
+        """The value of a macro from an object's members. A missing member is the first of the names, the object's own."""
         if name.startswith("_"):
             return {key.upper(): str(value) for key, value in members.items() if key.startswith("_")}.get(name)
         if name in NOTES:
@@ -171,7 +171,7 @@ def with_arguments(text: str, arguments: Sequence[str], lookup: Lookup) -> str:
 
 
 def arguments_of(check_command: str) -> Tuple[str, List[str]]:
-    """The name of a command and its arguments, which exclamation marks part; behind a backslash one is a letter."""
+    """The name of a command and its arguments, separated by exclamation marks; after a backslash an exclamation mark is a letter."""
     name, *rest = re.split(r"(?<!\\)!", check_command)
     return name.strip(), [argument.replace("\\!", "!") for argument in rest]
 
@@ -181,12 +181,12 @@ def needs_shell(line: str) -> bool:
 
 
 def without_shell(line: Line) -> str:
-    """The line as one that no shell has to run: one that needs a shell begins with it."""
+    """The line as one that needs no shell: a line that needs one begins with the shell."""
     return shlex.join(["/bin/sh", "-c", line.text]) if line.needs_shell else line.text
 
 
 def resource_file(options: Mapping[str, str], beside: pathlib.Path, named: Optional[pathlib.Path]) -> Optional[pathlib.Path]:
-    """Where the resource file is: where it was said, where nagios.cfg says, or, of copied files, beside that; it says so then."""
+    """The path of the resource file: the given one, or the one in nagios.cfg, or, for copied files, the one next to nagios.cfg, which it then reports."""
     if named is not None:
         return named
     if "resource_file" not in options:

@@ -1,4 +1,4 @@
-"""The groups of a configuration of Nagios Core 4: which host, service and contact groups each object is in. For from_nagios.py."""
+"""The groups of a configuration of Nagios Core 4: the host, service and contact groups of each object. For from_nagios.py."""
 import collections
 from typing import Dict, List, Mapping, Sequence, Tuple
 
@@ -19,12 +19,12 @@ def service_names(text: str) -> List[str]:
 
 
 class Groups:
-    """The host and service groups, and the objects that are in them."""
+    """The host and service groups, and their objects."""
 
     def __init__(self, objects: Sequence[Definition]) -> None:
         self.hosts: Dict[str, Members] = {}
         self.services: Dict[str, Members] = {}
-        # The groups of each host, and of each service by its full name: the last one of the file first, as Nagios has them.
+        # The groups of each host, and of each service by its full name: the last one of the file first, as in Nagios.
         self.of_host: Dict[str, List[str]] = collections.defaultdict(list)
         self.of_service: Dict[str, List[str]] = collections.defaultdict(list)
         for kind, _, members in objects:

@@ -4,7 +4,7 @@ from typing import Dict, Optional, Tuple
 from nagios_values import LeftOut, Members, Setup, Value, number, required, switch, whole
 
 TAKEN = {"host_name", "service_description", "parents", "check_interval", "retry_interval", "max_check_attempts", "active_checks_enabled"}
-# Members without a counterpart: the values at which they change nothing, their kind, and what that means here.
+# Members without a counterpart: the values at which they change nothing, their kind, and the effect here.
 MEMBERS: Dict[str, Tuple[Tuple[str, ...], str, str]] = {
     "check_period": ((), "check_period", "a check is due at any time of the day"),
     "check_command": ((), "check_command", "whoever takes a check runs its plugin"),
@@ -44,7 +44,7 @@ def name_of(value: Value) -> str:
 
 
 def timing(members: Members, place: str, left_out: LeftOut, of: str) -> Setup:
-    """What hosts and services have alike; intervals are still those of Nagios."""
+    """The members that hosts and services share; intervals are still those of Nagios."""
     tell_members(members, left_out, of)
     attempts = required(members, "max_check_attempts", place)
     taken: Setup = {
@@ -84,7 +84,7 @@ def end_of(members: Members, place: str, before: str, service: bool) -> str:
 
 
 def dependency_of(members: Members, place: str, service: bool, left_out: LeftOut) -> Optional[Setup]:
-    """A dependency of execution; none where it is one of notifications only."""
+    """A dependency of execution; None if it is only one of notifications."""
     letters = "owucpn" if service else "odupn"
     criteria = members.get("execution_failure_options", members.get("execution_failure_criteria"))
     if "dependency_period" in members and members["dependency_period"] not in left_out.always:

@@ -1,8 +1,8 @@
-"""Few setups of one that is too large, with mirrors where a part needs an object of another. For from_nagios.py.
+"""Divides a setup that is too large into several, with mirrors for objects that a part needs of another. For from_nagios.py.
 
-A piece is what hangs together by parents, dependencies and hosts of services. One that is too large for a setup is cut between hosts, and then a host or a
-master that a part needs stands there too, as a mirror: with all its parents up to the root, a service with its host, a master with the masters of its own.
-A mirror is never checked there: it is off, and its intervals are 0.
+A piece is a set of objects connected by parents, dependencies and hosts of services. A piece that is too large for a setup is cut between hosts. A host or a
+master that another part needs is then a mirror there too. With a host come all its parents up to the root, with a service its host, and with a master its
+own masters. A mirror is never checked there: it is off, and its intervals are 0.
 """
 import collections
 from dataclasses import dataclass, field
@@ -13,17 +13,17 @@ DEPENDENCIES = ("service_dependencies", "host_dependencies")
 NEVER = {"enabled": False, "check_interval": 0, "retry_interval": 0}
 
 Setup = Dict[str, Any]
-# How many objects, dependencies and parents there are.
+# The numbers of objects, dependencies and parents.
 Sizes = Tuple[int, int, int]
 
 
 class CannotBeParted(Exception):
-    """No cut makes a piece small enough, or an object that is named isn't there."""
+    """No cut makes a piece small enough, or a named object doesn't exist."""
 
 
 @dataclass(frozen=True)
 class Limits:
-    """What one setup can have."""
+    """The limits of one setup."""
 
     objects: int = MOST_OBJECTS
     links: int = MOST_LINKS
@@ -42,7 +42,7 @@ def host_of(name: str) -> str:
 
 
 def sizes_of(setup: Setup) -> Sizes:
-    """How many objects, dependencies and parents a setup has."""
+    """The numbers of objects, dependencies and parents of a setup."""
     parents = sum(len(host.get("parents", ())) for host in setup["hosts"])
     return len(setup["hosts"]) + len(setup["services"]), sum(len(setup[kind]) for kind in DEPENDENCIES), parents
 
@@ -57,7 +57,7 @@ class Group:
 
 
 class Network:
-    """The objects of a setup, and what each needs."""
+    """The objects of a setup, and the objects that each needs."""
 
     def __init__(self, setup: Setup) -> None:
         self.hosts: Dict[str, Setup] = {host["name"]: host for host in setup["hosts"]}
@@ -76,7 +76,7 @@ class Network:
                 self.masters[self._there(dependency["dependent"])].append(self._there(dependency["master"]))
 
     def known(self, host: str) -> str:
-        """The name of a host that is there."""
+        """The name of an existing host."""
         if host not in self.hosts:
             raise CannotBeParted(f"no host {host}")
         return host
@@ -92,7 +92,7 @@ class Network:
         return parents
 
     def links(self, names: Iterable[str]) -> Tuple[int, int]:
-        """How many dependencies these have that depend, and how many parents."""
+        """The number of dependencies of these dependents, and the number of their parents."""
         return sum(len(self.masters.get(name, ())) for name in names), sum(len(self.parents(name)) for name in names if name in self.hosts)
 
     def above(self, host: str) -> FrozenSet[str]:
@@ -120,7 +120,7 @@ class Network:
         return found
 
     def group(self, hosts: Iterable[str]) -> Group:
-        """Hosts with their services, and what they need."""
+        """Hosts with their services, and the objects that these need."""
         hosts = list(hosts)
         checked = frozenset([*hosts, *(name for host in hosts for name in self.services[host])])
         masters = self.all_masters(checked)
@@ -128,7 +128,7 @@ class Network:
         return Group(checked, checked.union(masters, *(self.above(host) for host in needed)), checked | masters)
 
     def pieces(self) -> List[List[str]]:
-        """The hosts that hang together, each piece from its roots down, so that hosts with the same parents stand side by side."""
+        """The connected hosts, each piece from its roots down, so that hosts with the same parents are next to each other."""
         beside: Dict[str, List[str]] = {host: [] for host in self.hosts}
         below: Dict[str, List[str]] = {host: [] for host in self.hosts}
         for host in self.hosts:
@@ -151,7 +151,7 @@ class Network:
 
 
 def walk(first: Sequence[str], after: Dict[str, List[str]], seen: Optional[Set[str]] = None) -> Iterator[str]:
-    """All that is reached from these, each once, and what is reached from one before the next."""
+    """All that is reached from these, each once, and everything from one before the next."""
     seen = set() if seen is None else seen
     left = list(reversed(first))
     while left:
@@ -174,7 +174,7 @@ class Part:
     sizes: Sizes = (0, 0, 0)
 
     def sizes_with(self, group: Group) -> Sizes:
-        """Its sizes, were these objects there too."""
+        """Its sizes if these objects were also in it."""
         new, depending = group.there - self.there, group.depending - self.depending
         dependencies, parents = self.network.links(depending)[0], self.network.links(new)[1]
         return self.sizes[0] + len(new), self.sizes[1] + dependencies, self.sizes[2] + parents
@@ -192,7 +192,7 @@ class Part:
         return self.there - self.checked
 
     def setup(self, whole: Setup) -> Setup:
-        """What of the whole setup stands in this part, in its order."""
+        """The objects of the whole setup in this part, in its order."""
         as_here = {name: NEVER for name in self.mirrors()}
         part: Setup = {"options": whole["options"]}
         part["hosts"] = [host | as_here.get(host["name"], {}) for host in whole["hosts"] if host["name"] in self.there]
@@ -204,9 +204,9 @@ class Part:
 
 
 def parts_of(setup: Setup, limits: Limits = Limits(), with_mirrors: bool = True) -> Tuple[List[Setup], Dict[str, Dict[str, str]]]:
-    """Few setups, and of each that has mirrors their names, with the part of the original: `{"part-2": {"gateway": "part-1"}}`.
+    """Several setups, and for each that has mirrors their names, with the part of the original: `{"part-2": {"gateway": "part-1"}}`.
 
-    Each piece goes, the largest first, into the first part with room. One that is too large is cut, or refused where there may be no mirrors."""
+    Each piece goes, the largest first, into the first part with room. A piece that is too large is cut, or refused if mirrors aren't allowed."""
     network = Network(setup)
     pieces = sorted(((network.group(hosts), hosts) for hosts in network.pieces()), key=lambda piece: len(piece[0].there), reverse=True)
     parts: List[Part] = []
@@ -233,7 +233,7 @@ def place(group: Group, wanted: Sequence[Part], parts: List[Part], empty: Part) 
 
 
 def cut(hosts: Sequence[str], parts: List[Part], network: Network, limits: Limits) -> None:
-    """Cuts a piece between its hosts. Each goes where the one before it went, while there is room."""
+    """Cuts a piece between its hosts. Each host goes into the part of the one before it, while there is room."""
     own: List[Part] = []
     for host in hosts:
         group = network.group([host])

@@ -10,7 +10,7 @@ MONTHS = [month.lower() for month in calendar.month_name[1:]]
 MONTH, WEEKDAY, NUMBER = f"({'|'.join(MONTHS)})", f"({'|'.join(WEEKDAYS)})", r"(-?\d+)"
 DATE = r"(\d\d\d\d-\d\d-\d\d)"
 ALL_DAY = ["00:00-24:00"]
-# Members of a time period that say no times.
+# Members of a time period that describe no times.
 OTHER = {"timeperiod_name", "alias", "exclude"}
 
 # Days with other times, and a period, as a site has them.
@@ -19,11 +19,11 @@ Period = Dict[str, Any]
 
 
 class CannotSay(Exception):
-    """Dates that a site's periods can't say."""
+    """Dates that a site's periods can't express."""
 
 
 def days_between(first: Tuple[int, int], last: Tuple[int, int]) -> List[Tuple[int, int]]:
-    """Each month and day from one to another, over the end of the year where the second comes before the first."""
+    """Each month and day from one to another, over the end of the year if the second comes before the first."""
     days = [(month, day) for month in range(1, 13) for day in range(1, calendar.monthrange(2024, month)[1] + 1)]
     begin, end = days.index(first), days.index(last)
     return days[begin : end + 1] if begin <= end else days[begin:] + days[: end + 1]
@@ -48,7 +48,7 @@ def nth(weekday: str, number: str, month: Optional[str], times: List[str]) -> Da
     return [date if month is None else {"month": MONTHS.index(month) + 1, **date}]
 
 
-# Each form of dates, and what is made of its parts and the times.
+# Each form of dates, and how its parts and the times are converted.
 FORMS: List[Tuple[str, Callable[..., Dates]]] = [
     (DATE, lambda times, day: [{"first": day, "last": day, "times": times}]),
     (f"{DATE} - {DATE}", lambda times, first, last: [{"first": first, "last": last, "times": times}]),
@@ -63,7 +63,7 @@ FORMS: List[Tuple[str, Callable[..., Dates]]] = [
 
 
 def times_of(value: str) -> List[str]:
-    """Times such as 09:00-17:00, of which several may stand with a comma between two."""
+    """Times such as 09:00-17:00, or several of them with commas."""
     return [times.strip() for times in value.split(",") if times.strip()]
 
 
@@ -76,7 +76,7 @@ def dates_of(name: str, times: List[str]) -> Dates:
 
 
 def period_of(members: Mapping[str, str]) -> Tuple[Period, List[str]]:
-    """A period as a site has it, and the members that it can't say."""
+    """A period as a site has it, and the members that a site can't express."""
     weekdays: Dict[str, List[str]] = {}
     dates: Dates = []
     unsaid = []

@@ -1,4 +1,4 @@
-"""The folder of a site, as nagsched-monitor reads it, of a configuration of Nagios Core 4. For from_nagios.py --site."""
+"""The folder of a site, as nagsched-monitor reads it, from a configuration of Nagios Core 4. For from_nagios.py --site."""
 import contextlib
 import fcntl
 import json
@@ -12,7 +12,7 @@ import nagios_commands
 import nagios_periods
 from nagios_groups import Definition, Members
 
-# What Nagios takes where nagios.cfg doesn't say.
+# Nagios's defaults for options that nagios.cfg doesn't set.
 DEFAULTS = {
     "service_check_timeout": "60",
     "host_check_timeout": "30",
@@ -20,19 +20,19 @@ DEFAULTS = {
     "service_check_timeout_state": "c",
     "additional_freshness_latency": "15",
 }
-# How many plugins may run at once where the site has no limit.
+# The number of plugins that may run at once if the site has no limit.
 SLOTS = 200
-# What the monitor does, and so isn't left out: kinds of from_nagios.py.
+# Features that the monitor has, which therefore aren't left out: kinds of from_nagios.py.
 DONE = {"check_period", "check_command", "check_freshness", "objects without active checks", "timeperiod definitions", "command definitions",
         "hostgroup definitions", "servicegroup definitions"}
-# How long a reload that reads the site is waited for, in seconds.
+# The longest wait for a reload that reads the site, in seconds.
 PATIENCE = 30.0
 
 Options = Mapping[str, str]
 
 
 class CannotWrite(Exception):
-    """Why the site can't be written. What was there is as it was."""
+    """Why the site can't be written. The old files are unchanged."""
 
 
 def option(options: Options, name: str) -> str:
@@ -49,7 +49,7 @@ def checked(objects: Sequence[Definition]) -> List[Tuple[str, str, Members]]:
 
 
 def periods_of(objects: Sequence[Definition]) -> Tuple[Dict[str, Any], Dict[str, List[str]]]:
-    """The periods, which objects go by which, and what can't be said, by the objects that it matters to."""
+    """The periods, the period of each object, and the parts that can't be expressed, with the objects that these affect."""
     periods: Dict[str, nagios_periods.Period] = {}
     unsaid: Dict[str, List[str]] = {}
     for kind, _, members in objects:
@@ -80,7 +80,7 @@ def with_excluded(periods: Mapping[str, nagios_periods.Period], names: Set[str])
 
 
 def passive_of(options: Options, objects: Sequence[Definition], interval_of: Mapping[str, int]) -> Dict[str, Dict[str, Any]]:
-    """Which objects are passive only, and how fresh the results of which have to be."""
+    """The passive objects, and the freshness that their results need."""
     passive = {}
     for name, _, members in checked(objects):
         entry: Dict[str, Any] = {}
@@ -106,7 +106,7 @@ def commands_of(options: Options, objects: Sequence[Definition], lines: Mapping[
 
 
 def monitor_of(options: Options, before: Mapping[str, Any]) -> Dict[str, Any]:
-    """The monitor's options: what nagios.cfg says, else what the site had before, else what Nagios takes. Other members stay."""
+    """The monitor's options: from nagios.cfg, otherwise from the site, otherwise Nagios's defaults. Other members stay."""
     said: Dict[str, Any] = {}
     if int(options.get("max_concurrent_checks", "0")):
         said["slots"] = int(options["max_concurrent_checks"])
@@ -135,7 +135,7 @@ def zone_of(name: str) -> str:
 
 
 def options_before(folder: pathlib.Path) -> Dict[str, Any]:
-    """The members of the site's monitor.json, where there is one."""
+    """The members of the site's monitor.json, if there is one."""
     path = folder / "monitor.json"
     try:
         members = json.loads(path.read_text(encoding="utf-8")) if path.exists() else {}
@@ -147,7 +147,7 @@ def options_before(folder: pathlib.Path) -> Dict[str, Any]:
 
 
 def write_new(path: pathlib.Path, document: Any, mode: int) -> pathlib.Path:
-    """Writes a file beside the one that it is to replace."""
+    """Writes a file next to the one that it will replace."""
     new = path.with_name(path.name + ".new")
     file = os.open(new, os.O_WRONLY | os.O_CREAT | os.O_TRUNC, mode)
     with open(file, "w", encoding="utf-8") as written:
@@ -179,10 +179,10 @@ def alone(folder: pathlib.Path) -> Iterator[int]:
 
 
 def write_site(folder: pathlib.Path, setups: Sequence[Any], files: Mapping[str, Any]) -> None:
-    """Writes the files of a site, all beside the old ones first; then they take their places together, so that no reload sees half of them. Files of the site
-    that was there before and have no counterpart now are gone; others stay.
+    """Writes the files of a site, first all of them next to the old ones. Then they replace these together, so that no reload sees half of them. Old files
+    without a counterpart now are deleted; others stay.
 
-    Command lines may hold passwords: their file is for its owner only."""
+    Command lines may contain passwords: only the owner can read their file."""
     folder.mkdir(parents=True, exist_ok=True)
     names = ["setup"] if len(setups) == 1 else [f"part-{number}" for number in range(1, len(setups) + 1)]
     documents = {**dict(zip(names, setups)), **files}

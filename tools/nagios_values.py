@@ -1,4 +1,4 @@
-"""The values of Nagios's files, read and tested; what is wrong names its file and line. For from_nagios.py."""
+"""The values of Nagios's files, read and tested; an error names its file and line. For from_nagios.py."""
 import collections
 import fractions
 import functools
@@ -11,16 +11,16 @@ import nagios_parts
 
 MOST_UNITS = 525_600
 MINUTES, MILLISECONDS = 525_600, 86_400_000
-# How many objects are named of each kind that is left out.
+# The number of objects that are named for each kind that is left out.
 FEW = 5
 
 
 class CannotTakeOver(Exception):
-    """Something that a setup can't say."""
+    """A setting that a setup can't express."""
 
 
 class Value(str):
-    """The text of a member, with the place where it stands."""
+    """The text of a member, with its place in the file."""
 
     place: str
 
@@ -40,9 +40,10 @@ Setup = Dict[str, Any]
 
 
 class LeftOut:
-    """What has no counterpart here, by kind: how often it was met, what that means, and for which objects."""
+    """Settings without a counterpart here, by kind: how often each occurred, its effect, and for which objects."""
 
-    # The kinds by harm: what changes which checks are made and what counts as a problem, then who hears of it, then the rest by name.
+    # The kinds by harm: first those that change which checks are made and what counts as a problem, then those that change who is notified.
+    # The others follow by name.
     WORST = (
         "quotes around values", "parents of services", "passive_checks_enabled 0", "is_volatile", "passive results of hosts", "dependency_period",
         "flap thresholds of an object", "flap_detection_enabled 0",
@@ -54,7 +55,7 @@ class LeftOut:
         self.kinds: Counter[str] = collections.Counter()
         self.meanings: Dict[str, str] = {}
         self.names: Dict[str, List[str]] = collections.defaultdict(list)
-        # The time periods that include each time: an object that has one loses nothing.
+        # The time periods that include each time: an object with one of these loses nothing.
         self.always: Set[str] = set()
 
     def add(self, kind: str, meaning: str, name: Optional[str] = None) -> None:
@@ -64,7 +65,7 @@ class LeftOut:
             self.names[kind].append(name)
 
     def tell(self, without: Collection[str] = (), named: int = 0) -> None:
-        """Names each kind that isn't one of these, the worst first, with so many of its objects."""
+        """Names each kind that isn't one of these, the worst first, with some of its objects."""
         for kind in sorted(self.kinds, key=lambda kind: (self.WORST.index(kind) if kind in self.WORST else len(self.WORST), kind)):
             if kind not in without:
                 count = len(set(self.names[kind])) or self.kinds[kind]
@@ -80,7 +81,7 @@ class LeftOut:
 
 
 def lines_of(path: pathlib.Path) -> Iterator[Tuple[str, str]]:
-    """The lines of a file that say something, each with its place."""
+    """The lines of a file except comments and empty ones, each with its place."""
     try:
         lines = path.read_bytes().split(b"\n")
     except OSError as error:
@@ -95,7 +96,7 @@ def lines_of(path: pathlib.Path) -> Iterator[Tuple[str, str]]:
 
 
 def read_options(path: pathlib.Path) -> Members:
-    """The options of nagios.cfg; of one that stands twice the last counts."""
+    """The options of nagios.cfg; if one occurs twice, the last counts."""
     options = {}
     for place, line in lines_of(path):
         name, equals, value = line.partition("=")
@@ -136,7 +137,7 @@ exactly = functools.lru_cache(maxsize=1_024)(fractions.Fraction)
 
 
 def number(value: Value) -> fractions.Fraction:
-    """A number that is written with or without a point, exactly. Few are different among those of many objects."""
+    """A number that is written with or without a point, exactly. Many objects share few different numbers."""
     try:
         return exactly(str(value))
     except (ValueError, ZeroDivisionError):
@@ -144,7 +145,7 @@ def number(value: Value) -> fractions.Fraction:
 
 
 def whole(value: Value, of: fractions.Fraction, least: int, most: int) -> int:
-    """That number, where it is whole and within its limits."""
+    """The number of a value, which has to be whole and within its limits."""
     if of.denominator != 1 or not least <= of <= most:
         value.refuse(f"{value} is {float(of):g} here; it can be a whole number from {least} to {most}")
     return int(of)
@@ -169,7 +170,7 @@ def factor(value: Value) -> Union[str, int]:
 
 
 def percent(value: Value) -> int:
-    """A percent, rounded up: they are whole here."""
+    """A percent, rounded up: percents are whole here."""
     return whole(value, fractions.Fraction(math.ceil(number(value))), 0, 100)
 
 

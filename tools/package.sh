@@ -1,8 +1,8 @@
 #!/usr/bin/env bash
-# Makes Debian packages of what was built: nagsched, libnagsched2, libnagsched-dev, python3-nagsched, nagsched-monitor. The number is
-# that of the library's surface.
-#   tools/package.sh [DIRECTORY]     out/packages where no folder is named
-# It builds and proves nothing: tools/install.sh installs what is there, and says which command to run where something isn't. Wants dpkg-deb.
+# Makes Debian packages from the built files: nagsched, libnagsched2, libnagsched-dev, python3-nagsched, nagsched-monitor. The number
+# is the version of the library's interface.
+#   tools/package.sh [DIRECTORY]     out/packages if no folder is named
+# It builds and proves nothing: tools/install.sh installs the built files, and prints which command to run if one is missing. Needs dpkg-deb.
 set -eu -o pipefail
 top=$(cd "$(dirname "$0")/.." && pwd)
 mkdir -p "${1:-$top/out/packages}"
@@ -17,7 +17,7 @@ all=$work/all/usr
 strip --strip-unneeded "$all/bin/nagsched" "$all/lib/libnagsched.so.$surface" "$all/lib/nagsched/nagsched-runner"
 glibc=$(objdump -T "$all/bin/nagsched" "$all/lib/libnagsched.so" | grep -o 'GLIBC_[0-9.]*' | sort -V | tail -n 1 | cut -d_ -f2)
 
-# The scripts by which the monitor's package makes its user, and has systemd know the unit: they run where it is installed.
+# Scripts that make the monitor's user, and inform systemd about the unit, when the monitor's package is installed.
 scripts_of_the_service() {
     cat > "$1/postinst" <<'END'
 #!/bin/sh
@@ -26,7 +26,7 @@ if [ "$1" = configure ]; then
     systemd-sysusers nagsched-monitor.conf
     if [ -d /run/systemd/system ]; then
         systemctl daemon-reload
-        # After an upgrade the sites that run go on with the new program.
+        # After an upgrade the running sites continue with the new program.
         [ -z "$2" ] || systemctl try-restart 'nagsched-monitor@*.service'
     fi
 fi
@@ -41,7 +41,7 @@ END
     cat > "$1/postrm" <<'END'
 #!/bin/sh
 set -e
-# The user and /var/lib/nagsched stay: they hold the sites.
+# The user stays, and so does /var/lib/nagsched, which contains the sites.
 if [ -d /run/systemd/system ]; then
     systemctl daemon-reload
 fi

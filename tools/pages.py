@@ -1,5 +1,5 @@
 #!/usr/bin/env python3
-"""Writes the pages as they are installed: under the names that the programs have there, with links only to pages that are installed too.
+"""Writes the pages as they are installed: with the installed names of the programs, and with links only to installed pages.
 
     tools/pages.py DIRECTORY
 """
@@ -8,7 +8,7 @@ import re
 import sys
 
 TOP = pathlib.Path(__file__).resolve().parent.parent
-# Pages for those who work on nagsched or audit it: they are read in the repository.
+# Pages for people who work on nagsched or audit it, who read them in the repository.
 NOT_INSTALLED = {"DECISIONS", "embedding-rattle", "lock", "proofs"}
 FILES = ("README.md", "CHANGELOG.md", *(f"docs/{page.name}" for page in sorted((TOP / "docs").glob("*.md")) if page.stem not in NOT_INSTALLED))
 PICTURES = ("docs/office.svg", "docs/sequence.svg", "docs/setup.schema.json")
@@ -23,7 +23,7 @@ NOTE = """> These pages are installed with the programs `nagsched`, `nagsched-mo
 > `crates/`, `tools/`, `monitor/`, `bench/` and `.ci/`, and pages without a link, are in the repository.
 
 """
-# What the pages say of the repository, between these comments, and what an installation has in its place.
+# Texts about the repository, between these comments, and their replacements in an installation.
 OF_THE_REPOSITORY = re.compile(r"<!-- repository: (\w+) -->\n(.*?)<!-- end -->\n*", re.DOTALL)
 INSTEAD = {
     "build": """nagsched is installed with this page. This runs an example that is installed, too:
@@ -39,7 +39,7 @@ LINK = re.compile(r"\[([^\]\[]*)\]\(([\w./-]+)(#[\w-]*)?\)")
 
 
 def installed(text: str) -> str:
-    """A page under the names of an installation, with what works there."""
+    """A page with the names of an installation, and with the commands that work there."""
     text = COMMENT.sub("", OF_THE_REPOSITORY.sub(lambda part: INSTEAD.get(part.group(1), ""), text))
     for old, new in NAMES:
         text = re.sub(old, new, text)

@@ -1,11 +1,11 @@
 #!/usr/bin/env python3
-"""Draws what happened: objects down, time across, states by colour.
+"""Draws a picture of a run: objects down, time across, states by colour.
 
     tools/timeline.py INPUT OUTPUT [--from MOMENT] [--to MOMENT] [--objects PATTERN] > picture.svg
 
-INPUT is what nagsched was given (of `run`, `live` or `drill`), OUTPUT what it wrote. A state holds from the moment at which
-its check was taken to that of the next. Moments are milliseconds; from some 1973 on they are shown as times of day in UTC.
-PATTERN is a shell pattern of full names, as 'web-*'.
+INPUT is the input of nagsched (of `run`, `live` or `drill`), OUTPUT its output. A state holds from the moment at which its check
+was taken to that of the next. Moments are milliseconds; from about 1973 on they are shown as times of day in UTC. PATTERN is a
+shell pattern of full names, such as 'web-*'.
 """
 import argparse
 import collections
@@ -32,7 +32,7 @@ Mark = collections.namedtuple("Mark", "moment kind")
 
 
 class History:
-    """What is known of each object, in the order of the setup."""
+    """The known history of each object, in the order of the setup."""
 
     def __init__(self, setup):
         names = [host["name"] for host in setup.get("hosts", [])]
@@ -59,13 +59,13 @@ class History:
             self.marks[reply[2]].append(Mark(moment, "putoff"))
 
     def report(self, reply):
-        """A result was taken: the object stands so since the moment at which its check was taken."""
+        """A result was accepted: the object has this standing since the moment at which its check was taken."""
         _, word, kind, attempt, _, flapping, _, name = reply
         self.states[name].append(State(self.taken.get(name, self.last or 0), word, kind == "HARD", attempt, flapping == "FLAPPING"))
 
 
 def words_of(line):
-    """The words of a line of output; a full name is one, whatever blanks are in it."""
+    """The words of a line of output; a full name is one word, with any spaces in it."""
     counts = {"standing": 7, "taken": 2, "putoff": 2, "freed": 2, "done": 1}
     return line.split(" ", counts.get(line.split(" ", 1)[0], -1))
 
@@ -84,7 +84,7 @@ def of_run(history, lines, replies):
 
 
 def of_drill(history, lines, entries):
-    """The moments come one after another, of each pass apart."""
+    """The moments follow one after another, for each pass separately."""
     moments = [call[1] for call in map(json.loads, filter(str.strip, lines)) if call[0] == "moment"]
     taken = collections.Counter()
     for entry in entries[:-1]:
@@ -98,7 +98,7 @@ def of_drill(history, lines, entries):
 
 
 def history_of(given, written):
-    """What the two files tell."""
+    """The contents of the two files."""
     setup, *lines = given.read_text(encoding="utf-8").split("\n")
     replies = written.read_text(encoding="utf-8").splitlines()
     history = History(json.loads(setup))
@@ -110,7 +110,7 @@ def history_of(given, written):
 
 
 def time_text(moment):
-    """A moment on the axis: a time of day, or so long after 0."""
+    """A moment on the axis: a time of day, or a time since 0."""
     if moment >= CLOCK:
         return datetime.datetime.fromtimestamp(moment / 1000, datetime.timezone.utc).strftime("%d %b %H:%M:%S")
     seconds = moment / 1000
@@ -139,7 +139,7 @@ class Picture:
         self.add(f'<text x="{x:.1f}" y="{y:.1f}" font-size="{size}" fill="{ink}"{more}>{html.escape(told)}</text>')
 
     def axis(self):
-        """A line and a label at round moments, some nine of them."""
+        """A line and a label at round moments, about nine of them."""
         seconds = (self.end - self.begin) / 1000
         step = 1000 * next((it for it in STEPS if seconds / it <= 9), 86_400 * max(1, int(seconds // (9 * 86_400)) + 1))
         moment = -(-self.begin // step) * step
@@ -150,7 +150,7 @@ class Picture:
             moment += step
 
     def spans(self, y, states):
-        """The states of one object, each as long as it held; what follows in the same state is one span."""
+        """The states of one object, each as long as it held; a later result in the same state continues the span."""
         held = []
         for state in states:
             if held and held[-1][1:] == state[1:]:
@@ -177,7 +177,7 @@ class Picture:
                 return
 
     def marks(self, y, marks):
-        """What was put off (a hollow triangle), and what an operator did (a filled one)."""
+        """Checks that were put off (hollow triangles), and operators' actions (filled ones)."""
         for mark in marks:
             if self.begin <= mark.moment <= self.end:
                 x, fill = self.across(mark.moment), "white" if mark.kind == "putoff" else "#1f5fa8"

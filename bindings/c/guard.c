@@ -18,7 +18,7 @@
         return nagsched_proved_##name names;         \
     }
 
-/* A mark that no other desk of the process has: a mark comes again only after 2^64 desks. */
+/* A mark that no other desk of the process has: a mark is repeated only after 2^64 desks. */
 static uint64_t new_mark(void) {
     static _Atomic uint64_t marks;
     return atomic_fetch_add(&marks, 1);

@@ -1,5 +1,5 @@
 #!/usr/bin/env bash
-# Fetches the source package nagios4 (Nagios Core 4.4.6) from the machine's own package sources, and builds it and what runs beside nagsched.
+# Fetches the source package nagios4 (Nagios Core 4.4.6) from the machine's own package sources. Builds it, and the programs that run next to nagsched.
 # Run it manually; it isn't part of the gate. It needs apt-get, a C compiler and make, and takes about a minute. Nothing is installed.
 #   conformance/nagios/build.sh DIRECTORY     leaves DIRECTORY/harness (for judge.py), and cycle and queue (for bench/nagios.sh)
 set -eu

@@ -84,7 +84,7 @@ class Comparison:
             raise Failure(what, f"{self.place}: {what}: Nagios has {nagios}, its model {modelled}")
 
     def compare(self, answer: str, here: object, there: object, *steps: tuple[str, object]) -> bool:
-        """Counts an answer. The steps lead from ours to Nagios's, each with the row that makes it; whether the two are equal."""
+        """Counts an answer. The steps lead from ours to Nagios's, each with the row that makes it. Returns whether the two are equal."""
         self.counts.compared[answer] += 1
         rows, last = set(), here
         for row, value in steps:
@@ -185,7 +185,7 @@ class Comparison:
             self.follow(o)
 
     def spread(self, scheduled: list[Object], place: int, ours: Fraction, exact: Fraction, rough: float) -> Iterator[tuple[str, Fraction]]:
-        """A first time, changed by one row after the other, in seconds from the start."""
+        """A first time, changed by one row after another, in seconds from the start."""
         time, whole = ours, int(place * rough)
         if not scheduled[0].is_host:
             own, count = scheduled[place].check, len(scheduled)
@@ -279,7 +279,7 @@ class Comparison:
             yield "switching off", "putoff"
 
     def forbidden_steps(self, o: Object) -> Iterator[tuple[str, bool]]:
-        """Whether dependencies forbid the check, by one row of Nagios's after the other, each only if something in reach differs by it."""
+        """Whether dependencies forbid the check, by one row of Nagios's after another. A row counts only if something in reach differs by it."""
         def forbids(dependent: Object, letters: bool) -> bool:
             """With each master's state, checked or not, and perhaps the letters that Nagios's reader leaves."""
             for link in dependent.links:
@@ -300,7 +300,7 @@ class Comparison:
         return standing.state if self.rules.options["soft_state_dependencies"] else standing.last_hard
 
     def ask(self, o: Object, now: int) -> str:
-        """Asks nagsched what it would do at this moment, compares which object comes first, and says what becomes of this one."""
+        """Asks nagsched for its answer at this moment, compares which object comes first, and returns the outcome for this object."""
         is_ours = o.run is None and (o.enabled or o.forced)
         outcome = self.here(o, o.run is not None, not is_ours, self.rules.is_full(), self.rules.is_forbidden(o))
         word, first = self.answered(o, now)
@@ -349,7 +349,7 @@ class Comparison:
         self.asked.append((words[1], int(words[3])))
 
     def requests(self, of: Object, result: model.Result, now: int, what: str) -> None:
-        """The checks that Nagios asked for are those of the model; nagsched asks for none."""
+        """Compares the checks that Nagios asked for with the model's; nagsched asks for none."""
         moved = []
         for o, on_demand in result.asked:
             self.counts.requests[f"{what} asks for {relation(o, of)}"] += 1
@@ -446,7 +446,7 @@ class Comparison:
         return o.next
 
     def standing_row(self, o: Object, before: Standing, by_table: Standing, host_down: bool) -> str:
-        """By which row Nagios leaves the table of verdicts at this result."""
+        """The row by which Nagios leaves the table of verdicts at this result."""
         is_good = before.state in model.GOOD
         if not is_good and not (before.attempt == o.most and before.last_hard == before.state if before.kind == HARD
                                 else before.attempt < o.most and before.last_hard in model.GOOD and not o.had_host_problem):
@@ -457,7 +457,7 @@ class Comparison:
 
     def logged(self, o: Object, told: str, names: tuple[str, ...], result: model.Result, by_table: Standing,
                other: list[tuple[str, Standing]], row: str) -> None:
-        """The log, which doesn't always have the standing that Nagios keeps."""
+        """The log, which doesn't always show the standing that Nagios stores."""
         logged = result.logged
         if logged is None:
             self.expect("the log", "-", told)
@@ -516,7 +516,7 @@ def seconds(word: str) -> Moment:
 
 
 def nagios_delay(options: dict[str, Any], sort: str, scheduled: list[Object]) -> float:
-    """The delay between two first checks as Nagios reckons it, in seconds."""
+    """The delay between two first checks as Nagios computes it, in seconds."""
     method, count = options[f"{sort}_inter_check_delay_method"], len(scheduled)
     if method == "s":
         spread: int = options[f"max_{sort}_check_spread"] * 60

@@ -1,7 +1,7 @@
-"""A small history for each row of docs/NAGIOS.md, with what both sides make of it.
+"""A small history for each row of docs/NAGIOS.md, with the answers of both sides.
 
-Most are judged like random ones (`Shown`): the row must explain a difference in the answer that is named, with these values. Times in answers count
-from the start, in milliseconds. Of the others (`Told`) the harness must write these lines about Nagios, and nagsched must answer these calls so.
+Most are judged like random ones (`Shown`): the row must explain a difference in the named answer, with these values. Times in answers count
+from the start, in milliseconds. For the others (`Told`) the harness must write these lines about Nagios, and nagsched must give these answers.
 """
 from __future__ import annotations
 
@@ -16,7 +16,7 @@ ANY = object()  # a value that Nagios draws at random
 
 @dataclasses.dataclass(frozen=True)
 class Shown:
-    """What a history shows: the row, the answer, and its value on both sides."""
+    """The result of a history: the row, the answer, and its value on both sides."""
 
     row: str
     history: History
@@ -27,7 +27,7 @@ class Shown:
 
 @dataclasses.dataclass(frozen=True)
 class Told:
-    """What Nagios does over a history (words of the harness's lines, times from the start), and what nagsched answers to calls."""
+    """Nagios's actions over a history (words of the harness's lines, times from the start), and nagsched's answers to calls."""
 
     row: str
     history: History
@@ -51,7 +51,7 @@ def plan(text: str) -> Plan:
 
 def history(until: int, *objects: dict[str, Any], checks: dict[str, str], commands: tuple[tuple[int, str, str, int], ...] = (),
             links: tuple[dict[str, Any], ...] = (), options: Optional[dict[str, Any]] = None, keeps: bool = False, config: str = "", early: int = 0) -> History:
-    """A history of these hosts and services for so many seconds. First checks aren't spread unless an option says so."""
+    """A history of these hosts and services for this number of seconds. First checks aren't spread unless an option says so."""
     setup = {"options": {"host_inter_check_delay_method": "n", "service_inter_check_delay_method": "n", **(options or {})},
              "hosts": [item for item in objects if "name" in item], "services": [item for item in objects if "host" in item],
              "service_dependencies": [link for link in links if ";" in link["master"]],
@@ -61,7 +61,7 @@ def history(until: int, *objects: dict[str, Any], checks: dict[str, str], comman
 
 
 def spread(count: int, options: dict[str, Any], **members: Any) -> History:
-    """The first checks of so many services, next to each other."""
+    """The first checks of this number of services, next to each other."""
     return history(0, host(check_interval=0), *(service(f"s{number}", **members) for number in range(count)),
                    checks={"h": "0"}, options={"service_inter_check_delay_method": "s", **options})
 
@@ -130,7 +130,7 @@ SHOWN = (
 
 NAGIOS_ONLY = "PROCESS_HOST_CHECK_RESULT;h;1;down"
 
-# A host that is DOWN and UP in turn, after 60 checks, by how many of its services are checked as often: its flag and percent in Nagios.
+# A host that is DOWN and UP in turn, after 60 checks, by the number of its services that are checked as often: its flag and percent in Nagios.
 PERCENTS = ("1 100.000000000", "1 50.657894737", "1 35.460526316", "0 25.986842105", "0 21.052631579", "0 20.263157895", "0 15.986842105")
 
 

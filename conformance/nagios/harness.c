@@ -56,7 +56,7 @@ typedef struct {
 	service *svc; /* NULL for a host */
 	int begun, steps;
 	int takes[STEPS], codes[STEPS];
-	timed_event before; /* the waiting check before a result, for what the result asked */
+	timed_event before; /* the waiting check before a result, for the checks that the result asked for */
 	time_t next_check;
 	int options, waited;
 } object;
@@ -72,7 +72,7 @@ static long long now;
 static long end_time;
 static int keeps, early, begun_before;
 static char logged[64];
-static FILE *out; /* standard output, where Nagios itself also writes otherwise */
+static FILE *out; /* standard output, to which Nagios itself would also write */
 
 /* ---- the clock: each look at it takes a microsecond */
 
@@ -176,7 +176,7 @@ int __wrap_wproc_run_check(check_result *result, char *line, nagios_macros *macr
 	return OK;
 }
 
-/* Notes which checks wait. */
+/* Notes the waiting checks. */
 static void look(void)
 {
 	for (object *o = objects; o < objects + object_count; o++) {
@@ -251,7 +251,7 @@ static void end_run(run *which)
 	free(r.result);
 }
 
-/* ---- the event loop: what comes next is a command, the end of a plugin, or an event of the queue */
+/* ---- the event loop: the next thing is a command, the end of a plugin, or an event of the queue */
 
 static void run_command(order *c)
 {

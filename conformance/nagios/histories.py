@@ -12,9 +12,9 @@ from typing import Any, Sequence
 START = 1_000_000_000  # when each history begins, in seconds
 TIMEOUT = 3600  # seconds for the harness to play the histories that it gets
 Setup = dict[str, Any]  # a setup document as nagsched reads it
-Plan = list[tuple[int, int]]  # how many seconds each check takes, and its return code
+Plan = list[tuple[int, int]]  # for each check, its seconds and its return code
 
-# How often each of the codes 0 to 3 comes, while a plugin is in one mood.
+# The frequency of each of the codes 0 to 3, while a plugin is in one mood.
 MOODS = ((30, 1, 1, 1), (1, 3, 8, 1), (3, 1, 3, 1), (1, 1, 1, 1), (20, 0, 1, 0), (0, 1, 8, 0))
 NAGIOS_WORDS = {"reschedule": "SCHEDULE_{}_CHECK", "force": "SCHEDULE_FORCED_{}_CHECK", "disable": "DISABLE_{}_CHECK", "enable": "ENABLE_{}_CHECK"}
 
@@ -38,7 +38,7 @@ class Command:
 
 @dataclasses.dataclass(frozen=True)
 class History:
-    """What is played. `keeps`: checks on demand stay in Nagios's queue, with its horizon for cached results and its predictive checks."""
+    """A history. `keeps`: checks on demand stay in Nagios's queue, with its horizon for cached results and its predictive checks."""
 
     setup: Setup
     plans: dict[str, Plan]
@@ -54,7 +54,7 @@ class History:
         return [f"play {directory} {START} {self.end} {int(self.keeps)} {self.early}", *plans, *(command.line() for command in self.commands), "go"]
 
     def weight(self) -> int:
-        """How large it is, for finding small examples."""
+        """Its size, for finding small examples."""
         return (len(names(self.setup)) * 100 + len(self.commands) * 30 + sum(len(plan) for plan in self.plans.values())
                 + len(self.setup.get("options", ())) + (self.end - START) // 60)
 
@@ -221,7 +221,7 @@ def shared(item: dict[str, Any]) -> dict[str, Any]:
 
 
 def objects(setup: Setup) -> str:
-    """The objects of a setup. A member that nagsched doesn't know is handed to Nagios as it is."""
+    """The objects of a setup. A member that nagsched doesn't know is passed to Nagios unchanged."""
     lines = [define("command", command_name="c", command_line="/bin/true"),
              define("contact", contact_name="nobody", host_notifications_enabled=0, service_notifications_enabled=0,
                     host_notification_commands="c", service_notification_commands="c")]

@@ -4,11 +4,11 @@
     conformance/nagios/judge.py BUILT [HISTORIES] [--seed SEED] [--program PROGRAM] [--one NUMBER] [--page PAGE]
     conformance/nagios/judge.py BUILT sequences [--program PROGRAM]
 
-build.sh has left the harness in the directory BUILT. Each history is played by the harness, and `nagsched live` answers the same calls. The
-program must answer what the rules say (model.Rules), and Nagios must do what model.Nagios says. Wherever the two sides differ, a row of the page
-docs/NAGIOS.md must explain that very answer; anything else fails, and the history is cut down to a small example. The directed histories
-(directed.py) are played first, so that each row of the page is shown; a row that no history shows fails too. `sequences` plays every sequence
-of seven results, with 1 to 4 attempts, of hosts and of services whose host is up.
+build.sh has left the harness in the directory BUILT. The harness plays each history, and `nagsched live` answers the same calls. The program
+must answer by the rules (model.Rules), and Nagios must act by model.Nagios. If the two sides differ, a row of the page docs/NAGIOS.md must
+explain that very answer. Anything else fails, and the history is cut down to a small example. The directed histories (directed.py) are played
+first, so that each row of the page is shown; a row that no history shows fails too. `sequences` plays every sequence of seven results, with 1
+to 4 attempts, of hosts and of services whose host is up.
 """
 from __future__ import annotations
 
@@ -54,7 +54,7 @@ def last_hard(line: str, place: int) -> str:
 
 
 def run_program(program: str, comparison: Comparison) -> None:
-    """`nagsched live` answers the calls as the rules say."""
+    """`nagsched live` answers the calls according to the rules."""
     script = "".join(call + "\n" for call in comparison.calls)
     try:
         done = subprocess.run([program, "live", "--start", str(START * 1000)], input=script, stdout=subprocess.PIPE, text=True, timeout=TIMEOUT)
@@ -112,7 +112,7 @@ def check_shown(shown: directed.Shown, comparison: Comparison) -> None:
 
 
 def check_told(case: directed.Told, told: Told, program: Optional[str]) -> None:
-    """Nagios's lines come in that order, and the program answers the calls so."""
+    """Nagios's lines come in that order, and the program gives these answers to the calls."""
     lines = iter(" ".join(str(int(word) - START) if word.isdigit() and len(word) == len(str(START)) else word for word in words) + " " for words in told)
     for wanted in case.nagios:
         if not any(line.startswith(wanted + " ") for line in lines):

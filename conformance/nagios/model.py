@@ -1,6 +1,6 @@
-"""The rules of both sides: those of docs/rules.md (`Rules`), and what Nagios Core 4.4.6 does (`Nagios`).
+"""The rules of both sides: those of docs/rules.md (`Rules`), and those of Nagios Core 4.4.6 (`Nagios`).
 
-`Rules` says what the program must answer. `Nagios` says what Nagios's own code must report. judge.py holds each of them to that, and explains
+`Rules` gives the answers that the program must give. `Nagios` gives the reports that Nagios's own code must make. judge.py tests both, and explains
 each difference between the two by rows of docs/NAGIOS.md. Times are in seconds, except nagsched's own, which are in milliseconds.
 """
 from __future__ import annotations
@@ -56,7 +56,7 @@ class Link(NamedTuple):
 
 @dataclasses.dataclass(eq=False)
 class Object:
-    """A host or a service, as nagsched keeps it (`here`) and as Nagios does (`there`)."""
+    """A host or a service, as nagsched stores it (`here`) and as Nagios does (`there`)."""
 
     number: int
     name: str
@@ -171,7 +171,7 @@ class Flaps:
 
 
 def criteria(letters: str, is_host: bool) -> Optional[frozenset[str]]:
-    """The criteria that Nagios's reader leaves of these. Nagios never looks at `p`."""
+    """The criteria that Nagios's reader leaves of these. Nagios never uses `p`."""
     words = letters.split(",")
     if "n" in words:
         if not is_host:
@@ -353,7 +353,7 @@ class Nagios:
         return not o.is_host and not o.forced_option and bool(limit) and self.running >= limit
 
     def barred(self, o: Object, now: int) -> Optional[str]:
-        """Why a host's check isn't begun whose time has come, before dependencies are asked: the row of the page."""
+        """Why the check of a host whose time has come isn't begun, before dependencies are tested: the row of the page."""
         assert o.event is not None
         if not o.is_host or o.event.forced or not (o.executing or o.last_check + self.horizon > now):
             return None
@@ -362,7 +362,7 @@ class Nagios:
         return "host being checked" if o.executing else "recent result"
 
     def interval(self, o: Object) -> int:
-        """By how much a check that can't be made is put off."""
+        """The time by which a check that can't be made is put off."""
         interval = self.rules.interval(o, o.there)
         return interval if interval > 0 or not o.is_host else 300
 
@@ -383,7 +383,7 @@ class Nagios:
             self.schedule(o, now, time, forced, on_demand)
 
     def result(self, o: Object, state: str, begun: int, now: int) -> Result:
-        """Handles a result: the standing, and all that the next check depends on. UNREACHABLE is decided by our rule, which is Nagios's."""
+        """Handles a result: the standing, and everything that the next check depends on. Our rule, which is also Nagios's, decides about UNREACHABLE."""
         o.last_check, o.executing, o.scheduled, o.had_host_problem = begun, False, True, o.host_problem
         found = self.host_result(o, state, begun, now) if o.host is None else self.service_result(o, o.host, state, begun, now)
         if not o.is_host:

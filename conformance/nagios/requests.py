@@ -3,10 +3,10 @@
 
     conformance/nagios/requests.py BUILT [HISTORIES] > monitor/tests/nagios_requests.json
 
-build.sh has left the harness in the directory BUILT. A row has the sort of the result's object, its state before and after the result, what the
-other object is to it (its host, a parent or a child), that object's state, and whether Nagios asks for a check of it. A host that was never
-checked is PENDING. Left out are hosts that were checked in the second of the result, whose last result still counts, and hosts that were never
-checked and whose first check is an interval or more ahead.
+build.sh has left the harness in the directory BUILT. A row has the kind of the result's object, its state before and after the result, and the
+other object's relation to it (its host, a parent or a child). Then that object's state, and whether Nagios asks for a check of it. A host that was
+never checked is PENDING. Hosts that were checked in the second of the result, whose last result still counts, are left out. So are hosts that were
+never checked and whose first check is an interval or more ahead.
 """
 from __future__ import annotations
 

@@ -14,7 +14,7 @@ PLAIN: tuple[tuple[str, Any], ...] = (("parents", []), ("enabled", True), ("chec
 
 
 def without_object(setup: Setup, name: str) -> Setup:
-    """The setup without an object, its services, and all that names it."""
+    """The setup without an object, its services, and everything that names it."""
     less = copy.deepcopy(setup)
     less["hosts"] = [host for host in less["hosts"] if host["name"] != name]
     less["services"] = [service for service in less.get("services", ()) if name not in (service["host"], f"{service['host']};{service['description']}")]
@@ -92,7 +92,7 @@ def smallest(history: History, shows: Callable[[History], bool]) -> History:
 
 
 def told(history: History) -> str:
-    """A history to read: times in seconds from the start, and of each check how long it takes and its code."""
+    """A history to read: times in seconds from the start, and for each check its duration and its code."""
     setup = {part: value for part, value in history.setup.items() if value}
     lines = [f"  setup {histories.text(setup)}", f"  until {history.end - START} s{', checks on demand stay' if history.keeps else ''}"]
     lines += [f"  checks of {name}: {' '.join(f'{takes}s:{code}' for takes, code in plan)}" for name, plan in history.plans.items()]

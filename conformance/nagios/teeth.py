@@ -3,7 +3,7 @@
 
     conformance/nagios/teeth.py BUILT [HISTORIES [SEED]]     500 histories if no number is given
 
-A wrong rule acts as a program that answers by it, so only Nagios can detect it. The output has the number of the first history that does.
+A wrong rule acts as a program that answers by it, so only Nagios can detect it. The output has the number of the first history that detects it.
 Then each row of docs/NAGIOS.md is left out, one at a time, and the directed histories must fail. The status is 1 if something isn't detected.
 """
 from __future__ import annotations

@@ -14,7 +14,7 @@ class DamagedRow(MonitorFault):
 
 
 class ConversationEnded(MonitorFault):
-    """The scheduler's process can't be started, has ended, gave no answer in time, or answered what no scheduler answers."""
+    """The scheduler's process can't be started, has ended, gave no answer in time, or gave an answer that no scheduler gives."""
 
 
 class NotStored(Exception):

@@ -5,7 +5,7 @@
  *     /bin/sh -c 'df -h | grep -q "^/dev"'
  *
  * A pattern has as many words as the command line, and each fits the word in its place. `*` fits any text and `?` any character within a word. A wildcard at
- * the beginning of a word fits no word that begins with `-`, so that it lets no option in. Text in quotes or after a backslash is literal.
+ * the beginning of a word fits no word that begins with `-`, so that it admits no option. Text in quotes or after a backslash is literal.
  */
 #include "allowed.h"
 
@@ -16,7 +16,7 @@
 #include <string.h>
 
 enum { MOST_BYTES = 1 << 20 };
-/* What the wildcards become where they aren't literal. */
+/* The bytes that replace wildcards, except literal ones. */
 enum { ANY_TEXT = 1, ANY_CHARACTER = 2 };
 
 struct pattern {
@@ -32,7 +32,7 @@ struct allowed {
 
 /* ---- reading */
 
-/* Reads one word in place, and returns where the line continues; NULL if a quote or a backslash has no end. The word never gets longer. */
+/* Reads one word in place, and returns the place after it in the line; NULL if a quote or a backslash has no end. The word never gets longer. */
 static char *read_word(char *at, char **to) {
     char quote = '\0';
     for (; *at != '\0' && (quote != '\0' || (*at != ' ' && *at != '\t')); at++) {
@@ -52,7 +52,7 @@ static char *read_word(char *at, char **to) {
     return quote == '\0' ? at : NULL;
 }
 
-/* Reads the words of a line in place. False if it is no pattern. */
+/* Reads the words of a line in place. Returns false if it isn't a pattern. */
 static bool read_pattern(char *line, struct pattern *pattern) {
     char *to = line;
     pattern->words = line;
@@ -70,7 +70,7 @@ static bool read_pattern(char *line, struct pattern *pattern) {
     return true;
 }
 
-/* Reads the patterns of a text. 0, or the number of the line that is none. */
+/* Reads the patterns of a text. Returns 0, or the number of the line that isn't a pattern. */
 static size_t read_patterns(char *text, struct allowed *allowed) {
     struct pattern **last = &allowed->first;
     size_t number = 0;

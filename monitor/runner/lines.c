@@ -31,12 +31,12 @@ static char *put_character(char *to, unsigned point) {
     return to;
 }
 
-/* How many bytes the character has that this byte begins; 0 if it begins none. */
+/* The number of bytes of the character that begins with this byte; 0 if no character does. */
 static size_t length_by_lead(unsigned char lead) {
     return lead < 0x80 ? 1 : lead >= 0xC2 && lead < 0xE0 ? 2 : lead >= 0xE0 && lead < 0xF0 ? 3 : lead >= 0xF0 && lead < 0xF5 ? 4 : 0;
 }
 
-/* How many bytes the character at `at` has; 0 if there is none. */
+/* The number of bytes of the character at `at`; 0 at the end or if the bytes are no character. */
 static size_t character_length(const unsigned char *at, size_t left) {
     size_t length = length_by_lead(*at);
     if (length == 0 || length > left)
@@ -49,7 +49,7 @@ static size_t character_length(const unsigned char *at, size_t left) {
     return is_overlong || is_none ? 0 : length;
 }
 
-/* How much of these bytes is left without a character that the cut has split. */
+/* The length of these bytes without a character that the cut has split. */
 static size_t whole_length(struct kept kept) {
     if (kept.length < MOST_KEPT)
         return kept.length;
@@ -73,7 +73,7 @@ static long hexadecimal(const char *at) {
     return rest == digits + 4 && strspn(digits, "0123456789abcdefABCDEF") == 4 ? value : -1;
 }
 
-/* Reads the character after a backslash into `to`, and returns where the text continues; NULL if it is none. No word can have a NUL. */
+/* Reads the character after a backslash into `to`, and returns the rest of the text; NULL if it isn't a character. No word can have a NUL. */
 static char *read_escape(char *at, char **to) {
     static const char letters[] = "\"\\/bfnrt", meant[] = "\"\\/\b\f\n\r\t";
     const char *letter = *at == '\0' ? NULL : strchr(letters, *at);
@@ -96,7 +96,7 @@ static char *read_escape(char *at, char **to) {
     return at;
 }
 
-/* Reads a text in place: `*word` is its first byte, and a NUL ends it. Returns where the line continues, or NULL. */
+/* Reads a text in place: `*word` is its first byte, and a NUL ends it. Returns the rest of the line, or NULL. */
 static char *read_text(char *at, char **word) {
     at = skip_spaces(at);
     if (*at++ != '"')
@@ -117,7 +117,7 @@ static char *read_text(char *at, char **word) {
     return at + 1;
 }
 
-/* Reads a list of one or more texts into `list`, which has room for each comma's, and NULL after them. */
+/* Reads a list of one or more texts into `list`, which has room for one text per comma and one more, and for the NULL after them. */
 static char *read_list(char *at, char **list) {
     at = skip_spaces(at);
     if (*at++ != '[')

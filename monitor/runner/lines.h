@@ -8,7 +8,7 @@
 enum {
     /* The longest line of a job, in bytes with its newline. */
     MOST_LINE = 1 << 20,
-    /* How much of a plugin's standard output, and of its standard error, a result has, in bytes. */
+    /* The most bytes of a plugin's standard output, and of its standard error, in a result. */
     MOST_KEPT = 4096,
     /* The longest line of a result: each byte of both streams can become `\u0000`. */
     MOST_RESULT = 2 * 6 * MOST_KEPT + 512
@@ -21,8 +21,8 @@ struct job {
     double limit;
 };
 
-/* Reads the job of a line, and changes the line: the words lie in it. False if the line is no job; `number` is -1 then, unless it was read. Call `job_free` in
- * both cases. */
+/* Reads the job of a line, and changes the line, which holds the words afterwards. Returns false if the line is no job; then `number` is -1, unless it was
+ * read. Call `job_free` in both cases. */
 bool job_read(char *line, struct job *job);
 void job_free(struct job *job);
 
@@ -39,9 +39,9 @@ struct ending {
     bool is_stuck;
 };
 
-/* Each of these writes a line to `to`, which has room for MOST_RESULT bytes, and returns where the line ends. */
+/* Each of these writes a line to `to`, which has room for MOST_RESULT bytes, and returns the end of the line. */
 char *write_result(char *to, long long job, struct ending ending, struct kept output, struct kept errors);
-/* The plugin never ran, or nothing is known of it: the check has to be made again. */
+/* The plugin never ran, or its result is unknown: the check has to be made again. */
 char *write_lost(char *to, long long job, struct kept why);
 /* The process of a plugin that was reported as stuck has ended. */
 char *write_gone(char *to, long long job);

@@ -64,7 +64,7 @@ void send_results(struct runner *runner) {
 
 /* ---- one plugin */
 
-/* A process that is being started has this file too, for a moment: closing it alone doesn't end its events. */
+/* A process that is being started also has this file, for a moment, so closing the file alone doesn't end its events. */
 void close_stream(const struct runner *runner, struct stream *stream) {
     if (stream->file < 0)
         return;
@@ -111,7 +111,7 @@ static void forget(const struct runner *runner, struct plugin *plugin) {
     free(plugin);
 }
 
-/* How a process ended that has this status. */
+/* How a process with this status ended. */
 static struct ending ending_of(const struct plugin *plugin, int status) {
     if (plugin->phase == IS_KILLED)
         return (struct ending){"limit", SIGKILL, false};

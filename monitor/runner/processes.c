@@ -15,7 +15,7 @@
 
 extern char **environ;
 
-/* A plugin, as its process, the runner and the guard see it: its process group, and the error for which it could not be run. */
+/* A plugin, as its process, the runner and the guard see it: its process group, and the error that kept it from running. */
 struct entry {
     volatile pid_t group;
     volatile int error;
@@ -26,7 +26,7 @@ static struct entry *table;
 static int free_places[MOST_PLUGINS], free_count;
 static struct rlimit files;
 static pid_t guard = -1;
-/* The guard reads the other end of this pipe. Nobody writes: it ends when the runner does. */
+/* The guard reads the other end of this pipe. Nobody writes to it, and it ends when the runner does. */
 static int guard_pipe = -1;
 static int nothing = -1;
 static long long ended_for_memory;
@@ -51,7 +51,7 @@ void processes_close(void) {
 
 /* ---- memory */
 
-/* How many processes the kernel has ended for their memory since the machine was started. */
+/* The number of processes that the kernel has killed for lack of memory since the machine was started. */
 static long long count_ended_for_memory(void) {
     FILE *file = fopen("/proc/vmstat", "re");
     char name[64];
@@ -118,7 +118,7 @@ bool processes_open(void) {
     raised.rlim_cur = files.rlim_max;
     setrlimit(RLIMIT_NOFILE, &raised);
     ended_for_memory = count_ended_for_memory();
-    do /* no file of the runner's takes the place of a standard one that is closed */
+    do /* no file of the runner's may replace a closed standard file */
         nothing = open("/dev/null", O_RDWR);
     while (nothing >= 0 && nothing <= STDERR_FILENO);
     table = mmap(NULL, MOST_PLUGINS * sizeof *table, PROT_READ | PROT_WRITE, MAP_SHARED | MAP_ANONYMOUS, -1, 0);
@@ -139,8 +139,8 @@ bool is_local_trouble(int error) {
     return true;
 }
 
-/* Makes the process the program of these words, which is looked for in PATH if its name has no `/`. It returns with the error. A file that is no program isn't
- * handed to a shell: an empty one would be OK. */
+/* Replaces the process by the program of these words, which is looked for in PATH if its name has no `/`. Returns only with the error. A file that is no
+ * program isn't passed to a shell: an empty one would be OK. */
 static int run_program(char *const *words) {
     const char *path = getenv("PATH"), *end;
     char file[PATH_MAX];
@@ -167,10 +167,10 @@ static int run_program(char *const *words) {
 static void offer_to_be_killed(void) {
     int file = open("/proc/self/oom_score_adj", O_WRONLY | O_CLOEXEC);
     if (file >= 0 && write(file, "500", 3) != 3)
-        errno = 0; /* it may not: nothing is lost */
+        errno = 0; /* this may be forbidden, and then nothing is lost */
 }
 
-/* What the new process does: it returns never. */
+/* The code of the new process, which never returns. */
 static void become(char *const *words, struct entry *entry, pid_t runner, int output, int errors) {
     sigset_t none;
     setpgid(0, 0);
@@ -183,7 +183,7 @@ static void become(char *const *words, struct entry *entry, pid_t runner, int ou
     dup2(nothing, STDIN_FILENO);
     dup2(output, STDOUT_FILENO);
     dup2(errors, STDERR_FILENO);
-    close_range(STDERR_FILENO + 1, ~0U, 0); /* while the program is loaded, too: a file system may hang then */
+    close_range(STDERR_FILENO + 1, ~0U, 0); /* also while the program is loaded, when a file system may hang */
     setrlimit(RLIMIT_NOFILE, &files);
     entry->error = run_program(words);
     _exit(127);
@@ -199,7 +199,7 @@ static int fork_plugin(char *const *words, struct started *started, const int *o
         return errno;
     if (started->process == 0)
         become(words, entry, runner, output[1], errors[1]);
-    setpgid(started->process, started->process); /* it does so too: whoever comes first */
+    setpgid(started->process, started->process); /* the new process does so too: the first of the two decides */
     entry->group = started->process;
     started->output = output[0];
     started->errors = errors[0];

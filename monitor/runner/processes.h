@@ -5,16 +5,16 @@
 #include <stdbool.h>
 #include <sys/types.h>
 
-/* How many plugins one runner can run at once. */
+/* The most plugins that one runner can run at once. */
 #ifndef MOST_PLUGINS
 #define MOST_PLUGINS 16384
 #endif
 
-/* Prepares what all starts share, raises the limit of open files as far as it may be raised, and starts the guard: a process that kills the plugins if the
- * runner ends in any way. False if one of them can't be had. */
+/* Prepares what all starts share, raises the limit of open files as far as possible, and starts the guard. The guard is a process that kills the plugins if the
+ * runner ends in any way. Returns false if one of these steps fails. */
 bool processes_open(void);
 
-/* Whether a process that has ended was the guard. It is started again then. */
+/* Whether a process that has ended was the guard, which is then started again. */
 bool is_guard(pid_t process);
 
 /* A process that was started: its number, its place in the table, and the files from which its output and its errors can be read. */
@@ -23,20 +23,20 @@ struct started {
     int place, output, errors;
 };
 
-/* Starts a process with these words, in a group of its own. It is loaded in the process itself, so that this never waits for a file system. 0, or the number
- * of the error that kept it from being started. */
+/* Starts a process with these words, in a group of its own. The process itself loads the program, so that this never waits for a file system. Returns 0, or the
+ * number of the error that kept it from starting. */
 int process_start(char *const *words, struct started *started);
 
-/* Kills a process with its group; it may have ended just now, or belong to another user. */
+/* Kills a process with its group, which may have ended just now, or belong to another user. */
 void process_kill(const struct started *started);
 
-/* Lets go a process that has ended. 0, or the number of the error for which its program could not be run. */
+/* Frees the place of a process that has ended. Returns 0, or the number of the error that kept its program from running. */
 int process_forget(const struct started *started);
 
-/* Whether an error is a fault of this machine at this moment, not of the command line. */
+/* Whether an error is caused by this machine at this moment, not by the command line. */
 bool is_local_trouble(int error);
 
-/* Whether the kernel has ended a process of this machine because memory was short, since it was asked last. */
+/* Whether the kernel has killed a process of this machine for lack of memory, since the last call. */
 bool was_memory_short(void);
 
 /* Kills all plugins. */

@@ -1,8 +1,8 @@
-/* nagsched-runner [--only FILE]: runs plugins. It reads jobs from its standard input and writes results to its standard output, one JSON object a line;
+/* nagsched-runner [--only FILE]: runs plugins. It reads jobs from its standard input and writes results to its standard output, one JSON object per line.
  * docs/scaling.md describes them. Each line that is read has one answer.
  *
- * The runner ends with its standard input, or when nobody reads its results. Its plugins are killed then, with their process groups, even if the runner was
- * killed itself. A plugin is over when its process ends, whatever children it leaves. Nothing is waited for without a limit.
+ * The runner ends with its standard input, or when nobody reads its results. Its plugins are then killed, with their process groups, even if the runner was
+ * killed itself. A plugin's run ends with its process, whether or not children are left. Every wait has a limit.
  */
 #define _GNU_SOURCE
 #include <errno.h>
@@ -21,10 +21,10 @@
 #include "runner.h"
 
 enum { EVENTS_AT_ONCE = 64, NO_ROOM_WAIT = 100, LONGEST_WAIT = 60000 };
-/* How long a plugin that was killed may take to end, in seconds, before it is reported as stuck. */
+/* The limit for the end of a killed plugin, in seconds, after which it is reported as stuck. */
 static const double GRACE = 5.0;
 
-/* What the other events carry that are none of a stream. */
+/* The data of the events that belong to no stream. */
 static const char JOBS, ENDED;
 static char unread[MOST_LINE];
 
@@ -66,7 +66,7 @@ static void refuse(struct runner *runner, const struct job *job) {
     end_line(runner, write_result(next_line(runner), job->number, (struct ending){"failed", 0, false}, kept_text(words), (struct kept){"", 0}));
 }
 
-/* Does what a line says; the newline is a NUL now. */
+/* Obeys a line, whose newline is a NUL now. */
 static void obey(struct runner *runner, char *line, size_t length) {
     struct job job = {.number = -1};
     struct kept no_job = kept_text("the line is no job");
@@ -81,7 +81,7 @@ static void obey(struct runner *runner, char *line, size_t length) {
     job_free(&job);
 }
 
-/* Obeys the lines that were read, as long as there is room for their answers. What is longer than a line can be is dropped up to its end. */
+/* Obeys the lines that were read, as long as there is room for their answers. A line that is too long is dropped up to its end. */
 static void obey_lines(struct runner *runner) {
     char *line = unread, *end;
     size_t left = runner->unread_length;
@@ -148,7 +148,7 @@ static void kill_late_ones(struct runner *runner) {
     }
 }
 
-/* How long nothing has to be done, in milliseconds. */
+/* The time until the next work, in milliseconds. */
 static int quiet_time(const struct runner *runner) {
     double first = INFINITY;
     for (const struct plugin *plugin = runner->running.after; plugin != &runner->running; plugin = plugin->after)
@@ -177,7 +177,7 @@ static void turn(struct runner *runner) {
     int count = epoll_wait(runner->poll, events, EVENTS_AT_ONCE, quiet_time(runner));
     for (int i = 0; i < count; i++)
         handle(runner, &events[i]);
-    finish_ended_ones(runner); /* after all events: none is of a plugin that is gone */
+    finish_ended_ones(runner); /* after all events, so that no event is of a removed plugin */
     kill_late_ones(runner);
     obey_lines(runner);
     runner->is_behind = !has_room(runner);
@@ -185,7 +185,7 @@ static void turn(struct runner *runner) {
 }
 
 static bool open_runner(struct runner *runner) {
-    /* They are blocked, not ignored: a plugin has only to let them through. Others that the caller ignores aren't ignored here. */
+    /* These signals are blocked, not ignored, so a plugin only has to unblock them. Signals that the caller ignores aren't ignored here. */
     static const int blocked[] = {SIGCHLD, SIGPIPE, SIGINT, SIGTERM, SIGHUP};
     sigset_t ends, all;
     sigemptyset(&ends);

@@ -1,4 +1,4 @@
-/* The runner's state, and what is done with a plugin's streams, its end and its result. */
+/* The runner's state, and the handling of a plugin's streams, its end and its result. */
 #ifndef NAGSCHED_RUNNER_H
 #define NAGSCHED_RUNNER_H
 
@@ -11,7 +11,7 @@
 
 enum { MOST_UNSENT = 1 << 20 };
 
-/* One of a plugin's streams, and what is kept of it. */
+/* One of a plugin's streams, and the stored part of its bytes. */
 struct stream {
     int file;
     size_t length;
@@ -23,7 +23,7 @@ struct plugin {
     long long job;
     struct started started;
     double deadline;
-    int trouble; /* the error for which its output can't be awaited; 0 if it can */
+    int trouble; /* the error that prevents waiting for its output; 0 without one */
     char program[256];
     enum { RUNS, IS_KILLED, IS_STUCK } phase;
     struct stream output, errors;
@@ -37,7 +37,7 @@ struct runner {
     struct plugin running; /* the ring's head */
 };
 
-/* What the events of standard output carry. */
+/* The data of the events of standard output. */
 extern const char RESULTS;
 
 double now(void);
@@ -45,7 +45,7 @@ double now(void);
 /* Whether one more result has room. */
 bool has_room(const struct runner *runner);
 
-/* Where the next line of a result is written, and that it was written up to `end`. */
+/* The place for the next line of a result, and a note that it was written up to `end`. */
 char *next_line(const struct runner *runner);
 void end_line(struct runner *runner, const char *end);
 
@@ -54,10 +54,10 @@ struct kept kept_text(const char *text);
 /* Adds, changes or ends the events of a file. */
 bool poll_for(const struct runner *runner, int how, int file, unsigned events, const void *whose);
 
-/* Writes the results that wait, as far as they are read. */
+/* Writes the waiting results, as far as they are read. */
 void send_results(struct runner *runner);
 
-/* Reads what there is of a stream, and keeps its beginning. */
+/* Reads the available bytes of a stream, and stores its beginning. */
 void read_stream(const struct runner *runner, struct stream *stream);
 
 void close_stream(const struct runner *runner, struct stream *stream);
@@ -65,7 +65,7 @@ void close_stream(const struct runner *runner, struct stream *stream);
 /* Reports an ending of a plugin. */
 void write_ending(struct runner *runner, const struct plugin *plugin, struct ending ending);
 
-/* Answers a job that was never run: the machine lacked something, or the program can't be run. */
+/* Answers a job that never ran: the machine lacked something, or the program can't be run. */
 void fail(struct runner *runner, long long job, const char *program, int error);
 
 /* Reports a plugin whose process has ended with this status, and forgets it. */

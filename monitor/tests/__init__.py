@@ -1,4 +1,4 @@
-"""Tests of the monitor. Each has a runner: the one that NAGSCHED_RUNNER names, or one that is built here."""
+"""Tests of the monitor. Each has a runner: the program in NAGSCHED_RUNNER, or one that is built here."""
 import atexit
 import os
 import pathlib

@@ -1,4 +1,4 @@
-"""A site on which everything happens, and one fault at one moment of it: what holds afterwards, whichever moment it was."""
+"""A site with all kinds of events, and one fault at one moment of it. Certain facts hold afterwards, at any moment of the fault."""
 import contextlib
 import json
 import os
@@ -22,9 +22,9 @@ from .simulated import BEGIN, PROGRAM, SimulatedClock, SimulatedMonitor
 
 OPTIONS: Dict[str, Any] = {"interval_length": 1, "max_service_check_spread": 1, "max_host_check_spread": 1}
 TIMES: Dict[str, Any] = {"check_interval": 60, "retry_interval": 20, "max_check_attempts": 2}
-# When the gateway fails and is back, when the site is reloaded, when a save is asked for, and how long all of it takes, in seconds.
+# In seconds: when the gateway fails and is back, when the site is reloaded, when a save is requested, and the length of the whole.
 DOWN, UP, RELOAD, SAVE, END, QUIET = 150, 300, 220, 350, 480, 200
-# When passive results come, and of which objects.
+# When passive results come, and for which objects.
 RESULTS = [(40, "near;trap"), (41, "near;trap"), (100, "far;web"), (160, "near;trap"), (221, "far;backup"), (260, "far;web"), (351, "near;trap"),
            (352, "gateway")]
 ORDERS = [(70, "disable", "far;web"), (130, "enable", "far;web"), (240, "reschedule", "near;web")]
@@ -35,7 +35,7 @@ class Killed(BaseException):
 
 
 def write_site(folder: pathlib.Path, is_later: bool) -> None:
-    """Two parts: a gateway with a host behind it in the first, a mirror of it with another host in the second; a reload brings a third."""
+    """Two parts: a gateway with a host below it in the first, and a mirror of it with another host in the second. A reload adds a third."""
     gateway: Dict[str, Any] = {"name": "gateway", **TIMES}
     mirror: Dict[str, Any] = {**gateway, "enabled": False, "check_interval": 0, "retry_interval": 0}
     passive: Dict[str, Any] = {"enabled": False, "max_check_attempts": 1, "check_interval": 0}
@@ -61,14 +61,14 @@ def plugin(name: str, moment: int) -> Tuple[int, int, str]:
 
 
 class Faulty:
-    """The site with a fault: the write with this number is refused or the last one, the exchange with this number is one at which the scheduler ends, or
+    """The site with a fault. The write with this number is refused, or is the last one. Or the scheduler ends at the exchange with this number, or
     the start of a scheduler with this number is refused."""
 
     def __init__(self, folder: pathlib.Path, refused: int = 0, last: int = 0, ends: int = 0, start: int = 0) -> None:
         self.folder, self.refused, self.last, self.ends, self.start = folder, refused, last, ends, start
         self.writes = self.exchanges = self.starts = 0
         self.clock = SimulatedClock()
-        # What was accepted and what was reported, by the words; documents that were stored and that were taken; what came of requests.
+        # Accepted and reported results, by their words; stored and accepted documents; the answers to requests.
         self.accepted: List[str] = []
         self.reported: List[str] = []
         self.documents: Set[str] = set()
@@ -150,17 +150,17 @@ class Faulty:
         return begun
 
     def _take_documents(self) -> Optional[int]:
-        """The command for changes takes what waits."""
+        """The command for changes accepts all waiting changes."""
         with contextlib.suppress(NotStored):
             for number, document in self.monitor.store.outbox():
                 self.taken.add(document)
                 self.monitor.store.write(drop_documents(number))
         return None
 
-    # ---- what happens
+    # ---- events
 
     def run(self) -> None:
-        """All that happens, and then a time in which nothing new does."""
+        """All events, and then a time without new ones."""
         happens: List[Tuple[float, Callable[[], bool]]] = [(RELOAD, self._reload), (SAVE, lambda: self._ask({"do": "save"}))]
         happens += [(at, self._result(number, name)) for number, (at, name) in enumerate(RESULTS)]
         happens += [(at, self._order(number, word, name)) for number, (at, word, name) in enumerate(ORDERS)]
@@ -234,10 +234,10 @@ class Faulty:
             return False
         return True
 
-    # ---- what holds
+    # ---- facts that hold
 
     def _look(self) -> None:
-        """What holds at any time."""
+        """Facts that hold at any time."""
         now = self.clock.now
         for run in self.monitor.scheduling.known.running:
             is_owned = run.owner in (Owner.PLUGIN, Owner.RESULT)
@@ -245,7 +245,7 @@ class Faulty:
                 self.wrong.append(f"{self._now():g} s: a run without a deadline, or past it: {run}")
 
     def judge(self) -> List[str]:
-        """What doesn't hold at the end."""
+        """Facts that don't hold at the end, though they should."""
         wrong = list(self.wrong)
         engine, scheduling = self.monitor.engine, self.monitor.scheduling
         wrong += [line for line in self.lines if line.startswith("fault: ")]
@@ -265,7 +265,7 @@ class Faulty:
         return wrong
 
     def _unmonitored(self) -> List[str]:
-        """Objects whose checks aren't in time and in phase, whose states aren't what their plugins say, or whose mirror stands otherwise."""
+        """Objects whose checks aren't in time and in phase, whose states differ from those of their plugins, or whose mirror's standing differs."""
         wrong = []
         starts = self.monitor.starts()
         now = self.clock.now - BEGIN

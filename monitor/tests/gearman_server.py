@@ -1,4 +1,4 @@
-"""A stand-in for a server of one queue, its clients, and workers that do what a test says. No process, no socket, no time of its own."""
+"""A stand-in for a server of one queue, its clients, and workers that a test controls. No process, no socket, no time of its own."""
 from dataclasses import dataclass, field
 from typing import Any, Dict, List, Optional
 
@@ -8,7 +8,7 @@ from nagsched_monitor.run.gearman_seal import JOB, RESULT, Seal
 
 @dataclass
 class ServedJob:
-    """A job at the server, for the client that handed it in."""
+    """A job at the server, for the client that submitted it."""
 
     client: "StandInClient"
     number: int
@@ -17,12 +17,12 @@ class ServedJob:
 
 @dataclass
 class StandInServer:
-    """A server: it hands jobs to workers in the order of their coming, and forgets those that wait when their client goes, as gearmand does."""
+    """A server: it gives jobs to workers in the order in which they came. When a client leaves, its waiting jobs are forgotten, as gearmand does."""
 
     waiting: List[ServedJob] = field(default_factory=list)
     clients: List["StandInClient"] = field(default_factory=list)
     is_there: bool = True
-    # It takes what is sent, and answers nothing.
+    # It accepts all requests, and answers nothing.
     is_silent: bool = False
     seal: Seal = Seal(b"the key of the test's site")
 
@@ -32,7 +32,7 @@ class StandInServer:
         return client
 
     def take(self) -> Optional[ServedJob]:
-        """A worker takes a job, and says so."""
+        """A worker takes a job, and reports that."""
         if not self.waiting or self.is_silent:
             return None
         job = self.waiting.pop(0)
@@ -45,12 +45,12 @@ class StandInServer:
         job.client.come.append(Happening(Kind.COMPLETE, job.number, self.seal.sign(RESULT, result)))
 
     def lose_worker(self, job: ServedJob) -> None:
-        """A worker ends with a job: it waits again, in front."""
+        """A worker leaves with a job, which waits again, as the first one."""
         if not job.client.is_closed:
             self.waiting.insert(0, job)
 
     def restart(self) -> None:
-        """Another server in its place, which knows of nothing."""
+        """Another server in its place, which knows no job."""
         self.waiting.clear()
         for client in self.clients:
             client.is_lost = True

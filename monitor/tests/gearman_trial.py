@@ -17,12 +17,12 @@ WORKER = HERE / "nagsched-gearman-worker"
 
 
 def missing() -> Optional[str]:
-    """What a trial wants and isn't here; None if all is."""
+    """Missing requirements of a trial; None if this machine has everything."""
     return "gearmand" if shutil.which("gearmand", path=search_path()) is None else None
 
 
 def search_path() -> str:
-    """Where programs are looked for: those of servers are in /usr/sbin."""
+    """The directories of programs: servers are in /usr/sbin."""
     return os.environ.get("PATH", "") + ":/usr/sbin:/sbin"
 
 
@@ -33,7 +33,7 @@ def is_open(address: str, port: int) -> bool:
 
 
 def runner_words(trial: "GearmanTrial", queue: str, *options: str) -> List[str]:
-    """The command of a runner that hands jobs to a queue."""
+    """The command of a runner that sends jobs to a queue."""
     return [str(HERE / "nagsched-gearman-runner"), "--key", str(trial.key), *options, trial.place(), queue]
 
 
@@ -45,7 +45,7 @@ class GearmanTrial:
             free.bind((address, 0))
             self.address, self.port = address, int(free.getsockname()[1])
         self._server: Optional["subprocess.Popen[bytes]"] = None
-        # What the monitor and the workers sign with.
+        # The key with which the monitor and the workers sign.
         self._holder = tempfile.TemporaryDirectory()
         self.key = pathlib.Path(self._holder.name, "gearman.key")
         self.key.touch(0o600)
@@ -71,7 +71,7 @@ class GearmanTrial:
         return self._server.pid
 
     def stop_server(self) -> None:
-        """Has the server stand still; `continue_server` ends it."""
+        """Stops the server; `continue_server` ends that."""
         os.kill(self.server_id(), signal.SIGSTOP)
         while pathlib.Path(f"/proc/{self.server_id()}/stat").read_text().rpartition(")")[2].split()[0] != "T":
             time.sleep(0.01)
@@ -92,7 +92,7 @@ class GearmanTrial:
         return worker
 
     def kill_worker(self, number: int) -> None:
-        """Kills a worker; what it ran, and its runners, end too or go on by themselves."""
+        """Kills a worker; its plugins and its runners end too, or continue without it."""
         worker = self.workers.pop(number)
         worker.kill()
         worker.wait()
@@ -113,7 +113,7 @@ class GearmanTrial:
 
 
 class HandedJobs:
-    """A runner for each queue, that is handed jobs; each answer is kept by the number of its job."""
+    """A runner for each queue; each answer is stored under the number of its job."""
 
     def __init__(self, trial: GearmanTrial, wait: float) -> None:
         self._trial, self._wait = trial, wait
@@ -146,21 +146,21 @@ class HandedJobs:
             lines = lines[jobs.write(lines) or 0 :]
 
     def hand_steadily(self, rate: float, seconds: float, queue: str, words: Sequence[str]) -> None:
-        """Hands on so many jobs a second, in batches as a monitor does."""
+        """Passes on this many jobs per second, in batches as a monitor does."""
         begin, before = time.monotonic(), self.sent
         while time.monotonic() - begin < seconds:
             self.hand(int((time.monotonic() - begin) * rate) - (self.sent - before), queue, words)
             time.sleep(0.05)
 
     def wait(self, seconds: float) -> bool:
-        """Waits until each job is answered; whether it is."""
+        """Waits until each job is answered; returns whether it is."""
         end = time.monotonic() + seconds
         while len(self.answers) < self.sent and time.monotonic() < end:
             time.sleep(0.05)
         return len(self.answers) == self.sent
 
     def wait_until_one_is_made(self, queue: str, seconds: float) -> bool:
-        """Hands in one job after another until a plugin's result comes."""
+        """Submits one job after another until a plugin's result comes."""
         end = time.monotonic() + seconds
         while time.monotonic() < end:
             self.hand(1, queue, ["true"])
@@ -172,7 +172,7 @@ class HandedJobs:
         return False
 
     def ends(self) -> Dict[str, int]:
-        """How many jobs ended in each way; `twice` are those with more than one answer."""
+        """The number of jobs that ended in each way; `twice` counts those with more than one answer."""
         found: Dict[str, int] = {}
         for answers in list(self.answers.values()):
             end = str(answers[0].get("end", "lost")) if len(answers) == 1 else "twice"

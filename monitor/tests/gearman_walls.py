@@ -21,13 +21,13 @@ from .waiting import comes
 MONITOR = pathlib.Path(__file__).resolve().parent.parent / "nagsched-monitor"
 PLUGINS = pathlib.Path("/usr/lib/nagios/plugins")
 SPACE, NEAR, FAR = "nagsched-wall", "10.213.90.1", "10.213.90.2"
-# A program that listens behind the wall only, and one that asks it.
+# A program that listens behind the wall only, and one that sends it a request.
 LISTEN = "import socket; it = socket.create_server(('127.0.0.1', {port})); print(flush=True)\nwhile True: it.accept()[0].close()"
 ASK = "import socket, sys\ntry:\n socket.create_connection(('127.0.0.1', {port}), 2)\nexcept OSError as error:\n print(error); sys.exit(2)\nprint('it listens')"
 
 
 def states_of(folder: pathlib.Path, program: str, count: int, seconds: float = 120) -> Dict[str, List[str]]:
-    """Runs a site until that many objects have been checked: the state and the words of each."""
+    """Runs a site until this many objects have been checked: the state and the output of each."""
     running = subprocess.Popen([sys.executable, str(MONITOR), "--program", program, str(folder)], stdout=subprocess.DEVNULL)
     found: Dict[str, List[str]] = {}
     try:
@@ -58,7 +58,7 @@ def write_site(folder: pathlib.Path, commands: Dict[str, str], **files: Any) -> 
 
 
 def wall(program: str) -> List[str]:
-    """A service that can be reached behind a wall only: the worker there finds it fine, the monitor by itself doesn't."""
+    """A service that can be reached behind a wall only: the worker there finds it OK, the monitor alone doesn't."""
     if os.geteuid() != 0 or shutil.which("ip", path=search_path()) is None:
         print("packages: passed over the wall: it wants root and iproute2")
         return []
@@ -138,7 +138,7 @@ def warning_plugin(folder: pathlib.Path) -> pathlib.Path:
 
 
 def begin_nrpe(folder: pathlib.Path, ends: contextlib.ExitStack) -> str:
-    """Starts NRPE's daemon, and returns the line that asks it."""
+    """Starts NRPE's daemon, and returns the line that sends it a request."""
     # It doesn't run as root.
     port, user = free_port(), "nobody" if os.geteuid() == 0 else getpass.getuser()
     group = grp.getgrgid(pwd.getpwnam(user).pw_gid).gr_name
@@ -154,7 +154,7 @@ def begin_nrpe(folder: pathlib.Path, ends: contextlib.ExitStack) -> str:
 
 
 def begin_sshd(folder: pathlib.Path, ends: contextlib.ExitStack) -> str:
-    """Starts a server of SSH, and returns the line that asks it."""
+    """Starts a server of SSH, and returns the line that sends it a request."""
     server = SshServer()
     ends.callback(server.close)
     options = " ".join(server.options())

@@ -21,7 +21,7 @@ def definition(kind: str, **members: str) -> str:
 
 
 def parent_of(number: int, children: int) -> str:
-    """The parent of a host: the gateway h00000 where the network is flat, else the host above it in a tree of so many children each."""
+    """The parent of a host: the gateway h00000 if the network is flat, otherwise the host above it in a tree with this many children each."""
     return f"h{(number - 1) // children:05}" if children else "h00000"
 
 

@@ -1,4 +1,4 @@
-"""A runner that a test hands lines."""
+"""A runner that gets its lines from a test."""
 import json
 import os
 import pathlib
@@ -35,7 +35,7 @@ class OneRunner:
             data = data[self._jobs.write(data) or 0 :]
 
     def results(self, count: int, seconds: float = LONG) -> List[Dict[str, Any]]:
-        """The next results, as many as come in time, in the order of their jobs."""
+        """The next results that come in time, in the order of their jobs."""
         end, lines = time.monotonic() + seconds, list[Any]()
         while len(lines) < count and select.select([self._results], [], [], max(0, end - time.monotonic()))[0]:
             data = self._results.read(65_536)

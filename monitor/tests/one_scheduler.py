@@ -1,4 +1,4 @@
-"""How results are judged by one scheduler, of as many objects as there are: what the parts of a site are held to."""
+"""One scheduler's judgement of results, for any number of objects: the standard for the parts of a site."""
 from dataclasses import dataclass, field
 from typing import Any, Dict, List, Mapping, Optional, Sequence, Tuple
 
@@ -15,7 +15,7 @@ Told = Tuple[str, str, int, bool]
 
 @dataclass
 class Judged:
-    """An object, and how it stands."""
+    """An object, and its standing."""
 
     host: str
     parents: Sequence[str]
@@ -47,7 +47,7 @@ class OneScheduler:
         self.is_aggressive = False
 
     def add(self, setup: Mapping[str, Any], but: Sequence[str] = ()) -> None:
-        """Adds the objects of a setup, but for some."""
+        """Adds the objects of a setup, except some."""
         options = setup.get("options", {})
         self.is_aggressive = options.get("use_aggressive_host_checking", False)
         for host in setup["hosts"]:
@@ -61,7 +61,7 @@ class OneScheduler:
                 self.objects[name] = Judged(service["host"], (), service["max_check_attempts"], "OK", *limits)
 
     def report(self, name: str, code: int) -> Told:
-        """What a result makes of an object."""
+        """The standing of an object after a result."""
         judged = self.objects[name]
         state = self.state_of(judged, code)
         was_well, was_soft = judged.state in WELL, judged.kind == "SOFT"
@@ -94,5 +94,5 @@ def is_change(before: Optional[Told], now: Told) -> bool:
 
 
 def told_of(standing: Standing) -> Told:
-    """What a scheduler's answer says that one has to say too."""
+    """The parts of a scheduler's answer that this one has to give too."""
     return standing.state, standing.kind, standing.attempt, standing.flapping

@@ -1,4 +1,4 @@
-"""A worker of a Gearman server that a test hands jobs. No server is needed."""
+"""A worker of a Gearman server that gets its jobs from a test. No server is needed."""
 import os
 import time
 import unittest
@@ -16,7 +16,7 @@ from .waiting import comes
 
 
 class StandInConnection:
-    """A connection to no server: a test says what comes, and sees what is sent."""
+    """A connection to no server: a test decides what comes, and sees the packets that are sent."""
 
     def __init__(self, jobs: List[bytes], answers: List[bytes]) -> None:
         self._jobs, self.answers = jobs, answers

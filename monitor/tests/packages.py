@@ -1,9 +1,9 @@
-"""The monitor beside Debian's packages: Nagios's pages over its files, and NSCA's daemon on its pipe.
+"""The monitor with Debian's packages: Nagios's pages over its files, and NSCA's daemon on its pipe.
 
     cd monitor; python3 -m tests.packages PROGRAM UNPACKED CGIS PICTURES [NSCA SEND_NSCA]
 
 PROGRAM is `nagsched`, UNPACKED the folder of the unpacked packages, CGIS that of Nagios's pages in it, PICTURES one for pictures of the pages, or an empty
-word. A site in an outage is monitored; what status.cgi shows of each object is compared with what the monitor prints of it. `packages.sh` fetches the
+word. A site in an outage is monitored. The output of status.cgi for each object is compared with the monitor's output. `packages.sh` fetches the
 packages and runs this.
 """
 import html
@@ -146,14 +146,14 @@ class Site:
         return subprocess.Popen([sys.executable, str(MONITOR), "--program", self._program, "--nagios-files", str(self.nagios), str(self.folder)])
 
     def status(self) -> Dict[str, Tuple[str, str]]:
-        """The state and the words of each object, as the monitor prints them."""
+        """The state and the output of each object, as the monitor prints them."""
         printed = subprocess.run([sys.executable, str(MONITOR), str(self.folder), "status"], stdout=subprocess.PIPE, text=True, check=False).stdout
         found = [re.fullmatch(r"(\w+) \w+ \d+(?: FLAPPING| out| off)* ([^:]*): (.*)", line) for line in printed.splitlines()]
         return {match.group(2): (match.group(1), match.group(3).partition("|")[0]) for match in found if match}
 
 
 def page(cgis: pathlib.Path, site: Site, name: str, query: str, posted: str = "", cookie: str = "") -> str:
-    """What a page of Nagios's writes."""
+    """The output of one of Nagios's pages."""
     environment = {
         **os.environ, "NAGIOS_CGI_CONFIG": str(site.nagios / "cgi.cfg"), "REQUEST_METHOD": "POST" if posted else "GET", "QUERY_STRING": query,
         "REMOTE_ADDR": "127.0.0.1", "REMOTE_USER": CONTACT, "CONTENT_LENGTH": str(len(posted)), "CONTENT_TYPE": "application/x-www-form-urlencoded",
@@ -164,7 +164,7 @@ def page(cgis: pathlib.Path, site: Site, name: str, query: str, posted: str = ""
 
 
 def shown(text: str, link: str) -> Dict[str, Tuple[str, str]]:
-    """The state and the words of each object of a page of status.cgi, by the words of its link."""
+    """The state and the output of each object of a page of status.cgi, by the words of its link."""
     rows = re.findall(link + r"[^>]*>[^\n]*?</a>.*?<td class='status(?:HOST)?([A-Z]+)'>.*?<td class='status[^']*' valign='center'>(.*?)</td>", text, re.DOTALL)
     objects = {}
     for *link_words, state, words in rows:
@@ -183,7 +183,7 @@ def wait(what: Callable[[], bool], seconds: float = 60) -> bool:
 
 
 def compared(cgis: pathlib.Path, site: Site) -> List[str]:
-    """What differs between status.cgi and the monitor."""
+    """The differences between status.cgi and the monitor."""
     on_page = shown(page(cgis, site, "status.cgi", "hostgroup=all&style=hostdetail&limit=0"), r"align=left[^>]*><a href='extinfo.cgi\?type=1&host=([^'&]+)'")
     on_page.update(shown(page(cgis, site, "status.cgi", "host=all&limit=0"), r"align='left'[^>]*><a href='extinfo.cgi\?type=2&host=([^'&]+)&service=([^'&]+)'"))
     printed = site.status()
@@ -192,12 +192,12 @@ def compared(cgis: pathlib.Path, site: Site) -> List[str]:
 
 
 def alike(on_page: Optional[Tuple[str, str]], printed: Tuple[str, str]) -> bool:
-    """The same state, and the same words where the object was checked."""
+    """The same state, and the same output if the object was checked."""
     return on_page is not None and on_page[0] == printed[0] and (printed[0] == "PENDING" or on_page[1] == printed[1].strip())
 
 
 def by_page(cgis: pathlib.Path, site: Site) -> List[str]:
-    """What is wrong where a result is given on Nagios's page for commands."""
+    """The faults when a result is entered on Nagios's page for commands."""
     found = re.search("NagFormId=([0-9a-f]+)", page(cgis, site, "cmd.cgi", f"cmd_typ=30&host=h4&service={TRAP}"))
     form = found.group(1) if found else ""
     words = f"nagFormId={form}&cmd_typ=30&cmd_mod=2&host=h4&service={TRAP}&plugin_state=2&plugin_output=by+the+page&performance_data=&btnSubmit=Commit"

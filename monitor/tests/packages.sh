@@ -1,13 +1,13 @@
 #!/bin/bash
-# The monitor with what Debian has for it: Nagios's pages (nagios4-cgi) and NSCA over its files (tests/packages.py), a browser and promtool
-# (tests/page_pictures.py), gearmand with workers, NRPE and SSH (tests/packages_gearman.py), a runner over SSH (tests/packages_ssh.py), and Alertmanager
-# (tests/packages_alerts.py). What isn't installed is fetched and unpacked into a temporary folder; chromium-headless-shell and prometheus are installed if
-# PICTURES is named, they aren't there and root runs this. What can't be had is passed over, and named.
+# The monitor with Debian's packages: Nagios's pages (nagios4-cgi) and NSCA over its files (tests/packages.py), a browser and promtool
+# (tests/page_pictures.py), gearmand with workers, NRPE and SSH (tests/packages_gearman.py). Then a runner over SSH (tests/packages_ssh.py), and Alertmanager
+# (tests/packages_alerts.py). A package that isn't installed is fetched and unpacked into a temporary folder. chromium-headless-shell and prometheus are
+# installed if PICTURES is named, they are missing and root runs this. A package that can't be fetched is named, and its trial is skipped.
 #
 #     monitor/tests/packages.sh PROGRAM [pages [PICTURES] | gearman [WHAT..] | ssh [CUTS] | alerts [SECONDS]]
 #
-# PROGRAM is nagsched, PICTURES a folder for pictures of the pages, WHAT as packages_gearman.py has it, CUTS how often the connection is cut, SECONDS how long
-# Alertmanager is away. All parts are tried without a second word.
+# PROGRAM is nagsched, PICTURES a folder for pictures of the pages, and packages_gearman.py describes WHAT. CUTS is how often the connection is cut. SECONDS is
+# how long Alertmanager is away. Without a second argument all parts are tried.
 set -eu
 program=$(realpath "$1")
 part=${2:-all}
@@ -22,7 +22,7 @@ work=$(mktemp -d)
 trap 'rm -rf "$work"' EXIT
 cd "$work"
 
-# Pictures of the monitor's page, and what promtool says of its figures.
+# Pictures of the monitor's page, and promtool's report about its figures.
 pictures() {
     mkdir -p "$pictures"
     for needed in chromium-headless-shell:chromium-headless-shell promtool:prometheus; do
@@ -51,7 +51,7 @@ pages() {
     (cd "$here/.." && python3 -m tests.packages "$program" "$work/unpacked" "$cgis" "$pictures" ${tools[@]+"${tools[@]}"})
 }
 
-# A package with all that it needs and that isn't installed, unpacked where the tries look for it.
+# A package with its missing dependencies, unpacked in the folder in which the trials look for it.
 fetch() {
     mkdir -p archives/partial
     if apt-get -y --no-install-recommends --download-only --reinstall -o Dir::Cache::archives="$work/archives" install "$@" >apt.out 2>&1; then

@@ -1,8 +1,8 @@
-"""The monitor's alerts with Debian's Alertmanager: what a receiver hears, while the monitor is restarted and Alertmanager is away.
+"""The monitor's alerts with Debian's Alertmanager: the messages at a receiver, while the monitor is restarted and Alertmanager is away.
 
     tests/packages_alerts.py PROGRAM [SECONDS]
 
-PROGRAM is `nagsched`; SECONDS is how long Alertmanager is away, 60 without it. `packages.sh` runs this.
+PROGRAM is `nagsched`; SECONDS is how long Alertmanager is away, by default 60. `packages.sh` runs this.
 """
 import collections
 import http.server
@@ -23,7 +23,7 @@ from tests.ssh_server import free_port  # noqa: E402
 from tests.waiting import comes  # noqa: E402
 
 MONITOR = HERE / "nagsched-monitor"
-# How long something may take to be told, how long nothing else may come then, and a time in which an alert would end that isn't posted again; in seconds.
+# In seconds: the limit for a message, the time in which no other message may follow, and a time after which an alert would end that isn't posted again.
 TOLD, QUIET, KEPT = 60, 15, 330
 CONFIG = """
 route: {{receiver: all, group_by: [host, service], group_wait: 1s, group_interval: 2s, repeat_interval: 4h}}
@@ -38,7 +38,7 @@ Heard = Counter[Tuple[str, str]]
 
 
 class Receiver:
-    """What Alertmanager tells: how often each object was told to be firing and resolved."""
+    """The messages of Alertmanager: how often each object was reported as firing and as resolved."""
 
     def __init__(self) -> None:
         self.heard: Heard = collections.Counter()
@@ -105,7 +105,7 @@ class Trial:
                               check=True).stdout.strip()
 
     def hears(self, what: str, quiet: float, **wanted: Dict[str, int]) -> None:
-        """Whether the receiver comes to have heard just this, and hears nothing else for so long."""
+        """Whether the receiver comes to have exactly these messages, and gets no other for this time."""
         expected = collections.Counter({(name.replace("_", ";"), status): count for name, counts in wanted.items() for status, count in counts.items()})
         begun = time.monotonic()
         comes(lambda: self.receiver.heard == expected, TOLD)

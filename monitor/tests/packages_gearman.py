@@ -2,9 +2,9 @@
 
     tests/packages_gearman.py PROGRAM [WHAT..]
 
-PROGRAM is `nagsched`. WHAT is `rate` (500 checks a second through four workers), `kills` (20 kills of a worker and 3 of the server, as jobs and as a site),
-`wall` (a worker in a network namespace of its own; wants root and iproute2), `remote` (NRPE and check_by_ssh, a line each); all of them without it. Figures
-are printed. What is wanted and isn't here is named, and passed over. `packages.sh` runs this.
+PROGRAM is `nagsched`. WHAT is one or more of the following, by default all. `rate`: 500 checks per second through four workers. `kills`: 20 kills of a worker
+and 3 of the server, as jobs and as a site. `wall`: a worker in a network namespace of its own; needs root and iproute2. `remote`: NRPE and check_by_ssh, a
+line each. Figures are printed. A missing requirement is named, and its trial is skipped. `packages.sh` runs this.
 """
 import collections
 import json
@@ -29,12 +29,12 @@ from tests.gearman_walls import remote, wall  # noqa: E402
 MONITOR = HERE / "nagsched-monitor"
 RATE, INTERVAL, WORKERS, SLOTS = 500, 10, 4, 32
 KILLS, SERVER_KILLS = 20, 3
-# How many seconds a site of that rate runs before it is measured, and while it is; how many its kills take.
+# In seconds: how long a site of that rate runs before it is measured, and while it is, and the length of its kills.
 BEFORE, SECONDS, KILLING = 20, 40, 60
 
 
 def processes_below(process: int) -> List[int]:
-    """A process and all that it began."""
+    """A process and all that it started."""
     found, left = [], [process]
     while left:
         each = left.pop()
@@ -47,7 +47,7 @@ def processes_below(process: int) -> List[int]:
 
 
 def usage(*processes: int) -> Tuple[float, float]:
-    """Processor seconds and resident megabytes of processes and of all below them; those of plugins that have ended are in neither."""
+    """Processor seconds and resident megabytes of processes and all their descendants; those of plugins that have ended are in neither."""
     ticks = pages = 0
     for each in {each for process in processes for each in processes_below(process)}:
         try:
@@ -60,7 +60,7 @@ def usage(*processes: int) -> Tuple[float, float]:
 
 
 def write_site(folder: pathlib.Path, trial: GearmanTrial) -> None:
-    """A site of that many checks a second, in two parts, whose checks all go to one queue."""
+    """A site of this many checks per second, in two parts, whose checks all go to one queue."""
     commands: Dict[str, Any] = {}
     count = RATE * INTERVAL // 2
     for part in (1, 2):
@@ -98,7 +98,7 @@ class RunningSite:
             return sorted(late for (late,) in database.execute("SELECT late FROM standings WHERE late IS NOT NULL")) or [0.0]
 
     def ended(self) -> Counter[Tuple[str, int]]:
-        """How often each run was reported or given up, by the journal."""
+        """How often each run was reported or abandoned, from the stored calls."""
         with sqlite3.connect(self.folder / "monitor.db") as database:
             calls = [json.loads(line) for (line,) in database.execute("SELECT line FROM calls")]
         return collections.Counter((call[1], call[2]) for call in calls if call[0] in ("report", "abandon"))
@@ -110,7 +110,7 @@ class RunningSite:
 
 
 def rate(program: str) -> List[str]:
-    """The rate that goes through one server and four workers, and what it takes."""
+    """The rate that goes through one server and four workers, and its cost."""
     trial = GearmanTrial()
     with tempfile.TemporaryDirectory() as holder:
         site = RunningSite(pathlib.Path(holder), program, trial)
@@ -132,7 +132,7 @@ def rate(program: str) -> List[str]:
 
 
 def mishaps(trial: GearmanTrial, queue: str, seconds: float) -> None:
-    """Kills a worker 20 times and the server three times, over so many seconds, and begins each again."""
+    """Kills a worker 20 times and the server three times, over this many seconds, and starts each again."""
     chance = random.Random(3)
     moments = ["server" if number % 7 == 5 else "worker" for number in range(KILLS + SERVER_KILLS)]
     for what in moments:
@@ -147,7 +147,7 @@ def mishaps(trial: GearmanTrial, queue: str, seconds: float) -> None:
 
 
 def kills_of_jobs() -> List[str]:
-    """Each of 500 jobs a second has one answer, the plugin's, while workers and servers are killed."""
+    """Each of 500 jobs per second has one answer, the plugin's, while workers and servers are killed."""
     trial = GearmanTrial()
     trial.begin_server()
     for _ in range(WORKERS):
@@ -170,7 +170,7 @@ def kills_of_jobs() -> List[str]:
 
 
 def kills_of_a_site(program: str) -> List[str]:
-    """A site of that rate: each run that was taken is reported once, or given up by name."""
+    """A site of that rate: each run that was taken is reported once, or abandoned by name."""
     trial = GearmanTrial()
     with tempfile.TemporaryDirectory() as holder:
         site = RunningSite(pathlib.Path(holder), program, trial)

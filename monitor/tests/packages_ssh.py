@@ -2,8 +2,8 @@
 
     tests/packages_ssh.py PROGRAM [CUTS]
 
-PROGRAM is `nagsched`; CUTS is how often it is cut, 20 without it. `packages.sh` runs this. What is wanted: of 100 checks a second each run is reported once, or
-given up by name and made again; none is reported twice; checks of this machine go on.
+PROGRAM is `nagsched`; CUTS is how often the connection is cut, by default 20. `packages.sh` runs this. Each run of 100 checks per second has to be reported
+once, or abandoned by name and made again. No run is reported twice, and checks of this machine continue.
 """
 import collections
 import json
@@ -30,7 +30,7 @@ RATE, BETWEEN, AFTER = 100, 3.0, 40.0
 
 
 def write_site(folder: pathlib.Path, server: SshServer) -> None:
-    """A host with as many services as there are checks a second, and one whose services are checked here."""
+    """A host with as many services as checks per second, and one whose services are checked here."""
     hosts = [{"name": name, "check_interval": 0, "max_check_attempts": 3, "enabled": False} for name in ("far", "here")]
     services = [{"host": "far", "description": f"s{number:03}", "check_interval": 1, "max_check_attempts": 3} for number in range(RATE)]
     services += [{"host": "here", "description": f"s{number}", "check_interval": 1, "max_check_attempts": 3} for number in range(5)]
@@ -52,7 +52,7 @@ def connections(process: int) -> List[int]:
 
 
 def ended(folder: pathlib.Path) -> Tuple[Counter[Tuple[str, int]], Counter[str]]:
-    """How often each run was reported or given up, by the journal, and how many were."""
+    """How often each run was reported or abandoned, from the stored calls, and the number of reports."""
     with sqlite3.connect(folder / "monitor.db") as database:
         calls = [json.loads(line) for (line,) in database.execute("SELECT line FROM calls")]
     of_runs = [call for call in calls if call[0] in ("report", "abandon")]

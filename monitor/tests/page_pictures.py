@@ -1,8 +1,8 @@
-"""Pictures of the page in a browser, to be looked at, and what promtool says of the figures.
+"""Pictures of the page in a browser, for people to look at, and promtool's report about the figures.
 
     cd monitor; python3 -m tests.page_pictures FOLDER
 
-Three moments, quiet, an outage, and a site of 500 services, and the page of one object, each 1280 and 400 pixels wide. What isn't on the machine is named.
+Quiet, an outage, a site of 500 services, and the page of one object, each 1280 and 400 pixels wide. Missing programs are named.
 """
 import pathlib
 import random
@@ -34,7 +34,7 @@ Objects = Dict[str, Dict[str, Any]]
 
 
 def quiet(hosts: int) -> Objects:
-    """A site on which all is well, with four services a host."""
+    """A site on which all is well, with four services per host."""
     chance, now = random.Random(3), time.time()
     objects: Objects = {}
     for number in range(hosts):
@@ -45,7 +45,7 @@ def quiet(hosts: int) -> Objects:
 
 
 def outage() -> Tuple[Objects, List[KeptChange]]:
-    """A host and its services are down, one behind it can't be reached, and there is some trouble elsewhere. The host was down before on this day."""
+    """A host and its services are down, one below it can't be reached, and there are a few problems elsewhere. The host was down before on this day."""
     now, objects = time.time(), quiet(24)
     wrong = [("web-00", "DOWN", "HARD", 2400, UNREACHABLE), ("web-01", "UNREACHABLE", "HARD", 2300, UNREACHABLE)]
     wrong += [(f"web-00;{service}", "CRITICAL", "HARD", 2350 + len(service), "connect to address 10.0.3.17: No route to host") for service in SERVICES]
@@ -73,7 +73,7 @@ def outage() -> Tuple[Objects, List[KeptChange]]:
 
 
 def figures(count: int) -> Dict[str, float]:
-    """Figures of a monitor that keeps up with so many objects."""
+    """Figures of a monitor that keeps pace with this many objects."""
     return {
         "checks_a_second": count / 300, "latest_start": 0.81, "latest_start_lately": 0.06, "calls": 81234, "saves": 12, "saved_at": time.time() - 77,
         "checks.OK": 70000, "checks.UP": 9000, "checks.DOWN": 31, "late.0.05": 60000, "late.0.1": 19000, "late.1": 31, "late.sum": 3011.5,
@@ -88,7 +88,7 @@ def drawn(browser: str, url: str, width: int, picture: pathlib.Path) -> None:
 
 
 def complaints(url: str) -> None:
-    """What promtool says of the figures: nothing, where they are right."""
+    """promtool's report about the figures: nothing, if they are right."""
     with urllib.request.urlopen(f"{url}metrics", timeout=30) as answer:
         checked = subprocess.run(["promtool", "check", "metrics"], input=answer.read(), stdout=subprocess.PIPE, stderr=subprocess.STDOUT, check=False)
     print(f"promtool ended with {checked.returncode}: {checked.stdout.decode() or 'no complaint'}")

@@ -1,4 +1,4 @@
-"""A site in parts with mirrors, simulated: each result is held to what one scheduler makes of it, and each mirror to its original."""
+"""A site in parts with mirrors, simulated: each result is compared with one scheduler's judgement, and each mirror with its original."""
 import importlib
 import pathlib
 import sys
@@ -53,11 +53,11 @@ class Parted(SiteTest):
     def setUp(self) -> None:
         super().setUp()
         self.one = OneScheduler()
-        # What was answered to the results of each original and of each mirror, in their order, since the parts are as they are.
+        # The answers to the results of each original and of each mirror, in their order, since the last change of the parts.
         self.originals: Dict[str, List[Standing]] = {}
         self.mirrors: Dict[Tuple[int, str], List[Standing]] = {}
         self.results = 0
-        # How each object stands with one scheduler, and its changes there.
+        # The standing of each object with one scheduler, and its changes there.
         self.stands: Dict[str, Told] = {}
         self.wanted: Dict[str, List[Told]] = {}
         owns = Mirrors.owns
@@ -84,14 +84,14 @@ class Parted(SiteTest):
         self.write("commands.json", {name: {"line": "true"} for name in sorted(names)})
 
     def write_cut(self, setup: Dict[str, Any], objects: int) -> int:
-        """The files of a site that is cut into parts of so many objects at most; returns how many parts there are."""
+        """The files of a site that is cut into parts of at most this many objects; returns the number of parts."""
         parts = tool("nagios_parts")
         setups, mirrors = parts.parts_of(setup, parts.Limits(objects=objects))
         self.write_parts(setups, mirrors)
         return len(setups)
 
     def begun(self, plugin: Plugin, clock: Optional[SimulatedClock] = None) -> SimulatedMonitor:
-        """A monitor of the site, each of whose results is held to what one scheduler makes of it."""
+        """A monitor of the site, each of whose results is compared with one scheduler's judgement."""
         monitor = self.monitor(plugin, clock)
         store, make = monitor.scheduling.store, monitor.scheduling.make
         asked: List[AskedOf] = []
@@ -116,7 +116,7 @@ class Parted(SiteTest):
         return monitor
 
     def judge(self, call: Report, answer: Standing) -> None:
-        """Holds the answer to a result to what one scheduler makes of it."""
+        """Compares the answer to a result with one scheduler's judgement."""
         wanted = self.one.report(call.name, call.code)
         if told_of(answer) != wanted:
             self.fail(f"result {self.results}: {call} gave {answer}, and one scheduler gives {wanted}")
@@ -134,7 +134,7 @@ class Parted(SiteTest):
             self.assertEqual(told.get(name), self.wanted.get(name), name)
 
     def assert_alike(self) -> int:
-        """Each result of a mirror was answered as that of its original; returns how many those were. Then the lists begin anew."""
+        """Each result of a mirror was answered as that of its original; returns the number of these results. Then the lists begin from scratch."""
         for (part, name), standings in self.mirrors.items():
             of_original = [told_of(standing) + (standing.changed,) for standing in self.originals[name]]
             self.assertEqual([told_of(standing) + (standing.changed,) for standing in standings], of_original, (part, name))
@@ -143,7 +143,7 @@ class Parted(SiteTest):
         return count
 
     def assert_mirrors_stand(self, monitor: SimulatedMonitor) -> None:
-        """Each mirror stands as its original does, as the schedulers have them."""
+        """Each mirror has the standing of its original, according to the schedulers."""
         schedulers = monitor.scheduling.schedulers
         for part, names in monitor.site.mirrors.items():
             for name, answer in zip(sorted(names), schedulers.ask(part, [Status(name) for name in sorted(names)])):
@@ -152,7 +152,7 @@ class Parted(SiteTest):
                 self.assertEqual((told_of(answer), answer.next), (told_of(original), None), (part, name))
 
     def reload(self, monitor: SimulatedMonitor) -> List[str]:
-        """Goes on with the site as its files are now."""
+        """Continues with the site as its files are now."""
         changed = monitor.engine.reload(read_site(self.folder, PROGRAM))
         self.assert_mirrors_stand(monitor)
         return changed

@@ -1,5 +1,5 @@
 #!/usr/bin/env python3
-"""A runner elsewhere, for tests: it says what a job's first argument is, ends at `end`, and gives no answer to `wait`."""
+"""A runner elsewhere, for tests: it writes a job's first argument, ends at `end`, and gives no answer to `wait`."""
 import json
 import sys
 

@@ -43,11 +43,11 @@ class ProcessTest(SiteTest):
         return subprocess.run([sys.executable, str(MONITOR), str(self.folder), *words], capture_output=True, text=True, check=False)
 
     def states(self) -> List[str]:
-        """The lines of `status`, without the word of those whose check is running."""
+        """The lines of `status`, without the word for a running check."""
         return [line.replace(" out ", " ", 1) for line in self.ask("status").stdout.splitlines()]
 
     def await_states(self, wanted: List[str]) -> None:
-        """Waits until each object stands like this. That a check of it is running doesn't matter: the next one may have begun."""
+        """Waits until each object has this standing. A running check doesn't matter: the next one may have begun."""
         came: List[str] = []
 
         def stand() -> bool:

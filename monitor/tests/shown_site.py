@@ -1,4 +1,4 @@
-"""A site's database as a page reads it, filled by hand."""
+"""A site's database as a page reads it, filled by the test."""
 import http.client
 import pathlib
 import threading
@@ -14,7 +14,7 @@ from .simulated import SiteTest
 
 
 def standing(name: str, state: str = "UP", kind: Optional[str] = "HARD", words: str = "fine", **others: Any) -> Dict[str, Any]:
-    """An object that has stood so for an hour, and is checked again in five minutes."""
+    """An object that has had this standing for an hour, and is checked again in five minutes."""
     now = time.time()
     usual: Dict[str, Any] = {
         "name": name, "state": state, "kind": kind, "attempt": 1, "flapping": False, "since": now - 3600, "hard_since": now - 3600, "last_check": now - 5.0,

@@ -1,4 +1,4 @@
-"""A simulated site: a clock that is set by hand, and plugins that are functions. The schedulers and the database are real."""
+"""A simulated site: a clock that the test sets, and plugins that are functions. The schedulers and the database are real."""
 import heapq
 import json
 import os
@@ -25,14 +25,14 @@ PROGRAM = os.environ.get("NAGSCHED", "nagsched")
 # 2026-11-27 08:00:00, in UTC.
 BEGIN = 1_795_766_400_000
 
-# What a plugin does at a moment: how many milliseconds it takes, its exit code and its output.
+# The result of a plugin at a moment: its duration in milliseconds, its exit code and its output.
 Plugin = Callable[[str, int], Tuple[int, int, str]]
 
 
 @dataclass
 class SimulatedClock:
     now: int = BEGIN
-    # By how much the wall clock is set otherwise.
+    # The difference to which the wall clock is set.
     wall_is_off: float = 0.0
 
     def moment(self) -> int:
@@ -88,7 +88,7 @@ class SimulatedRunners:
 
 @dataclass
 class SimulatedPoller:
-    """Time passes at once; plugins' ends are what comes."""
+    """Time passes at once; the only events are the ends of plugins."""
 
     clock: SimulatedClock
     runners: SimulatedRunners
@@ -115,7 +115,7 @@ class SimulatedMonitor:
         self.store = store or Store(folder)
         self.store._database.execute("PRAGMA synchronous=OFF")
         self.clock = clock or SimulatedClock()
-        # From one turn to the next at least, in milliseconds.
+        # The least time from one turn to the next, in milliseconds.
         self.between = 1
         self.lines: List[str] = []
         self.changes: List[Tuple[int, KeptChange]] = []
@@ -142,7 +142,7 @@ class SimulatedMonitor:
         self.changes += [(self.clock.now, change) for change in self.scheduling.changed()]
 
     def run(self, seconds: float) -> None:
-        """Goes on for so long, with a turn whenever something is due or has come."""
+        """Continues for this time, with a turn when something is due or has come."""
         end = self.clock.now + round(seconds * 1000)
         while self.clock.now < end:
             self.engine.requests.begin_turn()
@@ -153,13 +153,13 @@ class SimulatedMonitor:
             self.clock.now = min(end, max(wanted, self.clock.now + self.between))
 
     def work(self, seconds: float) -> None:
-        """Goes on for so long, by the monitor's own loop."""
+        """Continues for this time, with the monitor's own loop."""
         end = self.clock.now + round(seconds * 1000)
         while self.clock.now < end and self.loop.status is None:
             self.loop.go_round()
 
     def pause(self, seconds: float) -> None:
-        """Nothing runs for so long, as where a machine sleeps."""
+        """Nothing runs for this time, as when a machine sleeps."""
         self.clock.now += round(seconds * 1000)
 
     def ask_line(self, line: bytes) -> Dict[str, Any]:

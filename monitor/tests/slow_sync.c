@@ -1,4 +1,4 @@
-/* A disk whose sync takes 10 milliseconds: put before a program by LD_PRELOAD. Each sync is a byte in the file that SYNCED names. */
+/* A disk whose sync takes 10 milliseconds, loaded before a program by LD_PRELOAD. Each sync writes a byte to the file that SYNCED names. */
 #define _GNU_SOURCE
 #include <dlfcn.h>
 #include <fcntl.h>

@@ -13,7 +13,7 @@ from .waiting import comes
 
 
 def missing() -> Optional[str]:
-    """Which program isn't here; None if all are."""
+    """A program that is missing here; None if all exist."""
     return next((name for name in ("sshd", "ssh", "ssh-keygen") if shutil.which(name, path=search_path()) is None), None)
 
 
@@ -44,7 +44,7 @@ class SshServer:
         comes(lambda: is_open("127.0.0.1", self.port), 10)
 
     def allow(self, command: str) -> None:
-        """The key may run this command alone, whatever is asked for."""
+        """The key may run only this command, for every request."""
         (self.folder / "authorized").write_text(f'restrict,command="{command}" {(self.folder / "user_key.pub").read_text()}')
 
     def options(self) -> List[str]:

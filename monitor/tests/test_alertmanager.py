@@ -1,4 +1,4 @@
-"""The alerts that are posted to Alertmanager, over a server that takes them; and that the examples are files that Prometheus's own tools accept."""
+"""The alerts that are posted to Alertmanager, over a server that accepts them. Prometheus's own tools accept the files of the examples."""
 import datetime
 import http.server
 import json
@@ -49,7 +49,7 @@ class Posting(SiteTest):
         self.addCleanup(mock.patch.stopall)
 
     def look(self) -> List[Tuple[str, str, str, bool]]:
-        """What is posted now: name, host and service of each alert, and whether it stands."""
+        """The alerts that are posted now: name, host and service of each, and whether it is firing."""
         before = len(self.posted)
         self.alerts.look()
         alerts = [alert for alerts in self.posted[before:] for alert in alerts if alert["labels"]["alertname"] != HEARTBEAT]
@@ -58,7 +58,7 @@ class Posting(SiteTest):
                       for it in alerts)
 
     def test_what_stands(self) -> None:
-        """Hard problems and what flaps, with their labels; nothing soft, nothing that is well or was never checked."""
+        """Hard problems and flapping objects, with their labels; no soft problem, nothing that is OK or was never checked."""
         self.write("groups.json", {"web;http": {"host_groups": ["linux", "dmz"], "contact_groups": ["ops"]}})
         now = time.time()
         fill(self.folder, [
@@ -88,7 +88,7 @@ class Posting(SiteTest):
         self.assertEqual(found[HEARTBEAT, None, None]["labels"], {"alertname": HEARTBEAT, "site": site, "severity": "none"})
 
     def test_when_it_is_posted(self) -> None:
-        """At once when something changes, and else every so many seconds; an end is told once."""
+        """At once when something changes, otherwise at a fixed interval; an end is posted once."""
         fill(self.folder, [standing("web"), standing("web;http", "CRITICAL")])
         self.assertEqual(self.look(), [(PROBLEM, "web", "http", True)])
         self.assertEqual(self.look(), [])
@@ -102,7 +102,7 @@ class Posting(SiteTest):
         self.assertEqual([self.look(), self.look()], [[(PROBLEM, "web", "", True)]] * 2)
 
     def test_one_that_takes_nothing(self) -> None:
-        """It is posted again with each look, and said once; an end that wasn't taken is told again."""
+        """It is posted again with each look, and logged once; an end that wasn't accepted is posted again."""
         fill(self.folder, [standing("web", "DOWN")])
         self.look()
         self.is_refusing = True
@@ -151,7 +151,7 @@ class Examples(unittest.TestCase):
         self.check("promtool", "check", "config", "prometheus.yml")
 
     def test_what_the_rules_tell(self) -> None:
-        """By promtool: each rule's alert after some minutes of these figures, and none of it while all is well."""
+        """With promtool: each rule's alert after some minutes of these figures, and no alert while all is well."""
         if shutil.which("promtool") is None:
             self.skipTest("promtool isn't here")
         well = {"up": "1+0x60", "last_turn_timestamp_seconds": "0+60x60", "stuck": "0+0x60", "passive_waiting": "0+0x60", "oldest_change_seconds": "0+0x60",
@@ -182,7 +182,7 @@ class Examples(unittest.TestCase):
                     self.assertIn(f'"{word.rstrip(")")}"', told)
 
     def test_routes(self) -> None:
-        """Who is told, by the labels of an alert."""
+        """The receivers, by the labels of an alert."""
         if shutil.which("amtool") is None:
             self.skipTest("amtool isn't here")
         for labels, wanted in (

@@ -1,4 +1,4 @@
-"""The page as a process of a monitor: started and ended with it, and started anew where it is killed."""
+"""The page as a process of a monitor: started and ended with it, and restarted when it is killed."""
 import http.client
 import json
 import os
@@ -38,7 +38,7 @@ class PageProcess(SiteTest):
         self.log = self.folder / "log"
 
     def started(self, *words: str) -> "subprocess.Popen[bytes]":
-        """A monitor whose lines and those of its page go to a file."""
+        """A monitor whose output and that of its page go to a file."""
         self.write_site([{"name": f"h{number}", "check_interval": 1, "max_check_attempts": 2} for number in range(3)], [])
         self.write("commands.json", {f"h{number}": {"line": f"echo number {number}; exit {number}", "shell": True} for number in range(3)})
         with self.log.open("ab") as log:
@@ -52,7 +52,7 @@ class PageProcess(SiteTest):
         running.wait(timeout=30)
 
     def await_page(self, count: int) -> int:
-        """The port of the page when it was started so often."""
+        """The port of the page when it was started this many times."""
         self.assertTrue(comes(lambda: len(self.starts_of_page()) == count), self.log.read_text())
         return int(self.starts_of_page()[-1].rstrip("/").rpartition(":")[2])
 
@@ -72,7 +72,7 @@ class PageProcess(SiteTest):
         return found
 
     def await_end(self, process: int) -> None:
-        """Waits until it has ended; whether whoever it belongs to then has taken notice doesn't matter."""
+        """Waits until it has ended, whether or not its parent has noticed that."""
         def ended() -> bool:
             try:
                 return " Z " in pathlib.Path(f"/proc/{process}/stat").read_text()
@@ -82,7 +82,7 @@ class PageProcess(SiteTest):
         self.assertTrue(comes(ended))
 
     def test_killed_and_started_anew(self) -> None:
-        """It shows what the monitor counts; killed, it is started anew; it ends with the monitor."""
+        """It shows the monitor's figures; when killed, it is restarted; it ends with the monitor."""
         running = self.started("--page", "127.0.0.1:0")
         port = self.await_page(1)
         self.await_results(port, 6)
@@ -103,7 +103,7 @@ class PageProcess(SiteTest):
         self.assertEqual(running.returncode, 0)
 
     def await_results(self, port: int, count: int) -> None:
-        """Waits until so many hosts were found up."""
+        """Waits until this many hosts were found up."""
         def came() -> bool:
             status, text = self.get(port, "/metrics")
             self.assertEqual(status, 200, text)
@@ -112,7 +112,7 @@ class PageProcess(SiteTest):
         self.assertTrue(comes(came))
 
     def compare(self, port: int) -> None:
-        """The page comes to show each object as its plugin says."""
+        """After a while the page shows the state of each object's plugin."""
         wanted = [("h0", "UP", "HARD", 1, "number 0"), ("h1", "UP", "HARD", 1, "number 1"), ("h2", "DOWN", "HARD", 2, "number 2")]
 
         def shown() -> List[Tuple[Any, ...]]:
@@ -123,7 +123,7 @@ class PageProcess(SiteTest):
         self.assertEqual(shown(), wanted)
 
     def test_the_other_processes(self) -> None:
-        """The figures come as a file, which goes with the monitor; an Alertmanager that isn't there is a line of the log."""
+        """The figures come as a file, which is removed with the monitor; an Alertmanager that can't be reached is a line of the log."""
         with socket.socket() as free:
             free.bind(("127.0.0.1", 0))
             address = f"http://127.0.0.1:{free.getsockname()[1]}"
@@ -168,7 +168,7 @@ class PageProcess(SiteTest):
 
 class Pauses(SiteTest):
     def test_one_that_ends_at_once(self) -> None:
-        """It is started anew at pauses that grow, up to a minute."""
+        """It is restarted after pauses that grow, up to a minute."""
         lines: List[str] = []
         now = [0.0]
         beside = Beside("faults", [], lines.append, lambda: now[0])
@@ -188,7 +188,7 @@ class Pauses(SiteTest):
 
 
     def test_no_room_for_a_process(self) -> None:
-        """It is begun a minute later."""
+        """It is started a minute later."""
         lines: List[str] = []
         now = [0.0]
         beside = Beside("faults", [], lines.append, lambda: now[0])

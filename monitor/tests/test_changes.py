@@ -1,4 +1,4 @@
-"""What is printed of a change, and the command that is run for it."""
+"""The printed line of a change, and the command that is run for it."""
 import datetime
 import json
 import os
@@ -64,7 +64,7 @@ class Command(SiteTest):
         return Notifier(command, self.store, self.lines.append, lambda: time.monotonic() + self.passed, lambda: self.began + self.passed)
 
     def worked(self, command: Optional[str], seconds: float = LONG) -> None:
-        """Works until nothing waits, on a clock that goes on by itself between two tries."""
+        """Works until nothing waits, on a clock that continues alone between two tries."""
         notifier = self.notifier(command)
         end = time.monotonic() + seconds
         while self.store.outbox() and time.monotonic() < end:
@@ -88,7 +88,7 @@ class Command(SiteTest):
         self.assertEqual(names, ["h1", "h2", "h1", "h2"])
 
     def test_a_relay_that_is_away_for_ten_minutes(self) -> None:
-        """Nothing is lost, however often the command fails."""
+        """Nothing is lost, for any number of failures of the command."""
         self.keep(12)
         self.began = 12_000.0
         notifier = self.notifier(f"test -e {self.folder}/up && cat >> {self.folder}/taken")
@@ -106,7 +106,7 @@ class Command(SiteTest):
         self.assertEqual(self.lines, ["the command for changes ended with 1; it is tried again"])
 
     def test_one_that_is_too_old_is_given_up_by_name(self) -> None:
-        """By its age, and never by how often it was tried."""
+        """By its age, and never by the number of tries."""
         self.keep(2)
         self.passed = 1500 + MOST_AGE
         self.worked(f"cat >> {self.folder}/taken")
@@ -138,11 +138,11 @@ class Command(SiteTest):
         self.assertEqual((len((self.folder / "taken").read_text().splitlines()), self.store.outbox()), (1, []))
 
     def test_one_that_may_not_be_killed(self) -> None:
-        """It runs as another user, and longer than it may: it isn't waited for."""
+        """It runs as another user, and longer than its limit: nobody waits for it."""
         self.keep(1)
         notifier = self.notifier("exec sleep 3")
         with mock.patch.object(os, "killpg", side_effect=PermissionError), mock.patch.object(changes, "LIMIT", 0.1), warnings.catch_warnings():
-            warnings.simplefilter("ignore", ResourceWarning)  # of the processes that aren't waited for
+            warnings.simplefilter("ignore", ResourceWarning)  # of the processes that nobody waits for
             notifier.work()
             self.passed += 1
             notifier.work()
@@ -155,7 +155,7 @@ class Command(SiteTest):
         self.assertEqual(len(self.store.outbox()), 1)
 
     def test_no_room_for_it(self) -> None:
-        """One line says why it isn't begun, and it is when there is room."""
+        """One line says why it isn't started, and it is started when there is room."""
         self.keep(1)
         notifier = self.notifier(f"cat >> {self.folder}/taken")
         for what, fault in ((subprocess, "Popen"), (changes, "file_with")):

@@ -1,4 +1,4 @@
-"""The command for changes that is among the examples, over a mail server on this machine."""
+"""The command for changes that is one of the examples, over a mail server on this machine."""
 import json
 import pathlib
 import socketserver

@@ -1,4 +1,4 @@
-"""The socket of a monitor: lines there and back, and no client that holds up another one."""
+"""The socket of a monitor: lines in both directions, and no client that holds up another one."""
 import contextlib
 import socket
 import threading
@@ -15,7 +15,7 @@ from .waiting import comes
 
 
 class Socket(SiteTest):
-    """The socket by itself: each request is answered by `answer` in the turn in which it came."""
+    """The socket alone: each request is answered by `answer` in the turn in which it came."""
 
     def serving(self, answer: bytes = b"") -> control.Control:
         self.files: Dict[int, Callable[[int], None]] = {}
@@ -36,7 +36,7 @@ class Socket(SiteTest):
         return connection
 
     def turn(self, made: control.Control) -> bool:
-        """One turn of the loop around it: what can be read is read."""
+        """One turn of the loop around it, which reads what can be read."""
         for file, read in list(self.files.items()):
             read(file)
         return made.work()
@@ -51,7 +51,7 @@ class Socket(SiteTest):
         self.assertEqual(answers, [b"heard one\n", b"heard two\n"])
 
     def test_one_that_asks_much_leaves_room_for_others(self) -> None:
-        """Of each client so many lines are handed on in one turn; the rest waits, and nothing is lost."""
+        """A limited number of each client's lines is passed on in one turn. The others wait, and nothing is lost."""
         made = self.serving()
         greedy, other = self.asking(), self.asking()
         greedy.sendall(b"".join(b"%d\n" % number for number in range(1_000)))

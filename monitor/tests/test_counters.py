@@ -1,4 +1,4 @@
-"""What the monitor counts of itself: by result, how late checks start, saves; and that it goes on over a restart."""
+"""The monitor's own figures: by result, late starts of checks, saves. They continue after a restart."""
 from typing import Dict, Tuple
 
 from nagsched_monitor.store.counters import BOUNDS, BUCKETS, Counters
@@ -13,13 +13,13 @@ def figures_of(monitor: SimulatedMonitor) -> Dict[str, float]:
 
 
 def late_of(figures: Dict[str, float]) -> float:
-    """How many starts there are in the histogram."""
+    """The number of starts in the histogram."""
     return sum(figures.get(bucket, 0) for bucket in BUCKETS)
 
 
 class Figures(SiteTest):
     def test_each_result_is_counted(self) -> None:
-        """Ten hosts a second for a minute, one of them down: as many results as plugins ended, and each start is in the histogram."""
+        """Ten hosts per second for a minute, one of them down: as many results as plugins ended, and each start is in the histogram."""
         self.write_site([{"name": f"h{number}", "check_interval": 1, "max_check_attempts": 2} for number in range(10)], [])
         monitor = self.monitor(lambda name, moment: (10, 2 if name == "h0" else 0, "some words"))
         monitor.run(60)
@@ -88,7 +88,7 @@ class Histogram(SiteTest):
         return counters, store.figures()
 
     def test_bounds(self) -> None:
-        """A start at a bound is within it; one behind all bounds is counted too."""
+        """A start at a bound is within it; one later than all bounds is counted too."""
         for bound, bucket in zip(BOUNDS, BUCKETS):
             _, figures = self.counted(round(bound * 1000), round(bound * 1000) + 1)
             self.assertEqual(figures[bucket], 1, bucket)

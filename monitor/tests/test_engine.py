@@ -13,7 +13,7 @@ def schedulers_of(monitor: SimulatedMonitor) -> Schedulers:
 
 class Pauses(SiteTest):
     def test_an_even_schedule_stays_even(self) -> None:
-        """6,000 objects each minute, 100 a second: after a pause of 30 seconds what is overdue is made within 15, and then all is as before."""
+        """6,000 objects each minute, 100 per second: after a pause of 30 seconds the overdue checks are made within 15, and then all is as before."""
         options = {"interval_length": 1, "max_service_check_spread": 1, "max_host_check_spread": 1}
         names = []
         for part in (1, 2):
@@ -44,7 +44,7 @@ class Pauses(SiteTest):
 
 
     def test_a_start_behind_a_clock_that_was_ahead(self) -> None:
-        """The clock was an hour ahead, and is right at the next start: moments go on, and checks with them."""
+        """The clock was an hour ahead, and is right at the next start: moments continue, and so do checks."""
         self.write_site([host("web")], [])
         monitor = self.monitor(fine)
         monitor.run(3600)
@@ -60,7 +60,7 @@ class Pauses(SiteTest):
 
 class Outages(SiteTest):
     def outage(self, intervals: Tuple[int, int]) -> Tuple[SimulatedMonitor, int, int]:
-        """A gateway, 50 hosts behind it and ten services on each: the gateway fails after ten minutes, for ten minutes."""
+        """A gateway, 50 hosts below it and ten services on each: the gateway fails after ten minutes, for ten minutes."""
         check, retry = intervals
         hosts = [host("gateway", check_interval=check, retry_interval=retry)]
         hosts += [host(f"h{number:02}", check_interval=check, retry_interval=retry, parents=["gateway"]) for number in range(50)]
@@ -94,7 +94,7 @@ class Outages(SiteTest):
         self.assertEqual(collections.Counter(states.values()), {"UP": 51, "OK": 500})
 
     def test_children_are_looked_at_when_the_parent_is_back(self) -> None:
-        """At once, but for those that were checked within the horizon: these are asked for by the next service that is OK."""
+        """At once, except those that were checked within the horizon: the next service that is OK asks for these."""
         monitor, _, up = self.outage((300, 60))
         monitor.run(1800)
         back = {change.name: moment for moment, change in monitor.changes if change.state == "UP" and moment >= up}
@@ -105,7 +105,7 @@ class Outages(SiteTest):
         self.assertLessEqual(max(back.values()) - back["gateway"], 90_000)
 
     def test_the_rhythm_of_a_host_stays(self) -> None:
-        """A host that is asked for on account of a service is checked at its own times as before."""
+        """A host that is checked because of a service is checked at its own times as before."""
         self.write_site([host("web", check_interval=300)], [service("web", "http", check_interval=70, max_check_attempts=1)])
         monitor = self.monitor(lambda name, moment: (10, 2 if ";" in name and (moment // 70_000) % 2 else 0, ""))
         monitor.run(1300)

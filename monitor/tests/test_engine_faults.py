@@ -1,4 +1,4 @@
-"""What goes wrong around a monitor, simulated: a full disk, schedulers and runners that end, machines that lack something; and what a restart keeps."""
+"""Faults around a monitor, simulated: a full disk, schedulers and runners that end, machines that lack something. And the facts that survive a restart."""
 import os
 import signal
 from typing import Any, List, Sequence, Set
@@ -19,7 +19,7 @@ def schedulers_of(monitor: SimulatedMonitor) -> Schedulers:
 
 class Faults(SiteTest):
     def test_a_full_disk(self) -> None:
-        """No call is made while nothing can be stored; plugins that run are waited for, and then all goes on."""
+        """No call is made while nothing can be stored. The monitor waits for running plugins, and then all continues."""
         self.write_site([host("web"), host("db")], [])
         monitor = self.monitor(lambda name, moment: (5_000, 0, "fine"))
         monitor.run(1)
@@ -39,7 +39,7 @@ class Faults(SiteTest):
         self.assertFalse([line for line in monitor.lines if "too late" in line])
 
     def test_a_scheduler_that_ends(self) -> None:
-        """What runs goes on under the same run: no plugin is started a second time, and its result counts."""
+        """A running check continues under the same run: no plugin is started a second time, and its result counts."""
         self.write_site([host("web")], [service("web", "http")])
         monitor = self.monitor(lambda name, moment: (20_000, 0, "fine"))
         monitor.run(70)
@@ -54,7 +54,7 @@ class Faults(SiteTest):
         self.assertEqual(len([line for line in monitor.lines if "it is started again" in line]), 1)
 
     def test_a_scheduler_that_cant_be_had_for_a_while(self) -> None:
-        """Results wait, whoever asks hears that it may ask again, and then all goes on."""
+        """Results wait, each client's answer says that it may send its request again, and then all continues."""
         self.write_site([host("web")], [service("web", "http")])
         monitor = self.monitor(fine)
         monitor.run(70)
@@ -68,7 +68,7 @@ class Faults(SiteTest):
         self.assertEqual(monitor.engine.made, len(monitor.runners.started))
 
     def test_a_scheduler_that_cant_be_had_at_a_reload(self) -> None:
-        """The site is taken over as a whole, and new objects are checked as soon as their scheduler is there."""
+        """The site is taken over as a whole, and new objects are checked as soon as their scheduler runs."""
         self.write_site([host("web")], [])
         monitor = self.monitor(fine)
         monitor.run(70)
@@ -82,7 +82,7 @@ class Faults(SiteTest):
         self.assertIsNotNone(monitor.engine.objects["new"].phase)
 
     def test_a_call_after_which_the_scheduler_ends(self) -> None:
-        """It is set aside with its number, the others go on, and a start isn't held up by it."""
+        """It is set aside with its number, the others continue, and it doesn't hold up a start."""
         self.write_site([host("web", max_check_attempts=5), host("db")], [])
 
         class Poisoned(Conversation):
@@ -105,7 +105,7 @@ class Faults(SiteTest):
         self.assertGreaterEqual(after.engine.made, 2)
 
     def test_runners_that_end(self) -> None:
-        """A check whose runner ended is given up and made again; the third time it is UNKNOWN."""
+        """A check whose runner ended is abandoned and made again; the third time it is UNKNOWN."""
         self.write_site([host("web")], [service("web", "http", max_check_attempts=1)])
         monitor = self.monitor(fine)
         lost: Set[int] = set()
@@ -122,7 +122,7 @@ class Faults(SiteTest):
         self.assertEqual([(change.state, change.words) for _, change in monitor.changes], [("UNKNOWN", "its runner ended 3 times")])
 
     def test_a_runner_that_gives_no_result(self) -> None:
-        """Behind its limit and a margin it is killed, and the check is made again."""
+        """After its limit and a margin it is killed, and the check is made again."""
         self.write_site([host("web", check_interval=600)], [])
         monitor = self.monitor(lambda name, moment: (10**9 if moment < BEGIN + 10_000 else 10, 0, "fine"))
         monitor.run(70)
@@ -141,7 +141,7 @@ class Faults(SiteTest):
         self.assertIn("web: no runner has run 1", monitor.lines)
 
     def test_what_this_machine_lacks(self) -> None:
-        """A check that can't be started here says nothing of its object: it is tried again after pauses that grow, and stays forced."""
+        """A check that can't be started here says nothing about its object: it is tried again after pauses that grow, and stays forced."""
         self.write_site([host("web", check_interval=600), host("off", enabled=False)], [])
         monitor = self.monitor(fine)
         events = monitor.runners.events
@@ -157,7 +157,7 @@ class Faults(SiteTest):
         self.assertEqual(monitor.store.figures()["checks.not_started"], len(monitor.runners.started) - 2)
 
     def test_a_plugin_that_cant_be_killed(self) -> None:
-        """No second one is started beside it until it has ended; its object counts as timed out."""
+        """No second one is started next to it until it has ended; its object counts as timed out."""
         self.write_site([host("web", check_interval=20)], [])
         monitor = self.monitor(fine)
         events = monitor.runners.events
@@ -177,7 +177,7 @@ class Faults(SiteTest):
         self.assertEqual(len(monitor.runners.started), 3)
 
     def test_the_state_is_saved_while_it_runs(self) -> None:
-        """Every five minutes; the calls before it are let go, and what it has is what the monitor knows."""
+        """Every five minutes. The calls before it are dropped, and it contains what the monitor knows."""
         self.write_site([host("web", check_interval=10)], [])
         monitor = self.monitor(fine)
         monitor.run(290)
@@ -193,7 +193,7 @@ class Faults(SiteTest):
         self.assertGreater(monitor.engine.objects["web"].next, BEGIN)
 
     def test_a_runner_that_nobody_reaches(self) -> None:
-        """What became of its jobs is said, and they take no slot of this machine."""
+        """The fate of its jobs is logged, and they use no slot of this machine."""
         self.write_site([host("web")], [service("web", "http", max_check_attempts=1)], monitor={"slots": 1},
                         runners={"runners": {"dmz": ["true"]}, "objects": {"dmz": ["web"]}})
         monitor = self.monitor(fine)
@@ -215,7 +215,7 @@ class Faults(SiteTest):
         self.assertEqual({change.state for _, change in after.changes}, {"UP", "OK"})
 
     def test_a_restart_tells_no_problem_again(self) -> None:
-        """A result behind the saved state that is as the one before it is no change."""
+        """A result after the saved state that equals the one before it is no change."""
         self.write_site([host("web", max_check_attempts=1)], [])
         monitor = self.monitor(lambda name, moment: (10, 2, "bad"))
         monitor.run(70)

@@ -1,4 +1,4 @@
-"""One fault at one moment of a site on which everything happens: each write refused, each write the last one, each exchange with a scheduler that ends,
+"""One fault at one moment of a site with all kinds of events: each write refused, each write the last one, each exchange with a scheduler that ends,
 each start of one refused. The gate tries some moments of each kind, and FAULTS=all tries all of them."""
 import os
 import pathlib
@@ -8,12 +8,12 @@ from typing import Dict, List
 
 from .faults import Faulty
 
-# How many moments of each kind the gate tries.
+# The number of moments of each kind that the gate tries.
 TRIED = int(os.environ.get("FAULTS_TRIED", "8"))
 
 
 def run(**fault: int) -> Faulty:
-    """All that happens with this fault, and what holds then."""
+    """All events with this fault, and the facts that hold then."""
     with tempfile.TemporaryDirectory() as folder:
         faulty = Faulty(pathlib.Path(folder), **fault)
         try:
@@ -28,7 +28,7 @@ class OneFault(unittest.TestCase):
     counts: Dict[str, int] = {}
 
     def count(self, kind: str) -> int:
-        """How many moments of a kind there are without a fault."""
+        """The number of moments of a kind without a fault."""
         if not self.counts:
             faulty = run()
             self.assertEqual(faulty.wrong, [])

@@ -1,4 +1,4 @@
-"""Taking over a configuration of Nagios: what a macro stands for, groups, the monitor's options, and files that are replaced together."""
+"""Taking over a configuration of Nagios: the values of macros, groups, the monitor's options, and files that are replaced together."""
 import fcntl
 import json
 import os
@@ -41,7 +41,7 @@ SERVICES: Dict[str, Dict[str, str]] = {
     "web;more": {},
     "db;plain": {},
 }
-# What Nagios Core 4.4.6 handed to a plugin of each object, by the macro. None: Nagios leaves the macro as it is, or knows its value at run time only.
+# The values that Nagios Core 4.4.6 passed to a plugin of each object, by the macro. None: Nagios leaves the macro unchanged, or knows its value only later.
 MACROS: Dict[str, Dict[str, Optional[str]]] = {
     "web": {
         "HOSTGROUPNAME": "zebra", "HOSTGROUPNAMES": "zebra,middle,alpha", "HOSTGROUPALIAS": "The zebras", "HOSTNOTES": "about 192.0.2.7 & more",
@@ -92,7 +92,7 @@ class TakingOver(unittest.TestCase):
         return json.loads((self.site / f"{name}.json").read_text())
 
     def small(self, count: int = 1) -> str:
-        """Hosts with a command each, all of one number."""
+        """Hosts with a command each, all with one number."""
         hosts = "".join(defined("host", {"host_name": f"h{number}-{count}", "check_command": "dummy", "max_check_attempts": "3"}) for number in range(count))
         return defined("command", {"command_name": "dummy", "command_line": f"/bin/true {count}"}) + hosts
 
@@ -115,7 +115,7 @@ class TakingOver(unittest.TestCase):
             self.assertEqual(self.read("commands")[name]["line"], "/bin/echo " + " ".join(f"'{macro}={wanted}'" for macro, wanted in macros))
 
     def test_macros_that_nagios_knows_when_it_runs(self) -> None:
-        """An object that has one is disabled, and named."""
+        """An object with such a macro is disabled, and named."""
         for name, macros in MACROS.items():
             for macro in (macro for macro, wanted in macros.items() if wanted is None):
                 told = self.take(self.network({**{each: "/bin/true" for each in {**HOSTS, **SERVICES}}, name: f"/bin/echo '${macro}$'"}))
@@ -133,7 +133,7 @@ class TakingOver(unittest.TestCase):
         })
 
     def test_options_of_the_monitor(self) -> None:
-        """What nagios.cfg says counts, then what was there, then what Nagios takes; members that it can't say stay."""
+        """The values in nagios.cfg count, then the earlier ones, then Nagios's defaults. Members that nagios.cfg can't express stay."""
         self.take(self.small())
         self.assertEqual(self.read("monitor"), {"slots": 200, "cached_host_check_horizon": 15, "service_check_timeout_state": "c"})
         before = {"slots": 5000, "cached_host_check_horizon": 20, "service_check_timeout_state": "u", "zone": "Europe/Paris", "keep_days": 400, "other": [1]}
@@ -145,7 +145,7 @@ class TakingOver(unittest.TestCase):
                                                 "zone": "America/Lima"})
 
     def test_options_that_would_be_lost(self) -> None:
-        """A monitor.json that can't be read stops it, and so does a zone that nobody knows; nothing is changed then."""
+        """A monitor.json that can't be read stops it, and so does an unknown zone; nothing is changed then."""
         self.take(self.small())
         for text in ("{", "[]"):
             (self.site / "monitor.json").write_text(text)
@@ -179,7 +179,7 @@ class TakingOver(unittest.TestCase):
         self.assertIn("left out: use_timezone (1): times are those of the machine's zone", ran.stderr)
 
     def test_values_that_a_shell_obeys(self) -> None:
-        """They are written out as Nagios does it, and the objects are named; one whose command line itself needs the shell isn't."""
+        """They are expanded as Nagios does it, and the objects are named. An object whose command line itself needs the shell isn't named."""
         host = {"alias": "Web; rm -rf /", "_PLAIN": "a b", "check_command": "dummy", "max_check_attempts": "3"}
         lines = {"bare": "/bin/true $HOSTALIAS$", "quoted": "/bin/true '$HOSTALIAS$'", "plain": "/bin/true $_HOSTPLAIN$",
                  "piped": "/bin/true $HOSTALIAS$ | cat"}
@@ -201,7 +201,7 @@ class TakingOver(unittest.TestCase):
         self.assertEqual((self.site / "commands.json").stat().st_mode & 0o777, 0o600)
 
     def test_a_reader_sees_all_files_of_one_time(self) -> None:
-        """Whoever holds the folder's lock finds commands of just the hosts that there are."""
+        """The holder of the folder's lock finds commands of exactly the existing hosts."""
         self.take(self.small(1))
         is_over = threading.Event()
         seen: List[int] = []

@@ -1,4 +1,4 @@
-"""The protocol of a Gearman server: each packet there and back, in whatever pieces it comes, and servers that are none. No gearmand is needed."""
+"""The protocol of a Gearman server: each packet in both directions, in pieces of any size, and servers that don't speak it. No gearmand is needed."""
 import socket
 import unittest
 from typing import List, Tuple
@@ -31,7 +31,7 @@ class Protocol(unittest.TestCase):
         return client, self.accepted()
 
     def requests(self, there: socket.socket, count: int) -> List[Tuple[int, bytes]]:
-        """So many packets of the client."""
+        """This many packets of the client."""
         packets: List[Tuple[int, bytes]] = []
         while len(packets) < count:
             while len(self.unread) < HEADER.size or len(self.unread) < HEADER.size + HEADER.unpack_from(self.unread)[2]:

@@ -1,4 +1,4 @@
-"""What a worker takes of what it is handed: signed jobs of its queues, in their time, and each once. No server is needed."""
+"""Which jobs a worker accepts: signed jobs of its queues, in their time, and each once. No server is needed."""
 import os
 import random
 import time
@@ -13,7 +13,7 @@ from nagsched_monitor.run.jobs import Event, Finished, Job
 from .one_worker import WorkerTest
 
 KEY = b"a key of a test: 16 bytes or more"
-# How many damaged, forged and replayed jobs the worker is handed. By hand: FORGED=100000 python3 -m unittest tests.test_gearman_door
+# The number of damaged, forged and replayed jobs. Manually: FORGED=100000 python3 -m unittest tests.test_gearman_door
 FORGED = int(os.environ.get("FORGED", "4000"))
 
 
@@ -103,7 +103,7 @@ class Signed(WorkerTest):
             self.assertFalse(is_taken(job=number))
 
     def test_what_it_remembers(self) -> None:
-        """A job is remembered as long as it would be taken, and no longer."""
+        """A job is remembered as long as it would be accepted, and no longer."""
         door = Door(self.seal, ["dmz"], lambda: self.now)
         for number in range(100):
             door.job_of(self.document(["true"], job=str(number), time=self.now, until=self.now + 30))
@@ -114,7 +114,7 @@ class Signed(WorkerTest):
         self.assertEqual(len(door._taken), 1)
 
     def test_forged_damaged_and_replayed_jobs(self) -> None:
-        """None is run, none ends the worker, and in the end a good one is run. In between some are signed, which are run once each."""
+        """None of them is run or ends the worker, and in the end a good job is run. Some jobs between them are signed, and are run once each."""
         chance = random.Random(3)
         good: List[bytes] = []
         ran: List[List[str]] = []

@@ -1,4 +1,4 @@
-"""A queue of a Gearman server: each job is answered once, or given up within its limit, whatever server and workers do."""
+"""A queue of a Gearman server: each job is answered once, or abandoned within its limit, for any behaviour of server and workers."""
 import json
 import random
 import unittest
@@ -28,7 +28,7 @@ class OneQueue(unittest.TestCase):
             self.queue.add(self.last, ["plugin", str(self.last)], LIMIT, self.now)
 
     def pass_by(self, seconds: float = 0) -> None:
-        """So many seconds pass, and the queue works."""
+        """Lets this many seconds pass, while the queue works."""
         self.now += seconds
         for _ in range(2):
             self.queue.work(self.now)
@@ -64,7 +64,7 @@ class OneQueue(unittest.TestCase):
         self.assertEqual([(it["job"], it["code"]) for it in self.answers], [(1, 0)])
 
     def test_a_server_that_is_restarted(self) -> None:
-        """What was out is handed in anew, and what the old server's worker finds isn't taken for it."""
+        """Unanswered jobs are submitted again, and an answer of the old server's worker isn't accepted for them."""
         self.add(2)
         self.pass_by()
         old = self.take()
@@ -93,7 +93,7 @@ class OneQueue(unittest.TestCase):
         self.assertEqual(self.ends()[2:], [(3, "exited", "fine")])
 
     def test_a_server_that_gives_no_answer(self) -> None:
-        """Another connection is tried; what the first one had isn't answered twice."""
+        """Another connection is tried; jobs of the first one aren't answered twice."""
         self.server.is_silent = True
         self.add()
         self.pass_by()
@@ -115,7 +115,7 @@ class OneQueue(unittest.TestCase):
         self.assertEqual(self.ends(), [(1, "exited", "fine")])
 
     def test_a_result_after_its_limit(self) -> None:
-        """The job is given up by name; what comes later is dropped."""
+        """The job is abandoned by name; a later answer is dropped."""
         self.add()
         self.pass_by()
         job = self.take()
@@ -127,7 +127,7 @@ class OneQueue(unittest.TestCase):
         self.assertEqual(len(self.answers), 1)
 
     def test_a_worker_that_dies_late(self) -> None:
-        """The limit is one of the job, whatever number of workers have it one after another."""
+        """The limit is that of the job, for any number of workers that have it one after another."""
         self.add()
         self.pass_by()
         job = self.take()
@@ -139,7 +139,7 @@ class OneQueue(unittest.TestCase):
         self.assertEqual(self.ends(), [(1, "lost", "its worker gave no result")])
 
     def test_nobody_takes_anything(self) -> None:
-        """What waits is given up, and the server forgets it; what came later goes on waiting."""
+        """Waiting jobs are abandoned, and the server forgets them; later jobs still wait."""
         self.add(3)
         self.pass_by()
         self.pass_by(1)
@@ -154,7 +154,7 @@ class OneQueue(unittest.TestCase):
         self.assertEqual(self.lines, [])
 
     def test_workers_that_have_too_much_to_do(self) -> None:
-        """While a worker works, a job that waits too long is given up by itself."""
+        """While a worker works, a job that waits too long is abandoned alone."""
         self.add(2)
         self.pass_by()
         self.take()
@@ -182,7 +182,7 @@ class OneQueue(unittest.TestCase):
         self.pass_by()
 
     def test_answers_that_are_not_signed(self) -> None:
-        """Neither are damaged ones, those of another key, and those of jobs before taken."""
+        """Damaged answers aren't accepted either, nor are those with another key, or those of earlier jobs."""
         result = {"job": "mark-1", "code": 0, "end": "exited", "output": "forged"}
         good = self.server.seal.sign(RESULT, result)
         bad = [b"", b"[]", b"\xff", b"[" * 100_000, json.dumps(result).encode(), Seal(b"another key of the network").sign(RESULT, result),

@@ -37,7 +37,7 @@ class OverAServer(unittest.TestCase):
         self.assertEqual(jobs.ends(), {"exited": jobs.sent})
 
     def test_a_queue_without_a_worker(self) -> None:
-        """Its jobs hold up no others, are given up, and are made when a worker comes."""
+        """Its jobs hold up no others, are abandoned, and are made when a worker comes."""
         self.trial.begin_worker("checks")
         jobs = self.jobs(10)
         self.assertTrue(jobs.wait_until_one_is_made("checks", LONG))
@@ -55,7 +55,7 @@ class OverAServer(unittest.TestCase):
         self.assertEqual([answers[0]["code"] for number, answers in sorted(jobs.answers.items()) if number > before], [0] * 5)
 
     def test_a_server_that_stands_still(self) -> None:
-        """What waits is given up within its limit, and all goes on when the server does."""
+        """Waiting jobs are abandoned within their limit, and all continues when the server does."""
         self.trial.begin_worker("dmz")
         jobs = self.jobs(10)
         self.assertTrue(jobs.wait_until_one_is_made("dmz", LONG))
@@ -69,7 +69,7 @@ class OverAServer(unittest.TestCase):
         self.assertTrue(jobs.wait_until_one_is_made("dmz", LONG))
 
     def test_a_job_that_is_refused(self) -> None:
-        """A job that no worker takes is lost, and its worker goes on."""
+        """A job that no worker takes is lost, and its worker continues."""
         jobs = self.jobs(60)
         worker = self.trial.begin_worker("other")
         jobs.hand(1, "other", [])
@@ -89,7 +89,7 @@ class ASite(ProcessTest):
         self.trial.begin_server()
 
     def words_of(self, name: str) -> str:
-        """The state and the last words of an object."""
+        """The state and the last output of an object."""
         state, _, rest = self.ask("status", name).stdout.strip().partition(" ")
         return f"{state} {rest.partition(': ')[2]}"
 
@@ -98,7 +98,7 @@ class ASite(ProcessTest):
         self.assertEqual(self.words_of(name), wanted)
 
     def test_a_worker_that_comes_and_goes(self) -> None:
-        """What it checks is UNKNOWN without it, by words that name the queue; the other object is checked all the time."""
+        """Its checks are UNKNOWN without it, with an output that names the queue; the other object is checked all the time."""
         self.write_site(self.objects(1), [{"host": "h00", "description": "far", "check_interval": 1, "max_check_attempts": 1}])
         line = f"{sys.executable} -c \"import os; print('queue' if os.getppid() != {os.getpid()} else 'none')\""
         self.write("commands.json", {"h00": {"line": "echo here"}, "h00;far": {"line": line}})

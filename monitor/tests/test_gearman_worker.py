@@ -1,4 +1,4 @@
-"""A worker of a Gearman server: what it asks the server for, what it runs, and what it answers. No server is needed."""
+"""A worker of a Gearman server: its requests to the server, the plugins that it runs, and its answers. No server is needed."""
 import contextlib
 import io
 import os
@@ -21,7 +21,7 @@ from .one_worker import WorkerTest
 
 
 class Working(WorkerTest):
-    """A worker that wants no signatures."""
+    """A worker that needs no signatures."""
 
     def test_results(self) -> None:
         self.begin()
@@ -55,7 +55,7 @@ class Working(WorkerTest):
         self.assertEqual((len(self.answers), runner.start.call_count > 3), (3, True))
 
     def test_what_it_asks_the_server_for(self) -> None:
-        """It says what it can do, sleeps when there is nothing, and wakes when it is woken."""
+        """It announces its functions, sleeps when there is nothing, and wakes when the server wakes it."""
         worker = self.begin(2)
         worker.turn()
         worker.turn()
@@ -67,7 +67,7 @@ class Working(WorkerTest):
         self.assertTrue(self.turns_until(lambda: there.codes()[-1] is Code.PRE_SLEEP))
 
     def test_a_server_that_is_lost(self) -> None:
-        """It is tried again, and said once."""
+        """It is tried again, and logged once."""
         worker = self.begin(1)
         self.faults += [ServerFault("still gone"), ServerFault("gone")]
         for _ in range(3):
@@ -83,7 +83,7 @@ class Working(WorkerTest):
         self.job(["echo", "fine"])
         self.assertEqual([it["output"] for it in self.came(1)], ["fine\n"])
         self.assertTrue(self.turns_until(worker.is_idle))
-        self.assertEqual(len(self.answers), 1)  # the server handed the first one to another worker
+        self.assertEqual(len(self.answers), 1)  # the server gave the first one to another worker
 
     def test_a_server_that_stands_still(self) -> None:
         worker = self.begin(1)
@@ -115,7 +115,7 @@ class Working(WorkerTest):
         self.assertEqual(told, {f"its worker refused it: {why}" for why in ("it has no command", "it has no limit", "its limit is no number")})
 
     def test_what_is_no_job(self) -> None:
-        """Each is answered, and the worker goes on."""
+        """Each is answered, and the worker continues."""
         self.jobs += [b"", b"[]", b"1", b"\xff", b"[" * 100_000, b'{"a":' * 100_000, b'{"limit":1' + 400 * b"0" + b"}", b"x" * 2_000_000, b'"' * 3]
         count = len(self.jobs)
         self.begin()
@@ -172,7 +172,7 @@ class Runner(WorkerTest):
         self.assertEqual(self.came(1), [{"lost": "its runner can't be started", "job": "mark-1"}])
 
     def test_a_plugin_that_cannot_be_killed(self) -> None:
-        """No second one is started beside it until it has ended."""
+        """No second one is started next to it until it has ended."""
         script = """read l; echo '{"job":1,"code":9,"end":"limit","output":"","stuck":true}'; read l; echo '{"job":2,"code":0,"end":"exited","output":""}'
                     echo '{"job":1,"gone":true}'; read l; echo '{"job":3,"code":0,"end":"exited","output":"fine"}'; read l"""
         runner = Pool("worker", ["/bin/sh", "-c", script], 1, None, 0.0, self.lines.append, lambda file, read: None, lambda file: None, time.monotonic)
@@ -188,7 +188,7 @@ class Runner(WorkerTest):
 
 
 class Starting(unittest.TestCase):
-    """What a worker needs before it begins."""
+    """The requirements of a worker before it begins."""
 
     def test_faults(self) -> None:
         for words, why in (("--unsigned --only /no/such/file", "No such file"), ("--slots 0 --unsigned", "--slots"), ("", "--key"),

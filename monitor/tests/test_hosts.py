@@ -1,4 +1,4 @@
-"""Which hosts a result asks for: those that Nagios 4.4.6 checks in the same case."""
+"""The hosts that a result asks for: those that Nagios 4.4.6 checks in the same case."""
 import unittest
 from typing import Dict, List, Optional
 
@@ -29,7 +29,7 @@ class Asked(unittest.TestCase):
         return [it.name for it in hosts_of(self.objects[name], standing(before), result, self.objects, ["child", "far"] if name == "web" else [])]
 
     def test_a_service(self) -> None:
-        """A new or other problem asks where the host is up or was never checked; an OK asks where it isn't up."""
+        """A new or other problem asks if the host is up or was never checked; an OK asks if it isn't up."""
         for before, now, host_is, wanted in (
             ("OK", "CRITICAL", "UP", True), (None, "WARNING", "UP", True), ("PENDING", "UNKNOWN", "PENDING", True), ("WARNING", "CRITICAL", "UP", True),
             ("CRITICAL", "CRITICAL", "UP", False), ("OK", "CRITICAL", "DOWN", False), ("WARNING", "CRITICAL", "UNREACHABLE", False),

@@ -1,4 +1,4 @@
-"""Sites that are larger than one scheduler: 1,000 hosts with 20 services each, behind one gateway and in a tree, taken over of Nagios's own files and run."""
+"""Sites larger than one scheduler: 1,000 hosts with 20 services each, behind one gateway and in a tree, taken over from Nagios's own files and run."""
 import json
 import resource
 import subprocess
@@ -10,14 +10,14 @@ from .parted import TOOLS, Parted
 from .simulated import BEGIN
 
 HOSTS, SERVICES = 1_000, 20
-# The network's gateway, and the outage: it answers no more, and nothing behind it.
+# The network's gateway, and the outage, in which the gateway and all below it give no answer.
 GATEWAY = "h00000"
 DOWN, UP = BEGIN + 60_000, BEGIN + 150_000
 
 
 class LargeSites(Parted):
     def take_over(self, children: int) -> List[str]:
-        """The folder of the site, made by tools/from_nagios.py; what it takes is within its limits."""
+        """The folder of the site, made by tools/from_nagios.py within its limits of time and memory."""
         names = write_network(self.folder, HOSTS, SERVICES, children)
         files = (self.folder, self.folder / "nagios.cfg", self.folder / "objects.precache")
         words = [sys.executable, str(TOOLS / "from_nagios.py"), "--site", *map(str, files)]

@@ -1,4 +1,4 @@
-"""What surrounds a turn: a fault of the monitor's own is caught, logged and counted; the log holds up nobody."""
+"""The actions around a turn: a fault of the monitor's own is caught, logged and counted; the log holds up nobody."""
 import os
 import unittest
 from typing import List
@@ -13,7 +13,7 @@ from .waiting import comes
 
 class Faults(SiteTest):
     def test_one_is_caught(self) -> None:
-        """Its traceback is in the log, it is counted, and monitoring goes on, also after two in a row, twice."""
+        """Its traceback is in the log, it is counted, and monitoring continues, also after two in a row, twice."""
         self.write_site([host("web")], [])
         monitor = self.monitor(fine)
         monitor.work(10)
@@ -36,7 +36,7 @@ class Faults(SiteTest):
         self.assertGreaterEqual(monitor.clock.now - begun, 2_000)
 
     def test_a_request_with_a_fault(self) -> None:
-        """It gets an error, and the turn goes on."""
+        """It gets an error, and the turn continues."""
         self.write_site([host("web")], [])
         monitor = self.monitor(fine)
         with mock.patch.object(monitor.engine.requests, "_callable", side_effect=KeyError("what")):
@@ -55,7 +55,7 @@ class Faults(SiteTest):
 
 class Lines(unittest.TestCase):
     def test_a_pipe_that_nobody_reads(self) -> None:
-        """Lines wait, and those that are too many are counted."""
+        """Lines wait, and the lines past the limit are counted."""
         there, back = os.pipe()
         self.addCleanup(os.close, there)
         self.addCleanup(os.close, back)

@@ -26,7 +26,7 @@ def unescaped(text: str) -> str:
 
 
 class Families:
-    """A text in the format, read line by line. Each family begins with its help and its type, and stands once."""
+    """A text in the format, read line by line. Each family begins with its help and its type, and occurs once."""
 
     def __init__(self, text: str, site: str = "") -> None:
         self.site = site
@@ -98,7 +98,7 @@ class Metrics(ShownSite):
         self.assertEqual(sum(value for (name, _), value in families.samples.items() if name == "nagsched_objects"), len(objects))
 
     def test_the_histogram(self) -> None:
-        """Each bucket has the one before in it; the last is the count."""
+        """Each bucket includes the one before; the last is the count."""
         fill(self.folder, [], {"late.0.05": 5.0, "late.0.25": 2.0, "late.60": 4.0, "late.more": 1.0, "late.sum": 161.5})
         self.serve()
         families = self.families()
@@ -110,7 +110,7 @@ class Metrics(ShownSite):
         self.assertEqual(bounds, [*(f"{bound:g}" for bound in BOUNDS), "+Inf"])
 
     def test_each_object(self) -> None:
-        """Its state with its groups; what wasn't checked has none, and what is soft or flaps a series more."""
+        """Its state with its groups. An unchecked object has none, and a soft or flapping one has one more series."""
         self.write("groups.json", {"web;http": {"host_groups": ["linux", "dmz"], "contacts": ["ada"]}})
         fill(self.folder, [
             standing("web"), standing("web;http", "UNKNOWN"), standing("web;disk", "WARNING", "SOFT"), standing("db", "UNREACHABLE", flapping=True),
@@ -125,7 +125,7 @@ class Metrics(ShownSite):
         self.assertEqual(sum(name in ("nagsched_soft", "nagsched_flapping") for name, _ in families.samples), 2)
 
     def test_signs_of_life(self) -> None:
-        """While the monitor gives no answer, only what the database knows."""
+        """While the monitor gives no answer, only the facts in the database."""
         now = time.time()
         fill(self.folder, [], {"written_at": now - 100, "faults": 2.0})
         self.serve()
@@ -144,7 +144,7 @@ class Metrics(ShownSite):
                          [3, 4, 1, 0])
 
     def test_nothing_yet(self) -> None:
-        """A site whose monitor has counted nothing has all families; where no state was saved there are no seconds since."""
+        """A site whose monitor has counted nothing has all families; if no state was saved, there are no seconds since."""
         fill(self.folder, [])
         self.serve()
         families = self.families()
@@ -162,7 +162,7 @@ class Format(SiteTest):
 
 class Textfile(SiteTest):
     def test_a_file(self) -> None:
-        """It is there while its process works, as a whole; what can't be read leaves it as it was."""
+        """It exists while its process works, as a whole; if the database can't be read, it stays as it was."""
         fill(self.folder, [standing("web")])
         file = self.folder / "nagsched.prom"
         seen: List[List[str]] = []

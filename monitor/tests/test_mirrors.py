@@ -1,4 +1,4 @@
-"""Parts with mirrors: each result is judged as by one scheduler, over outages, restarts and other cuts."""
+"""Parts with mirrors: each result is judged as by one scheduler, through outages, restarts and other cuts."""
 import bisect
 import random
 from typing import Any, Dict, List, Tuple
@@ -15,7 +15,7 @@ INTERVAL, RETRY = 3_600, 900
 
 
 def random_network(chance: random.Random, count: int) -> Dict[str, Any]:
-    """Hosts with one parent or two, two services each, and dependencies of both sorts from later objects on earlier ones."""
+    """Hosts with one parent or two, two services each, and dependencies of both kinds from later objects on earlier ones."""
     names = [f"h{number:02}" for number in range(count)]
     timing = {"check_interval": INTERVAL, "retry_interval": RETRY}
     hosts, services = [], []
@@ -34,7 +34,7 @@ def random_network(chance: random.Random, count: int) -> Dict[str, Any]:
 
 
 class Outages:
-    """Random outages of a network over days: a host answers where it is up and one of its parents does, a service where its host does and it is well."""
+    """Random outages of a network over days: a host answers if it and one of its parents are up, a service if its host answers and it is well itself."""
 
     def __init__(self, network: Dict[str, Any], chance: random.Random, days: float) -> None:
         self._parents = {host["name"]: host["parents"] for host in network["hosts"]}
@@ -59,7 +59,7 @@ class Outages:
         return self._code(name, moment) == 0 and (not parents or any(self._answers(parent, moment) for parent in parents))
 
     def plugin(self, name: str, moment: int) -> Tuple[int, int, str]:
-        """How long a check takes, and what it gives."""
+        """The duration of a check, and its result."""
         on = name.partition(";")[0]
         code = self._code(name, moment) if self._answers(on, moment) else 2
         return self._chance.randint(20, 3_000), code, f"code {code}"
@@ -99,7 +99,7 @@ class AsOneScheduler(Parted):
 
 
 class Handed(Parted):
-    """Two parts by hand: a gateway and its ping in the first, and in the second a host behind it, whose service depends on the ping."""
+    """Two parts written by the test: a gateway and its ping in the first, and in the second a host behind it, whose service depends on the ping."""
 
     def site(self, plugin: Plugin = fine) -> SimulatedMonitor:
         gateway, ping = host("gateway"), service("gateway", "ping")
@@ -126,7 +126,7 @@ class Handed(Parted):
         self.assertEqual(len([change for _, change in monitor.changes if change.name == "gateway"]), 2)
 
     def test_a_dependency_on_a_mirror(self) -> None:
-        """While the ping is hard CRITICAL in the first part, what depends on it in the second isn't checked."""
+        """While the ping is hard CRITICAL in the first part, its dependents in the second aren't checked."""
         bad = range(BEGIN + 120_000, BEGIN + 600_000)
         monitor = self.site(lambda name, moment: (50, 2 if name == "gateway;ping" and moment in bad else 0, ""))
         monitor.run(900)
@@ -148,7 +148,7 @@ class Handed(Parted):
         self.assertEqual(self.assert_alike(), 3)
 
     def test_a_full_disk(self) -> None:
-        """A result that can't be kept is kept later, once for each part."""
+        """A result that can't be stored is stored later, once for each part."""
         monitor = self.site(lambda name, moment: (2_000, 2, "bad"))
         monitor.run(1)
         write = monitor.store.write
@@ -163,7 +163,7 @@ class Handed(Parted):
         self.assertGreater(self.assert_alike(), 10)
 
     def test_a_scheduler_that_took_another_object(self) -> None:
-        """Where something stands before a mirror, the schedulers are opened anew, and the result comes to both."""
+        """If another object is due before a mirror, the schedulers are opened again, and the result reaches both."""
         monitor = self.site()
         monitor.run(30)
         monitor.scheduling.store([(1, Reschedule("far;web", 0, True), None), (1, Reschedule("far", 0, True), None)])

@@ -14,7 +14,7 @@ FAR: Dict[str, Any] = {"name": "far", "parents": ["gateway"], "max_check_attempt
 
 class MirrorsFile(SiteTest):
     def write_parts(self, second: Dict[str, Any], mirrors: Any, first: Any = None) -> None:
-        """A site of two parts; only the first has commands for its objects, and the second for those that are no mirrors."""
+        """A site of two parts. The first has commands for its objects, and the second only for those that aren't mirrors."""
         self.write("part-1.json", first or {"hosts": [GATEWAY], "services": [PING]})
         self.write("part-2.json", second)
         self.write("mirrors.json", mirrors)

@@ -22,7 +22,7 @@ OPTIONS = {"interval_length": 1, "host_inter_check_delay_method": "n", "service_
 
 class Killed(ProcessTest):
     def write_parts(self) -> None:
-        """A root and three hosts behind it in the first part; mirrors of all four, and a host behind each, in the second."""
+        """A root and three hosts below it in the first part; mirrors of all four, and a host below each, in the second."""
         names = [f"h{number}" for number in range(3)]
         timing: Dict[str, Any] = {"check_interval": 1, "retry_interval": 1, "max_check_attempts": 3}
         hosts: Dict[str, Dict[str, Any]] = {"root": {"name": "root", **timing}}
@@ -36,7 +36,7 @@ class Killed(ProcessTest):
         self.write("commands.json", {name: {"line": line, "shell": True} for name, line in lines.items()})
 
     def last_call(self) -> int:
-        """The number of the last call that was kept, while a monitor runs."""
+        """The number of the last stored call, while a monitor runs."""
         with sqlite3.connect(self.folder / "monitor.db") as database:
             numbers = database.execute("SELECT max(id) FROM calls UNION SELECT max(last_call) FROM generations")
             return max(int(number or 0) for (number,) in numbers)

@@ -1,4 +1,4 @@
-"""Objects that move between the parts of a site, and parts that come and go: how they stand is kept."""
+"""Objects that move between the parts of a site, and parts that are added and removed: the standings survive."""
 from typing import Any, Dict, List, Tuple
 
 from nagsched_monitor.faults import NotStored
@@ -11,7 +11,7 @@ class Reloads(Parted):
     """Objects that move between parts."""
 
     def write_two(self, first: List[str], second: List[str], extra: List[str]) -> None:
-        """Hosts behind the gateway in two parts, the gateway in the first; `extra` are new ones in the second."""
+        """Hosts below the gateway in two parts, the gateway in the first; `extra` are new ones in the second."""
         gateway = host("gateway")
         parts = [[gateway, *(host(name, "gateway") for name in first)], [mirror(gateway), *(host(name, "gateway") for name in second + extra)]]
         self.write_parts([setup(hosts, []) for hosts in parts], {"part-2": {"gateway": "part-1"}})
@@ -21,7 +21,7 @@ class Reloads(Parted):
         return {name: (it.state, it.kind, it.attempt) for name, it in standings.items() if it is not None}
 
     def test_objects_that_move(self) -> None:
-        """They keep how they stand; a plugin that runs ends the next check of its object, and no second one runs beside it."""
+        """They keep their standings. A running plugin ends the next check of its object, and no second one runs next to it."""
         slow = {"b"}
         self.write_two(["a", "b"], ["c"], [])
         monitor = self.monitor(lambda name, moment: (5_000 if name in slow else 10, 2 if name in "bc" else 0, "said"))
@@ -75,7 +75,7 @@ class Reloads(Parted):
         self.assertEqual(sorted(after.store.generations()), [0])
 
     def test_other_attempts(self) -> None:
-        """What a setup changes of an object is named once, and changes its mirrors alike."""
+        """A change of an object by the setup is named once, and changes its mirrors in the same way."""
         self.write_two(["a"], ["c"], [])
         monitor = self.monitor(lambda name, moment: (10, 2 if name == "gateway" else 0, "bad"))
         monitor.run(100)
@@ -103,7 +103,7 @@ class Reloads(Parted):
         self.assertEqual(len(monitor.starts()["c"]), 3)
 
     def test_a_crash_behind_a_reload(self) -> None:
-        """Calls of all parts are let go together: none is missing between two where a part is as it was."""
+        """Calls of all parts are dropped together: no call is missing between two in a part that didn't change."""
         self.write_two(["a"], ["c"], [])
         monitor = self.monitor(fine)
         monitor.run(130)

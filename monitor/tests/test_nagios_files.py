@@ -1,4 +1,4 @@
-"""Nagios's own files: what `status.dat` says is what the monitor says, and the pipe's lines are obeyed."""
+"""Nagios's own files: `status.dat` agrees with the monitor, and the pipe's lines are obeyed."""
 import os
 import pathlib
 import signal
@@ -39,7 +39,7 @@ READ_OF_PROGRAM = (
 
 
 def blocks_of(data: bytes) -> List[Tuple[str, Block]]:
-    """The blocks of a status file, read as Nagios's pages do: by lines, each a name and a value."""
+    """The blocks of a status file, read as Nagios's pages do: line by line, each a name and a value."""
     blocks: List[Tuple[str, Block]] = []
     for line in data.split(b"\n"):
         text = line.decode().strip()
@@ -66,7 +66,7 @@ def objects_of(data: bytes) -> Dict[str, Block]:
 
 
 def line_of(name: str, block: Block) -> str:
-    """What `status` prints of an object, as a block says it."""
+    """The output of `status` for an object, made from a block."""
     states = {number: word for word, number in (SERVICE_STATES if ";" in name else HOST_STATES).items()}
     state = states[int(block["current_state"])] if block["has_been_checked"] == "1" else "PENDING"
     marks = f"{' FLAPPING' if block['is_flapping'] == '1' else ''}{'' if block['active_checks_enabled'] == '1' else ' off'}"
@@ -108,7 +108,7 @@ class Blocks(SiteTest):
 
 class Outage(SiteTest):
     def test_object_by_object(self) -> None:
-        """Through an outage the status file says of each object what the monitor says."""
+        """Through an outage the status file agrees with the monitor about each object."""
         hosts = [{"name": "gate", "check_interval": 20, "retry_interval": 5, "max_check_attempts": 2}]
         hosts += [{"name": f"h{n}", "parents": ["gate"], "check_interval": 30, "retry_interval": 10, "max_check_attempts": 3} for n in range(4)]
         services = [{"host": f"h{n}", "description": word, "check_interval": 20, "retry_interval": 10, "max_check_attempts": 3}
@@ -127,7 +127,7 @@ class Outage(SiteTest):
         states, compared = set(), 0
         for _ in range(80):
             monitor.run(3)
-            # Nothing is taken for more than a second, so that the table is as the monitor is.
+            # No check is taken for more than a second, so that the table agrees with the monitor.
             if monitor.engine.out() or monitor.scheduling._standings._marked:
                 continue
             files.write()
@@ -195,7 +195,7 @@ class Process(ProcessTest):
         self.command("REMOVE_HOST_ACKNOWLEDGEMENT;h00", "ENABLE_HOST_CHECK;h07", "nonsense")
         self.wait(lambda: "CRITICAL HARD 1 h00;http: no answer;at all" in self.ask("status").stdout)
         self.wait(lambda: "DOWN SOFT 1 h01: it is gone" in self.ask("status").stdout)
-        # A burst, of which no result is lost: each is another state than the one before.
+        # A burst, and no result of it is lost: each is another state than the one before.
         self.command(*[f"PROCESS_SERVICE_CHECK_RESULT;h00;http;{number % 3};number {number}" for number in range(300)])
         self.wait(lambda: ": number 299" in self.ask("status", "h00;http").stdout)
         output = self.end(running)
@@ -219,7 +219,7 @@ class Process(ProcessTest):
         running.communicate(timeout=10)
 
     def test_the_same_as_status(self) -> None:
-        """Beside a monitor that runs: each object's block is its line of `status`."""
+        """With a running monitor: each object's block agrees with its line of `status`."""
         self.write("commands.json", {name: {"line": f"echo 'of {name}|a=1'; exit {code}", "shell": True}
                                      for name, code in (("h00", 0), ("h01", 2), ("h00;http", 1), ("h00;ssh", 2))})
         self.begin()
@@ -236,7 +236,7 @@ class Process(ProcessTest):
 
 class Size(SiteTest):
     def test_4096_objects(self) -> None:
-        """Written within 200 ms of a processor."""
+        """The file is written within 200 ms of processor time."""
         settings = {f"h{n // 15:03};s{n:04}": Settings(5, 1, 3) for n in range(3840)}
         settings.update((f"h{n:03}", Settings()) for n in range(256))
         words = "PING OK - Packet loss = 0%, RTA = 0.80 ms|rta=0.8ms;3;5"

@@ -1,4 +1,4 @@
-"""The lines of Nagios's pipe: each that has a meaning here is obeyed, every other one is named; bursts, long lines and many writers."""
+"""The lines of Nagios's pipe: each line with a meaning here is obeyed, every other one is named; bursts, long lines and many writers."""
 import os
 import threading
 from typing import Any, Dict, List, Tuple
@@ -69,7 +69,7 @@ class Fifo(SiteTest):
         return pipe
 
     def read(self, pipe: Pipe, count: int) -> List[bytes]:
-        """So many lines."""
+        """This many lines."""
         lines: List[bytes] = []
 
         def came() -> bool:

@@ -1,7 +1,7 @@
-"""Which hosts a result asks for, compared with the requests of Nagios Core 4.4.6's own code.
+"""The hosts that a result asks for, compared with the requests of Nagios Core 4.4.6's own code.
 
-conformance/nagios/requests.py has written nagios_requests.json: the sort of the result's object, its state before and after the result, what the
-other object is to it, that object's state, and whether Nagios asks for a check of it.
+conformance/nagios/requests.py has written nagios_requests.json. A row has the kind of the result's object, its state before and after the result, and
+the other object's relation to it. Then that object's state, and whether Nagios asks for a check of it.
 """
 import json
 import pathlib
@@ -40,7 +40,7 @@ class AsNagios(SiteTest):
                        for name in ("own", "parent", "child")}
             objects["own;s"] = Known(Watched("own;s", 0, "own", (), 60_000, True), Running(), True)
             name = {"host": "own", "parent": "parent", "child": "child"}[relation]
-            # A parent or child in this state is asked for or not, whatever the other one is.
+            # A parent or child in this state is asked for or not, in any state of the other one.
             objects[name].standing = standing(other)
             result = standing(after)
             assert result is not None
@@ -49,7 +49,7 @@ class AsNagios(SiteTest):
                 self.assertEqual(objects[name] in asked, is_asked)
 
     def test_a_simulated_day(self) -> None:
-        """Every result of a day with many problems asks for the hosts that Nagios asks for in its place."""
+        """Every result of a day with many problems asks for the hosts that Nagios asks for in the same situation."""
         chance = random.Random(83)
         hosts = [host("gate", max_check_attempts=1), *(host(f"h{n}", parents=["gate"], max_check_attempts=1 + n) for n in range(3)),
                  host("far", parents=["h0", "h1"], max_check_attempts=2)]

@@ -1,4 +1,4 @@
-"""What a service manager hears, by a socket of the test."""
+"""The messages to a service manager, over a socket of the test."""
 import os
 import pathlib
 import shutil
@@ -26,7 +26,7 @@ class Notices(SiteTest):
         return there
 
     def heard(self, there: socket.socket) -> List[str]:
-        """What waits at the socket."""
+        """The messages that wait at the socket."""
         there.setblocking(False)
         lines = []
         while True:
@@ -54,7 +54,7 @@ class Notices(SiteTest):
         self.assertEqual(self.heard(there), ["STOPPING=1"])
 
     def test_nobody_hears(self) -> None:
-        """No manager, one that is gone, one that reads nothing, and the watchdog of another process."""
+        """No manager, a manager that is gone, one that reads nothing, and the watchdog of another process."""
         environments: List[Dict[str, str]] = [{}, {"NOTIFY_SOCKET": ""}, {"NOTIFY_SOCKET": str(self.folder / "gone")}]
         for environment in environments:
             service = Service(environment)
@@ -71,7 +71,7 @@ class Notices(SiteTest):
         self.assertEqual(self.heard(there), [])
 
     def test_a_monitor(self) -> None:
-        """It says that it is ready when it can be asked, that it is alive, and that it ends. Plugins don't have the socket."""
+        """It reports that it is ready when it accepts requests, that it is alive, and that it ends. Plugins don't have the socket."""
         self.write_site([{"name": "web", "check_interval": 1, "max_check_attempts": 1}], [])
         self.write("commands.json", {"web": {"line": "env | grep -c -e NOTIFY_ -e WATCHDOG_; exit 0", "shell": True}})
         there = self.manager(str(self.folder / "notify"))

@@ -1,4 +1,4 @@
-"""When turns begin: how many there are, and how late checks are."""
+"""When turns begin: their number, and the delays of checks."""
 import heapq
 import os
 import unittest
@@ -13,13 +13,13 @@ INTERVAL = 10.0
 
 
 def turns(a_second: int, seconds: float) -> Tuple[List[float], List[float]]:
-    """The turns of so many checks a second, each object every ten seconds, spread evenly at first; and how late each check of the last ten seconds was."""
+    """The turns of this many checks per second, each object every ten seconds, spread evenly at first; and the delay of each check of the last ten seconds."""
     waiting = [number / a_second for number in range(round(a_second * INTERVAL))]
     begun, late = [0.0], []
     while begun[-1] < seconds:
         first, second = heapq.nsmallest(2, waiting)
         now = turn_at(begun[-1], first, second)
-        # The results of this turn have one of their own, where the next one is far off.
+        # The results of this turn have a turn of their own if the next one is far off.
         begun.append(begun[-1] + BETWEEN_TURNS if now is None else now)
         if now is None:
             begun.append(first)
@@ -31,7 +31,7 @@ def turns(a_second: int, seconds: float) -> Tuple[List[float], List[float]]:
 
 class Turns(unittest.TestCase):
     def test_how_many_and_how_late(self) -> None:
-        """At each rate: the most turns a second, and how late a check is at most, in the first round and in later ones."""
+        """At each rate: the most turns per second, and the longest delay of a check, in the first round and in later ones."""
         for a_second, most_turns in ((1, 2), (5, 10), (8, 8), (10, 10), (12, 12), (13, 7), (18, 9), (25, 13), (40, 20), (100, 20), (500, 20)):
             with self.subTest(a_second=a_second):
                 _, at_first = turns(a_second, INTERVAL)
@@ -89,7 +89,7 @@ class Waiting(unittest.TestCase):
         self.assertEqual(self.read, [])
 
     def test_a_turn_that_is_wanted_at_once(self) -> None:
-        """There is no rest before it, and what has come is read."""
+        """There is no rest before it, and available input is read."""
         os.write(self.back, b"x")
         with mock.patch.object(self.poller, "sleep", side_effect=AssertionError):
             self.pace.rest(self.clock.moment(), 0, None)

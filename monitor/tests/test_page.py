@@ -1,4 +1,4 @@
-"""The page of a site: every object is on it, nothing that comes from a site becomes a tag, and what isn't a page is refused."""
+"""The page of a site: every object is on it, no text of a site becomes a tag, and what isn't a page is refused."""
 import html.parser
 import json
 import time
@@ -18,7 +18,7 @@ EVIL = '"><script>alert(1)</script><img src=x onerror=\'alert(2)\'>&amp;'
 
 
 class Reader(html.parser.HTMLParser):
-    """Reads a page: its tables row by row, its texts, and each tag with what it has; tags are closed in the order in which they were opened."""
+    """Reads a page: its tables row by row, its texts, and each tag with its attributes. Tags have to be closed in reverse order."""
 
     def __init__(self, text: str) -> None:
         super().__init__()
@@ -77,7 +77,7 @@ class Page(ShownSite):
         self.assertEqual(services[0][5], "0 free")
 
     def test_what_is_wrong(self) -> None:
-        """Hard before soft, the longest first; since when a hard one is hard."""
+        """Hard before soft, the longest first; for a hard problem, since when it is hard."""
         now = time.time()
         fill(self.folder, [
             standing("soft and long", "DOWN", "SOFT", since=now - 9000, hard_since=now - 99999),
@@ -112,7 +112,7 @@ class Page(ShownSite):
         self.assertIn("Nothing is wrong.", reader.texts)
 
     def test_names_and_words_are_escaped(self) -> None:
-        """Nothing of a site becomes a tag or an attribute, on any page; characters that are none of a text are replaced."""
+        """No text of a site becomes a tag or an attribute, on any page; forbidden characters are replaced."""
         name = "h;" + EVIL
         change = KeptChange(1, time.time() - 3600, name, "CRITICAL", "HARD", 3, False, EVIL)
         fill(self.folder, [standing(name, "CRITICAL", words=EVIL + "\x1b[31m\u202e\x00"), standing(EVIL, out_since=time.time())], {}, (change,))
@@ -153,7 +153,7 @@ class Page(ShownSite):
         self.assertIn("x" * 60_000, self.read("/object?name=h").texts)
 
     def test_an_object(self) -> None:
-        """Its day from the last change before it; each stretch is as long as it lasted."""
+        """Its day from the last change before it; each stretch is as long as its state lasted."""
         now = time.time()
         changes = (
             KeptChange(1, now - 90_000, "h", "DOWN", "HARD", 3, False, "no answer"),
@@ -181,7 +181,7 @@ class Page(ShownSite):
                 self.assertAlmostEqual(float(str(width)[:-1]), float(its[:-1]), delta=0.01)
 
     def test_groups(self) -> None:
-        """Each group with how many are wrong; a page shows one group alone; an object's page names its own."""
+        """Each group with its number of problems; a page shows one group alone; an object's page names its own."""
         self.write("groups.json", {"a": {"host_groups": ["x & y"]}, "a;web": {"host_groups": ["x & y"], "service_groups": ["shop"], "contacts": ["ada"]}})
         fill(self.folder, [standing("a"), standing("a;web", "CRITICAL"), standing("b")])
         self.serve()
@@ -203,7 +203,7 @@ class Page(ShownSite):
         self.assertFalse(any("written nothing" in text for text in self.read().texts))
 
     def test_the_zone(self) -> None:
-        """Times are those of the site's zone; while its file is bad those of the zone before."""
+        """Times are those of the site's zone; while its file is faulty, those of the zone before."""
         self.write("monitor.json", {"zone": "Asia/Kathmandu"})
         fill(self.folder, [standing("h")])
         self.serve()

@@ -1,4 +1,4 @@
-"""What the page's server refuses: other paths and methods, requests that are too long, clients that send nothing, a database that can't be read."""
+"""Refusals of the page's server: other paths and methods, requests that are too long, clients that send nothing, a database that can't be read."""
 import contextlib
 import pathlib
 import socket
@@ -13,7 +13,7 @@ from .waiting import comes
 
 class Refused(ShownSite):
     def raw(self, sent: bytes, is_all: bool = True) -> bytes:
-        """The answer to these bytes, behind which the client ends, or sends nothing more."""
+        """The answer to these bytes, after which the client ends, or sends nothing more."""
         with socket.create_connection(("127.0.0.1", self.port), timeout=20) as connection:
             connection.sendall(sent)
             if is_all:
@@ -38,13 +38,13 @@ class Refused(ShownSite):
             self.assertGreater(int(headers["content-length"]), 100)
 
     def test_limits(self) -> None:
-        """Lines and headers that are too long, too many of them, and what is no request."""
+        """Lines and headers that are too long, too many of them, and texts that are no request."""
         fill(self.folder, [standing("h")])
         self.serve()
         self.assertIn(b" 404 ", self.raw(b"GET /" + b"a" * 60_000 + b" HTTP/1.1\r\n\r\n"))
         for long, code in ((b"GET /" + b"a" * 70_000, b"414"), (b"GET / HTTP/1.1\r\nx: " + b"a" * 70_000, b"431"),
                            (b"GET / HTTP/1.1\r\n" + b"x: y\r\n" * 101, b"431")):
-            with contextlib.suppress(ConnectionError):  # what isn't read of it may cost the answer
+            with contextlib.suppress(ConnectionError):  # unread bytes may cost the answer
                 self.assertIn(b" " + code + b" ", self.raw(long + b"\r\n\r\n"))
         for wrong in (b"\r\n\r\n", b"GET\r\n\r\n", b"GET / HTTP/9\r\n\r\n", b"\x16\x03\x01\x02\x00\r\n\r\n", b"GET / HTTP/1.1 more\r\n\r\n"):
             self.assertRegex(self.raw(wrong), rb"^(HTTP/1\.0 (400|405|505) |400 |405 |$)", wrong)
@@ -77,7 +77,7 @@ class Refused(ShownSite):
         self.assertIn(b" 404 ", self.raw(b"GET /x HTTP/1.1\r\n\r\n", False))
 
     def test_clients_that_take_too_long_and_too_many(self) -> None:
-        """Each past the most is let go at once; those that drip are let go behind the longest time, and others have room again."""
+        """Each client past the limit is closed at once. Slow clients are closed after the longest time, and others have room again."""
         fill(self.folder, [standing("h")])
         self.serve()
         self.addCleanup(setattr, page, "LONGEST_REQUEST", page.LONGEST_REQUEST)

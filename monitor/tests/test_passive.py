@@ -1,4 +1,4 @@
-"""Passive results, simulated: their order, freshness over restarts, a burst, a scheduler that ends at one."""
+"""Passive results, simulated: their order, freshness over restarts, a burst, a scheduler that ends at a result."""
 import os
 import signal
 from typing import Any, List, Tuple
@@ -66,7 +66,7 @@ class PassiveResults(SiteTest):
         self.assertTrue(150_000 <= first <= 151_000 and 90_000 <= second - first <= 92_000, (first, second))
 
     def test_freshness_while_its_command_is_awaited(self) -> None:
-        """It is run once, however long it takes, and however long its scheduler can't be had."""
+        """It is run once, for any duration, and while its scheduler can't be started."""
         trap = service("web", "trap", enabled=False, check_interval=0)
         self.write_site([host("web")], [trap], passive={"web;trap": {"only": True, "freshness": 90}})
         monitor = self.monitor(lambda name, moment: (8_000, 0, "fine"))
@@ -79,7 +79,7 @@ class PassiveResults(SiteTest):
         self.assertEqual(len([line for line in monitor.lines if "its command is run" in line]), 1)
 
     def started_over_restarts(self, is_given: bool, *spans: Tuple[int, int]) -> List[int]:
-        """When the command of an object is run that has to be fresh for 90 seconds, in seconds of monitors that run and then rest for so many seconds."""
+        """When the command of an object runs that has to be fresh for 90 seconds, in seconds of monitors that each run and then rest for these times."""
         trap = service("web", "trap", enabled=False, check_interval=0)
         self.write_site([host("web")], [trap], passive={"web;trap": {"only": True, "freshness": 90}})
         clock, passed = SimulatedClock(), 0
@@ -96,7 +96,7 @@ class PassiveResults(SiteTest):
         return started
 
     def test_freshness_over_restarts(self) -> None:
-        """A result is awaited since the last one, however often the monitor starts, and while none runs it isn't."""
+        """A result is awaited since the last one, over any number of starts of the monitor, but not while no monitor runs."""
         for spans in (((30, 0),) * 5, ((60, 600), (60, 0))):
             with self.subTest(spans=spans):
                 (started,) = self.started_over_restarts(True, *spans)
@@ -108,7 +108,7 @@ class PassiveResults(SiteTest):
         self.assertTrue(90 <= started <= 92, started)
 
     def test_a_scheduler_that_ends_at_a_result(self) -> None:
-        """It ends when the report was kept, and before it answers: the result counts once."""
+        """It ends after the report was stored, and before it answers: the result counts once."""
         monitor = self.site()
         monitor.run(30)
         write = monitor.store.write
@@ -138,7 +138,7 @@ class PassiveResults(SiteTest):
         setattr(monitor.store, "write", slow)
 
     def test_a_burst(self) -> None:
-        """Where each write takes 20 milliseconds, 100 results of one object take one write each, no turn is long, and they stay in their order."""
+        """If each write takes 20 milliseconds, 100 results of one object take one write each, no turn is long, and they stay in their order."""
         monitor = self.site()
         monitor.run(30)
         for number in range(100):
@@ -157,7 +157,7 @@ class PassiveResults(SiteTest):
         self.assertEqual(told, [f"number {number}" for number in range(1, 100)])
 
     def test_freshness_in_a_burst(self) -> None:
-        """A result that waits behind others has come: the command of its object isn't run."""
+        """A result that waits after others has come: the command of its object isn't run."""
         traps = [service("web", name, enabled=False, check_interval=0) for name in ("one", "two")]
         self.write_site([host("web")], traps, passive={"web;one": {"only": True}, "web;two": {"only": True, "freshness": 90}})
         monitor = self.monitor(fine)
@@ -192,7 +192,7 @@ class PassiveResults(SiteTest):
         self.assertEqual(monitor.changes, [])
 
     def test_freshness_of_an_object_that_a_reload_brings(self) -> None:
-        """It is awaited from then on, however long the monitor has run."""
+        """It is awaited from then on, no matter how long the monitor has run."""
         self.write_site([host("web")], [])
         monitor = self.monitor(fine)
         monitor.run(300)

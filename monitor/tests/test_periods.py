@@ -50,7 +50,7 @@ class TimePeriods(unittest.TestCase):
         self.assertTrue(self.includes(document, "all", "2026-11-27T04:00"))
 
     def test_summer_time(self) -> None:
-        """Nine in the morning is nine by the clock on the wall, in summer and in winter; the hour that comes twice is in the period twice."""
+        """Nine in the morning is nine by the clock on the wall, in summer and in winter; the hour that occurs twice is in the period twice."""
         document = {"work": {"weekdays": {**WORK, "sunday": ["02:00-03:00"]}}}
         periods = Periods(read_periods(document, "periods.json"), BERLIN)
         for text, wanted in (("2026-07-03T06:59:59+00:00", False), ("2026-07-03T07:00:00+00:00", True), ("2026-11-27T07:30:00+00:00", False),

@@ -1,4 +1,4 @@
-"""The monitor as a process: killed at random moments it loses nothing; asked, reloaded, and out of room."""
+"""The monitor as a process: killed at random moments it loses nothing; requests, reloads, and lack of room."""
 import contextlib
 import io
 import json
@@ -34,7 +34,7 @@ class Running(ProcessTest):
         return [line for (line,) in database.execute("SELECT line FROM calls ORDER BY id")]
 
     def count_of_calls(self) -> int:
-        """How many were kept since the last save, while the monitor runs."""
+        """The number of calls stored since the last save, while the monitor runs."""
         with sqlite3.connect(self.folder / "monitor.db") as database:
             return len(self.calls(database))
 
@@ -43,7 +43,7 @@ class Running(ProcessTest):
             return [number for (number,) in database.execute("SELECT id FROM calls ORDER BY id")]
 
     def answers(self, calls: List[str]) -> List[str]:
-        """What one run answers to the calls that were kept, from the state that was saved before them."""
+        """The answers of one run to the stored calls, from the state that was saved before them."""
         with sqlite3.connect(self.folder / "monitor.db") as database:
             setup, start, saved = database.execute("SELECT setup, start, saved FROM generations").fetchone()
         given = setup + b"\n" + (b"" if saved is None else saved + b"\n") + "".join(f"{call}\n" for call in calls).encode()
@@ -53,7 +53,7 @@ class Running(ProcessTest):
         return lines
 
     def test_killed_at_random_moments(self) -> None:
-        """Whichever of its processes is killed: no run is taken twice, no plugin runs twice at once, and each result that was reported is kept."""
+        """If any of its processes is killed, no run is taken twice, no plugin runs twice at once, and each reported result is kept."""
         self.write_site(self.objects(20), [])
         plugin = "flock -w 1 -o {folder}/{name}.lock sleep 1.5 || echo {name} >> {folder}/twice; exit {code}"
         names = [f"h{number:02}" for number in range(20)]
@@ -93,7 +93,7 @@ class Running(ProcessTest):
             return max(int(number or 0) for (number,) in numbers)
 
     def test_a_slow_sync(self) -> None:
-        """A disk whose sync takes 10 milliseconds: what comes meanwhile is stored by one sync, and every call was synced before it was made."""
+        """A disk whose sync takes 10 milliseconds: one sync stores what comes meanwhile, and every call was synced before it was made."""
         compiler = shutil.which("cc")
         if compiler is None:
             self.skipTest("there is no C compiler")
@@ -146,7 +146,7 @@ class Running(ProcessTest):
         self.assertEqual(self.ask("enable", "h00").returncode, 1)
 
     def test_reload(self) -> None:
-        """Ten checks run while the site is read anew: each is reported. A bad site is refused with its line, and the old goes on."""
+        """Ten checks run while the site is read again: each is reported. A faulty site is refused with its line, and the old one continues."""
         self.write_site(self.objects(10), [])
         self.write("commands.json", {f"h{number:02}": {"line": f"until test -e {self.folder}/go; do sleep 0.1; done; echo slow; echo >> {self.folder}/ended",
                                                        "shell": True} for number in range(10)})
@@ -174,7 +174,7 @@ class Running(ProcessTest):
         self.assertIn("the site isn't taken over: commands.json: ", output)
 
     def test_reload_over_another_setup(self) -> None:
-        """What both setups have goes on, with its state and attempt; what is new begins, what is gone is dropped, and what changes is named."""
+        """Objects of both setups continue, with state and attempt. New objects begin, removed ones are dropped, and changes are named."""
         self.write_site([*self.objects(2), {"name": "gone", "check_interval": 1, "max_check_attempts": 3}], [])
         self.write("commands.json", {name: {"line": f"echo {name}; exit 2", "shell": True} for name in ("h00", "h01", "gone")})
         running = self.begin()
@@ -192,7 +192,7 @@ class Running(ProcessTest):
         self.assertGreater(json.loads(runs)["runs"], 7)
 
     def test_a_saved_state(self) -> None:
-        """Calls before it are let go; a monitor that is killed goes on from it, and from the calls since."""
+        """Calls before it are dropped; a monitor that is killed resumes it, with the calls since."""
         self.write_site(self.objects(3), [])
         self.write("commands.json", {name: {"line": f"echo {name}; exit 2", "shell": True} for name in ("h00", "h01", "h02")})
         running = self.begin()
@@ -219,7 +219,7 @@ class Running(ProcessTest):
             self.assertEqual(self.calls(database), [])
 
     def test_a_log_that_takes_nothing(self) -> None:
-        """Its disk is full, or whoever read it has ended: the site is monitored all the same."""
+        """Its disk is full, or its reader has ended: the site is monitored all the same."""
         self.write_site(self.objects(1), [])
         there, back = os.pipe()
         os.close(there)
@@ -254,7 +254,7 @@ class Reloading(SiteTest):
 
 
 class Starting(SiteTest):
-    """A start that can't be ends with a status and one line."""
+    """A start that isn't possible ends with a status and one line."""
 
     def setUp(self) -> None:
         super().setUp()

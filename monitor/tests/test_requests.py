@@ -1,4 +1,4 @@
-"""What can be asked of a monitor: each word, and each bad line, which gets an error and changes nothing."""
+"""Requests to a monitor: each word, and each faulty line, which gets an error and changes nothing."""
 import json
 from typing import Any, Dict, List
 from unittest import mock
@@ -28,7 +28,7 @@ class Words(SiteTest):
         return self.monitored.ask(**members)
 
     def test_signs(self) -> None:
-        """How the monitor is; they are told although nothing can be stored."""
+        """The signs of life of the monitor, which are returned although nothing can be stored."""
         signs = self.ask(do="signs")
         self.assertEqual({name: signs[name] for name in ("is_stuck", "passive_waiting", "changes_waiting", "oldest_change", "made", "out")}, {
             "is_stuck": False, "passive_waiting": 0, "changes_waiting": 0, "oldest_change": 0.0, "made": 1, "out": 0})
@@ -80,7 +80,7 @@ class Words(SiteTest):
         self.assertEqual(len(self.monitored.starts()["web"]), 2)
 
     def test_a_switch_that_is_taken_away(self) -> None:
-        """What the setup says counts again, also over a restart."""
+        """The setup's switch counts again, also after a restart."""
         self.ask(do="disable", name="web")
         self.monitored.run(100)
         self.assertTrue(self.ask(do="default", name="web")["on"])
@@ -92,7 +92,7 @@ class Words(SiteTest):
             "asked: disable web", "asked: default web", "asked: default web;trap"])
 
     def test_an_object_that_never_was_on(self) -> None:
-        """It has no time of its own until it is switched on; then it has one, and a phase."""
+        """It has no next check until it is switched on; then it has one, and a phase."""
         self.monitored.close()
         self.write_site([HOST, {**HOST, "name": "new", "enabled": False}], [], passive={})
         monitor = self.monitor(fine, self.monitored.clock)
@@ -112,7 +112,7 @@ class Words(SiteTest):
         self.assertEqual(self.monitored.changes[-1][1].words, "half ? a letter")
 
     def test_more_results_than_can_wait(self) -> None:
-        """The sender hears that it may ask again, and nothing that was accepted is lost."""
+        """The sender's answer says that it may send again, and nothing that was accepted is lost."""
         with mock.patch.object(requests, "MOST_WAITING", 3):
             engine = self.monitored.engine
             answers: List[bytes] = []
@@ -126,7 +126,7 @@ class Words(SiteTest):
         self.assertEqual(passive.MOST_WAITING, 10_000)
 
     def test_a_number_is_obeyed_once(self) -> None:
-        """Also over a restart; another number is another request."""
+        """Also after a restart; another number is another request."""
         asked = {"do": "result", "name": "web;trap", "code": 2, "output": "door open"}
         first = self.ask(**asked, number="a-1")
         self.monitored.run(1)
@@ -152,7 +152,7 @@ class Words(SiteTest):
         self.assertEqual([line.split()[1:3] for line in told], [["disable", "web"], ["enable", "web"], ["reschedule", "web"], ["result", "web;trap"]])
 
     def test_nothing_can_be_stored(self) -> None:
-        """The answer says that it may be asked again, and nothing has changed."""
+        """The answer says that the request may be sent again, and nothing has changed."""
         before = self.monitored.store.last_call
         with mock.patch.object(self.monitored.store, "write", side_effect=NotStored("the disk is full")):
             several: List[Dict[str, Any]] = [{"do": "disable", "name": "web"}, {"do": "result", "name": "web;trap", "code": 2},

@@ -1,4 +1,4 @@
-"""The load of a site stays even: after a pause, stalls, too few slots, an outage that hits many at once, and a restart. All by the monitor's own loop."""
+"""The load of a site stays even: after a pause, stalls, too few slots, an outage that hits many at once, and a restart. All with the monitor's own loop."""
 import collections
 from typing import List, Tuple
 
@@ -11,7 +11,7 @@ COUNT = 600
 
 
 class Even(SiteTest):
-    """600 services, each every minute: 10 a second."""
+    """600 services, each every minute: 10 per second."""
 
     def site(self, slots: int = 500) -> None:
         services = [service("h", f"s{number:03}", retry_interval=15) for number in range(COUNT)]
@@ -91,7 +91,7 @@ class Phases(SiteTest):
         self.assertEqual((rhythm.return_to(None, 10_000, 15_000, 0), rhythm.return_to(0, 0, 15_000, 0)), (None, None))
 
     def test_a_longer_interval_is_filled_evenly(self) -> None:
-        """1,000 objects of a minute become objects of ten minutes: about as many in each minute."""
+        """1,000 objects of a minute become objects of ten minutes: the number of checks is about the same in each minute."""
         phases = [rhythm.moved(60 * number, f"h{number}", 60_000, 600_000) for number in range(1_000)]
         counts = collections.Counter(phase // 60_000 for phase in phases)
         self.assertEqual(len(counts), 10)

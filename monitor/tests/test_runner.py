@@ -1,4 +1,4 @@
-"""The runner: each job has one result, whatever its plugin does and whatever the machine lacks, and no plugin outlives its runner."""
+"""The runner: each job has one result, for any behaviour of its plugin and any lack of the machine, and no plugin outlives its runner."""
 import os
 import pathlib
 import signal
@@ -20,7 +20,7 @@ def is_zombie(process: int) -> bool:
 
 
 def living(marks: str) -> Set[int]:
-    """The processes that have this among their words."""
+    """The processes that have this argument."""
     found = set()
     for folder in pathlib.Path("/proc").glob("[0-9]*"):
         try:
@@ -79,7 +79,7 @@ class Plugins(unittest.TestCase):
             os.kill(int(result["output"]), signal.SIGKILL)
 
     def test_much_output(self) -> None:
-        """It never fills a pipe, and the beginning is kept."""
+        """It never fills a pipe, and the beginning is stored."""
         (result,) = self.ran(shell(1, "head -c 1000000 /dev/zero | tr '\\0' x | tee /dev/stderr"))
         self.assertEqual((result["end"], result["output"], result["stderr"]), ("exited", "x" * MOST_KEPT, "x" * MOST_KEPT))
 
@@ -99,7 +99,7 @@ class Plugins(unittest.TestCase):
         self.assertEqual(result["output"], words)
 
     def test_signals_are_as_usual_in_a_plugin(self) -> None:
-        (result,) = self.ran({"job": 1, "words": ["grep", "-E", "^Sig(Blk|Ign)", "/proc/self/status"], "limit": 60})  # a shell would unblock them by itself
+        (result,) = self.ran({"job": 1, "words": ["grep", "-E", "^Sig(Blk|Ign)", "/proc/self/status"], "limit": 60})  # a shell would unblock them itself
         self.assertEqual(result["output"].split(), ["SigBlk:", "0" * 16, "SigIgn:", "0" * 16])
 
     def test_a_plugin_has_no_file_of_the_runner(self) -> None:
@@ -116,7 +116,7 @@ class Plugins(unittest.TestCase):
         self.assertEqual(result["output"], "500\n")
 
     def test_the_limit_of_files(self) -> None:
-        """The runner's is as high as it may be; a plugin has the one that the runner was begun with."""
+        """The runner's limit is as high as possible; a plugin has the one with which the runner was started."""
         with OneRunner(before=["prlimit", "--nofile=100:200"]) as runner:
             (result,) = runner.ran(shell(1, "ulimit -n"))
             limits = pathlib.Path(f"/proc/{runner.process.pid}/limits").read_text()
@@ -131,10 +131,10 @@ class Plugins(unittest.TestCase):
 
 
 class Ends(unittest.TestCase):
-    """What becomes of plugins when their runner ends."""
+    """The fate of plugins when their runner ends."""
 
     def setUp(self) -> None:
-        # A number that no other process has among its words.
+        # A number that no other process has among its arguments.
         self.seconds = f"{100_000 + os.getpid()}.{time.monotonic_ns()}"
         # A shell with a child, and a program in its place.
         self.jobs = [shell(1, f"sleep {self.seconds}; true", 1000), {"job": 2, "words": ["sleep", self.seconds], "limit": 1000}]
@@ -203,7 +203,7 @@ class Ends(unittest.TestCase):
 
 
 class Troubles(unittest.TestCase):
-    """What the machine lacks is no plugin's fault, and a process that hangs holds up no other."""
+    """A lack of the machine is no plugin's fault, and a process that hangs holds up no other."""
 
     folder: "tempfile.TemporaryDirectory[str]"
 
@@ -244,7 +244,7 @@ class Troubles(unittest.TestCase):
                 self.assertEqual({it.get("code") for it in runner.ran(*(shell(number, "exit 2") for number in range(30)))}, {2})
 
     def test_no_memory(self) -> None:
-        """A plugin that the kernel ended is lost; one that somebody killed isn't, and neither is one that ended by itself meanwhile."""
+        """A plugin that the kernel killed is lost. One that somebody killed isn't, and neither is one that ended meanwhile on its own."""
         with self.runner("memory") as runner:
             results = runner.ran(shell(1, "kill -9 $$"), shell(2, "kill -TERM $$"), shell(3, "exit 2"), shell(4, "sleep 60", 0.5))
         self.assertEqual([it.get("lost", (it.get("end"), it.get("code"))) for it in results],

@@ -1,4 +1,4 @@
-"""Runners elsewhere: which object goes to which, each way in which the file can be wrong, and that one that is away holds up no other."""
+"""Runners elsewhere: which object goes to which, each way in which the file can be wrong, and that an absent runner holds up no other."""
 import pathlib
 import select
 import sys
@@ -27,7 +27,7 @@ class Reading(SiteTest):
         self.assertEqual(read_runners(self.folder, NAMES, {}), ({}, {}))
 
     def test_patterns(self) -> None:
-        """Hosts with all that is on them, and full names; the first runner that fits counts."""
+        """Hosts with everything on them, and full names; the first runner that fits counts."""
         remotes, runner_of = self.read(objects={"here": ["*;local"], "dmz": ["dmz-*"], "branches": ["paris", "gat?"]}, slots={"dmz": 3})
         self.assertEqual(runner_of, {
             "gate": "branches", "dmz-1": "dmz", "dmz-1;http": "dmz", "dmz-2": "dmz", "dmz-2;http": "dmz", "dmz-2;local": "here",
@@ -36,7 +36,7 @@ class Reading(SiteTest):
             "here": (("here",), 32, 30), "dmz": (("dmz",), 3, 30), "branches": (("branches",), 32, 30)})
 
     def test_groups(self) -> None:
-        """A host group is that of its hosts with all that is on them."""
+        """A host group is that of its hosts with everything on them."""
         _, runner_of = self.read(objects={"dmz": ["servicegroup:sh*"], "branches": ["hostgroup:eu"]}, wait=5)
         self.assertEqual(runner_of, {"dmz-2;http": "dmz", "paris": "branches", "paris;disk": "branches"})
 
@@ -62,7 +62,7 @@ class Reading(SiteTest):
             self.assertIn(word, str(caught.exception))
 
     def test_a_site(self) -> None:
-        """A program that a runner elsewhere runs needn't be here."""
+        """A program that a runner elsewhere runs needn't exist here."""
         self.write_site([{"name": "web", "max_check_attempts": 1}, {"name": "dmz-1", "max_check_attempts": 1}], [])
         self.write("commands.json", {"web": {"line": "true"}, "dmz-1": {"line": "/only/there -H dmz-1"}})
         with self.assertRaises(SiteFault):
@@ -113,7 +113,7 @@ class Handing(unittest.TestCase):
         self.assertEqual((events[1].output, events[2].output, events[3].why), ("", "there", "there is no runner lyon"))
 
     def test_one_that_gives_no_answer_holds_up_no_other(self) -> None:
-        """It has as many jobs as it has slots. The others wait for it, and are lost in time; those of others go on."""
+        """It has as many jobs as it has slots. The others wait for it, and are lost in time; those of other runners continue."""
         self.runners.serve({"dmz": Remote("dmz", STAND_IN, 2, 5.0), "lan": Remote("lan", STAND_IN)})
         for run in range(4):
             self.start(run, "wait")
@@ -138,7 +138,7 @@ class Handing(unittest.TestCase):
         self.assertEqual([event.output for event in self.events(1)], ["there"])
 
     def test_other_runners(self) -> None:
-        """The same one again changes nothing; another command, or none, ends it and what it has."""
+        """The same runner again changes nothing. Another command, or no runner, ends it, and its jobs are lost."""
         self.runners.serve({"dmz": Remote("dmz", STAND_IN, 1)})
         before = self.runners.process_ids()
         self.runners.serve({"dmz": Remote("dmz", STAND_IN, 1)})

@@ -1,4 +1,4 @@
-"""The lines of the runner: whatever it reads is answered, results wait for their reader, and a file says which command lines are run."""
+"""The lines of the runner: each line that it reads is answered, results wait for their reader, and a file says which command lines are run."""
 import fcntl
 import json
 import os
@@ -20,7 +20,7 @@ F_SETPIPE_SZ = 1031  # Python 3.9 has no name for it
 
 
 class Lines(unittest.TestCase):
-    """No line ends the runner, and no result is lost in it. It is built so that it ends where it would touch memory that isn't its own."""
+    """No line ends the runner, and no result is lost in it. It is built so that it ends if it would touch memory that isn't its own."""
 
     @classmethod
     def setUpClass(cls) -> None:
@@ -72,7 +72,7 @@ class Lines(unittest.TestCase):
         self.assertEqual((result["end"], result["output"]), ("failed", "true: Argument list too long"))
 
     def test_damaged_lines(self) -> None:
-        """None runs another program, and the runner goes on."""
+        """None of them runs another program, and the runner continues."""
         chance = random.Random(11)
         whole = json.dumps({"job": 1, "words": ["/plugins/none", "\u20ac \U0001f600\"\\"], "limit": 5}).encode()
         lines = []
@@ -91,7 +91,7 @@ class Lines(unittest.TestCase):
             self.assertEqual(runner.end(), 0)
 
     def test_more_results_than_it_can_keep(self) -> None:
-        """Plugins that end together have longer results than it has room for; their reader takes each piece at once."""
+        """Plugins that end together have longer results than it has room for; their reader reads each piece at once."""
         with OneRunner(program=self.program) as runner, tempfile.TemporaryDirectory() as folder:
             fcntl.fcntl(runner.process.stdout or 0, F_SETPIPE_SZ, 1 << 20)
             go = pathlib.Path(folder, "go")
@@ -131,7 +131,7 @@ class Only(unittest.TestCase):
         self.file = pathlib.Path(folder.name, "allowed")
 
     def ends(self, patterns: str, *lines: List[str]) -> List[bool]:
-        """Of each command line whether it was run."""
+        """For each command line, whether it was run."""
         self.file.write_text(patterns)
         with OneRunner("--only", str(self.file)) as runner:
             results = runner.ran(*({"job": number, "words": words, "limit": 9} for number, words in enumerate(lines)))
@@ -157,7 +157,7 @@ class Only(unittest.TestCase):
                 self.assertEqual(self.ends(f"echo {pattern}\n", ["echo", word]), [fits])
 
     def test_programs_that_run_others(self) -> None:
-        """A program that is allowed with some words isn't with others."""
+        """A program that is allowed with some arguments isn't allowed with others."""
         patterns = "/usr/lib/nagios/plugins/check_ping -H * -w * -c *\n/usr/lib/nagios/plugins/check_by_ssh -H * -C *\n"
         plugins = "/usr/lib/nagios/plugins"
         self.assertEqual(self.ends(patterns, [f"{plugins}/negate", "/bin/sh", "-c", "id"],

@@ -1,4 +1,4 @@
-"""A runner on another machine, over SSH: it runs what that machine allows, and a connection that is cut leaves no plugin behind."""
+"""A runner on another machine, over SSH: it runs the commands that that machine allows, and a cut connection leaves no plugin running."""
 import os
 import random
 import time
@@ -9,7 +9,7 @@ from .ssh_server import SshServer, missing
 from .test_runner import living
 from .waiting import comes
 
-# How often the connection is cut. By hand: CUTS=20 python3 -m unittest tests.test_runner_ssh
+# How often the connection is cut. Manually: CUTS=20 python3 -m unittest tests.test_runner_ssh
 CUTS = int(os.environ.get("CUTS", "4"))
 RATE, SECONDS = 100, 0.5
 
@@ -36,7 +36,7 @@ class OverSsh(unittest.TestCase):
                          [("exited", "fine\n"), ("failed", "this machine's --only file doesn't allow this command line")])
 
     def test_a_connection_that_is_cut(self) -> None:
-        """Each job has one result at most, and what had none is no longer run."""
+        """Each job has at most one result, and a job without one is no longer run."""
         chance = random.Random(9)
         seconds = f"{100_000 + os.getpid()}.{time.monotonic_ns()}"
         server = self.begin(f"true\n/bin/sh -c 'sleep {seconds}; true'\n")

@@ -1,4 +1,4 @@
-"""The runner processes of a monitor: each job is finished or lost, whatever becomes of its runner."""
+"""The runner processes of a monitor: each job is finished or lost, for any fate of its runner."""
 import os
 import pathlib
 import select
@@ -59,7 +59,7 @@ class ManyRunners(unittest.TestCase):
         self.assertEqual([event.job.name for event in self.wait(1)], ["db"])
 
     def test_one_that_stands_still(self) -> None:
-        """It is killed with the job that is late; what else it ran is lost, and others run its next jobs."""
+        """It is killed with the job that is late; its other jobs are lost, and others run its next jobs."""
         stopped = self.runners.process_ids()
         for process in stopped:
             os.kill(process, signal.SIGSTOP)
@@ -78,7 +78,7 @@ class ManyRunners(unittest.TestCase):
         self.assertIn("db", [event.job.name for event in self.wait(3)])
 
     def test_one_that_reads_no_jobs(self) -> None:
-        """What doesn't fit into its pipe waits, and whoever hands jobs on isn't held up."""
+        """Jobs that don't fit into its pipe wait, and don't hold up the monitor."""
         for process in self.runners.process_ids():
             os.kill(process, signal.SIGSTOP)
             self.addCleanup(os.kill, process, signal.SIGCONT)
@@ -93,7 +93,7 @@ class ManyRunners(unittest.TestCase):
         self.assertEqual(sorted(event.job.run for event in self.wait(40)), list(range(40)))
 
     def test_no_room_for_another_one(self) -> None:
-        """One line says so; jobs go to the runners that are left, and wait where none is, until there is room."""
+        """One line says so. Jobs go to the remaining runners. If there is no runner, they wait until there is room."""
         first, second = self.runners.process_ids()
         self.passed = 10
         with mock.patch.object(subprocess, "Popen", side_effect=BlockingIOError(11, "no room")):
@@ -129,7 +129,7 @@ class Pauses(unittest.TestCase):
 
 
 class StandIn(unittest.TestCase):
-    """A runner of one's own, which says these lines to the first job."""
+    """A runner of the test's own, which writes these lines for the first job."""
 
     def events(self, *answers: str, count: int = 1) -> List[Any]:
         folder = tempfile.TemporaryDirectory()
@@ -159,7 +159,7 @@ class StandIn(unittest.TestCase):
         return events
 
     def test_half_a_character(self) -> None:
-        """JSON may have it, and no database takes it: it is replaced in what a worker answers."""
+        """JSON may have it, but no database accepts it: it is replaced in a worker's answers."""
         events = self.events('{"job":1,"code":0,"end":"exited","output":"half \\ud800"}', '{"job":2,"lost":"\\udfff gone"}', count=2)
         self.assertEqual(events, [Finished(self.jobs[0], "exited", 0, "half ?"), Lost(self.jobs[1], "? gone", True)])
 
@@ -172,7 +172,7 @@ class StandIn(unittest.TestCase):
         self.assertEqual(events, [Finished(self.jobs[0], "limit", 0, "", "", True), Gone(self.jobs[0])])
 
     def test_bad_lines(self) -> None:
-        """None ends the monitor: each is logged, and the check that it speaks of is made again."""
+        """None ends the monitor: each is logged, and the check that it is about is made again."""
         for line, is_read in (("hello", False), ("[1]", False), ("[" * 100_000, False), ("{}", False),
                               ('{"job":"1","end":"exited","code":0,"output":""}', False),
                               ("\xff", False), ('{"job":true,"end":"exited","code":0,"output":""}', False), ('{"error":"no \\u001b number"}', False),

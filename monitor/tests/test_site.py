@@ -140,7 +140,7 @@ class SiteFiles(SiteTest):
         self.refused("setup.json: Is a directory")
 
     def test_a_scheduler_that_fails(self) -> None:
-        """It takes the setup, and then writes no line of it; or there is no room for its process."""
+        """It accepts the setup, and then writes no line of it; or there is no room for its process."""
         self.write_site([HOST], [])
         program = self.folder / "program"
         program.write_text("#!/bin/sh\ntest $# = 1\n")

@@ -1,4 +1,4 @@
-"""The table of standings: it says what the monitor knows, and a restart goes on with it."""
+"""The table of standings: it agrees with the monitor, and a restart continues with it."""
 import pathlib
 import sqlite3
 from typing import Dict, Tuple
@@ -14,7 +14,7 @@ DOWN_FROM, DOWN_TO = BEGIN + 100_000, BEGIN + 400_000
 
 
 def outage(name: str, moment: int) -> Tuple[int, int, str]:
-    """A plugin that takes half a second, of a site whose host `web` and its service are down for five minutes."""
+    """A plugin that takes half a second, for a site whose host `web` and its service are down for five minutes."""
     if name.startswith("web") and DOWN_FROM <= moment < DOWN_TO:
         return 500, 2, "no answer|rta=0"
     return 500, 0, "fine"
@@ -36,7 +36,7 @@ class Table(SiteTest):
         return BEGIN / 1000 + seconds
 
     def assert_same(self, monitor: SimulatedMonitor) -> Dict[str, KeptStanding]:
-        """What the table has is what a request says, but for what changed within the last second."""
+        """The table agrees with the answer to a request, except for changes within the last second."""
         kept = table(self.folder)
         objects = monitor.scheduling.known.objects
         self.assertEqual(set(kept), set(objects))
@@ -84,7 +84,7 @@ class Table(SiteTest):
         self.assertEqual({name: row.is_on for name, row in self.assert_same(monitor).items()}, {"db": 0, "web": 1, "web;http": 1})
 
     def test_a_restart_keeps_words_and_times(self) -> None:
-        """Killed behind a saved state or without one: times and words are those of before."""
+        """Killed after a saved state or without one: times and output are those of before."""
         for saves in (False, True):
             with self.subTest(saves=saves):
                 (self.folder / "monitor.db").unlink(missing_ok=True)
@@ -103,7 +103,7 @@ class Table(SiteTest):
                 again.close()
 
     def test_a_row_that_lags_behind(self) -> None:
-        """The table lost what came last: the kept changes say since when an object is what it is."""
+        """The table lost the latest rows: the stored changes show when an object's state began."""
         monitor = self.monitor(outage)
         monitor.run(350)
         before = self.assert_same(monitor)
@@ -144,5 +144,5 @@ class Table(SiteTest):
         monitor.run(50)
         self.assertEqual(writes, 0)
         monitor.run(20)
-        # Each of the three checks is taken and reported; all that is behind is written once.
+        # Each of the three checks is taken and reported; the waiting rows are written once.
         self.assertTrue(1 <= writes <= 2 + 2 + 1, writes)

@@ -1,4 +1,4 @@
-"""The database: what was changed is found, what can't be written changes nothing."""
+"""The database: changed rows are found, and a failed write changes nothing."""
 import sqlite3
 from typing import List
 
@@ -59,7 +59,7 @@ class Database(SiteTest):
         Store(self.folder).close()
 
     def test_a_changed_byte_in_each_table(self) -> None:
-        """What checks depend on is refused; what only people read is set aside with a line."""
+        """A damaged row that checks depend on is refused; one that only people read is set aside with a line."""
         self.filled().close()
         for table, members in TABLES.items():
             for member in ["checksum", *(each.split()[0] for each in members.split(", "))]:
@@ -85,7 +85,7 @@ class Database(SiteTest):
         self.assertRegex(lines[0], rf"row \d+ of {table} was changed since it was written")
 
     def test_a_changed_byte_in_the_history(self) -> None:
-        """It is found when it is read: it counts for nothing, and stays to be looked at."""
+        """It is found when it is read: it counts for nothing, and stays for inspection."""
         self.filled().close()
         with sqlite3.connect(self.folder / "monitor.db") as database:
             database.execute("UPDATE changes SET state = 'UP'")
@@ -126,7 +126,7 @@ class Database(SiteTest):
         self.assertEqual(store._database.execute("PRAGMA journal_mode").fetchone(), ("wal",))
 
     def test_a_read_that_fails(self) -> None:
-        """It is told as what can't be stored, and tried again."""
+        """It is reported as data that can't be stored, and tried again."""
         store = self.filled()
         store._database.execute("ALTER TABLE outbox RENAME TO gone")
         with self.assertRaises(NotStored):
@@ -163,7 +163,7 @@ class Database(SiteTest):
         self.assertEqual([call.id for call in store.calls_since(0, 0)], [2, 3])
 
     def test_a_write_that_fails_behind_others(self) -> None:
-        """None of them is there, and numbers go on from where they were."""
+        """None of them is stored, and numbers continue as before."""
         def failing(store: Store) -> None:
             raise sqlite3.OperationalError("disk I/O error")
 

@@ -1,4 +1,4 @@
-"""What the end of a plugin counts as, and what is kept of its words."""
+"""The result of a plugin's end, and the stored part of its output."""
 import unittest
 from typing import Tuple
 
@@ -23,12 +23,12 @@ class Ends(unittest.TestCase):
             self.assertEqual(judged("failed", 0, "no such file", is_host=is_host), (CRITICAL, "not started: no such file"))
 
     def test_a_limit(self) -> None:
-        """A service is what the site says; a host is DOWN whatever it says."""
+        """A service is what the site says; a host is always DOWN."""
         self.assertEqual(judged("limit", 0, "so far"), (UNKNOWN, "timed out after 30 seconds: so far"))
         self.assertEqual(judged("limit", 0, is_host=True), (CRITICAL, "timed out after 30 seconds"))
 
     def test_words(self) -> None:
-        """All lines are kept, and standard error; 4 KiB of each, cut between two characters, without control characters."""
+        """All lines are stored, and standard error; 4 KiB of each, cut between two characters, without control characters."""
         self.assertEqual(judged("exited", 0, "one\r\ntwo|a=1\n", "said\n")[1], "one\ntwo|a=1\nsaid")
         self.assertEqual(judged("exited", 0, "", "said")[1], "(No output on stdout) stderr: said")
         self.assertEqual(judged("exited", 0, "a\x1b[2Kb\x07\x85c\u202ed\te")[1], "a [2Kb  c d e")

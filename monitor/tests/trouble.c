@@ -1,10 +1,10 @@
-/* Trouble of a machine, for a runner under test: preloaded, and named by the variable TROUBLE.
+/* Faults of a machine, for a runner under test: preloaded, and named by the variable TROUBLE.
  *
  *   kill   no process can be killed, as one of another user
  *   fork   every second process is refused
  *   pipe   every second pipe is refused
- *   memory the kernel has ended one process more each time that somebody asks
- *   exec   a program whose name ends with `hangs` is never loaded, as on a file system that doesn't answer
+ * memory the kernel has killed one process more at each query
+ * exec   a program whose name ends with `hangs` is never loaded, as on a file system that doesn't answer
  */
 #define _GNU_SOURCE
 #include <dlfcn.h>

@@ -1,13 +1,13 @@
-"""Waits for what other processes do: as long as it takes on a machine with much else to do."""
+"""Waits for the effects of other processes, for the time that these need on a busy machine."""
 import time
 from typing import Callable
 
-# How long something may take at most, in seconds.
+# The longest wait, in seconds.
 LONG = 90.0
 
 
 def comes(what: Callable[[], bool], seconds: float = LONG) -> bool:
-    """Whether it holds within so many seconds. It is asked every 50 milliseconds."""
+    """Whether it holds within this many seconds. It is tested every 50 milliseconds."""
     end = time.monotonic() + seconds
     while not what():
         if time.monotonic() >= end:

@@ -43,7 +43,7 @@ static void renew(struct desk *desk, size_t room, struct nagsched_handle *histor
 
 static int is_same(const struct nagsched_reply *one, const struct nagsched_reply *other) { return memcmp(one, other, sizeof *one) == 0; }
 
-/* Calls are stored past the room as below it, each with its reply. */
+/* Calls past the room are stored like those within it, each with its reply. */
 static void past_the_room(size_t room, uint64_t calls) {
     struct desk desk = NO_DESK;
     struct nagsched_reply reply = {0};

@@ -125,7 +125,7 @@ static void saved_refusals(void) {
 #define HOST "{\"name\":\"h\",\"max_check_attempts\":3}"
 #define SERVICE "{\"host\":\"h\",\"description\":\"s\",\"max_check_attempts\":3}"
 
-/* The document is refused so. */
+/* The document is refused for this reason. */
 static void is_refused(const char *document, uint32_t kind, uint32_t part, uint64_t has_index, uint64_t index) {
     struct nagsched_handle none = NAGSCHED_EMPTY;
     struct nagsched_refusal refusal = {99, 99, 99, 99};

@@ -1,5 +1,5 @@
-/* Refuses each request for memory in turn, through the whole life of a desk: it is read, opened, used past its room, gathered, closed,
- * written as text, renewed, opened again, saved, resumed over a setup, and freed.
+/* Refuses each request for memory in turn, through the whole life of a desk. The desk is read, opened, used past its room, gathered, closed
+ * and written as text. Then it is renewed, opened again, saved, resumed over a setup, and freed.
  *
  * Linked with -Wl,--wrap=malloc,--wrap=realloc,--wrap=free, so that each request and each block is counted. A function that is
  * refused memory reports it, leaves all handles and blocks as they were, and succeeds when it is called again. So each life ends with

@@ -1,5 +1,5 @@
-/* States that are saved and resumed: the text, which was worked out manually; resumed over a setup of the same document and over another
- * one; each refusal, by literal numbers; and the running checks.
+/* States that are saved and resumed. The text was worked out manually. It is resumed over a setup of the same document and over another
+ * one. Also each refusal, by literal numbers, and the running checks.
  */
 #include "counted.h"
 

@@ -17,7 +17,7 @@ static void must(uint32_t status, const char *what) {
     exit(1);
 }
 
-/* Makes the call of a line: its word, two numbers at most, and a name. */
+/* Makes the call of a line: its command, two numbers at most, and a name. */
 static uint32_t make(struct nagsched_handle *pass, const char *line, size_t bytes, struct nagsched_call *call, struct nagsched_reply *reply) {
     uint64_t first = 0, second = 0;
     uint32_t object;

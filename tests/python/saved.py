@@ -13,7 +13,7 @@ told = []
 
 
 def setup(hosts, max_check_attempts):
-    """A setup of these hosts, which are never due themselves, and one service of the last host, with one or more attempts."""
+    """A setup of these hosts, which are never due, and one service of the last host, with one or more attempts."""
     return nagsched.Setup(json.dumps({
         "options": {"service_inter_check_delay_method": "n", "host_inter_check_delay_method": "n"},
         "hosts": [{"name": name, "check_interval": 0, "max_check_attempts": 3} for name in hosts],

@@ -1,7 +1,7 @@
-"""Makes mistakes with bindings/python/nagsched: each raises, and none changes anything. NULL, which that file gives to no
-function, is WRONG to each of the shared library's.
+"""Makes mistakes with bindings/python/nagsched: each raises an error and changes nothing. The package never passes NULL; each function of the
+shared library returns WRONG for it.
 
-Wants NAGSCHED_LIBRARY and PYTHONPATH. The last line counts what was compared.
+Needs NAGSCHED_LIBRARY and PYTHONPATH. The last line counts the comparisons.
 """
 import ctypes
 import json
@@ -96,7 +96,7 @@ def calls(desk):
 
 
 def savings(book):
-    """A book is saved and asked for running checks. A text that is no saved state is refused, and its setup stays."""
+    """A book is saved, and its running checks are read. A text that is no saved state is refused, and its setup stays."""
     raises(Wrong, book.running, 2)
     raises(Wrong, book.running, -1)
     raises(TypeError, book.running, "h")

@@ -1,4 +1,4 @@
-# Completion of the words of nagsched and nagsched-monitor, for bash.
+# Completion of the arguments of nagsched and nagsched-monitor, for bash.
 _nagsched() {
     local word=${COMP_WORDS[COMP_CWORD]} subcommand=${COMP_WORDS[1]:-}
     local -A options=([run]="--start --resume --help" [live]="--start --resume --help" [check]="--start --line --resume --help" [drill]="--start --workers --room --help" [schema]="--help")

@@ -24,7 +24,7 @@ class NoMemory(Error, MemoryError):
 
 
 class Refused(Error, ValueError):
-    """The document is no setup, or the text no saved state: `refusal` says why and where."""
+    """The document is no setup, or the text no saved state: `refusal` has the reason and the place."""
 
     status = Result.REFUSED
 
@@ -40,7 +40,7 @@ class Missing(Error, LookupError):
 
 
 class Wrong(Error, ValueError):
-    """A mistake of the caller's: a number out of its range, a closed object, or a pass that another thread uses."""
+    """A mistake of the caller: a number out of its range, a closed object, or a pass that another thread uses."""
 
     status = Result.WRONG
 

@@ -57,7 +57,7 @@ class CallKind(enum.IntEnum):
 
 
 class ReplyKind(enum.IntEnum):
-    """The replies. From UNKNOWN_OBJECT on, the call was refused, and has changed nothing."""
+    """The replies. From UNKNOWN_OBJECT on, the call was refused and changed nothing."""
 
     TAKEN = 0
     PUT_OFF = 1

@@ -38,7 +38,7 @@ class RefusalStruct(ctypes.Structure):
     _fields_ = [("kind", ctypes.c_uint32), ("part", ctypes.c_uint32), ("has_index", ctypes.c_uint64), ("index", ctypes.c_uint64)]
 
 
-# The sizes and offsets that include/nagsched.h has.
+# The sizes and offsets in include/nagsched.h.
 LAYOUT = {
     HandleStruct: (16, [0, 8]),
     StandingStruct: (24, [0, 4, 8, 12, 16, 20]),
@@ -116,7 +116,7 @@ LONG = ("read", "save", "resume")
 
 
 class Library:
-    """The functions of the library. All but the long ones keep the interpreter's lock, since none of them waits."""
+    """The functions of the library. All but the long ones hold the interpreter's lock, since none of them waits."""
 
     if typing.TYPE_CHECKING:
         def __getattr__(self, name: str) -> typing.Callable[..., int]: ...

@@ -29,7 +29,7 @@ class Call(typing.NamedTuple):
 
 
 class Reply(typing.NamedTuple):
-    """The reply to a call. `object` and `run` are 0 if the kind has none; `time` is None for never."""
+    """The reply to a call. `object` and `run` are 0 if the kind doesn't use them; `time` is None for never."""
 
     kind: ReplyKind
     object: int = 0
@@ -55,8 +55,8 @@ class Run(typing.NamedTuple):
 
 
 class Refusal(typing.NamedTuple):
-    """Why a document is no setup, and where: the part, and the index in its list, if there is one. For a saved state the part is
-    NONE, and the index is that of an object in the state's list."""
+    """Why a document is no setup, and which part of it is at fault, with the index in its list, if there is one. For a saved state the part
+    is `NONE`, and the index is that of an object in the state's list."""
 
     kind: RefusalKind
     part: Part

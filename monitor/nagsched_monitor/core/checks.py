@@ -21,10 +21,10 @@ class Checks:
         self._scheduling, self._passive, self._clock, self._log = scheduling, passive, clock, log
         # The operators' switches.
         self._operator: Dict[str, bool] = dict(operator)
-        # The next checks that are to be set, and the objects that were switched on.
+        # The next checks that wait to be set, and the objects that were switched on.
         self._wanted: Dict[str, Reschedule] = {}
         self._to_spread: List[str] = []
-        # Which periods include the minute for which they were looked at last.
+        # The periods that include the minute for which they were looked at last.
         self._periods: Mapping[str, bool] = {}
         self._minute: Optional[int] = None
 
@@ -33,7 +33,7 @@ class Checks:
         return self._scheduling.known.objects
 
     def has_more(self) -> bool:
-        """Whether something is to be planned at once."""
+        """Whether something has to be planned at once."""
         return bool(self._to_spread) or any(self._scheduling.is_known_open(self._objects[name]) for name in self._wanted if name in self._objects)
 
     def plan(self, plan: Plan, now: int, is_after_pause: bool) -> None:
@@ -45,7 +45,7 @@ class Checks:
     # ---- switches and periods
 
     def is_wanted_on(self, watched: Watched, switch: Optional[bool] = None) -> bool:
-        """Whether the active checks of an object are to be on: the operator's switch and its period both say so."""
+        """Whether the active checks of an object have to be on: both the operator's switch and its period have to allow them."""
         on = self._operator.get(watched.name, watched.enabled) if switch is None else switch
         return on and not watched.passive_only and self._is_in_period(watched)
 
@@ -74,12 +74,12 @@ class Checks:
         plan.then.append(switched)
 
     def switch(self, known: Known, on: bool) -> List[Call]:
-        """The calls by which an operator's switch is set."""
+        """The calls that set an operator's switch."""
         wanted = self.is_wanted_on(known.watched, on)
         return [Enable(known.name, wanted)] if known.on != wanted else []
 
     def switched(self, known: Known, on: Optional[bool]) -> None:
-        """An operator's switch was stored; None if it was taken away."""
+        """An operator's switch was stored; None if it was removed."""
         if on is None:
             self._operator.pop(known.name, None)
         else:
@@ -87,10 +87,10 @@ class Checks:
         if on is not False:
             self._to_spread.append(known.name)
 
-    # ---- next checks that are to be set
+    # ---- next checks that wait to be set
 
     def want(self, known: Known, time: int, forced: bool) -> None:
-        """The next check of an object is to be set, with the next plan."""
+        """Has the next check of an object set, with the next plan."""
         self._wanted[known.name] = Reschedule(known.name, time, forced)
 
     def forget(self, name: str) -> None:
@@ -115,7 +115,7 @@ class Checks:
                 del self._wanted[call.name]
 
     def _plan_freshness(self, now: int) -> None:
-        """Has the command of each object run that had no result within its freshness."""
+        """Asks for a check of each object that had no result within its freshness, which runs its command."""
         for name in self._scheduling.site.with_freshness:
             known = self._objects[name]
             if known.is_stale(now) and name not in self._passive and self._scheduling.is_known_open(known) and self._is_in_period(known.watched):
@@ -169,7 +169,7 @@ class Checks:
             self._look_at(host, now)
 
     def _look_at(self, host: Known, now: int) -> None:
-        """Has a host checked now, unless a result came of late, it is running, off or asked for."""
+        """Has a host checked now, unless a result came recently or its check is running, off or already asked for."""
         horizon = self._scheduling.site.options.cached_host_check_horizon * 1000
         is_fresh = host.last_result is not None and now - host.last_result < horizon
         if not is_fresh and host.run is None and host.on and host.next not in (HOST_FIRST, RESULT_FIRST):

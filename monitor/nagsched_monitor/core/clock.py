@@ -13,8 +13,8 @@ class Clock(Protocol):
 
 
 class SystemClock:
-    """The machine's clock. Moments begin at the wall clock, or at the last stored moment if that is greater, and continue by the time since
-    the machine was started, also while it sleeps. So no clock that is set stops checks or hurries them."""
+    """The machine's clock. Moments begin at the wall clock, or at the last stored moment if that is later. They continue by the time since
+    the machine was started, also while it sleeps. So setting the clock neither stops checks nor hurries them."""
 
     def __init__(self, last_kept: int = 0) -> None:
         first = max(time.time_ns() // MILLISECOND, last_kept)

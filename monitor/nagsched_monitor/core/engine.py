@@ -1,7 +1,7 @@
 """The monitor's core. A turn reads events, plans one list of calls, stores it, makes it, and acts on the answers.
 
-A turn can be refused only while it is stored, and then nothing has changed. Clock, runners, schedulers and database are handed in, so that a day can be
-simulated in seconds.
+A turn can be refused only while it is stored, and then nothing has changed. Clock, runners, schedulers and database are parameters, so that tests can
+simulate a day in seconds.
 """
 import collections
 from functools import partial
@@ -26,7 +26,7 @@ from .running import Owner
 
 # The longest time between two turns that isn't a pause, in milliseconds.
 PAUSE = 10_000
-# The longest wait for the next turn, and how soon a change is stored, in milliseconds. A turn that is wanted at 0 is wanted without any rest.
+# The longest wait for the next turn, and how soon a change is stored, in milliseconds. The value 0 asks for a turn without any rest.
 LONGEST_WAIT = 1_000
 CHANGES_WAIT = 100
 NO_REST = 0
@@ -61,7 +61,7 @@ class Engine:
         self._await_results(min(clock.wall(), figures.get("written_at", 0.0)))
 
     def _await_results(self, until: float) -> None:
-        """Awaits the result of each object since its last one, put off by the time since the last monitor ended; if it had none, since its part began."""
+        """Awaits the result of each object since its last one, without the time in which no monitor ran. If it had none, since its part began."""
         starts = {part: made.generation.start for part, made in self.scheduling.schedulers.parts.items()}
         for known in self.objects.values():
             last = known.past.last_check
@@ -78,7 +78,7 @@ class Engine:
     # ---- a turn
 
     def turn(self) -> int:
-        """Does all that there is to do now, and returns the moment at which it wants its next turn at the latest."""
+        """Does all the work that is due now, and returns the latest moment for the next turn."""
         now = self._now = self._clock.moment()
         self.plugins.hear(now)
         plan = self._planned(now)
@@ -104,7 +104,7 @@ class Engine:
         return self._next_turn(now)
 
     def _wait_for_room(self, error: NotStored, now: int) -> int:
-        """Nothing could be stored, and nothing has changed: who asked may ask again."""
+        """Nothing could be stored, and nothing has changed: the client may send the request again."""
         if not self.is_stuck:
             self._log(f"no call is made until it can be stored: {error}")
         self.is_stuck = True
@@ -123,7 +123,7 @@ class Engine:
         return latest if first is None else min(first, latest)
 
     def _planned(self, now: int) -> Plan:
-        """All that is to be done now, in the order in which schedulers hear it."""
+        """All the work of this turn, in the order in which schedulers get it."""
         plan = Plan()
         plan.calls += self.scheduling.takes_of_mirrors(now)
         self.plugins.plan(plan, now)
@@ -140,7 +140,7 @@ class Engine:
         return plan
 
     def ask(self, request: Request) -> None:
-        """A request: it is obeyed and answered in the next turn."""
+        """Takes a request, which is obeyed and answered in the next turn."""
         self._asked.append(request)
 
     def _plan_requests(self, plan: Plan) -> None:
@@ -202,7 +202,7 @@ class Engine:
     # ---- for requests and tests
 
     def out(self) -> int:
-        """How many plugins run."""
+        """The number of running plugins."""
         return self.scheduling.known.running.plugins()
 
     def busy(self) -> Set[str]:
@@ -210,7 +210,7 @@ class Engine:
         return {run.place[1] for run in self.scheduling.known.running.of_owner(Owner.PLUGIN)}
 
     def since_turn(self) -> int:
-        """How many milliseconds ago the last turn began that stored all that it wanted."""
+        """The milliseconds since the beginning of the last turn that stored everything it had to."""
         return self._clock.moment() - (self._now if self._last_turn is None else self._last_turn)
 
     def _save_when_due(self) -> None:

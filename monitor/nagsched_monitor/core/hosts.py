@@ -1,4 +1,4 @@
-"""Which hosts are to be checked at once on account of a result, as in Nagios."""
+"""The hosts that have to be checked at once because of a result, as in Nagios."""
 from typing import List, Mapping, Optional, Sequence
 
 from ..scheduler.protocol import Standing
@@ -21,14 +21,14 @@ def hosts_of(known: Known, before: Optional[Standing], now: Standing, objects: M
 
 
 def is_asked_for(was: str, now: Standing, host: str) -> bool:
-    """Whether a service's result asks for its host: a new or other problem while the host is up or was never checked, an OK while it isn't up."""
+    """Whether a service's result asks for its host: a new or other problem while the host is up or was never checked, or an OK while it isn't up."""
     if now.is_problem():
         return now.state != was and host in WELL
     return host != "UP"
 
 
 def of_host(was_well: bool, now: Standing, parents: Sequence[Known], children: Sequence[Known]) -> List[Known]:
-    """The parents and children that a host's result makes matter. A host that was never checked counts as up."""
+    """The parents and children that a host's result affects. A host that was never checked counts as up."""
     if was_well == (not now.is_problem()):
         return []
     if now.is_problem():

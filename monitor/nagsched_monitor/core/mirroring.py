@@ -1,7 +1,7 @@
 """Mirrors: each result of an object is reported to its mirrors too, in the same order in all parts.
 
-Every mirror is running all the time: it is taken again after each of its results, by a check that is forced and comes before all others. So a result and those
-of its mirrors are calls of one turn, which are stored together.
+Every mirror is running all the time: after each of its results it is taken again, by a check that is forced and comes before all others. So a result and
+those of its mirrors are calls of one turn, which are stored together.
 """
 from typing import AbstractSet, Any, Dict, List, Mapping, Optional, Sequence, Set, Tuple
 
@@ -9,7 +9,7 @@ from ..scheduler.protocol import Answer, Call, PutOff, Report, Reschedule, Take,
 from .rhythm import MIRROR_FIRST
 from .running import Owner, Place, Run, Running
 
-# A call, its part, and the words of the plugin that it reports.
+# A call, its part, and the output of the plugin that it reports.
 AskedOf = Tuple[int, Call, Optional[str]]
 
 
@@ -32,10 +32,10 @@ class Mirrors:
         """The parts in which an object has mirrors."""
         return self._parts.get(name, ())
 
-    # ---- what answers say
+    # ---- answers
 
     def owns(self, part: int, call: Call, answer: Answer) -> bool:
-        """Whether an answer speaks of a mirror; what it says is taken in then."""
+        """Whether an answer is about a mirror, which is then updated."""
         names = self.names.get(part)
         if not names:
             return False
@@ -52,7 +52,7 @@ class Mirrors:
         return True
 
     def read_saved(self, part: int, members: Sequence[Mapping[str, Any]]) -> List[Mapping[str, Any]]:
-        """Takes in the runs of mirrors among the objects of a part, as its scheduler was saved; returns the other objects."""
+        """Takes in the runs of mirrors among the objects of a part, from its scheduler's saved state; returns the other objects."""
         own = []
         for it in members:
             if it["name"] not in self.of(part):
@@ -70,14 +70,14 @@ class Mirrors:
         return Mirrors(names, self._running)
 
     def left_over(self) -> List[Place]:
-        """The mirrors that should have been taken since the last call, and weren't: none, unless another object came before them."""
+        """The mirrors that should have been taken since the last call, and weren't. The list is empty unless another object came before them."""
         left, self._asked_for = sorted(self._asked_for), set()
         return left
 
     # ---- calls
 
     def takes(self, moment: int) -> List[AskedOf]:
-        """The calls by which those mirrors are taken that aren't running."""
+        """The calls that take the mirrors that aren't running."""
         places = [(part, name) for part, names in self.names.items() for name in sorted(names) if self._running.of((part, name)) is None]
         return [call for place in places for call in taken_again(place, moment)]
 

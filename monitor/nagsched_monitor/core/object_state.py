@@ -1,4 +1,4 @@
-"""The state of each object by the scheduler's answers, and the due objects."""
+"""The state of each object according to the scheduler's answers, and the due objects."""
 import heapq
 from dataclasses import dataclass, field, replace
 from typing import Any, Dict, Iterable, List, Mapping, Optional, Set, Tuple
@@ -30,18 +30,18 @@ class Known:
 
     watched: Watched
     running: Running
-    # Whether the scheduler has its checks on, and the rest as the scheduler has it.
+    # Whether the scheduler has its checks on, and other facts as the scheduler has them.
     on: bool
     next: Optional[int] = None
     forced: bool = False
     # The time for which its last run waited.
     due: Optional[int] = None
     standing: Optional[Standing] = None
-    # A moment of its own rhythm: the others are whole intervals away from it.
+    # A moment of its own rhythm: its other checks are whole intervals away.
     phase: Optional[int] = None
     # The time to which an operator set its next check, and whether it is forced, until that check is made.
     asked: Optional[Tuple[int, bool]] = None
-    # The moment of its last result, and the words that came with it.
+    # The moment of its last result, and the output of that result.
     last_result: Optional[int] = None
     words: str = ""
     # The moment since which a result is awaited, if none came while this monitor runs.
@@ -58,11 +58,11 @@ class Known:
 
     @property
     def run(self) -> Optional[Run]:
-        """Its check that runs."""
+        """Its running check."""
         return self.running.of((self.watched.part, self.name))
 
     def waits_until(self) -> Optional[int]:
-        """The time for which it waits; None while it is running, off, or has none."""
+        """The time for which it waits; None if it is running, off, or has no next check."""
         return self.next if (self.on or self.forced) and self.next is not None and self.run is None else None
 
     def is_stale(self, now: int) -> bool:
@@ -85,7 +85,7 @@ class Due:
     _due: Set[str] = field(default_factory=set)
 
     def set(self, name: str, time: Optional[int]) -> None:
-        """Sets the time for which an object waits, or that it waits for none."""
+        """Sets the time for which an object waits, or None."""
         if time is not None and self._times.get(name) == time:
             return
         self._due.discard(name)
@@ -128,7 +128,7 @@ class AllKnown:
         self._due.setdefault(watched.part, Due())
 
     def become(self, objects: Mapping[str, Watched], now: int) -> None:
-        """Takes over another site; the state of objects that stay is kept. A check of an object that moves to another part is abandoned there."""
+        """Takes over another site, and keeps the state of the objects that stay. A check of an object that moves to another part is abandoned there."""
         before, self.objects, self._due = self.objects, {}, {}
         for watched in objects.values():
             kept = before.pop(watched.name, None)
@@ -154,13 +154,13 @@ class AllKnown:
         return replace(kept, watched=watched, on=on, awaited_since=since, phase=phase)
 
     def leave(self, known: Known) -> None:
-        """Ends an object's run. Its plugin, if one runs, has no owner any more, and the next run of the object waits for it."""
+        """Ends an object's run. A plugin that still runs has no owner any more, and the next run of the object waits for it."""
         run = self.running.end(known.place)
         if run is not None and run.job is not None:
             self.running.left[known.name] = run.job
 
     def read_saved(self, members: Iterable[Mapping[str, Any]]) -> List[str]:
-        """Takes in objects as their scheduler was saved. Returns the names of the objects whose known state was different."""
+        """Takes in objects from their scheduler's saved state. Returns the names of the objects whose known state was different."""
         others = []
         for it in members:
             known = self.objects.get(it["name"])
@@ -191,7 +191,7 @@ class AllKnown:
         return all_due
 
     def first(self) -> Optional[int]:
-        """The least time for which an object waits that isn't due yet."""
+        """The earliest time for which an object waits that isn't due yet."""
         first: Optional[int] = None
         for due in self._due.values():
             time = due.first()
@@ -205,7 +205,7 @@ class AllKnown:
         return sorted(times)[1] if len(times) > 1 else None
 
     def hear(self, call: Call, answer: Answer) -> Optional[Known]:
-        """Takes in what an answer says; returns the object that it speaks of, if it is one of these."""
+        """Takes in an answer; returns the object that it is about, if it is one of these."""
         if not isinstance(call, Take):
             known = self.objects.get(call.name)
         elif isinstance(answer, (Taken, PutOff)):

@@ -1,4 +1,4 @@
-"""Passive results that wait to be reported: each as the result of a check that is taken for it."""
+"""Passive results that wait: each is reported as the result of a check that is taken for it."""
 import collections
 from functools import partial
 from typing import Container, Deque, Dict, Iterable, List
@@ -52,7 +52,7 @@ class Passive:
             if self._is_takeable(name):
                 plan.calls += taken_for_result(known, now)
             elif known.next == RESULT_FIRST and known.run is None and self._scheduling.is_known_open(known):
-                plan.calls.append((known.watched.part, Take(now), None))  # as many checks ran as may when it was to be taken
+                plan.calls.append((known.watched.part, Take(now), None))  # the limit of running checks was reached when it had to be taken
                 plan.later.add(name)
 
     def plan_reports(self, plan: Plan, now: int) -> None:
@@ -77,7 +77,7 @@ class Passive:
             del self._results[result.name]
 
     def drop_others(self, names: Container[str]) -> List[KeptResult]:
-        """Lets go of the results of objects that aren't among these, and returns them."""
+        """Drops the results of objects that aren't among these, and returns them."""
         gone = [result for name in self._results if name not in names for result in self._results[name]]
         self._results = {name: results for name, results in self._results.items() if name in names}
         self.count -= len(gone)

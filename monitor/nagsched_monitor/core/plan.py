@@ -1,4 +1,4 @@
-"""The plan of a turn: everything that it will store and make."""
+"""The plan of a turn: everything that the turn will store, and the calls that it will make."""
 from dataclasses import dataclass, field
 from typing import Callable, List, Set
 
@@ -8,7 +8,7 @@ from .mirroring import AskedOf
 
 @dataclass
 class Plan:
-    """One list of calls, what else is written with them, and what follows: once all of it is stored, and once the calls were answered."""
+    """One list of calls, with everything that is written with them. Then the actions after all of it is stored, and after the calls were answered."""
 
     calls: List[AskedOf] = field(default_factory=list)
     writes: List[Write] = field(default_factory=list)

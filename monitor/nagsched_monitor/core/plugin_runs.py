@@ -1,4 +1,4 @@
-"""Runs that plugins make: their beginning, their end, and what becomes of those that don't end."""
+"""Runs of plugins: their beginning, their end, and the handling of those that don't end."""
 import collections
 from functools import partial
 from typing import Callable, Counter, Deque, Dict, List, Optional
@@ -16,19 +16,19 @@ from .rhythm import on_time
 from .running import Owner, Run
 from .verdict import verdict
 
-# How often a check whose runner ended is begun again, and what it counts as then.
+# How often a check whose runner ended is made again, and its result if it is lost once more.
 MOST_LOST = 2
 UNKNOWN = 3
-# How long after its limit a result may come, in milliseconds.
+# The time after its limit within which a result may come, in milliseconds.
 MARGIN = 15_000
-# The pause before a check that this machine couldn't start is tried again, in milliseconds: twice as long each time, up to the longest.
+# The pause before the next try of a check that this machine couldn't start, in milliseconds. It doubles each time, up to the longest.
 RETRY, LONGEST_RETRY = 1_000, 60_000
 # The time between two sweeps of all runs, in milliseconds.
 SWEEP = 1_000
 
 
 class PluginRuns:
-    """The plugins of a site, and the events by which they end."""
+    """The plugins of a site, and the events of their ends."""
 
     def __init__(self, scheduling: Scheduling, runners: Runners, clock: Clock, log: Callable[[str], None], counters: Counters) -> None:
         self._scheduling, self._runners, self._clock, self._log, self._counters = scheduling, runners, clock, log, counters
@@ -44,7 +44,7 @@ class PluginRuns:
     # ---- the beginning
 
     def start(self, known: Known, run: Run, command: Command) -> None:
-        """Runs the plugin of a check that was taken; one that still runs for a run before ends this one."""
+        """Runs the plugin of a check that was taken. If the plugin of an earlier run still runs, this run ends."""
         left = self._scheduling.known.running.left.pop(known.name, None)
         if left is not None:
             self._own(run, left)
@@ -65,20 +65,20 @@ class PluginRuns:
 
     def _own(self, run: Run, job: Job) -> None:
         remote = None if job.runner is None else self._scheduling.site.runners.get(job.runner)
-        wait = 0 if remote is None else round(2 * remote.wait * 1000) + MARGIN  # for the runner, and for what is behind it
+        wait = 0 if remote is None else round(2 * remote.wait * 1000) + MARGIN  # for the runner, and for the queue after it
         run.owner, run.job, run.deadline = Owner.PLUGIN, job, self._clock.moment() + round(job.limit * 1000) + wait + MARGIN
 
     # ---- the end
 
     def hear(self, now: int) -> None:
-        """Takes in what runners say, and looks over all runs every second."""
+        """Takes in the events of runners, and looks over all runs every second."""
         self._events.extend(self._runners.events())
         if now - self._swept >= SWEEP:
             self._swept = now
             self._sweep(now)
 
     def _sweep(self, now: int) -> None:
-        """A run that is past its deadline is ended, by its runner's end; one that no runner has is nobody's."""
+        """Ends a run that is past its deadline, by ending its runner. A run that no runner has belongs to nobody."""
         running = self._scheduling.known.running
         ended, there = {id(event.job) for event in self._events}, self._runners.jobs()
         for run in running.of_owner(Owner.PLUGIN):
@@ -96,13 +96,13 @@ class PluginRuns:
                 del running.left[name]
 
     def _run_of(self, event: Event) -> Optional[Run]:
-        """The run that a plugin's end ends."""
+        """The run that ends with a plugin."""
         known = self._scheduling.known.objects.get(event.job.name)
         run = None if known is None else known.run
         return run if run is not None and run.job is event.job else None
 
     def plan(self, plan: Plan, now: int) -> None:
-        """Reports what plugins gave. Events that can't be reported now stay."""
+        """Reports the results of plugins. Events that can't be reported now stay."""
         left: Deque[Event] = collections.deque()
         for event in self._events:
             run = self._run_of(event)
@@ -137,7 +137,7 @@ class PluginRuns:
             self._log(f"{name}: the result of run {event.job.run} is dropped: it was given up, or the object isn't part of the site any more")
 
     def _ended(self, run: Run, event: Event, now: int) -> List[AskedOf]:
-        """The calls by which a run ends. A lost check is made again; a service's check whose runner ended is UNKNOWN the third time."""
+        """The calls that end a run. A lost check is made again; a service's check whose runner ended is UNKNOWN the third time."""
         part, name = run.place
         known = self._scheduling.known.objects[name]
         if isinstance(event, Finished):
@@ -153,7 +153,7 @@ class PluginRuns:
         return abandoned(run, now)
 
     def _is_put_off(self, event: Event) -> bool:
-        """Whether a lost check says nothing of its object, and is made again after a pause: a host is never DOWN on account of its runners."""
+        """Whether a lost check says nothing about its object, and is made again after a pause: a host is never DOWN because of its runners."""
         name = event.job.name
         return isinstance(event, Lost) and (event.is_local or self._lost[name] == MOST_LOST and self._scheduling.known.objects[name].watched.is_host())
 
@@ -175,7 +175,7 @@ class PluginRuns:
 
 
 def abandoned(run: Run, now: int) -> List[AskedOf]:
-    """The calls by which a run is abandoned; its check is made again, forced if it was."""
+    """The calls that abandon a run; its check is made again, forced if it was."""
     part, name = run.place
     abandon: AskedOf = (part, Abandon(name, run.number, now), None)
     is_set = run.forced or run.again is not None

@@ -38,5 +38,5 @@ def return_to(phase: Optional[int], interval: int, next_check: Optional[int], no
 
 
 def moved(phase: int, name: str, before: int, interval: int) -> int:
-    """The phase of an object whose interval becomes another one: a longer interval is filled evenly, by the object's name."""
+    """The phase of an object whose interval changes: objects fill a longer interval evenly, by their names."""
     return phase + before * (zlib.crc32(name.encode()) % max(1, interval // before)) if before > 0 else phase

@@ -11,7 +11,7 @@ Place = Tuple[int, str]
 
 
 class Owner(enum.Enum):
-    """Who will end a run."""
+    """The component that will end a run."""
 
     # Nobody: it was taken before this monitor started, or its owner is lost. It is abandoned.
     NOBODY = "nobody"
@@ -25,7 +25,7 @@ class Owner(enum.Enum):
 
 @dataclass
 class Run:
-    """A check that a scheduler handed out and that hasn't ended."""
+    """A check that a scheduler returned and that hasn't ended."""
 
     place: Place
     number: int
@@ -34,7 +34,7 @@ class Run:
     deadline: Optional[int] = None
     job: Optional[Job] = None
     result: Optional[KeptResult] = None
-    # Whether the check was forced: so is the next try.
+    # Whether the check was forced, as the next try then is.
     forced: bool = False
     # The moment at which its check is made again if it is abandoned; None for at once.
     again: Optional[int] = None
@@ -47,7 +47,7 @@ class Running:
 
     def __init__(self) -> None:
         self._runs: Dict[Place, Run] = {}
-        # Plugins whose runs are over, by the names of their objects: no second one is started while they run.
+        # Plugins whose runs are over, by the names of their objects: no second plugin is started while they run.
         self.left: Dict[str, Job] = {}
 
     def begin(self, run: Run) -> None:
@@ -63,11 +63,11 @@ class Running:
         return iter(list(self._runs.values()))
 
     def plugins(self) -> int:
-        """How many plugins run."""
+        """The number of running plugins."""
         return sum(run.owner is Owner.PLUGIN for run in self._runs.values()) + len(self.left)
 
     def here(self) -> int:
-        """How many plugins run on this machine."""
+        """The number of plugins that run on this machine."""
         jobs = [run.job for run in self._runs.values() if run.owner is Owner.PLUGIN] + list(self.left.values())
         return sum(job is not None and job.runner is None for job in jobs)
 

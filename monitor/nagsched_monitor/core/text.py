@@ -1,9 +1,9 @@
 """Texts of plugins and clients, cleaned in this one place: stored, logged and shown texts have no control characters except line feeds."""
 import re
 
-# The number of bytes that are kept of a plugin's standard output, and of its standard error.
+# The number of stored bytes of a plugin's standard output, and of its standard error.
 KEPT_BYTES = 4_096
-# Control characters, and characters that turn the direction of what follows. A tab is a space.
+# Control characters, and characters that turn the direction of the text after them. A tab becomes a space.
 CONTROLS = re.compile("[\x00-\x08\x0b-\x1f\x7f-\x9f\u2028\u2029\u202a-\u202e\u2066-\u2069\ufeff]")
 
 

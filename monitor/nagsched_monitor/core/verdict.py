@@ -9,7 +9,7 @@ CRITICAL = 2
 
 
 def verdict(event: Finished, is_host: bool, timeout_code: int) -> Tuple[int, str]:
-    """The return code, and the plugin's words: the first line is its output, the others are its long output and what it wrote to standard error."""
+    """The return code, and the plugin's words. Their first line is its output; the others are its long output and its standard error."""
     words = words_of(event)
     if event.end == "exited" and 0 <= event.code <= GREATEST_CODE:
         return event.code, words

@@ -1,6 +1,6 @@
-"""The socket in the folder of a site, through which its monitor is asked: lines of JSON there, and as many back.
+"""The socket in the folder of a site, which takes requests for its monitor: lines of JSON, each answered by one line.
 
-No client holds up the monitor or another client: a limited number of its lines is handed on in one turn, and answers that it doesn't read wait, up to a
+No client holds up the monitor or another client. A limited number of its lines is passed on in one turn, and answers that it doesn't read wait, up to a
 limit.
 """
 import os
@@ -18,7 +18,7 @@ from .requests import Request
 NAME = "monitor.socket"
 LONGEST_LINE = 262_144
 READ_BYTES = 65_536
-# Lines of one client in one turn, bytes of answers that it may leave unread, clients at once, and for how many seconds one may say nothing.
+# Limits: a client's lines in one turn, the bytes of its unread answers, clients at once, and the seconds for which a client may be silent.
 LINES_IN_TURN = 64
 UNREAD_BYTES = 1024 * 1024
 MOST_CLIENTS = 200
@@ -27,12 +27,12 @@ IDLE = 300.0
 
 @dataclass
 class Client:
-    """A connection, what came of its next line, and what it hasn't read."""
+    """A connection, the part of its next line that has come, and its unread answers."""
 
     connection: socket.socket
     unread: bytes = b""
     unsent: bytes = b""
-    # Requests that have no answer yet, when it was heard last, and whether it sends no more.
+    # The requests without an answer, the time of its last line, and whether it sends no more.
     asked: int = 0
     heard: float = 0.0
     is_over: bool = False
@@ -65,7 +65,7 @@ class Control:
             return
         client = self._clients[file]
         if b"\n" in client.unread:
-            return  # the lines before have their turn first
+            return  # earlier lines have their turn first
         try:
             data = client.connection.recv(READ_BYTES)
         except BlockingIOError:
@@ -87,7 +87,7 @@ class Control:
         try:
             connection, _ = self._socket.accept()
         except OSError:
-            return  # there is no room for another file now, or whoever asked has gone: it is tried again where one still waits
+            return  # there is no room for another file, or the client has gone: tried again if a client still waits
         if len(self._clients) >= MOST_CLIENTS:
             connection.close()
             return
@@ -96,7 +96,7 @@ class Control:
         self._watch(connection.fileno(), self.read)
 
     def work(self) -> bool:
-        """Hands on the lines that have come, sends what can be sent, and forgets who is gone. Whether more lines wait."""
+        """Passes on the lines that have come, sends answers, and forgets closed connections. Returns whether more lines wait."""
         has_more = False
         for file, client in list(self._clients.items()):
             self._hand_on(file, client)
@@ -129,14 +129,14 @@ class Control:
             self._forget(file)
 
     def _send(self, file: int, client: Client) -> None:
-        """Sends as much as its reader takes now."""
+        """Sends as much as its reader accepts now."""
         try:
             while client.unsent:
                 client.unsent = client.unsent[client.connection.send(client.unsent) :]
         except BlockingIOError:
             pass
         except OSError:
-            client.unsent = b""  # whoever asked reads no more
+            client.unsent = b""  # the client reads no more
             self._hear_no_more(file, client)
 
     def _forget(self, file: int) -> None:
@@ -166,7 +166,7 @@ def ask(folder: pathlib.Path, request: bytes, seconds: float = 30) -> bytes:
 
 
 def ask_all(folder: pathlib.Path, requests: Sequence[bytes], seconds: float = 30) -> List[bytes]:
-    """The answers to requests that are made together. If the monitor ends meanwhile, they are those that came before: these requests were obeyed."""
+    """The answers to requests that are made together. If the monitor ends meanwhile, only those that came before, whose requests were obeyed."""
     answers: List[bytes] = []
     try:
         with socket.socket(socket.AF_UNIX, socket.SOCK_STREAM) as connection, connection.makefile("rb") as lines:

@@ -24,10 +24,10 @@ Services = Mapping[str, Sequence[str]]
 
 
 class Pipe:
-    """The pipe in a folder. The caller waits for its file to be readable, and calls `read` then."""
+    """The pipe in a folder. The caller waits for its file to be readable, and then calls `read`."""
 
     def __init__(self, folder: pathlib.Path) -> None:
-        """Makes the pipe, or takes the one that is there."""
+        """Makes the pipe, or takes an existing one."""
         self._path = folder / NAME
         try:
             if not self._path.exists():
@@ -43,7 +43,7 @@ class Pipe:
         self._is_skipping = False
 
     def read(self) -> List[bytes]:
-        """The lines that are whole by now. A line that is too long is cut one byte after the longest length."""
+        """The complete lines. A line that is too long is cut one byte after the longest length."""
         try:
             data = os.read(self.file, READ_BYTES)
         except BlockingIOError:
@@ -60,12 +60,12 @@ class Pipe:
         return whole
 
     def close(self) -> None:
-        """Lets go of the pipe, which is taken away: no writer waits for a reader that doesn't come."""
+        """Closes the pipe and removes it, so that no writer waits for a reader that doesn't come."""
         os.close(self.file)
         self._path.unlink(missing_ok=True)
 
 
-# Each command: the request's word, the object that it names, the other members of the line, and whether it is forced. A service is a host and its description.
+# Each command: the request's word, the kind of object, the other members of the line, and whether it is forced. A service is a host and its description.
 AT, RESULT = ("at",), ("code", "output")
 HOST, SERVICE, SERVICES = 1, 2, 0
 COMMANDS: Mapping[str, Tuple[str, int, Tuple[str, ...], bool]] = {
@@ -102,7 +102,7 @@ def requests_of(line: bytes, services: Services) -> Tuple[str, List[Request]]:
 
 
 def made(rest: str, services: Services, do: str, of: int, members: Sequence[str], forced: bool) -> List[Request]:
-    """The requests of a command; `ValueError` says what is wrong with its line."""
+    """The requests of a command. The text of a `ValueError` names the fault in its line."""
     count = max(of, 1)
     total = count + len(members)
     words = rest.split(";", total - 1)  # the last one may have semicolons in it
@@ -122,7 +122,7 @@ def made(rest: str, services: Services, do: str, of: int, members: Sequence[str]
 
 
 def result(code: str, output: str, is_host: bool) -> Request:
-    """A host's code is a state here, of which the scheduler makes DOWN or UNREACHABLE by itself. Line feeds of the output are two letters in the pipe."""
+    """A host's code is a state here, which the scheduler turns into DOWN or UNREACHABLE. The pipe has two letters for each line feed of the output."""
     if is_host and number(code) > 2:
         raise ValueError(f"no state of a host: {code}")
     return {"code": (2 if number(code) else 0) if is_host else number(code), "output": output.replace("\\n", "\n")}

@@ -1,4 +1,4 @@
-"""Requests to a monitor that runs: one JSON object there, and one back.
+"""Requests to a running monitor: one JSON object in each direction.
 
     {"do":"signs"}                                        signs of life of the monitor
     {"do":"reschedule","name":N,"at":T,"force":true}      the next check of an object: now without `at`, which is in seconds since 1970
@@ -42,7 +42,7 @@ class Request:
 
     line: bytes
     reply: Reply
-    # Its answer, once it is known; None if it comes later. One that only reads is answered although nothing could be stored.
+    # Its answer, once it is known; None if it comes later. A request that only reads is answered even if nothing could be stored.
     answer: Optional[Dict[str, Any]] = None
     only_reads: bool = False
 
@@ -57,11 +57,11 @@ class Step(Plan):
 
 
 class Requests:
-    """Plans what requests ask for, and answers them when it was done."""
+    """Plans the work of requests, and answers them when it is done."""
 
     def __init__(self, engine: "Engine", clock: Clock) -> None:
         self.engine, self._clock = engine, clock
-        # Actions of the loop; the one for a reload is handed the request, and answers it later.
+        # Actions of the loop; the action for a reload gets the request, and answers it later.
         self.reload: Callable[[Request], None] = lambda request: None
         self.stop: Callable[[], None] = lambda: None
         self.log: Callable[[str], None] = lambda line: None
@@ -98,7 +98,7 @@ class Requests:
         except RequestFault as fault:
             request.answer = {"error": str(fault), **({"again": True} if isinstance(fault, AskAgain) else {})}
             return Step()
-        except Exception as error:  # whatever it is: one request doesn't hold up the others
+        except Exception as error:  # any exception: one request doesn't hold up the others
             for line in traceback.format_exception(type(error), error, error.__traceback__):
                 self.log(f"fault: {line}")
             request.answer = {"error": f"the monitor has a fault: {type(error).__name__}: {error}"}
@@ -114,7 +114,7 @@ class Requests:
         return step
 
     def _known_answer(self, number: object) -> Optional[Dict[str, Any]]:
-        """The answer to a number that was obeyed before."""
+        """The earlier answer to a number that was already obeyed."""
         if not isinstance(number, str) or not 0 < len(number) <= LONGEST_NUMBER:
             raise RequestFault(f"number is a text of 1 to {LONGEST_NUMBER} characters")
         if number in self._planned:
@@ -129,7 +129,7 @@ class Requests:
             del self._numbers[next(iter(self._numbers))]
 
     def answer(self, asked: Sequence[Request]) -> None:
-        """Answers those requests of a turn whose answers are known."""
+        """Answers the requests of a turn whose answers are known."""
         for request in asked:
             if request.answer is not None:
                 request.reply(encoded(request.answer))

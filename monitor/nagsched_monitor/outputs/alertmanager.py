@@ -1,7 +1,7 @@
 """Hard problems and flapping objects of a site as alerts of Prometheus's Alertmanager: a process next to the monitor.
 
-It is handed the address of Alertmanager and the site's folder. All alerts are posted every 30 seconds, and at once when one begins, changes or ends. Each post
-sets the alert's end a few minutes ahead. So this process stores nothing, and nothing is lost if it, the monitor or Alertmanager is away for a while.
+Its arguments are the address of Alertmanager and the site's folder. All alerts are posted every 30 seconds, and at once when one begins, changes or ends.
+Each post sets the alert's end a few minutes ahead. So this process stores nothing, and nothing is lost if it, the monitor or Alertmanager is away for a while.
 """
 import datetime
 import http.client
@@ -18,15 +18,15 @@ from ..store.rows import KeptStanding
 from ..site.groups_file import Groups, GroupsFile, labels_of
 from .status_query import PROBLEMS, NotShown, Picture, read_picture
 
-# From one post of all alerts to the next, the end of an alert after its post, the time between two looks at the database, and how long
-# Alertmanager may take; in seconds.
+# In seconds: the time between two posts of all alerts, the end of an alert after its post, the time between two looks at the database, and the limit for
+# Alertmanager's answer.
 EVERY, ENDS, LOOK, PATIENCE = 30.0, 300.0, 1.0, 10.0
 # The greatest number of alerts in one request.
 AT_ONCE = 1_000
 PROBLEM, FLAPPING, HEARTBEAT = "NagschedProblem", "NagschedFlapping", "NagschedHeartbeat"
 SEVERITIES = {"WARNING": "warning", "CRITICAL": "critical", "DOWN": "critical", "UNREACHABLE": "unreachable", "UNKNOWN": "unknown"}
 
-# The labels of an alert, which are what it is known by.
+# The labels of an alert, which identify it.
 Labels = FrozenSet[Tuple[str, str]]
 Alert = Dict[str, Any]
 
@@ -68,7 +68,7 @@ class Alerts:
         self._url, self._folder, self._every, self._ends = f"{url.rstrip('/')}/api/v2/alerts", folder, every, ends
         self._site = folder.resolve().name
         self._groups = GroupsFile(folder)
-        # The alerts that Alertmanager has taken as firing, and when.
+        # The alerts that Alertmanager has accepted as firing, and when.
         self._told: Dict[Labels, Alert] = {}
         self._told_at: Optional[float] = None
         self._trouble: Optional[str] = None
@@ -79,7 +79,7 @@ class Alerts:
             self.look()
 
     def look(self) -> None:
-        """Posts what there is to post now."""
+        """Posts the alerts that are due."""
         try:
             picture = read_picture(self._folder, PROBLEMS)
             alerts = alerts_of(picture, self._site, self._groups.read())
@@ -87,7 +87,7 @@ class Alerts:
             if is_due or alerts.keys() != self._told.keys():
                 self._post(alerts, picture.now)
             trouble = None
-        except (NotShown, OSError, http.client.HTTPException) as error:  # it is tried again with the next look
+        except (NotShown, OSError, http.client.HTTPException) as error:  # tried again with the next look
             trouble = str(error) or type(error).__name__
         if trouble != self._trouble:
             log("alerts are taken again" if trouble is None else f"alerts aren't taken, and are posted again each second: {trouble}")

@@ -1,4 +1,4 @@
-"""Changes of state: the line that is printed of each, and the command that is run for it."""
+"""Changes of state: the line that is printed for each, and the command that is run for it."""
 import datetime
 import json
 import os
@@ -15,7 +15,7 @@ from ..store.rows import KeptChange
 from ..store.store import Store
 from ..store.writes import drop_documents
 
-# How long the command may take, the pause between two tries, twice as long each time up to the longest, and the age at which a change is dropped; in seconds.
+# In seconds: the command's limit, the pause between two tries (it doubles up to the longest), and the age at which a change is dropped.
 LIMIT = 30.0
 PAUSE, LONGEST_PAUSE = 5.0, 60.0
 MOST_AGE = 86_400.0
@@ -62,30 +62,30 @@ def document_of(change: KeptChange, before: Optional[Standing]) -> str:
 
 
 class Notifier:
-    """Runs the command for changes, and hands it all waiting changes, in their order. If it fails they are handed over again, until they are too old."""
+    """Runs the command for changes, and passes it all waiting changes, in their order. If it fails they are passed again, until they are too old."""
 
     def __init__(self, command: Optional[str], store: Store, log: Callable[[str], None], clock: Callable[[], float] = time.monotonic,
                  wall: Callable[[], float] = time.time) -> None:
         self._command, self._store, self._log, self._clock, self._wall = command, store, log, clock, wall
         self._process: Optional["subprocess.Popen[bytes]"] = None
-        # The number of the last change that it was handed, and when it is killed.
+        # The number of the last change that the command got, and when the command is killed.
         self._handed, self._deadline = 0, 0.0
         self._pause = PAUSE
         self._not_before = 0.0
-        # Why the command couldn't be run, or the database not be read or written, when it was tried last.
+        # Why the last try failed: the command couldn't be run, or the database couldn't be read or written.
         self._trouble: Optional[str] = None
-        # The last change that was taken or is too old, if that couldn't be stored yet: it isn't handed over again.
+        # The last change that was accepted or is too old, if that couldn't be stored yet: it isn't passed again.
         self._ended: Optional[int] = None
 
     def is_wanted(self) -> bool:
         return self._command is not None
 
     def is_busy(self) -> bool:
-        """Whether there is something to come back for soon."""
+        """Whether there is more to do soon."""
         return self._process is not None
 
     def work(self) -> None:
-        """Sees to the command that runs, and begins it for what waits."""
+        """Looks after the running command, and starts it for waiting changes."""
         if self._command is None:
             return
         if self._process is not None:
@@ -136,13 +136,13 @@ class Notifier:
             self._wait(str(error))
 
     def _drop(self, number: int) -> None:
-        """Lets go of the changes up to this one, which were taken or are too old."""
+        """Drops the changes up to this one, which were accepted or are too old."""
         self._ended = number
         self._store.write(drop_documents(number))
         self._ended = None
 
     def close(self) -> None:
-        """Waits for the command that runs; what it was handed stays if it fails."""
+        """Waits for the running command; its changes stay if it fails."""
         if self._process is not None:
             try:
                 self._process.wait(timeout=LIMIT)
@@ -152,16 +152,16 @@ class Notifier:
 
 
 def kill_group(process: "subprocess.Popen[bytes]") -> None:
-    """Kills a command with all of its process group, as far as that can be done."""
+    """Kills a command with its whole process group, as far as possible."""
     try:
         os.killpg(process.pid, signal.SIGKILL)
         process.wait(timeout=5)
     except (ProcessLookupError, PermissionError, subprocess.TimeoutExpired):
-        pass  # it has just ended, runs as another user, or hangs: it isn't waited for
+        pass  # it has just ended, runs as another user, or hangs: nobody waits for it
 
 
 def file_with(data: bytes) -> IO[bytes]:
-    """A file without a name that has these bytes, at its beginning."""
+    """A file without a name that contains these bytes, at its beginning."""
     file = tempfile.TemporaryFile()
     file.write(data)
     file.seek(0)

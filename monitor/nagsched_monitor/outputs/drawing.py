@@ -14,7 +14,7 @@ from .style import CLASSES, STYLE
 # How often a page renews itself, in seconds.
 RENEWED = 15
 YEAR = 31_536_000
-# The last time that has a date here, at the begin of the year 9999.
+# The last time that has a date here, at the beginning of the year 9999.
 LAST_TIME = 253_370_764_800
 # Control characters, and those that turn the direction of a line.
 REPLACED = {code: "\ufffd" for code in (*range(32), *range(127, 160), *range(0x202A, 0x202F), *range(0x2066, 0x206A)) if code not in (9, 10)}
@@ -22,12 +22,12 @@ HEADS = ("State", "Object", "Attempt", "Since", "Next check", "Last words")
 
 
 def text(given: str) -> str:
-    """A text as HTML has it."""
+    """A text as HTML."""
     return html.escape(given if given.isprintable() else given.translate(REPLACED))
 
 
 def duration(seconds: float) -> str:
-    """How long something is, in two units at most."""
+    """A duration, in two units at most."""
     left = max(0, round(seconds))
     if left < 60:
         return f"{left} s"
@@ -61,7 +61,7 @@ class Times:
         return datetime.datetime.fromtimestamp(time, self._zone).astimezone(self._zone).isoformat(sep=" ", timespec="seconds")
 
     def ago(self, time: Optional[float]) -> str:
-        """A time, and for how long it has been so."""
+        """A time, and the duration since then."""
         return "" if time is None else f"{self.of(time)} <i>{duration(self.now - time)}</i>"
 
 
@@ -80,7 +80,7 @@ def link(name: str) -> str:
 
 
 def next_of(it: KeptStanding, times: Times) -> str:
-    """When an object is checked next, or why it isn't."""
+    """The time of an object's next check, or why it has no next check."""
     if it.out_since is not None:
         return f"runs since {times.ago(it.out_since)}"
     if not it.is_on:
@@ -89,7 +89,7 @@ def next_of(it: KeptStanding, times: Times) -> str:
         return "none"
     if it.next_check > times.now:
         return times.of(it.next_check)
-    # A time of long ago is how a check is asked for at once.
+    # A time of long ago asks for a check at once.
     return "due" if times.now - it.next_check > YEAR else f"due since {times.of(it.next_check)}"
 
 
@@ -129,7 +129,7 @@ def whole(title: str, site: str, times: Times, body: Sequence[str]) -> str:
 
 
 def figures_of(picture: Picture) -> str:
-    """How many objects there are of each state, and how the monitor keeps up."""
+    """The number of objects in each state, and the monitor's delay."""
     counts: Dict[str, int] = {}
     for (state, _), count in picture.counts().items():
         counts[state] = counts.get(state, 0) + count
@@ -147,7 +147,7 @@ def figures_of(picture: Picture) -> str:
 
 
 def silence_of(picture: Picture) -> List[str]:
-    """A line if the monitor isn't working, since the rest is old then."""
+    """A line if the monitor isn't working, since the other figures are old then."""
     silent = picture.silence()
     if silent is None:
         return []
@@ -156,7 +156,7 @@ def silence_of(picture: Picture) -> List[str]:
 
 
 def groups_of(objects: Sequence[KeptStanding], groups: Mapping[str, Groups]) -> List[str]:
-    """A line for each host and service group: how many of its objects are wrong, of how many."""
+    """A line for each host and service group: the number of its objects, and of those with problems."""
     wrong: Dict[str, int] = {}
     count: Dict[str, int] = {}
     for it in objects:

@@ -1,4 +1,4 @@
-"""The figures of a site in the text format of Prometheus, and as data."""
+"""The figures of a site in Prometheus's text format, and as data."""
 import json
 import pathlib
 from typing import Any, Dict, List, Mapping, Sequence, Tuple
@@ -10,7 +10,7 @@ from ..store.counters import BOUNDS, BUCKETS, RESULTS
 from .nagios_blocks import HOST_STATES, SERVICE_STATES
 from .status_query import Picture
 
-# How long a monitor may take to say how it is, in seconds.
+# The limit for the monitor's answer, in seconds.
 PATIENCE = 3.0
 STATES = {**HOST_STATES, **SERVICE_STATES}
 
@@ -20,7 +20,7 @@ Signs = Mapping[str, Any]
 
 
 def escaped(text: str) -> str:
-    """The value of a label as the format has it."""
+    """The value of a label in the format."""
     return text.replace("\\", "\\\\").replace('"', '\\"').replace("\n", "\\n")
 
 
@@ -38,7 +38,7 @@ def family(name: str, kind: str, help_text: str, samples: Sequence[Sample], site
 
 
 def latency(figures: Mapping[str, float]) -> List[Sample]:
-    """The histogram of late starts: each bucket has those before it in it."""
+    """The histogram of late starts: each bucket includes those before it."""
     samples: List[Sample] = []
     count = 0.0
     for bound, bucket in zip((*(f"{bound:g}" for bound in BOUNDS), "+Inf"), BUCKETS):

@@ -1,14 +1,14 @@
-"""The blocks of Nagios's status file: what a site's setup and its table of standings say, in the members that Nagios's pages read."""
+"""The blocks of Nagios's status file: the facts of a site's setup and its table of standings, as members that Nagios's pages read."""
 import json
 from dataclasses import dataclass, field
 from typing import Any, Dict, List, Mapping, Optional, Tuple
 
 from ..store.rows import KeptStanding
 
-# The numbers that Nagios has for states.
+# Nagios's numbers for states.
 HOST_STATES = {"UP": 0, "DOWN": 1, "UNREACHABLE": 2}
 SERVICE_STATES = {"OK": 0, "WARNING": 1, "CRITICAL": 2, "UNKNOWN": 3}
-# A line feed is written as two letters, and no other control character is written at all.
+# A line feed is written as two letters, and all other control characters are left out.
 PLAIN = {**{code: " " for code in (*range(32), 127)}, 10: "\\n"}
 # The checks of the last minute, of five and of fifteen, in seconds.
 SPANS = (60, 300, 900)
@@ -50,7 +50,7 @@ class Program:
     started: int
     # Whether a command is run for changes.
     notifies: bool
-    # When objects were in a state last that they aren't in now, by name and state.
+    # When objects were last in a state that isn't their current one, by name and state.
     left: Dict[str, Dict[str, float]] = field(default_factory=dict)
 
 
@@ -72,7 +72,7 @@ def plain(text: str) -> str:
 
 
 def seconds(time: Optional[float]) -> int:
-    """A time in whole seconds, as Nagios has it: 0 if there is none."""
+    """A time in whole seconds, as in Nagios; a missing time is 0."""
     return 0 if time is None else int(time)
 
 
@@ -91,7 +91,7 @@ def info_block(now: float) -> str:
 
 
 def counts(standings: List[KeptStanding], now: float) -> str:
-    """How many of these objects were checked within each of the spans."""
+    """The number of these objects that were checked within each of the spans."""
     times = [kept.last_check for kept in standings if kept.last_check is not None]
     return ",".join(str(sum(time > now - span for time in times)) for span in SPANS)
 
@@ -146,7 +146,7 @@ def object_block(program: Program, its: Settings, kept: KeptStanding, now: float
 
 
 def names_of_commands(document: Mapping[str, Any]) -> Dict[str, str]:
-    """The program of each object's command, without its folder. Its words aren't written: they may hold passwords."""
+    """The program of each object's command, without its folder. Its arguments aren't written: they may contain passwords."""
     names = {}
     for name, members in document.items():
         words = str(members.get("line", "")).split(maxsplit=1)

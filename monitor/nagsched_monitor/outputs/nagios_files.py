@@ -1,7 +1,7 @@
-"""Nagios's own files of a site: `status.dat`, by which Nagios's pages show it, and the pipe `nagios.cmd`, which commands it.
+"""Nagios's own files of a site: `status.dat`, which Nagios's pages show, and the pipe `nagios.cmd`, which takes commands.
 
-It is a process next to the monitor, which is handed the site's folder, the folder of the files, and `notifies` if a command is run for changes. It reads the
-database, and asks the monitor through its socket.
+It is a process next to the monitor. Its arguments are the site's folder, the folder of the files, and `notifies` if a command is run for changes. It reads the
+database, and sends requests to the monitor through its socket.
 """
 import collections
 import json
@@ -21,7 +21,7 @@ from ..store.rows import KeptStanding
 from .nagios_blocks import Program, Settings, settings_of, status_file, with_files
 from .status_query import MEMBERS, NotShown, opened, standings_of
 
-# How often the status file is written, and how long it is waited for a monitor that doesn't answer, in seconds.
+# How often the status file is written, and the longest pause before waiting requests are sent again, in seconds.
 EVERY = 10.0
 PAUSE = 1.0
 # Requests that are made together.
@@ -35,7 +35,7 @@ def log(line: str) -> None:
 
 
 class Reader:
-    """The database and the files of a site, as the status file needs them."""
+    """The parts of the database and the files of a site that the status file needs."""
 
     def __init__(self, site: pathlib.Path, program: Program) -> None:
         self._site, self._program = site, program
@@ -64,11 +64,11 @@ class Reader:
         try:
             with_files(settings, *files)
         except (ValueError, AttributeError) as error:
-            log(f"the files of the site are half read: {error}")  # somebody edits them, and hasn't reloaded
+            log(f"the files of the site are half read: {error}")  # they are being edited, and weren't reloaded
         self._setups, self._files, self.settings = setups, files, settings
 
     def _read_changes(self, database: sqlite3.Connection) -> None:
-        """Reads when objects left a state, by the changes that are new."""
+        """Reads the times at which objects left a state, from the new changes."""
         for number, moment, name, state in database.execute("SELECT id, time, name, state FROM changes WHERE id > ? ORDER BY id", (self._last_change,)):
             before = self._last_state.get(name, "OK" if ";" in name else "UP")
             if before != state:
@@ -77,7 +77,7 @@ class Reader:
 
 
 class NagiosFiles:
-    """The files of one site, while they are kept."""
+    """The files of one site, while this process updates them."""
 
     def __init__(self, site: pathlib.Path, folder: pathlib.Path, notifies: bool, every: float = EVERY) -> None:
         self._site, self._folder, self._every = site, folder, every
@@ -98,7 +98,7 @@ class NagiosFiles:
             if now >= next_write:
                 self.write()
                 next_write = now + self._every
-            # While requests wait for the monitor no more are read: the pipe keeps them.
+            # While requests wait for the monitor, no more are read: the pipe holds them.
             files = [sys.stdin.fileno(), *([] if self._waiting else [self._pipe.file])]
             left = max(0.0, next_write - time.monotonic())
             ready, _, _ = select.select(files, [], [], min(PAUSE, left) if self._waiting else left)
@@ -129,7 +129,7 @@ class NagiosFiles:
     # ---- the pipe
 
     def hear(self, lines: Sequence[bytes]) -> None:
-        """Takes in lines of the pipe; one that isn't obeyed is named. Each request has a number, so that it isn't obeyed twice when it is asked twice."""
+        """Takes in lines of the pipe, and logs each one that isn't obeyed. Each request has a number, so that it isn't obeyed twice when it is sent twice."""
         for line in lines:
             try:
                 name, requests = requests_of(line, self._services)
@@ -141,13 +141,13 @@ class NagiosFiles:
                 self._waiting.append((name, {**request, "number": f"{self._mark}-{self._count}"}))
 
     def ask(self) -> None:
-        """Has the monitor obey what waits. Requests that it doesn't answer, or can't obey now, are sent again."""
+        """Has the monitor obey the waiting requests. Requests that it doesn't answer, or can't obey now, are sent again."""
         while self._waiting:
             some = [self._waiting[place] for place in range(min(AT_ONCE, len(self._waiting)))]
             try:
                 answers = control.ask_all(self._site, [json.dumps(request, ensure_ascii=False).encode(errors="replace") for _, request in some])
             except MonitorFault:
-                return  # it begins, ends or reads its site; it is asked again
+                return  # it begins, ends or reads its site; the request is sent again
             again = []
             for asked, answer in zip(some, answers):
                 self._waiting.popleft()
@@ -172,7 +172,7 @@ def services_of(standings: Sequence[KeptStanding]) -> Dict[str, List[str]]:
 
 
 def replaced(path: pathlib.Path, data: bytes) -> None:
-    """Writes a file as a whole: who reads it has the old one or this."""
+    """Writes a file as a whole: a reader gets the old one or this."""
     new = path.with_name(f"{path.name}.new")
     new.unlink(missing_ok=True)
     file = os.open(new, os.O_WRONLY | os.O_CREAT | os.O_EXCL | os.O_CLOEXEC, MODE)

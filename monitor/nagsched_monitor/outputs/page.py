@@ -1,11 +1,11 @@
-"""A page of a site for a browser, its status as data, and its figures for Prometheus: a process of its own, which reads the database and writes nothing.
+"""A page of a site for a browser, its status as data, and its figures for Prometheus: a separate process, which reads the database and writes nothing.
 
     /                the page; /?group=NAME a group of it; /object?name=NAME an object with its last day
     /status.json     the same as data
     /metrics         figures in Prometheus's text format
 
-It is handed its address, the site's folder, and the names by which it is reached. It asks nobody for a password, so an address that others reach is for a
-network that is trusted. A request whose `Host` is neither an address nor one of the names is refused: a page of elsewhere can have a browser ask for this one.
+Its arguments are its address, the site's folder, and the names by which it is reached. It asks nobody for a password, so use an address that others reach
+only in a trusted network. A request whose `Host` is neither an address nor one of the names is refused: another site's page can make a browser send one.
 """
 import datetime
 import http
@@ -88,7 +88,7 @@ class Handler(http.server.BaseHTTPRequestHandler):
             self.wfile.write(data)
 
     def send_error(self, code: int, message: Optional[str] = None, explain: Optional[str] = None) -> None:
-        """A refusal: one line, which has nothing in it that came with the request."""
+        """A refusal: one line, which contains nothing that came with the request."""
         self.close_connection = True
         status = http.HTTPStatus.METHOD_NOT_ALLOWED if code == http.HTTPStatus.NOT_IMPLEMENTED else http.HTTPStatus(code)
         self._send(status, PLAIN, f"{status.value} {status.phrase}\n")
@@ -97,11 +97,11 @@ class Handler(http.server.BaseHTTPRequestHandler):
         return "nagsched-monitor"
 
     def log_message(self, format: str, *args: Any) -> None:
-        """A request is no line of the log."""
+        """Requests aren't logged."""
 
 
 class Site:
-    """The folder of a site, as it is shown."""
+    """The folder of a site that the page shows."""
 
     def __init__(self, folder: pathlib.Path) -> None:
         self._folder = folder
@@ -110,7 +110,7 @@ class Site:
         self._zone: Optional[datetime.tzinfo] = None
 
     def zone(self) -> Optional[datetime.tzinfo]:
-        """The zone of the site; if its file is bad just now, the zone before."""
+        """The zone of the site; if its file is faulty now, the zone before."""
         try:
             _, self._zone = read_options(self._folder)
         except SiteFault:
@@ -118,7 +118,7 @@ class Site:
         return self._zone
 
     def document(self, path: str, query: str) -> Tuple[str, str]:
-        """The kind and the text of what lies at a path. `KeyError` if there is nothing, `NotShown` if the database can't be read."""
+        """The kind and the text of the resource at a path. `KeyError` if there is nothing, `NotShown` if the database can't be read."""
         groups = self._groups.read()
         if path == "/":
             group = urllib.parse.parse_qs(query).get("group", [""])[0]
@@ -149,7 +149,7 @@ class Server(http.server.ThreadingHTTPServer):
         super().__init__(place, Handler)
 
     def server_bind(self) -> None:
-        """Binds, and asks no name server for a name."""
+        """Binds, and sends no query to a name server."""
         socketserver.TCPServer.server_bind(self)
         self.server_name, self.server_port = self.server_address[0], self.server_address[1]  # type: ignore[assignment]
 
@@ -173,7 +173,7 @@ class Server(http.server.ThreadingHTTPServer):
         super().shutdown_request(request)
 
     def service_actions(self) -> None:
-        """Lets go of clients that take too long."""
+        """Closes connections of clients that take too long."""
         with self._lock:
             late = [request for request, begun in self._begun.items() if time.monotonic() - begun > LONGEST_REQUEST]
         for request in late:
@@ -183,7 +183,7 @@ class Server(http.server.ThreadingHTTPServer):
                 continue  # it has just ended
 
     def handle_error(self, request: Any, client_address: Any) -> None:
-        """A request that failed is a line of the log, unless its client has gone or sends nothing."""
+        """A failed request is a line of the log, unless its client has gone or sends nothing."""
         fault = sys.exc_info()[1]
         if not isinstance(fault, OSError):
             print(f"the page: {type(fault).__name__}: {fault}", file=sys.stderr, flush=True)

@@ -1,4 +1,4 @@
-"""The last day of an object as a picture: time across, states by colour, hard ones high and soft ones low, and the words of each on pointing at it."""
+"""The last day of an object as a picture: time across, states by colour, hard ones high and soft ones low, and the words of each when pointed at."""
 import html
 from dataclasses import dataclass
 from typing import Callable, List, Optional
@@ -14,7 +14,7 @@ BOTTOM = 52
 
 @dataclass(frozen=True)
 class Stretch:
-    """A time in which an object stood in one way. Without a state no change of it is known."""
+    """A time during which an object had one standing. Without a state, no change of it is known."""
 
     begin: float
     end: float
@@ -37,7 +37,7 @@ def stretches(one: OneObject) -> List[Stretch]:
 
 
 def day_of(one: OneObject, time_text: Callable[[float], str]) -> str:
-    """The picture. Places across are parts of its width, so that its texts keep their size on a narrow page."""
+    """The picture. Positions across are parts of its width, so that its texts keep their size on a narrow page."""
     begin = one.now - DAY
 
     def across(time: float) -> float:

@@ -8,10 +8,10 @@ MICROSECOND = 1e-6
 
 
 class Service:
-    """The service manager that started the monitor; nothing is sent if there is none."""
+    """The service manager that started the monitor; without a manager nothing is sent."""
 
     def __init__(self, environment: MutableMapping[str, str] = os.environ, clock: Callable[[], float] = time.monotonic) -> None:
-        """Takes the names of the socket out of the environment, so that no plugin has them."""
+        """Takes the names of the socket out of the environment, so that no plugin gets them."""
         self._clock = clock
         self._address = environment.pop("NOTIFY_SOCKET", None)
         watched, of = environment.pop("WATCHDOG_USEC", ""), environment.pop("WATCHDOG_PID", str(os.getpid()))
@@ -21,11 +21,11 @@ class Service:
         self._said = clock()
 
     def ready(self, words: str) -> None:
-        """The monitor works; the words are what `systemctl status` shows."""
+        """The monitor works; `systemctl status` shows the text."""
         self._send(f"READY=1\nSTATUS={words}")
 
     def alive(self) -> None:
-        """The loop goes round; it is said twice within the time that the manager waits."""
+        """The loop runs; the message is sent twice within the time that the manager waits."""
         if self._interval is not None and self._clock() - self._said >= self._interval:
             self._said = self._clock()
             self._send("WATCHDOG=1")
@@ -43,4 +43,4 @@ class Service:
             try:
                 there.sendto(lines.encode(), address)
             except OSError:
-                pass  # the manager is gone, or doesn't read: monitoring goes on without it
+                pass  # the manager is gone, or doesn't read: monitoring continues without it

@@ -1,4 +1,4 @@
-"""A site as other processes show it: read from its database, which is opened for reading only."""
+"""A site as other processes show it, read from its database, which is opened for reading only."""
 import pathlib
 import sqlite3
 import time
@@ -9,7 +9,7 @@ from typing import Dict, Iterator, List, Mapping, Optional, Sequence, Tuple
 from ..store.rows import KeptChange, KeptStanding
 
 DAY = 86_400
-# How long a database that is locked is waited for, in seconds.
+# The limit of the wait for a locked database, in seconds.
 PATIENCE = 2.0
 # The length at which texts in lists are cut, and the greatest number of changes of an object that are drawn.
 LONGEST_WORDS = 500
@@ -24,7 +24,7 @@ PROBLEMS = "WHERE flapping OR state NOT IN ('PENDING', 'OK', 'UP')"
 
 
 class NotShown(Exception):
-    """The database is missing, locked, or no monitor's."""
+    """The database is missing, is locked, or isn't a monitor's."""
 
 
 @dataclass(frozen=True)
@@ -48,7 +48,7 @@ class Picture:
         return sum(it.is_due(self.now) for it in self.objects)
 
     def counts(self) -> Dict[Tuple[str, str], int]:
-        """How many objects there are of each state and kind."""
+        """The number of objects of each state and kind."""
         counts: Dict[Tuple[str, str], int] = {}
         for it in self.objects:
             key = str(it.state), it.kind or "NONE"
@@ -56,7 +56,7 @@ class Picture:
         return counts
 
     def silence(self) -> Optional[float]:
-        """For how many seconds the monitor has written nothing, if that is long; None while it is at work."""
+        """The seconds for which the monitor has written nothing, if it counts as silent; None while it is at work."""
         silent = self.now - self.figures.get("written_at", 0.0)
         return silent if silent > SILENCE else None
 
@@ -67,10 +67,10 @@ class OneObject:
 
     now: float
     it: KeptStanding
-    # The last change before the day, if one is kept.
+    # The last change before the day, if one is stored.
     before: Optional[KeptChange]
     changes: Sequence[KeptChange]
-    # Whether there were more changes than are drawn.
+    # Whether there were more changes than the picture shows.
     is_cut: bool
 
 
@@ -94,7 +94,7 @@ def standings_of(database: sqlite3.Connection, members: str, condition: str = ""
 
 
 def read_picture(folder: pathlib.Path, condition: str = "", *cells: str) -> Picture:
-    """The objects of a site that a condition fits, at one moment; their words are cut."""
+    """The objects of a site that meet a condition, at one moment; their words are cut."""
     with opened(folder) as database:
         figures = dict(database.execute("SELECT name, value FROM figures"))
         return Picture(time.time(), standings_of(database, CUT, condition, *cells), figures)

@@ -1,6 +1,6 @@
 """The style of the page, and the headers that keep everything else out of it.
 
-The colours are those of Okabe and Ito, which the colour-blind tell apart; hard problems are filled, soft ones have a dashed edge, and a word stands in each.
+The colours are those of Okabe and Ito, which colour-blind people can distinguish. Hard problems are filled, soft ones have a dashed edge, and each has a word.
 """
 import base64
 import hashlib

@@ -1,6 +1,6 @@
 """The figures of a site as a file for node_exporter's textfile collector: a process next to the monitor, which removes the file when it ends.
 
-It is handed the site's folder and the file.
+Its arguments are the site's folder and the file.
 """
 import pathlib
 import sys

@@ -1,4 +1,4 @@
-"""A process next to the monitor: it is started with it, started again if it ends, and ended with it. It ends when its standard input does."""
+"""A process next to the monitor, which starts it, restarts it if it ends, and ends with it. It ends when its standard input does."""
 import contextlib
 import os
 import select
@@ -10,8 +10,8 @@ from typing import Callable, Optional, Sequence
 
 from .reading import process_words
 
-# From one beginning to the next at least, and how long it may take to end, in seconds. The pause is twice as long each time, up to the longest, where a
-# process ends sooner than that.
+# The least time from one start to the next, and the limit for the end of a process, in seconds. The pause doubles each time, up to the longest. After a
+# process that ran for the longest pause, the pause is the first one again.
 PAUSE, LONGEST_PAUSE = 5.0, 60.0
 GRACE = 5.0
 
@@ -23,7 +23,7 @@ def ignore_signals() -> None:
 
 
 def is_ended(seconds: Optional[float]) -> bool:
-    """For such a process: whether the monitor has ended. It is waited for so long, or until then."""
+    """For such a process: waits for this time, or until the monitor has ended, and returns whether it has."""
     return bool(select.select([sys.stdin], [], [], seconds)[0]) and not os.read(sys.stdin.fileno(), 4_096)
 
 

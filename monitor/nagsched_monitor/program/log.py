@@ -1,4 +1,4 @@
-"""The log: lines on standard output, written by a thread of their own, so that nobody who doesn't read them holds up the monitor."""
+"""The log: lines on standard output, written by a separate thread, so that the monitor never waits for a reader that doesn't read them."""
 import os
 import queue
 import threading

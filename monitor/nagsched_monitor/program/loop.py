@@ -7,22 +7,22 @@ from ..core.engine import Engine
 from .turn_timer import Pace
 
 CHORES_EVERY = 1_000
-# How long it is waited after a turn that raised something, in milliseconds; and after how many such turns in a row the process ends, with which status.
+# The wait after a turn that raised an exception, in milliseconds; the number of such turns in a row after which the process ends, and its status then.
 AFTER_FAULT = 1_000
 MOST_FAULTS = 3
 BROKEN = 70
 
 
 class Loop:
-    """Turns, with what surrounds them."""
+    """Turns, and the actions around them."""
 
     def __init__(self, engine: Engine, pace: Pace, clock: Clock, log: Callable[[str], None]) -> None:
         self._engine, self._pace, self._clock, self._log = engine, pace, clock, log
-        # Actions before each turn, after it, and every second. Those before and after a turn return the moment at which they want the next turn, or None.
+        # Actions before each turn, after it, and every second. Those before and after a turn return the latest moment for the next turn, or None.
         self.before: List[Callable[[], Optional[int]]] = []
         self.after: List[Callable[[], Optional[int]]] = []
         self.chores: List[Callable[[], None]] = []
-        # The exit status of the process, once the loop is to end.
+        # The exit status of the process, when the loop has to end.
         self.status: Optional[int] = None
         self._chores_at = 0
         self._faults = 0
@@ -37,12 +37,12 @@ class Loop:
         return self.status
 
     def go_round(self) -> None:
-        """One turn, and the rest after it."""
+        """One turn, and the other actions after it."""
         begun = self._clock.moment()
         try:
             wanted = self._turn(begun)
             self._faults = 0
-        except Exception as error:  # whatever it is: monitoring goes on
+        except Exception as error:  # any exception: monitoring continues
             wanted = begun + AFTER_FAULT
             self._caught(error)
         if self.status is None:

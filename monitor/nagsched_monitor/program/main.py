@@ -23,7 +23,7 @@ CODES = {"OK": 0, "UP": 0, "WARNING": 1, "CRITICAL": 2, "DOWN": 2, "UNKNOWN": 3}
 
 
 def time_of(text: str) -> float:
-    """A time as it is typed: seconds since 1970, or a date and time by this machine's zone, such as 2026-11-27T18:00."""
+    """A time from the command line: seconds since 1970, or a date and time in this machine's zone, such as 2026-11-27T18:00."""
     try:
         return float(text)
     except ValueError:
@@ -35,7 +35,7 @@ def time_of(text: str) -> float:
 
 
 def code_of(text: str) -> int:
-    """A plugin's code as it is typed: 0 to 3, or the word of a state."""
+    """A plugin's code from the command line: 0 to 3, or the word of a state."""
     code = CODES.get(text.upper(), int(text) if text.isascii() and text.isdigit() else -1)
     if not 0 <= code <= 3:
         raise argparse.ArgumentTypeError(f"it has to be a number from 0 to 3, or one of {', '.join(CODES)}, not {text!r}")
@@ -84,7 +84,7 @@ def words_of(given: Optional[List[str]]) -> argparse.Namespace:
 
 
 def request_of(words: argparse.Namespace) -> Dict[str, Any]:
-    """The request that the words ask for."""
+    """The request that the arguments describe."""
     members = {"name": ("reschedule", "enable", "disable", "default", "result"), "at": ("reschedule",), "force": ("reschedule",)}
     members |= {"code": ("result",), "output": ("result",)}
     asked = {member: getattr(words, member) for member, of in members.items() if words.word in of}
@@ -92,7 +92,7 @@ def request_of(words: argparse.Namespace) -> Dict[str, Any]:
 
 
 def clock_time(seconds: float) -> str:
-    """A time by this machine's zone."""
+    """A time in this machine's zone."""
     return datetime.datetime.fromtimestamp(round(seconds)).astimezone().isoformat(sep=" ", timespec="seconds")
 
 
@@ -111,7 +111,7 @@ def standing_line(it: KeptStanding, is_long: bool) -> str:
 
 
 def status(words: argparse.Namespace) -> int:
-    """Prints the states of objects, by the database of a site. The exit status is 1 if no monitor is at work."""
+    """Prints the states of objects from the database of a site. The exit status is 1 if no monitor is at work."""
     exact = read_picture(words.folder, "WHERE name = ?", words.pattern)
     picture = exact if exact.objects else read_picture(words.folder, "WHERE name GLOB ?", words.pattern)
     print("\n".join(standing_line(it, words.long) for it in picture.objects) or "no object has such a name")
@@ -122,7 +122,7 @@ def status(words: argparse.Namespace) -> int:
 
 
 def asked(words: argparse.Namespace) -> int:
-    """Asks the monitor that runs, and prints its answer."""
+    """Sends a request to the running monitor, and prints its answer."""
     answer = json.loads(control.ask(words.folder, json.dumps(request_of(words)).encode()) or b'{"error": "the monitor ended"}')
     if "error" in answer:
         raise MonitorFault(answer["error"])

@@ -29,9 +29,9 @@ from .turn_timer import FilePoller, Pace
 DAY = 86_400
 # How soon the next turn comes while a command for changes runs or a client reads, in milliseconds.
 BUSY_WAIT = 100
-# How often it is tried to open the schedulers, and the pause between two tries, in seconds.
+# The number of tries to open the schedulers, and the pause between two tries, in seconds.
 START_TRIES, START_PAUSE = 10, 1.0
-# The files that a plugin takes from its runner, and the other files of a process.
+# The files that a plugin needs of its runner, and the other files of a process.
 FILES_OF_PLUGIN, OTHER_FILES = 4, 100
 
 
@@ -87,7 +87,7 @@ class Monitor:
         return [Beside(module, given, self.log) for module, *given in asked]
 
     def _opened(self, site: Site) -> Scheduling:
-        """The site with its schedulers. If the disk is full or no scheduler can be had, it is tried a few times."""
+        """The site with its schedulers. If the disk is full or a scheduler can't be started, a few more tries follow."""
         why = ""
         for tried in range(START_TRIES):
             time.sleep(START_PAUSE if tried else 0)
@@ -102,7 +102,7 @@ class Monitor:
         raise MonitorFault(f"{why}; it was tried {START_TRIES} times")
 
     def _test_slots(self, site: Site) -> None:
-        """Refuses more slots than there can be files for."""
+        """Refuses more slots than the limit of open files allows."""
         wanted = site.options.slots * FILES_OF_PLUGIN + OTHER_FILES
         if wanted > self._files:
             slots = f"monitor.json: slots: {site.options.slots} plugins may take {wanted} open files"
@@ -136,7 +136,7 @@ class Monitor:
         return self.clock.moment() + BUSY_WAIT if self._notifier.is_busy() else None
 
     def _wake(self, file: int) -> None:
-        """A signal came, and was seen to."""
+        """Handles a signal."""
         self._signals[0].recv(4_096)
 
     def _take_signals(self) -> None:
@@ -165,7 +165,7 @@ class Monitor:
     # ---- another site
 
     def _take_over(self) -> Optional[int]:
-        """Takes over the site that was read; if it is bad, the old one stays."""
+        """Takes over the site that was read; if it is faulty, the old one stays."""
         read = self._reading.work()
         if read is None:
             return self.clock.moment() + BUSY_WAIT if self._reading.is_busy() else None
@@ -196,7 +196,7 @@ class Monitor:
         return {"done": "reload", "new": new, "dropped": dropped, "changed": changed}
 
     def close(self) -> None:
-        """Ends: plugins that run are killed, and their checks are abandoned at the next start."""
+        """Ends: running plugins are killed, and their checks are abandoned at the next start."""
         self._service.stopping()
         self.control.close()
         self._reading.close()
@@ -214,5 +214,5 @@ class Monitor:
 
 
 def processors() -> int:
-    """How many processors this process may use."""
+    """The number of processors that this process may use."""
     return max(1, len(os.sched_getaffinity(0)))

@@ -1,4 +1,4 @@
-"""Addresses at which something is served."""
+"""Addresses of servers."""
 import ipaddress
 import urllib.parse
 from typing import Tuple
@@ -9,7 +9,7 @@ LAST_PORT = 65_535
 
 
 def place_of(given: str, of: str = "--page") -> Tuple[str, int]:
-    """Address and port of `ADDRESS:PORT`; an IPv6 address is in brackets. A `MonitorFault` if `given` isn't such a place."""
+    """Address and port of `ADDRESS:PORT`; an IPv6 address is in brackets. Raises `MonitorFault` if `given` isn't such an address."""
     address, colon, port = given.rpartition(":")
     is_bracketed = address.startswith("[") and address.endswith("]")
     if not colon or not port.isascii() or not port.isdigit() or len(port) > 5 or int(port) > LAST_PORT or ":" in address and not is_bracketed:
@@ -22,12 +22,12 @@ def place_of(given: str, of: str = "--page") -> Tuple[str, int]:
 
 
 def is_own(given: str) -> bool:
-    """Whether a place is reached by the machine itself alone."""
+    """Whether only the machine itself can reach an address."""
     return ipaddress.ip_address(place_of(given)[0]).is_loopback
 
 
 def test_url(given: str, of: str) -> None:
-    """A `MonitorFault` if an address isn't one of a web server."""
+    """Raises `MonitorFault` if an address isn't one of a web server."""
     url = urllib.parse.urlsplit(given)
     if url.scheme not in ("http", "https") or not url.hostname:
         raise MonitorFault(f"{of}: it has to be an address such as http://localhost:9093, not {given!r}")

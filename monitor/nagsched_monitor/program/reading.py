@@ -1,6 +1,6 @@
-"""A site that is read and tested in a process of its own, while the monitor works.
+"""A site that a separate process reads and tests, while the monitor works.
 
-The process writes the site to its standard output, as Python's `pickle` has it, or why it is refused.
+The process writes the site to its standard output as a Python `pickle`, or why it is refused.
 """
 import pathlib
 import pickle
@@ -15,39 +15,39 @@ from ..inputs.requests import Request
 from ..run.runner_program import FOLDER
 from ..site.site import Site, read_site
 
-# How long a site may take to be read, in seconds.
+# The limit for reading a site, in seconds.
 LIMIT = 300.0
 
 Read = Union[Site, str]
 
 
 def process_words(module: str, words: List[str]) -> List[str]:
-    """The command of a module of this package as a process of its own. No variable and no folder of its caller says what it imports."""
+    """The command that runs a module of this package as a separate process. No variable and no folder of its caller decides what it imports."""
     code = f"import sys; sys.path.insert(0, {str(FOLDER)!r}); import nagsched_monitor.{module} as it; sys.exit(it.main())"
     return [sys.executable, "-I", "-c", code, *words]
 
 
 class Reading:
-    """The reading of a site, for those who asked for it: a thread waits for the process."""
+    """The reading of a site, for the clients that requested it: a thread waits for the process."""
 
     def __init__(self, folder: pathlib.Path, program: str) -> None:
         self._words = process_words("program.reading", [str(folder), program])
         self._process: Optional["subprocess.Popen[bytes]"] = None
         self._thread: Optional[threading.Thread] = None
         self._read: Read = ""
-        # Who asked before it began, and since: the files may be others for these.
+        # The requests before it began, and those since: the files may have changed for the later ones.
         self._asked: List[Optional[Request]] = []
         self._next: List[Optional[Request]] = []
 
     def ask(self, request: Optional[Request]) -> None:
-        """Has the site read; who asks while it is read waits for the next time."""
+        """Has the site read; requests that come meanwhile wait for the next reading."""
         self._next.append(request)
 
     def is_busy(self) -> bool:
         return self._thread is not None
 
     def work(self) -> Optional[Tuple[Read, List[Optional[Request]]]]:
-        """Begins it if somebody asked. Returns the result, once, and the requests for it."""
+        """Begins it if somebody requested it. Returns the result, once, and the requests for it."""
         if self._thread is None and self._next:
             self._asked, self._next = self._next, []
             self._thread = threading.Thread(target=self._run, daemon=True)
@@ -68,7 +68,7 @@ class Reading:
                     self._read = f"the site wasn't read within {LIMIT:g} seconds"
         except OSError as error:
             self._read = f"the site can't be read: {error}"
-        except Exception:  # the process ended in the middle of it
+        except Exception:  # the process ended in the middle of the output
             self._read = "the site can't be read"
 
     def close(self) -> None:
@@ -77,7 +77,7 @@ class Reading:
 
 
 def read_now(folder: pathlib.Path, program: str) -> Read:
-    """The site of a folder, or why it is refused: no fault of it ends a running monitor."""
+    """The site of a folder, or why it is refused: no fault in it ends a running monitor."""
     try:
         return read_site(folder, program)
     except MonitorFault as fault:

@@ -1,30 +1,30 @@
-"""When the next turn of a monitor begins. A turn costs far more than one more check in it, so that what comes soon one after another shares one."""
+"""When the next turn of a monitor begins. A turn costs far more than one more check in it, so events that come close together share one."""
 import select
 import time
 from typing import Callable, Dict, Optional, Protocol
 
 from ..core.clock import Clock
 
-# From one turn to the next at least, in seconds.
+# The least time from one turn to the next, in seconds.
 BETWEEN_TURNS = 0.05
-# How long a check waits for the next one, and a result for the check that is due next, in seconds. Pairs of checks are twice as far from each other.
+# How long a check waits for the next one, and a result for the next due check, in seconds. Pairs of checks are twice as far from each other.
 MOST_SHARED = 0.08
 LONGEST_UNREPORTED = 2 * MOST_SHARED
 SECOND = 1_000
 
-# Has a file read when it can be.
+# Calls a reader when a file can be read.
 Watch = Callable[[int, Callable[[int], None]], None]
 
 
 class Poller(Protocol):
     """Waits for files, and for time to pass."""
 
-    def wait(self, milliseconds: float) -> bool: ...  # until something comes, which is read; False if nothing did
-    def sleep(self, milliseconds: float) -> None: ...  # whatever comes
+    def wait(self, milliseconds: float) -> bool: ...  # until something comes, which is read; False if nothing came
+    def sleep(self, milliseconds: float) -> None: ...  # for the whole time
 
 
 class FilePoller:
-    """The files of a process, and what each is handed to when it can be read."""
+    """The files of a process, each with its reader."""
 
     def __init__(self) -> None:
         self._poll = select.epoll()
@@ -41,7 +41,7 @@ class FilePoller:
     def wait(self, milliseconds: float) -> bool:
         ready = self._poll.poll(max(0.0, milliseconds) / SECOND)
         for file, _ in ready:
-            if file in self._readers:  # the one before may have ended it
+            if file in self._readers:  # an earlier reader may have ended it
                 self._readers[file](file)
         return bool(ready)
 
@@ -59,8 +59,8 @@ class Pace:
     def rest(self, begun: int, wanted: int, second: Optional[int]) -> None:
         """Waits for the next turn, and has files read until then.
 
-        `begun` is when the last turn began, `wanted` when the next one is to begin at the latest, 0 for at once, and `second` when the check after that one is
-        due; all are moments."""
+        `begun` is when the last turn began. `wanted` is the latest moment for the next one, 0 for at once. `second` is when the check after that one is
+        due. All are moments."""
         if wanted == 0:
             self._poller.wait(0)
             return

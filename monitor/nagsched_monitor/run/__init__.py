@@ -1,1 +1,1 @@
-"""Those who run plugins: runners of this machine, and workers of a Gearman server."""
+"""Programs that run plugins: runners of this machine, and workers of a Gearman server."""

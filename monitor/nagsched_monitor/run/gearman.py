@@ -1,4 +1,4 @@
-"""The protocol of a Gearman server: packets over a connection that is never waited for."""
+"""The protocol of a Gearman server: packets over a connection that never blocks."""
 import collections
 import enum
 import socket
@@ -14,7 +14,7 @@ REQUEST, RESPONSE = b"\0REQ", b"\0RES"
 
 
 class ServerFault(Exception):
-    """The server isn't reached, or was lost: why. Requests to it have to be sent again."""
+    """The server can't be reached, or was lost; the text says why. Requests to it have to be sent again."""
 
 
 class Code(enum.IntEnum):
@@ -24,7 +24,7 @@ class Code(enum.IntEnum):
     WORK_STATUS, WORK_COMPLETE, WORK_FAIL, ECHO_REQ, ECHO_RES, ERROR = 12, 13, 14, 16, 17, 19
 
 
-# How many parts the packets have that come from a server.
+# The number of parts of each packet that comes from a server.
 PARTS = {Code.JOB_CREATED: 1, Code.JOB_ASSIGN: 3, Code.WORK_STATUS: 3, Code.WORK_COMPLETE: 2, Code.WORK_FAIL: 1, Code.ERROR: 2}
 
 
@@ -61,7 +61,7 @@ class Connection:
         return bool(self._unsent)
 
     def flush(self) -> None:
-        """Sends what there is room for."""
+        """Sends as much as there is room for."""
         try:
             while self._unsent:
                 del self._unsent[: self._socket.send(self._unsent)]
@@ -123,7 +123,7 @@ class Happening:
 
 
 class Client(Protocol):
-    """One connection over which jobs are handed to a server. Jobs that no worker has taken end with it. It never waits."""
+    """One connection that submits jobs to a server. Jobs that no worker has taken end with it. It never waits."""
 
     def submit(self, number: int, queue: str, workload: bytes) -> None: ...
     def work(self) -> List[Happening]: ...
@@ -137,7 +137,7 @@ class ServerClient:
 
     def __init__(self, place: Tuple[str, int]) -> None:
         self._connection = Connection(place)
-        # The jobs whose names the server hasn't said yet, in their order, and the others by these names.
+        # The jobs that wait for their names from the server, in their order, and the others by these names.
         self._submitted: Deque[int] = collections.deque()
         self._numbers: Dict[bytes, int] = {}
 

@@ -5,25 +5,25 @@ from typing import Any, Callable, Dict, List, Sequence, Tuple
 from .gearman_seal import Seal
 
 LONGEST = 86_400.0
-# How far the clocks of the two machines may be apart, in seconds.
+# The largest difference between the clocks of the two machines, in seconds.
 SKEW = 60.0
 
 
 class Refusal(Exception):
-    """Why a job isn't taken."""
+    """Why a job isn't accepted."""
 
 
 class Door:
-    """Which jobs a worker takes. If it has a key: those that are signed with it, of its queues, in their time, and each once."""
+    """Which jobs a worker accepts. If it has a key: those of its queues that are signed with the key, in their time, and each once."""
 
     def __init__(self, seal: Seal, queues: Sequence[str], clock: Callable[[], float] = time.time) -> None:
         self._seal, self._queues, self._clock = seal, queues, clock
-        # The jobs that were taken, each with the time from which it is refused anyway.
+        # The accepted jobs, each with the time from which it is refused anyway.
         self._taken: Dict[str, float] = {}
         self._swept = clock()
 
     def job_of(self, document: Dict[str, Any]) -> Tuple[List[str], float]:
-        """The command line and the limit of the job that a document describes. A `Refusal` if it isn't taken."""
+        """The command line and the limit of the job that a document describes. Raises `Refusal` if it isn't accepted."""
         words, limit = document.get("words"), number_in(document, "limit")
         if not isinstance(words, list) or not words or not all(isinstance(word, str) and "\0" not in word for word in words):
             raise Refusal("it has no command")
@@ -50,7 +50,7 @@ class Door:
 
 
 def number_in(document: Dict[str, Any], member: str) -> float:
-    """A number of a document. A `Refusal` if it isn't a number of reasonable size."""
+    """A number in a document. Raises `Refusal` if it isn't a number of reasonable size."""
     value = document.get(member)
     if isinstance(value, bool) or not isinstance(value, (int, float)) or not abs(value) < 1e12:
         raise Refusal(f"its {member} is no number")

@@ -1,6 +1,6 @@
-"""A queue of a Gearman server, as the runner has it: each job is answered once, or abandoned within a limit.
+"""A queue of a Gearman server, on the runner's side: each job is answered once, or abandoned within a limit.
 
-A job is at the server or with a worker. If the connection is lost, all jobs are handed in again: answers over the old connection can't come any more.
+A job is at the server or with a worker. If the connection is lost, all jobs are submitted again: answers over the old connection can't come any more.
 """
 import time
 from dataclasses import dataclass
@@ -10,7 +10,7 @@ from .gearman import Client, Happening, Kind, ServerFault
 from .gearman_seal import JOB, RESULT, Seal
 from .jobs import ENDS
 
-# How long the server may take to say that it has a job, in seconds; when a lost one is tried again; how much later than its limit a result may come.
+# In seconds: the limit for the server to confirm a job, the pause before a lost server is tried again, and the delay of a result after its limit.
 SILENCE, RETRY, GRACE = 10.0, 1.0, 15.0
 
 Answer = Callable[[Dict[str, Any]], None]
@@ -18,30 +18,30 @@ Answer = Callable[[Dict[str, Any]], None]
 
 @dataclass
 class Out:
-    """A job as the monitor handed it on, and how far it is."""
+    """A job from the monitor, and its progress."""
 
     number: int
     words: List[str]
     limit: float
     came: float
-    # When it was handed to the server, and when a worker took it, over the connection that there is now.
+    # When it was sent to the server, and when a worker took it, over the current connection.
     handed: Optional[float] = None
     is_known: bool = False
     taken: Optional[float] = None
 
 
 class Queue:
-    """One queue, over a connection of its own. By `mark` its jobs differ from those of every other runner."""
+    """One queue, over a connection of its own. Its `mark` distinguishes its jobs from those of every other runner."""
 
     def __init__(self, name: str, mark: str, wait: float, connect: Callable[[], Client], answer: Answer, log: Callable[[str], None], seal: Seal) -> None:
         self.name, self._mark, self._wait, self._seal = name, mark, wait, seal
         self._connect, self._answer, self._log = connect, answer, log
         self._client: Optional[Client] = None
         self._not_before = 0.0
-        # The jobs that have no answer, by the numbers under which they were handed in last.
+        # The jobs without an answer, by the numbers under which they were submitted last.
         self._out: Dict[int, Out] = {}
         self._last = 0
-        # Why the server isn't reached.
+        # Why the server can't be reached.
         self._trouble: Optional[str] = None
 
     def is_busy(self) -> bool:
@@ -57,7 +57,7 @@ class Queue:
         self._out[self._last] = out
 
     def work(self, now: float) -> None:
-        """Handles answers, abandons late jobs, and hands in new ones."""
+        """Handles answers, abandons late jobs, and submits new ones."""
         for step in (self._read, self._give_up, self._hand_in):
             try:
                 step(now)
@@ -86,7 +86,7 @@ class Queue:
         return {"job": f"{self._mark}-{number}", "words": out.words, "limit": out.limit, "queue": self.name, "time": begin, "until": begin + self._wait}
 
     def _lose(self, why: str, now: float) -> None:
-        """The connection is lost."""
+        """Handles the loss of the connection."""
         if self._trouble is None:
             self._log(f"queue {self.name}: the server isn't reached: {why}")
         self._trouble = why
@@ -94,7 +94,7 @@ class Queue:
         self._hand_in_again()
 
     def _hand_in_again(self) -> None:
-        """Ends the connection: the server forgets what no worker has taken, and it is handed in over the next one."""
+        """Ends the connection: the server forgets the jobs that no worker has taken, and they are submitted over the next one."""
         self.close()
         again, self._out = self._out, {}
         for out in again.values():

@@ -1,4 +1,4 @@
-"""A runner that hands its jobs to a queue of a Gearman server: it reads jobs and writes results as nagsched-runner does, and runs no plugin itself.
+"""A runner that sends its jobs to a queue of a Gearman server: it reads jobs and writes results as nagsched-runner does, and runs no plugin itself.
 
     nagsched-gearman-runner (--key FILE | --unsigned) [--wait SECONDS] ADDRESS:PORT QUEUE
 """
@@ -20,14 +20,14 @@ from .gearman_queue import Queue
 from .gearman_seal import seal_of
 
 READ_BYTES = 65_536
-# How long a job may wait for a worker, and the time from one round to the next, while jobs are out and while none is; in seconds.
+# In seconds: a job's longest wait for a worker, and the time from one round to the next, with jobs and without.
 WAIT, BUSY, IDLE = 30.0, 0.01, 1.0
-# A round that takes longer, in seconds, ends the process by SIGALRM: the monitor begins another.
+# A round that takes longer, in seconds, ends the process by SIGALRM, and the monitor starts another.
 STUCK = 30
 
 
 class GearmanRunner:
-    """One queue, and the lines there and back."""
+    """One queue, and the lines in both directions."""
 
     def __init__(self, words: argparse.Namespace, jobs: int, results: int) -> None:
         place, seal = place_of(words.server, "server"), seal_of(words.key, words.unsigned)
@@ -66,7 +66,7 @@ class GearmanRunner:
         self._unsent += json.dumps(result).encode() + b"\n"
 
     def _write(self) -> None:
-        """Writes results, as far as the monitor reads them; the rest waits."""
+        """Writes results while the monitor reads them; the others wait."""
         try:
             while self._unsent:
                 del self._unsent[: os.write(self._results, self._unsent)]

@@ -1,4 +1,4 @@
-"""Signed messages between the monitor and its workers: a document, preceded by its HMAC-SHA256 with a key that both have in a file."""
+"""Signed messages between the monitor and its workers: a document, preceded by its HMAC-SHA256 with a key from a file that both have."""
 import hashlib
 import hmac
 import json
@@ -16,7 +16,7 @@ SIZE = hashlib.sha256().digest_size * 2
 
 
 def read_key(path: pathlib.Path) -> bytes:
-    """The key of a file: its bytes without the space around them. A `MonitorFault` if others may read it, or if it is too short."""
+    """The key in a file: its bytes without the space around them. Raises `MonitorFault` if others may read it, or if it is too short."""
     try:
         with path.open("rb") as file:
             mode = os.fstat(file.fileno()).st_mode
@@ -31,7 +31,7 @@ def read_key(path: pathlib.Path) -> bytes:
 
 
 class Seal:
-    """Signs documents and opens signed ones, with a key; without a key they are as they are."""
+    """Signs documents and opens signed ones, with a key; without a key they stay unchanged."""
 
     def __init__(self, key: Optional[bytes]) -> None:
         self._key = key
@@ -44,7 +44,7 @@ class Seal:
         return body if self._key is None else self._signature(self._key, purpose, body) + b" " + body
 
     def open(self, purpose: bytes, data: bytes) -> Optional[Dict[str, Any]]:
-        """The document of a message; None if it isn't signed for this purpose with this key, or isn't a document. Nothing else of it is looked at before."""
+        """The document of a message; None if it isn't signed for this purpose with this key, or isn't a document. Nothing in it is used before that."""
         if len(data) > MOST_BYTES:
             return None
         if self._key is not None:
@@ -63,7 +63,7 @@ class Seal:
 
 
 def seal_of(key: Optional[pathlib.Path], unsigned: bool) -> Seal:
-    """The seal of a key file, or no signatures if the site says so. A `MonitorFault` unless it says one of the two."""
+    """The seal of a key file, or no signatures if the site says so. Raises `MonitorFault` unless it says one of the two."""
     if (key is not None) == unsigned:
         raise MonitorFault("say --key FILE, or --unsigned: one of the two")
     return Seal(None if key is None else read_key(key))

@@ -19,10 +19,10 @@ from .pool import Pool
 from .runner_program import runner_words
 from .runners import raise_file_limit
 
-# The pause before a lost server is tried again, the time between two signs of life of it, the delay after its limit at which a result is late, and the time
-# that running plugins have to end when the worker stops; in seconds.
+# In seconds: the pause before a lost server is tried again, and the time between two signs of life of it. Then the delay after its limit at which a result is
+# late, and the time that running plugins have to end when the worker stops.
 RETRY, SIGN, GRACE, STOPPING = 1.0, 10.0, 10.0, 10.0
-# How often the log says that jobs are refused, in seconds, and the longest time from one turn to the next, in milliseconds.
+# The time between two log lines about refused jobs, in seconds, and the longest time from one turn to the next, in milliseconds.
 SAYING, TURN = 60.0, 500
 SLOTS, MOST_SLOTS = 32, 1_000
 NOT_SIGNED = b"it isn't signed with this worker's key, or is no job"
@@ -39,7 +39,7 @@ class Running(NamedTuple):
 
 
 class Worker:
-    """One connection, which has as many jobs at once as there are slots. Its runner is handed in."""
+    """One connection, which has at most one job for each slot. Its runner is a parameter."""
 
     def __init__(self, connect: Callable[[], Connection], queues: Sequence[str], slots: int, seal: Seal, door: Door, runner: Pool, log: Callable[[str], None],
                  clock: Callable[[], float] = time.monotonic) -> None:
@@ -48,10 +48,10 @@ class Worker:
         self.connection: Optional[Connection] = None
         self._not_before = 0.0
         self._trouble: Optional[str] = None
-        # When the server was asked for a sign of life, whether it has given it, how many jobs it is asked for, and how many more are to be asked for.
+        # When the server was asked for a sign of life, whether it has answered, the number of jobs requested from it, and the number still to request.
         self._asked, self._is_alive, self._grabbing, self._wanted = 0.0, True, 0, 0
         self._running: Dict[int, Running] = {}
-        # The command lines whose plugins were killed and are still there, by the identities of their jobs.
+        # The command lines whose plugins were killed but haven't ended, by the identities of their jobs.
         self._stuck: Dict[int, Sequence[str]] = {}
         self._refused, self._said = 0, -SAYING
         self.is_stopping = False
@@ -60,7 +60,7 @@ class Worker:
         return not self._running
 
     def turn(self) -> None:
-        """Does all that there is to do now."""
+        """Does all the work that is due now."""
         now = self._clock()
         for step in (self._listen, self._end_jobs, self._ask_for_jobs):
             try:
@@ -111,7 +111,7 @@ class Worker:
                 connection.send(Code.PRE_SLEEP)
         elif packet.code == Code.JOB_ASSIGN:
             self._grabbing -= 1
-            self._wanted += 2  # where one was there are more
+            self._wanted += 2  # there may be more
             handle, _, workload = packet.parts
             connection.send(Code.WORK_STATUS, handle, b"0", b"1")
             answer = self.begin(connection, handle, workload)
@@ -119,7 +119,7 @@ class Worker:
                 connection.send(Code.WORK_COMPLETE, handle, answer)
 
     def _lose(self, why: str, now: float) -> None:
-        """The server hands what this worker has to another one; what runs here ends without an answer."""
+        """The server gives this worker's jobs to another one; what runs here ends without an answer."""
         if self._trouble is None:
             self._log(f"the server isn't reached: {why}")
         self._trouble = why
@@ -130,7 +130,7 @@ class Worker:
     # ---- jobs
 
     def begin(self, connection: Connection, handle: bytes, workload: bytes) -> Optional[bytes]:
-        """Has a job run. Returns the answer to a job that isn't run."""
+        """Has a job run. Returns the answer if the job isn't run."""
         try:
             document = self._seal.open(JOB, workload)
             if document is None:
@@ -148,7 +148,7 @@ class Worker:
             self._runner.start(job)
             self._running[id(job)] = Running(job, number, connection, handle, self._clock() + limit + GRACE)
             return None
-        except Exception as error:  # the worker goes on, and the job is made again elsewhere
+        except Exception as error:  # the worker continues, and the job is made again elsewhere
             self._refuse(f"{type(error).__name__}: {error}")
             return NOT_SIGNED
 
@@ -179,7 +179,7 @@ class Worker:
             self.connection.send(Code.WORK_COMPLETE, running.handle, self._answer(running.number, result))
 
     def _refuse(self, why: str) -> None:
-        """Logs once a minute how many jobs were refused."""
+        """Logs once a minute the number of refused jobs."""
         self._refused += 1
         if self._clock() - self._said >= SAYING:
             self._log(f"{self._refused} jobs were refused; the last one: {why}")
@@ -198,7 +198,7 @@ def words_of(given: Optional[List[str]]) -> argparse.Namespace:
 
 
 def runner_of(only: Optional[pathlib.Path]) -> List[str]:
-    """The command of the worker's runner. A `MonitorFault` if it doesn't start."""
+    """The command of the worker's runner. Raises `MonitorFault` if it doesn't start."""
     words = [*runner_words(), *([] if only is None else ["--only", str(only)])]
     try:
         tried = subprocess.run(words, input=b"", stderr=subprocess.PIPE, timeout=10, check=False)
@@ -210,7 +210,7 @@ def runner_of(only: Optional[pathlib.Path]) -> List[str]:
 
 
 def log(line: str) -> None:
-    """Writes a line to standard output, which doesn't block: a line that isn't read is lost."""
+    """Writes a line to standard output, which doesn't block: a line that nobody reads is lost."""
     try:
         os.write(sys.stdout.fileno(), line.encode(errors="replace") + b"\n")
     except OSError:
@@ -241,7 +241,7 @@ def main(given: Optional[List[str]] = None) -> int:
 
 
 def work(worker: Worker, poller: FilePoller) -> None:
-    """Works until it is asked to stop; plugins that run then may end."""
+    """Works until it is asked to stop; running plugins may then end."""
     stop_at: Optional[float] = None
     watched: Optional[Connection] = None
     while stop_at is None or time.monotonic() < stop_at and not worker.is_idle():

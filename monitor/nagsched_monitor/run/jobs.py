@@ -1,4 +1,4 @@
-"""Jobs for runners, and their answers. The lines between the two are described in `docs/scaling.md`."""
+"""Jobs for runners, and their answers. `docs/scaling.md` describes the lines between the two."""
 import functools
 import json
 from typing import Any, Dict, List, NamedTuple, Optional, Protocol, Sequence, Set, Tuple, Union
@@ -16,12 +16,12 @@ class Job(NamedTuple):
     run: int
     words: Sequence[str]
     limit: float
-    # The runner elsewhere that runs it; None for one of this machine.
+    # The runner elsewhere that runs it; None for a runner of this machine.
     runner: Optional[str] = None
 
 
 class Finished(NamedTuple):
-    """A plugin's end: how it ended, with which exit code or signal, and what it wrote."""
+    """A plugin's end: how it ended, with which exit code or signal, and its output."""
 
     job: Job
     end: str
@@ -33,11 +33,11 @@ class Finished(NamedTuple):
 
 
 class Lost(NamedTuple):
-    """A job whose runner ended or didn't take it, that no worker answered, or that this machine couldn't start."""
+    """A job whose runner ended or didn't accept it, that no worker answered, or that this machine couldn't start."""
 
     job: Job
     why: str = "its runner ended"
-    # Whether this machine lacks what it takes: files, processes or memory.
+    # Whether this machine lacks what the job needs: files, processes or memory.
     is_local: bool = False
 
 
@@ -51,14 +51,14 @@ Event = Union[Finished, Lost, Gone]
 
 
 class Runners(Protocol):
-    """Runners, as the engine uses them."""
+    """Runners, as the engine sees them."""
 
     def start(self, job: Job) -> None: ...  # from the next `flush` on
     def flush(self) -> None: ...
-    def events(self) -> List[Event]: ...  # what has come since it was asked last
-    def jobs(self) -> Set[int]: ...  # the identities of the jobs that runners have, or will be handed
-    def kill(self, job: Job) -> bool: ...  # the runner that has this job; what it runs is lost
-    def signs(self) -> Dict[str, Dict[str, int]]: ...  # of the runners of each name, how many run, are wanted, stand still, and how many checks wait
+    def events(self) -> List[Event]: ...  # the events since the last call
+    def jobs(self) -> Set[int]: ...  # the identities of the jobs that runners have, or will get
+    def kill(self, job: Job) -> bool: ...  # the runner that has this job; its running jobs are lost
+    def signs(self) -> Dict[str, Dict[str, int]]: ...  # for the runners of each name: how many run, are wanted, are stopped, and how many checks wait
 
 
 @functools.lru_cache(maxsize=50_000)
@@ -68,7 +68,7 @@ def command_line(words: Tuple[str, ...], limit: float) -> bytes:
 
 
 def result_of(job: Job, members: Dict[str, Any]) -> Event:
-    """The event that a runner's line is; `ValueError` says why it isn't one."""
+    """The event in a runner's line. `ValueError` says why it isn't one."""
     if "lost" in members:
         return Lost(job, plain(text_of(members, "lost")), job.runner is None)
     end, code, is_stuck = members.get("end"), members.get("code"), members.get("stuck", False)
@@ -94,7 +94,7 @@ def number_of(members: Dict[str, Any]) -> int:
 
 
 def read_line(line: bytes) -> Dict[str, Any]:
-    """The members of a runner's line; `ValueError` or `RecursionError` if it can't be read."""
+    """The members of a runner's line. Raises `ValueError` or `RecursionError` if it can't be read."""
     members = READER.decode(line.decode())
     if not isinstance(members, dict):
         raise ValueError("it is no object")

@@ -1,4 +1,4 @@
-"""The runner processes of one name: those of this machine, or the one that reaches a runner elsewhere. One that ends is started again."""
+"""The runner processes of one name: those of this machine, or the one that reaches a runner elsewhere. A process that ends is started again."""
 import collections
 import os
 import subprocess
@@ -10,17 +10,17 @@ from ..program.turn_timer import Watch
 from .jobs import Event, Finished, Gone, Job, Lost, command_line, number_of, read_line, result_of
 
 READ_BYTES = 65_536
-# The longest line of a runner. One that is longer ends its runner.
+# The longest line of a runner, in bytes. A longer line ends its runner.
 LONGEST_LINE = 1_048_576
-# From one start of a runner to the next at least, in seconds: twice as long each time, up to the longest; one that ran for so long begins with the first again.
+# The least time from one start of a runner to the next, in seconds. It doubles up to the longest. After a runner that ran that long, it is the first again.
 PAUSE, LONGEST_PAUSE = 1.0, 60.0
-# How long a runner may take to end, and how much later than its limit a plugin's result comes at the latest, in seconds.
+# In seconds: the limit for a runner's end, and the longest delay of a plugin's result after its limit.
 GRACE, LATE = 5.0, 10.0
 
 
 @dataclass
 class Process:
-    """One runner process, and what it was handed: each job with the time at which its result is late."""
+    """One runner process, and its jobs, each with the time at which its result is late."""
 
     process: "subprocess.Popen[bytes]"
     begun: float
@@ -37,7 +37,7 @@ class Process:
         self.reads_from, self.writes_to = self.process.stdin.fileno(), self.process.stdout.fileno()
 
     def end(self, grace: float = GRACE) -> object:
-        """Its status. It is left to itself if it doesn't end. Its pipes are closed."""
+        """Its exit status. If it doesn't end, nobody waits for it. Its pipes are closed."""
         for pipe in (self.process.stdin, self.process.stdout):
             if pipe is not None:
                 pipe.close()
@@ -50,7 +50,7 @@ class Process:
 
 
 class Pool:
-    """Processes of one command. Without `slots` they have any number of jobs at once, and a job waits for them as long as it takes."""
+    """Processes of one command. Without `slots` they have any number of jobs at once, and a job waits for them without a limit."""
 
     def __init__(self, name: str, words: Sequence[str], count: int, slots: Optional[int], wait: float, log: Callable[[str], None],
                  watch: Watch, unwatch: Callable[[int], None], clock: Callable[[], float]) -> None:
@@ -61,21 +61,21 @@ class Pool:
         self._number = 0
         # By the files to which they write.
         self.processes: Dict[int, Process] = {}
-        # The jobs that no process was handed yet, each with the time at which it came.
+        # The jobs that no process has got yet, each with the time at which it came.
         self._waiting: Deque[Tuple[Job, float]] = collections.deque()
         self._trouble = ""
         self._pause, self._not_before = PAUSE, 0.0
         self._begin_missing()
 
     def _begin_missing(self) -> None:
-        """Begins the processes that are missing. If there is no room for one now, it is tried again at a later flush."""
+        """Starts the processes that are missing. If there is no room for one now, a later flush tries again."""
         if len(self.processes) >= self._count or self._clock() < self._not_before:
             return
         try:
             while len(self.processes) < self._count:
                 process = Process(subprocess.Popen(self.words, stdin=subprocess.PIPE, stdout=subprocess.PIPE, bufsize=0, start_new_session=True), self._clock())
                 os.set_blocking(process.writes_to, False)
-                os.set_blocking(process.reads_from, False)  # what it doesn't read at once doesn't hold up the monitor
+                os.set_blocking(process.reads_from, False)  # bytes that it doesn't read at once don't hold up the monitor
                 self.processes[process.writes_to] = process
                 self._watch(process.writes_to, self.read)
             self._trouble = ""
@@ -91,7 +91,7 @@ class Pool:
         self._waiting.append((job, self._clock()))
 
     def flush(self) -> None:
-        """Hands on the jobs for which there is room, with one write for each process."""
+        """Passes on the jobs for which there is room, with one write for each process."""
         self._begin_missing()
         now = self._clock()
         process = self._least_busy()
@@ -108,7 +108,7 @@ class Pool:
                 while process.unsent:
                     del process.unsent[: os.write(process.reads_from, process.unsent)]
             except BlockingIOError:
-                pass  # the rest goes at the next time
+                pass  # the rest follows next time
             except OSError:
                 self._restart(process)
 
@@ -142,7 +142,7 @@ class Pool:
             self._restart(process)
 
     def _hear(self, process: Process, line: bytes) -> None:
-        """One line of a runner; a bad one is logged, and the run that it speaks of is lost, if that can be read."""
+        """One line of a runner. A faulty line is logged, and the run that it is about is lost, if that can be read."""
         number = -1
         try:
             members = read_line(line)
@@ -178,7 +178,7 @@ class Pool:
     # ---- ends
 
     def _restart(self, process: Process) -> None:
-        """Another process in place of one that has ended, after a pause."""
+        """Starts another process in place of one that has ended, after a pause."""
         if process.writes_to not in self.processes:
             return  # it was seen before
         status, now = self._end(process), self._clock()
@@ -192,7 +192,7 @@ class Pool:
         self._begin_missing()
 
     def _end(self, process: Process) -> object:
-        """Ends a process, and returns its status; what it ran is lost."""
+        """Ends a process, and returns its status; its jobs are lost."""
         del self.processes[process.writes_to]
         self._unwatch(process.writes_to)
         self._events.extend(Lost(job) for job, _ in process.jobs.values())
@@ -201,7 +201,7 @@ class Pool:
         return process.end()
 
     def kill(self, job: Job) -> bool:
-        """Kills the process that has this job, since it gives no answer. A job that no process has yet is lost. False if it isn't here."""
+        """Kills the process that has this job, since it gives no answer. A job that no process has yet is lost. Returns False if it isn't here."""
         for process in list(self.processes.values()):
             if any(job is each for each, _ in process.jobs.values()):
                 self._log(f"{self._called} gave no result in time: it is killed, and {len(process.jobs)} checks with it")
@@ -215,7 +215,7 @@ class Pool:
         return bool(waiting)
 
     def end(self) -> None:
-        """Ends all processes; what they ran, and what waits, is lost."""
+        """Ends all processes; their jobs, and the jobs that wait, are lost."""
         for process in list(self.processes.values()):
             self._end(process)
         while self._waiting:

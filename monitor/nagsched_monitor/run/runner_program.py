@@ -1,4 +1,4 @@
-"""The commands of runners: nagsched-runner, which starts plugins, and nagsched-gearman-runner, which hands jobs to a Gearman server."""
+"""The commands of runners: nagsched-runner, which starts plugins, and nagsched-gearman-runner, which sends jobs to a Gearman server."""
 import os
 import pathlib
 import shutil
@@ -18,7 +18,7 @@ def program_of(name: str) -> Optional[str]:
 
 
 def runner_words() -> List[str]:
-    """The command of a runner of this machine: what the variable NAGSCHED_RUNNER names, or the program that was built. A `MonitorFault` if it isn't found."""
+    """The command of a runner of this machine: the variable NAGSCHED_RUNNER, or the program that was built. Raises `MonitorFault` if it isn't found."""
     program = os.environ.get("NAGSCHED_RUNNER") or program_of("nagsched-runner")
     if program is None:
         raise MonitorFault(f"there is no {FOLDER}/nagsched-runner: build it with monitor/build_runner.sh, or name one in the variable NAGSCHED_RUNNER")

@@ -12,24 +12,24 @@ from .runner_program import runner_words
 
 
 def raise_file_limit() -> int:
-    """Has this process and all that it starts open as many files as the machine lets them; returns how many those are."""
+    """Raises the limit of open files of this process, and of all that it starts, as far as the machine allows. Returns that limit."""
     _, most = resource.getrlimit(resource.RLIMIT_NOFILE)
     resource.setrlimit(resource.RLIMIT_NOFILE, (most, most))
     return most
 
 
 class RunnerProcesses:
-    """All of them. `watch` has a file read when it can be."""
+    """All of them. `watch` calls a reader when a file can be read."""
 
     def __init__(self, count: int, log: Callable[[str], None], watch: Watch, unwatch: Callable[[int], None],
                  clock: Callable[[], float] = time.monotonic) -> None:
         self._pool = partial(Pool, log=log, watch=watch, unwatch=unwatch, clock=clock)
         self._pools: Dict[str, Pool] = {LOCAL: self._pool(LOCAL, runner_words(), count, None, 0.0)}
-        # The last events of pools that are gone.
+        # The last events of pools that were removed.
         self._events: List[Event] = []
 
     def serve(self, remotes: Mapping[str, Remote]) -> None:
-        """Has these runners elsewhere from now on; what runs at others is lost."""
+        """Has these runners elsewhere from now on; jobs at others are lost."""
         for name, pool in list(self._pools.items()):
             remote = remotes.get(name)
             if name != LOCAL and (remote is None or (pool.words, pool.slots, pool.wait) != (remote.words, remote.slots, remote.wait)):
@@ -48,7 +48,7 @@ class RunnerProcesses:
             pool.start(job)
 
     def flush(self) -> None:
-        """Hands on the jobs that were started."""
+        """Passes on the jobs that were started."""
         for pool in self._pools.values():
             pool.flush()
 
@@ -69,7 +69,7 @@ class RunnerProcesses:
         return [process.process.pid for pool in self._pools.values() for process in pool.processes.values()]
 
     def close(self) -> None:
-        """Ends the runners, which kill the plugins that run."""
+        """Ends the runners, which kill the running plugins."""
         processes = [process for pool in self._pools.values() for process in pool.processes.values()]
         for process in processes:
             assert process.process.stdin is not None

@@ -1,4 +1,4 @@
-"""One scheduler: a process of `nagsched live`, which answers each line. It is never waited for without a limit."""
+"""One scheduler: a process of `nagsched live`, which answers each line. Every wait for it has a limit."""
 import os
 import select
 import subprocess
@@ -8,8 +8,8 @@ from typing import List, Optional, Sequence
 from ..faults import ConversationEnded
 
 READ_BYTES = 65_536
-# How long a scheduler may be silent while an answer is due, the first one, which comes after the setup and the saved state were read, and any other one;
-# and how long it may take to end, in seconds.
+# In seconds: how long a scheduler may be silent while an answer is due. First for the first answer, which comes after the setup and the saved state were
+# read, then for any other answer. And the limit for its end.
 OPENING, SILENCE = 30.0, 15.0
 GRACE = 5.0
 
@@ -18,7 +18,7 @@ class Conversation:
     """A scheduler over one setup."""
 
     def __init__(self, program: str, setup: bytes, start: int, saved: Optional[bytes] = None) -> None:
-        """Over this setup, from its start on, or from the state that was saved."""
+        """Over this setup, from its start on, or from the saved state."""
         words = [program, "live", *([] if saved is None else ["--resume"]), "--start", str(start)]
         try:
             # In a session of its own: a Ctrl-C in the terminal is for the monitor, which saves the state before it ends.
@@ -39,14 +39,14 @@ class Conversation:
         return self.finish()
 
     def begin(self, lines: Sequence[str]) -> None:
-        """Sends these lines as far as there is room for them now."""
+        """Sends as much of these lines as there is room for now."""
         if lines:
             self._unsent += "\n".join(lines).encode() + b"\n"
             self._missing += len(lines)
             self._write()
 
     def finish(self) -> List[str]:
-        """The answers to all lines that were begun. No more can have come: each answers a line that was sent."""
+        """The answers to all lines whose sending has begun. There can't be more answers, since each answers a line that was sent."""
         parts: List[bytes] = []
         deadline = time.monotonic() + self._patience
         while self._missing > 0:
@@ -69,7 +69,7 @@ class Conversation:
         return lines.decode(errors="replace").split("\n")[:-1]
 
     def save(self) -> Optional[bytes]:
-        """The state of the scheduler as text; None if the program has no such word."""
+        """The state of the scheduler as text; None if the program doesn't have that command."""
         (line,) = self.ask_lines(['["save"]'])
         return line[len("saved ") :].encode() if line.startswith("saved ") else None
 
@@ -77,7 +77,7 @@ class Conversation:
         return self._process.pid
 
     def close(self, grace: float = GRACE) -> None:
-        """Ends the scheduler's process; it is killed if it hasn't ended after a number of seconds."""
+        """Ends the scheduler's process, and kills it if it hasn't ended after a number of seconds."""
         for pipe in (self._process.stdin, self._process.stdout):
             if pipe is not None:
                 pipe.close()
@@ -93,9 +93,9 @@ class Conversation:
             while self._unsent:
                 self._unsent = self._unsent[os.write(self._there, self._unsent) :]
         except BlockingIOError:
-            pass  # the rest goes when there is room
+            pass  # the rest follows when there is room
         except BrokenPipeError:
-            self._unsent = b""  # it has ended, and its last words say why
+            self._unsent = b""  # it has ended, and its last lines say why
 
     def _read(self, before: Sequence[bytes]) -> bytes:
         part = os.read(self._back, READ_BYTES)

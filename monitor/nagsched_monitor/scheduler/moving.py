@@ -1,4 +1,4 @@
-"""The states of all schedulers of a site put together, and the state from which each part of another site continues."""
+"""The states of all schedulers of a site combined, and the state from which each part of another site continues."""
 import json
 import subprocess
 from typing import AbstractSet, Any, Dict, List, Mapping, Tuple
@@ -9,12 +9,12 @@ from ..site.site import Site
 Member = Dict[str, Any]
 # The states of schedulers by their parts.
 States = Mapping[int, bytes]
-# How long the program may take to test a state, in seconds.
+# The limit for the program's test of a state, in seconds.
 LIMIT = 60.0
 
 
 def put_together(states: States, mirrored: Mapping[int, AbstractSet[str]], site: Site, moment: int) -> Dict[int, bytes]:
-    """From which state each part of a site begins, by the states of the parts that there are, and the names of their mirrors.
+    """The state from which each part of a site begins, from the states of the current parts, and the names of their mirrors.
 
     A mirror has the state of its original. Run numbers continue from the greatest number of all parts, so that no late result fits a run of another part."""
     found: Dict[str, Tuple[int, Member]] = {}

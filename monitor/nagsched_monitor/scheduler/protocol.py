@@ -1,4 +1,4 @@
-"""The calls that are made of the scheduler, each a line of JSON, and its answers, each a line of words."""
+"""The calls to the scheduler, each a line of JSON, and its answers, each a line of words."""
 import json
 from typing import NamedTuple, Optional, Union
 
@@ -49,7 +49,7 @@ def line_of(call: Call) -> str:
 
 
 def read_call(line: str) -> Call:
-    """The call of a line that was kept."""
+    """The call in a stored line."""
     word, *members = json.loads(line)
     call: Call = KINDS[word](*members)
     return call
@@ -109,7 +109,7 @@ class Done(NamedTuple):
 
 
 class Refused(NamedTuple):
-    """The call was refused and changed nothing: its result comes too late, for example, or the scheduler couldn't read it."""
+    """The call was refused and changed nothing: for example, its result comes too late, or the scheduler couldn't read it."""
 
     why: str
 

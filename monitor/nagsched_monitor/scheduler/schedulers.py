@@ -1,6 +1,6 @@
 """The processes of all schedulers. A scheduler that ends is started again from the stored calls, so that its callers don't notice.
 
-A call is made once: it waits until its scheduler has answered it. The stored calls before it are made again by a scheduler that is started again, and give the
+A call is made once: it waits until its scheduler has answered it. A scheduler that is started again makes the stored calls before it again, which gives the
 same runs. A call after which a scheduler ends twice, if it is the only one that was sent, is set aside.
 """
 import collections
@@ -14,14 +14,14 @@ from ..store.writes import set_aside
 from .live_process import GRACE, Conversation
 from .protocol import Answer, Call, Refused, line_of, read_answer, read_call
 
-# Calls that are made together at most; how often a scheduler is started again in one exchange, and after which time in the next one, in milliseconds.
+# The most calls that are made together; how often a scheduler is restarted in one exchange, and the pause before the next exchange does so, in milliseconds.
 AT_ONCE = 4_096
 TRIES = 3
 PAUSE = 1_000
-# How often it is said that a scheduler can't be had, in milliseconds, and how often one may end after a call.
+# The time between two messages that a scheduler can't be started, in milliseconds, and how often one may end after a call.
 SAY_AGAIN = 60_000
 MOST_ENDS = 2
-# A line that a scheduler refuses, and that changes nothing: it is there.
+# A line that a scheduler refuses, and that changes nothing: its answer shows that the scheduler works.
 PING = '["ping"]'
 
 Converse = Callable[[str, bytes, int, Optional[bytes]], Conversation]
@@ -29,7 +29,7 @@ Got = TypeVar("Got")
 
 
 class Kept(NamedTuple):
-    """A stored call: its number and part, and the plugin's words if it reports them."""
+    """A stored call: its number and part, and the plugin's output if it reports one."""
 
     number: int
     part: int
@@ -60,16 +60,16 @@ class Part:
         self.answered = generation.last_call
         self.pending: Deque[Kept] = collections.deque()
         self.conversation: Optional[Conversation] = None
-        # Its trouble, when that was logged last, and the moment before which it isn't started again.
+        # Its fault, when the fault was last logged, and the moment before which it isn't started again.
         self.trouble: Optional[str] = None
         self._said_at = self._not_before = 0
         # The lines of the pending calls that were sent.
         self._sent: List[str] = []
-        # The last of the calls that were sent when the scheduler ended: up to this one each is sent alone. How often it ended after which one alone.
+        # The last of the calls that were sent when the scheduler ended: up to this one each is sent alone. How often it ended after which call alone.
         self._alone_until = self._suspect = self._ends = 0
 
     def begin(self) -> None:
-        """Sends pending calls, if the scheduler is there and has them together."""
+        """Sends pending calls, if the scheduler runs and may get several of them together."""
         if self.conversation is not None and self.pending and self.pending[0].number > self._alone_until:
             self._send(self.conversation)
 
@@ -110,7 +110,7 @@ class Part:
         return made
 
     def _revived(self) -> Conversation:
-        """The scheduler; one that isn't there is started, and makes the calls again that were answered."""
+        """The scheduler. If it doesn't run, it is started, and makes the answered calls again."""
         if self.conversation is None:
             made = self.generation
             self.conversation, self._sent = self._converse(self._program, made.setup, made.start, made.saved), []
@@ -120,7 +120,7 @@ class Part:
         return self.conversation
 
     def _ended(self, why: str) -> List[Made]:
-        """Lets go of a scheduler that ended. Returns the call that is set aside, if it ended after that one too often."""
+        """Removes a scheduler that ended. Returns the call that is set aside, if the scheduler ended after that call too often."""
         now, sent = self._clock.moment(), len(self._sent)
         if self.trouble is None or now - self._said_at >= SAY_AGAIN:
             self._log(f"{why}; it is started again")
@@ -148,7 +148,7 @@ class Part:
         return [(kept, Refused("it was set aside"))]
 
     def tried(self, what: Callable[[Conversation], Got]) -> Got:
-        """Does something that changes nothing and isn't stored. `ConversationEnded` if no scheduler can be started for it."""
+        """Carries out an action that changes nothing and isn't stored. Raises `ConversationEnded` if no scheduler can be started for it."""
         for left in reversed(range(TRIES)):
             try:
                 return what(self._revived())
@@ -188,7 +188,7 @@ class Schedulers:
             part.let_go()
 
     def read_pending(self, number: int) -> None:
-        """Takes in the stored calls of a part that were made before this monitor started: they are answered again."""
+        """Takes in the stored calls of a part that were made before this monitor started, which are answered again."""
         kept = self._store.calls_since(number, self.parts[number].answered)
         self.parts[number].pending.extend(Kept(each.id, each.part, read_call(each.line), each.words) for each in kept)
 
@@ -200,12 +200,12 @@ class Schedulers:
         return not any(part.pending for part in self.parts.values())
 
     def make(self, calls: Sequence[Kept]) -> None:
-        """These calls were stored, and are made with the next exchange."""
+        """These calls were stored. The next exchange makes them."""
         for kept in calls:
             self.parts[kept.part].pending.append(kept)
 
     def exchange(self) -> List[Made]:
-        """Makes the calls that wait, and returns their answers. Calls of a scheduler that can't be started now continue to wait."""
+        """Makes the waiting calls, and returns their answers. Calls of a scheduler that can't be started now continue to wait."""
         waiting = [part for part in self.parts.values() if part.pending]
         for part in waiting:
             part.begin()
@@ -222,7 +222,7 @@ class Schedulers:
         return self.parts[number].tried(asked)
 
     def states(self) -> Optional[Dict[int, bytes]]:
-        """The state of each scheduler; None if the program has no saved states. `ConversationEnded` if one can't be had."""
+        """The state of each scheduler; None if the program has no saved states. Raises `ConversationEnded` if a scheduler can't be started."""
         states: Dict[int, bytes] = {}
         for number, part in self.parts.items():
             if part.pending:

@@ -1,4 +1,4 @@
-"""The schedulers of a site and their answers: calls are stored together, then made together, and then heard."""
+"""The schedulers of a site and their answers: calls are first stored together, then made together, and then their answers are applied."""
 import json
 from dataclasses import replace
 from typing import AbstractSet, Callable, List, NamedTuple, Optional, Sequence
@@ -49,7 +49,7 @@ class Scheduling:
         self._printed: List[KeptChange] = []
         # Whether there are objects whose states aren't known yet.
         self._has_unknown = False
-        # The changes that were stored before this monitor started: answers that are heard again are no changes.
+        # The changes that were stored before this monitor started: answers that come again are no changes.
         self._stored_changes: AbstractSet[int] = frozenset()
 
     # ---- opening
@@ -63,7 +63,7 @@ class Scheduling:
         self.mirrors = Mirrors({part: generation.mirrors for part, generation in kept.items()}, self.known.running)
         self._stored_changes = self._store.changes_after(min((generation.last_call for generation in kept.values()), default=0))
         self.schedulers.open(kept)
-        # Parts that the site has no longer come first, so that an object's own part has the last word.
+        # Parts that the site no longer has come first, so that an object's own part decides.
         for part in sorted(kept, key=lambda part: part < len(self.site.setups)):
             self._resume(kept[part])
         for line in self._go_over(self.site):
@@ -107,7 +107,7 @@ class Scheduling:
         return changed
 
     def _ask_new(self) -> None:
-        """Asks for the standings of new objects; if their scheduler can't be had now, it is asked with the next calls."""
+        """Asks for the standings of new objects. If their scheduler can't be started now, the request follows with the next calls."""
         try:
             self._ask_unknown()
             self._has_unknown = False
@@ -115,7 +115,7 @@ class Scheduling:
             self._log(f"how new objects stand isn't known yet: {error}")
 
     def _go_over(self, site: Site) -> List[str]:
-        """Takes over a site. Parts with another setup begin from the states of all parts, put together."""
+        """Takes over a site. Parts with another setup begin from the combined states of all parts."""
         open_parts = {part: made.generation for part, made in self.schedulers.parts.items()}
         others = {
             part for part, setup in enumerate(site.setups)
@@ -133,7 +133,7 @@ class Scheduling:
         return changed
 
     def _begin(self, site: Site, others: AbstractSet[int]) -> List[str]:
-        """Begins these parts of a site from scratch. The states of all parts are stored together, and all calls before are let go."""
+        """Begins these parts of a site from scratch. The states of all parts are stored together, and all earlier calls are dropped."""
         states, moment, last_call = self.schedulers.states(), self._clock.moment(), self._store.last_call
         if states is None:
             raise MonitorFault("another setup is taken over from a saved state, and this nagsched saves none: stop, and move monitor.db away to begin again")
@@ -152,7 +152,7 @@ class Scheduling:
         return changed
 
     def _read_state(self, part: int, state: bytes) -> None:
-        """Reads from the state of a scheduler what its answers don't say: switches, forced marks and runs."""
+        """Reads the facts in a scheduler's state that its answers don't have: switches, forced marks and runs."""
         members = self.mirrors.read_saved(part, json.loads(state)["objects"])
         self.known.read_saved(members)
         for it in members:
@@ -162,7 +162,7 @@ class Scheduling:
     # ---- calls
 
     def is_open(self, part: int) -> bool:
-        """Whether calls of a part can be made now: its scheduler has answered all before."""
+        """Whether calls of a part can be made now: its scheduler has answered all earlier ones."""
         return not self.schedulers.is_down(part)
 
     def is_known_open(self, known: Known) -> bool:
@@ -174,15 +174,15 @@ class Scheduling:
         return self.is_open(part) and self.mirrors.are_running(name) and all(self.is_open(other) for other in self.mirrors.parts_of(name))
 
     def reports(self, part: int, report: Report, words: str, moment: int) -> List[AskedOf]:
-        """The calls by which a result is reported to an object and to its mirrors."""
+        """The calls that report a result to an object and to its mirrors."""
         return [(part, report, words), *self.mirrors.reports(report, moment)]
 
     def takes_of_mirrors(self, moment: int) -> List[AskedOf]:
-        """The calls by which mirrors are taken that aren't running."""
+        """The calls that take the mirrors that aren't running."""
         return [each for each in self.mirrors.takes(moment) if self.is_open(each[0])] if self.mirrors.names else []
 
     def store(self, asked: Sequence[AskedOf], writes: Sequence[Write] = ()) -> None:
-        """Stores these calls with what else is to be written: they are made with the next `make`. If nothing can be stored, none is: `NotStored`."""
+        """Stores these calls with the other writes; the next `make` makes them. If something can't be stored, nothing is, and `NotStored` is raised."""
         bad = [call for _, call, _ in asked if not is_sound(call)]
         if bad:
             raise ValueError(f"no scheduler reads these calls: {bad}")
@@ -202,7 +202,7 @@ class Scheduling:
         return self._hear(self.schedulers.exchange())
 
     def _hear(self, made: Sequence[Made], is_again: bool = False) -> List[Heard]:
-        """Takes in answers; those of mirrors aren't returned. Answers that were heard by an earlier monitor change no times."""
+        """Takes in answers, and returns all but those of mirrors. Answers that an earlier monitor got change no times."""
         heard: List[Heard] = []
         for kept, answer in made:
             if not self.mirrors.names or not self.mirrors.owns(kept.part, kept.call, answer):
@@ -233,7 +233,7 @@ class Scheduling:
         self._printed.append(change)
 
     def changed(self) -> List[KeptChange]:
-        """The changes since it was asked last."""
+        """The changes since the last call."""
         printed, self._printed = self._printed, []
         return printed
 
@@ -244,7 +244,7 @@ class Scheduling:
     # ---- saving and ending
 
     def save(self) -> bool:
-        """Saves the state of each scheduler, and lets go of the calls before it. False if the program has no saved states."""
+        """Saves the state of each scheduler, and drops the calls before it. Returns False if the program has no saved states."""
         states = self.schedulers.states()
         if states is None:
             return False

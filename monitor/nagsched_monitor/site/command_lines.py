@@ -1,4 +1,4 @@
-"""The command lines of a site: each can be split, and has a program that is there, unless a runner elsewhere runs it."""
+"""The command lines of a site: each can be split, and has a program that exists, unless a runner elsewhere runs it."""
 import functools
 import pathlib
 import re
@@ -11,11 +11,11 @@ from typing import Container, Dict, List, Sequence, Tuple
 from ..faults import SiteFault
 from .json_files import only_known, read_object, seconds
 
-# A line that no quote, no escape and no sign of a shell is in.
+# A line without quotes, escapes and shell characters.
 PLAIN = re.compile(r"[\w ./:,=%@+!#*?$~^{}\[\]-]*", re.ASCII)
 
 
-# How long a shell may take to test a line, in seconds.
+# The limit for a shell's test of a line, in seconds.
 LIMIT = 30.0
 
 
@@ -24,12 +24,12 @@ class Command:
     """A command line, split unless a shell runs it."""
 
     words: Sequence[str]
-    # How long the plugin may take, in seconds.
+    # The limit of the plugin, in seconds.
     limit: float
 
 
 def read_commands(folder: pathlib.Path, objects: Container[str], runner_of: Container[str]) -> Dict[str, Command]:
-    """The command of each object. Each line can be split, and has a program that is there, unless a runner elsewhere runs it."""
+    """The command of each object. Each line can be split, and has a program that exists, unless a runner elsewhere runs it."""
     commands = {}
     is_program.cache_clear()
     for name, members in read_object(folder, "commands.json", required=True).items():
@@ -50,7 +50,7 @@ def read_commands(folder: pathlib.Path, objects: Container[str], runner_of: Cont
 
 
 def is_whole(line: str) -> bool:
-    """Whether a line has no half of a character, as JSON may: no program can be handed that."""
+    """Whether a line has no half of a character, which JSON allows: no program can get such an argument."""
     try:
         line.encode()
     except UnicodeEncodeError:
@@ -77,7 +77,7 @@ def is_program(name: str) -> bool:
 
 
 def split_words(line: str, place: str) -> Tuple[List[str], List[str]]:
-    """The words of a line that has quotes or other signs, and what only a shell reads in it."""
+    """The words of a line that has quotes or other characters, and the parts that only a shell understands."""
     try:
         return shlex.split(line), shell_signs(line)
     except ValueError as error:
@@ -85,7 +85,7 @@ def split_words(line: str, place: str) -> Tuple[List[str], List[str]]:
 
 
 def shell_signs(line: str) -> List[str]:
-    """The signs in a line, outside of quotes, that only a shell gives a meaning."""
+    """The characters in a line, outside of quotes, that only a shell gives a meaning."""
     signs = ";|&<>()"
     lexer = shlex.shlex(line, posix=True, punctuation_chars=signs)
     lexer.whitespace_split, lexer.commenters = True, ""
@@ -93,7 +93,7 @@ def shell_signs(line: str) -> List[str]:
 
 
 def shell_words(line: str, place: str) -> List[str]:
-    """The words by which a shell runs a line that it can read."""
+    """The arguments that have a shell run a line that it can read."""
     try:
         read = subprocess.run(["/bin/sh", "-n", "-c", line], stdin=subprocess.DEVNULL, stderr=subprocess.PIPE, check=False, timeout=LIMIT)
     except (OSError, subprocess.TimeoutExpired) as error:

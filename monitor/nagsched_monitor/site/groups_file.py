@@ -37,7 +37,7 @@ def labels_of(name: str, groups: Mapping[str, Groups]) -> Dict[str, str]:
 
 
 class GroupsFile:
-    """The groups of a site for a process next to the monitor: read again when the file changes. A bad file changes nothing."""
+    """The groups of a site for a process next to the monitor: read again when the file changes. A faulty file changes nothing."""
 
     def __init__(self, folder: pathlib.Path) -> None:
         self._folder = folder

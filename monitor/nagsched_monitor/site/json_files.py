@@ -6,12 +6,12 @@ from typing import Any, Dict, Sequence
 from ..faults import SiteFault
 
 MOST_SECONDS = 86_400
-# A result may be fresh for a year.
+# The longest freshness of a result: a year.
 MOST_FRESH = 31_536_000
 
 
 def read_object(folder: pathlib.Path, name: str, required: bool) -> Dict[str, Any]:
-    """The members of a file that is a JSON object. A file that may be left out has none then."""
+    """The members of a file that is a JSON object. An optional file that doesn't exist has none."""
     path = folder / name
     if not required and not path.exists():
         return {}

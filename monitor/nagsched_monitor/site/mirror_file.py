@@ -2,7 +2,7 @@
 
     {"part-2": {"gateway": "part-1", "gateway;ping": "part-1"}}
 
-in `mirrors.json` says of `part-2.json` that these two of its objects are mirrors of those of `part-1.json`. A mirror is never checked: it is off, and its
+in `mirrors.json` means that these two objects of `part-2.json` are mirrors of those of `part-1.json`. A mirror is never checked: it is off, and its
 intervals are 0. Each result of its original is reported to it too.
 """
 import pathlib
@@ -14,7 +14,7 @@ from .json_files import only_object, read_object
 
 FILE = "mirrors.json"
 NEVER = {"enabled": False, "check_interval": 0, "retry_interval": 0}
-# The options by which results are judged, with their default values.
+# The options that decide how results are judged, with their default values.
 JUDGING: Mapping[str, Any] = {
     "soft_state_dependencies": False, "use_aggressive_host_checking": False, "low_service_flap_threshold": 20, "high_service_flap_threshold": 30,
     "low_host_flap_threshold": 20, "high_host_flap_threshold": 30,
@@ -26,7 +26,7 @@ Dependency = Tuple[str, FrozenSet[str], bool]
 
 @dataclass(frozen=True)
 class Part:
-    """The setup of a part, as far as it is compared."""
+    """The members of a part's setup that are compared."""
 
     stem: str
     options: Mapping[str, Any]
@@ -48,7 +48,7 @@ class Part:
 
 
 def part_of(stem: str, setup: Mapping[str, Any]) -> Part:
-    """A part by its setup, which is a good one."""
+    """A part with its setup, which was found to be good."""
     objects = {host["name"]: host for host in setup.get("hosts", ())} | {f"{it['host']};{it['description']}": it for it in setup.get("services", ())}
     dependencies: Dict[str, FrozenSet[Dependency]] = {}
     handing_on = set()
@@ -77,7 +77,7 @@ def read_mirrors(folder: pathlib.Path, setups: Mapping[str, Mapping[str, Any]]) 
 
 
 def test_mirror(name: str, part: Part, home: object, parts: Mapping[str, Part], document: Mapping[str, Mapping[str, Any]]) -> None:
-    """A mirror is never checked, and has its original in another part, where results are judged in the same way."""
+    """A mirror is never checked, and has its original in another part, which judges results in the same way."""
     place = f"{FILE}: {part.stem}: {name}"
     if name not in part.objects:
         raise SiteFault(f"{place}: {part.stem}.json has no such object")

@@ -1,7 +1,7 @@
-"""Time periods: the times at which an object is checked, by the local time of the site.
+"""Time periods: the times at which an object is checked, in the local time of the site.
 
 A period has times for weekdays and for dates, and may exclude other periods. If a date of a period fits, its times replace those of the weekday, as in
-Nagios: first those with a year, then those of a month, of a day of any month, of a weekday of one month, of a weekday of any month.
+Nagios. The order is: dates with a year, of a month, of a day of any month, of a weekday of one month, of a weekday of any month.
 """
 import calendar
 import datetime
@@ -14,13 +14,13 @@ from ..faults import SiteFault
 WEEKDAYS = ("monday", "tuesday", "wednesday", "thursday", "friday", "saturday", "sunday")
 CLOCK_TIMES = re.compile(r"(\d\d):(\d\d)-(\d\d):(\d\d)")
 
-# From a minute of the day to another, which isn't one of them any more.
+# From a minute of the day up to another, which is excluded.
 Minutes = Tuple[int, int]
 
 
 @dataclass(frozen=True)
 class Dates:
-    """Days that are named otherwise than by their weekday alone. The value None fits every day."""
+    """Days that are described by more than their weekday. The value None fits every day."""
 
     first: Optional[datetime.date]
     last: Optional[datetime.date]
@@ -95,7 +95,7 @@ class Periods:
 
 
 def read_periods(document: Mapping[str, object], file: str) -> Dict[str, Period]:
-    """The periods of a document, tested: each name that is excluded is there, and no period excludes itself."""
+    """The periods of a document, after a test: each excluded name exists, and no period excludes itself."""
     periods = {name: read_period(name, members, f"{file}: period {name}") for name, members in document.items()}
     for period in periods.values():
         for other in period.excluded:
@@ -173,7 +173,7 @@ def read_day(text: object, place: str) -> datetime.date:
 
 
 def limited(value: object, least: int, most: int, place: str) -> Optional[int]:
-    """A number within its limits that isn't 0; None if there is none."""
+    """A number within its limits that isn't 0; None without one."""
     if value is None:
         return None
     if isinstance(value, bool) or not isinstance(value, int) or not least <= value <= most or value == 0:

@@ -1,4 +1,4 @@
-"""Runners elsewhere, and which objects' checks go to them: the file runners.json of a site.
+"""Runners elsewhere, and the objects that they check: the file runners.json of a site.
 
     {"runners": {"dmz": ["ssh", "dmz", "nagsched-runner"]}, "objects": {"dmz": ["dmz-*", "hostgroup:branch"]}, "slots": {"dmz": 20}, "wait": 30}
 """
@@ -17,14 +17,14 @@ FILE = "runners.json"
 NAME = re.compile(r"[A-Za-z0-9_.-]{1,64}")
 # The name of the runners of this machine, in figures.
 LOCAL = "local"
-# How many checks a runner has at once, and for how many seconds one waits for it, if the file doesn't say.
+# The default number of checks that a runner has at once, and the default wait for it, in seconds.
 SLOTS, WAIT, MOST_SLOTS = 32, 30.0, 10_000
 GROUP_KINDS = {"hostgroup": "host_groups", "servicegroup": "service_groups"}
 
 
 @dataclass(frozen=True)
 class Remote:
-    """A runner elsewhere: the command that reaches it, how many checks it has at once, and for how many seconds one waits for it."""
+    """A runner elsewhere: the command that reaches it, the number of checks that it has at once, and the wait for it, in seconds."""
 
     name: str
     words: Tuple[str, ...]
@@ -85,7 +85,7 @@ def names_of(runner: str, patterns: Any, by_host: Mapping[str, List[str]], group
 
 
 def fits(pattern: str, by_host: Mapping[str, List[str]], groups: Mapping[str, Groups]) -> List[str]:
-    """The objects that a pattern fits: one of full names, of a group, or of hosts with all that is on them."""
+    """The objects that a pattern fits: by full names, by a group, or hosts with everything on them."""
     kind, _, rest = pattern.partition(":")
     if kind in GROUP_KINDS and rest:
         hosts: Set[str] = {name for name, of in groups.items() if fnmatch.filter(of.get(GROUP_KINDS[kind], ()), rest)}

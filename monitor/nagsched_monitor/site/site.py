@@ -1,9 +1,9 @@
 """A site: the folder that says which objects are monitored, and how. It is read and tested as a whole before anything runs.
 
-    setup.json        the setup of the scheduler, or several: part-1.json, part-2.json and on
+    setup.json        the setup of the scheduler, or several: part-1.json, part-2.json and so on
     mirrors.json      which objects of a part are mirrors of those of another (may be left out)
     commands.json     the command of each object by its full name
-    periods.json      time periods, and which objects go by which (may be left out)
+    periods.json      time periods, and which objects use which (may be left out)
     passive.json      which objects are passive, and how fresh their results have to be (may be left out)
     runners.json      which checks are made by runners elsewhere (may be left out)
     groups.json       the groups and contacts of objects (may be left out)
@@ -26,7 +26,7 @@ from .periods import Periods, read_periods
 from .runner_file import Remote, read_runners
 from .whole_site import reading
 
-# How long a setup may take to be tested, in seconds.
+# The limit for the test of a setup, in seconds.
 LIMIT = 300.0
 CODES_BY_LETTER = {"w": 1, "c": 2, "u": 3}
 
@@ -37,7 +37,7 @@ class Watched:
 
     name: str
     part: int
-    # The host of a service; None of a host.
+    # The host of a service; None for a host.
     host: Optional[str]
     parents: Sequence[str]
     check_interval: int
@@ -57,7 +57,7 @@ class Watched:
 
 @dataclass(frozen=True)
 class Options:
-    """How the monitor goes about it."""
+    """The options of the monitor."""
 
     slots: int = 64
     cached_host_check_horizon: int = 15
@@ -67,7 +67,7 @@ class Options:
 
 @dataclass(frozen=True)
 class Site:
-    """A site that was read and is good."""
+    """A site that was read and found to be good."""
 
     folder: pathlib.Path
     # The setup of each part, on one line.
@@ -86,7 +86,7 @@ class Site:
 
 
 def read_site(folder: pathlib.Path, program: str) -> Site:
-    """The site of a folder, or a `SiteFault` that names the file and the error."""
+    """The site of a folder. Raises a `SiteFault` that names the file and the error."""
     with reading(folder):
         return read_files(folder, program)
 
@@ -125,7 +125,7 @@ def setup_files(folder: pathlib.Path) -> List[pathlib.Path]:
 
 
 def setup_line(path: pathlib.Path, program: str) -> bytes:
-    """A setup on one line, as the scheduler reads it; one that it refuses is a fault, in its own words."""
+    """A setup on one line, as the scheduler reads it. A setup that it refuses is a fault, in the scheduler's words."""
     try:
         setup = path.read_bytes()
     except OSError as error:
@@ -185,7 +185,7 @@ def children_of(objects: Mapping[str, Watched]) -> Dict[str, List[str]]:
 
 
 def test_command(watched: Watched) -> None:
-    """Each object that is ever checked has a command."""
+    """Each object that is checked at any time has a command."""
     if watched.command is None and not (watched.passive_only and watched.freshness is None) and watched.enabled:
         raise SiteFault(f"commands.json: {watched.name} has no command")
     if watched.command is None and watched.freshness is not None:

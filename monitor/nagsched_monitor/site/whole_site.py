@@ -8,13 +8,13 @@ from typing import Iterator
 
 from ..faults import SiteFault
 
-# How long files that are just being written are waited for, in seconds.
+# The longest wait for files that are being written, in seconds.
 PATIENCE = 10.0
 
 
 @contextlib.contextmanager
 def reading(folder: pathlib.Path) -> Iterator[None]:
-    """While no file of the site is replaced. A `SiteFault` if that takes too long."""
+    """While no file of the site is replaced. Raises `SiteFault` if the wait is too long."""
     try:
         lock = os.open(folder, os.O_RDONLY)
     except OSError as error:

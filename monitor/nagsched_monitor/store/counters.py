@@ -1,20 +1,20 @@
 """The figures of the monitor itself: results, delays of checks, saves. They continue after a restart.
 
-The names of the figures that are kept, and what each is:
+The names of the stored figures, and their meanings:
 
     checks.STATE          results that were reported, by the state in which each left its object
-    checks.given_up       checks that were given up, since their runner ended
+    checks.given_up       checks that were abandoned, since their runner ended
     checks.not_started    checks that this machine couldn't start: it had no files, processes or memory for them
     faults                turns that ended with a fault of the monitor's own
     checks.refused        results that came too late
-    late.BOUND            checks that began at most so many seconds behind their times, and more than the bound before; `late.more` those behind all bounds
+    late.BOUND            checks that began at most this many seconds late, and more than the bound before; `late.more` those later than all bounds
     late.sum              the seconds by which all of these were late, together
-    calls, saves          calls that were made of the scheduler, and states that were saved
+    calls, saves          calls to the scheduler, and states that were saved
     saved_at              when the state was saved last, in seconds since 1970
     moment                the moment at which these were written
     begun_at, written_at  when this monitor began, and when it wrote its figures last
-    checks_a_second       results a second, over the last minute
-    latest_start          by how many seconds a check was late at most, since this monitor began
+    checks_a_second       results per second, over the last minute
+    latest_start          the most seconds by which a check was late, since this monitor began
     latest_start_lately   the same of the last minute or two
 """
 import bisect
@@ -23,7 +23,7 @@ from typing import DefaultDict, Deque, Dict, Mapping, Optional, Tuple
 
 from ..core.clock import Clock
 
-# How often figures are written, and over how long a rate is taken, in milliseconds.
+# How often figures are written, and the time over which a rate is taken, in milliseconds.
 EVERY = 5_000
 MINUTE = 60_000
 # The bounds of the histogram of late starts, in seconds.
@@ -34,7 +34,7 @@ GONE_ON_WITH = tuple(f"checks.{result}" for result in RESULTS) + BUCKETS + ("lat
 
 
 class Counters:
-    """The figures of a monitor that runs, in memory."""
+    """The figures of a running monitor, in memory."""
 
     def __init__(self, kept: Mapping[str, float], clock: Clock) -> None:
         self._clock = clock
@@ -44,7 +44,7 @@ class Counters:
         self._latest = 0
         self._written: Dict[str, float] = {}
         self._written_at: Optional[int] = None
-        # How many results there were at moments of the last minute; the latest start of the minute that runs, and of the one before.
+        # The number of results at moments of the last minute; the latest start of the current minute, and of the one before.
         self._moments: Deque[Tuple[int, int]] = collections.deque([(clock.moment(), 0)])
         self._minute, self._lately, self._before = clock.moment(), 0, 0
 
@@ -73,16 +73,16 @@ class Counters:
     # ---- writing
 
     def are_due(self, now: int) -> bool:
-        """Whether it is time to write them: every five seconds."""
+        """Whether it is time to write the figures: every five seconds."""
         return self._written_at is None or now - self._written_at >= EVERY
 
     def changed(self, calls: int) -> Dict[str, float]:
-        """The figures that aren't what they were when they were written last. `calls` is how many calls were made."""
+        """The figures that have changed since they were written last. `calls` is the number of calls so far."""
         values = self._all(self._clock.moment(), calls)
         return {name: value for name, value in values.items() if self._written.get(name) != value}
 
     def written(self, figures: Mapping[str, float]) -> None:
-        """These were written."""
+        """These figures were written."""
         self._written_at = self._clock.moment()
         self._written.update(figures)
 
@@ -92,7 +92,7 @@ class Counters:
         return {**self._values, **of_this_run, "latest_start": self._latest / 1000, "latest_start_lately": lately / 1000}
 
     def _rate(self, now: int) -> float:
-        """Results a second, over the last minute or since the monitor began."""
+        """Results per second, over the last minute or since the monitor began."""
         self._moments.append((now, self._made))
         while len(self._moments) > 2 and self._moments[1][0] <= now - MINUTE:
             self._moments.popleft()

@@ -1,4 +1,4 @@
-"""The rows of a site's database: its tables, what a row says, and the checksum of one."""
+"""The rows of a site's database: its tables, the content of a row, and its checksum."""
 import hashlib
 import json
 from dataclasses import dataclass
@@ -41,7 +41,7 @@ class Generation:
     setup: bytes
     start: int
     saved: Optional[bytes]
-    # The number of the last call that the saved state has in it.
+    # The number of the last call that is part of the saved state.
     last_call: int
     # The objects of the setup that are mirrors.
     mirrors: AbstractSet[str] = frozenset()
@@ -49,7 +49,7 @@ class Generation:
 
 @dataclass(frozen=True)
 class KeptCall:
-    """A call that was kept: its number, part and line, and the words of the plugin that it reports."""
+    """A stored call: its number, part and line, and the output of the plugin that it reports."""
 
     id: int
     part: int
@@ -69,7 +69,7 @@ class KeptResult:
 
 @dataclass(frozen=True)
 class KeptChange:
-    """A change of state: the number of its call, and what the object is since."""
+    """A change of state: the number of its call, and the object's state since then."""
 
     id: int
     time: float
@@ -82,7 +82,7 @@ class KeptChange:
 
 
 class KeptStanding(NamedTuple):
-    """The state of an object. Times are seconds since 1970 of the wall clock, None if there is none."""
+    """The state of an object. Times are seconds since 1970 of the wall clock; a missing time is None."""
 
     name: str
     state: Optional[str]
@@ -118,7 +118,7 @@ class KeptStanding(NamedTuple):
         return self.is_problem() and self.kind == "HARD"
 
     def wrong_since(self) -> Optional[float]:
-        """Since when a problem is as hard as it is."""
+        """When a problem got its current kind, soft or hard."""
         return self.hard_since if self.is_hard_problem() and self.hard_since is not None else self.since
 
     def is_due(self, now: float) -> bool:
@@ -141,7 +141,7 @@ def checksum_of(table: str, number: int, cells: Sequence[Cell]) -> str:
 
 
 def number_of(name: str) -> int:
-    """The number of the row of an object: one made of its name, so that it is the same one each time."""
+    """The number of an object's row, computed from its name, so that it is always the same."""
     return int.from_bytes(hashlib.blake2b(name.encode(errors="replace"), digest_size=7).digest(), "big")
 
 
@@ -151,5 +151,5 @@ def text_of(names: AbstractSet[str]) -> str:
 
 
 def names_of(text: Optional[str]) -> AbstractSet[str]:
-    """The names of a cell; none if it is empty."""
+    """The names in a cell; an empty set if the cell is empty."""
     return frozenset() if text is None else frozenset(json.loads(text))

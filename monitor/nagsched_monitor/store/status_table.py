@@ -1,7 +1,7 @@
 """The table of standings: the state of each object, for other processes that read the database, and for the monitor's next start.
 
-An object that an answer spoke of is marked. Marked objects are written with the next calls, those of half a second together; one that has waited for more than
-a second is written alone. Times in the table are seconds since 1970 of the wall clock.
+An object that an answer is about is marked. Marked objects are written with the next calls, those of half a second together. An object that has waited for
+more than a second is written alone. Times in the table are seconds since 1970 of the wall clock.
 """
 from typing import Dict, List, Mapping, Optional, Sequence
 
@@ -14,7 +14,7 @@ from .rows import KeptStanding
 from .store import Store, Write
 from .writes import drop_standings, keep_standings
 
-# How long a marked object waits for others, and after which time it is written alone, in milliseconds.
+# In milliseconds: how long a marked object waits for others, and the time after which it is written alone.
 TOGETHER = 500
 LONGEST = 1_000
 
@@ -43,7 +43,7 @@ class Standings:
         self._dropped = [kept.name for kept in kept_of_all if kept.name not in objects]
 
     def settle(self, objects: Mapping[str, Known]) -> None:
-        """The states of the objects are known now. If the table had another state, the stored changes say when the new one began."""
+        """The states of the objects are known now. If the table had another state, the stored changes show when the new one began."""
         for known in [known for known in objects.values() if not is_settled(known)]:
             since = self._store.last_changes(known.name)
             assert known.standing is not None
@@ -57,15 +57,15 @@ class Standings:
         self.hurry()
 
     def become(self, objects: Mapping[str, Known]) -> None:
-        """Another site is monitored: the rows of objects that are gone go."""
+        """Another site is monitored: the rows of removed objects are deleted."""
         self._marked.clear()
         self._dropped += [kept.name for kept in self._store.standings() if kept.name not in objects]
         self.settle(objects)
 
-    # ---- while it runs
+    # ---- while it works
 
     def hear(self, known: Known, call: Call, answer: Answer, ended: Optional[Run]) -> None:
-        """Takes in what an answer changed of an object, and marks it. `ended` is its run before."""
+        """Takes in the changes of an object from an answer, and marks the object. `ended` is its run before."""
         past = known.past
         if isinstance(answer, Taken) and known.run is not None:
             known.run.began = self._clock.wall()
@@ -77,13 +77,13 @@ class Standings:
         self.mark(known)
 
     def mark(self, known: Known) -> None:
-        """An object is written with the next calls."""
+        """Has an object written with the next calls."""
         self._marked[known.name] = known
         if self._marked_at is None:
             self._marked_at = self._clock.moment()
 
     def hurry(self) -> None:
-        """Marked objects are written with the next flush."""
+        """Has marked objects written with the next flush."""
         if self._marked or self._dropped:
             self._marked_at = self._clock.moment() - LONGEST - 1
 
@@ -108,7 +108,7 @@ class Standings:
 
 
 def is_settled(known: Known) -> bool:
-    """Whether the known past of an object fits its state."""
+    """Whether the known past of an object agrees with its state."""
     standing, past = known.standing, known.past
     if standing is None or standing.state == "PENDING":
         return True
@@ -124,7 +124,7 @@ def note(past: Past, standing: Standing, time: float) -> None:
 
 
 def past_of(kept: KeptStanding) -> Past:
-    """The past of an object by its row. A soft problem has a hard recovery, or nothing, before it."""
+    """The past of an object from its row. A soft problem has a hard recovery, or nothing, before it."""
     well = "OK" if ";" in kept.name else "UP"
     hard = None if kept.hard_since is None else kept.state if kept.kind == "HARD" else well
     state = None if kept.since is None else kept.state
@@ -132,7 +132,7 @@ def past_of(kept: KeptStanding) -> Past:
 
 
 def kept_of(known: Known, wall: float, ahead: float) -> KeptStanding:
-    """The row of an object; `ahead` is how many seconds moments are ahead of the wall clock."""
+    """The row of an object. Moments are `ahead` seconds ahead of the wall clock."""
     standing, past = known.standing, known.past
     state, kind, attempt, flapping = (None, None, None, False)
     if standing is not None:

@@ -1,19 +1,19 @@
-"""The database of a site: one SQLite file, which is all that the monitor keeps.
+"""The database of a site: one SQLite file, which holds everything that the monitor stores.
 
-    generations   of each part the setup that its scheduler was opened over, the start, and the state from which it went on, if it was saved
-    mirrors       of each part that has mirrors their names, as JSON
-    calls         the calls that were made since, with the words of the plugin where one reported; each is kept before it is made
+    generations   for each part: the setup over which its scheduler was opened, the start, and the saved state that it resumed, if there was one
+    mirrors       for each part that has mirrors: their names, as JSON
+    calls         the calls that were made since, with the plugin's output if one reported; each is stored before it is made
     switches      whether an operator has an object's checks on
     passive       results that came through the socket and weren't reported yet
     changes       changes of state, by the number of the call that made them
-    outbox        changes that the command for changes hasn't taken yet
-    standings     how each object stands, a second old at most
-    figures       what the monitor counts of itself, a name and a number each
+    outbox        changes that the command for changes hasn't accepted yet
+    standings     the standing of each object, a second old at most
+    figures       the monitor's own figures, a name and a number each
     requests      the answers to the last thousand requests that had numbers
-    aside         calls after which a scheduler ends: they aren't made again
+    aside         calls after which a scheduler ends, which aren't made again
     damaged       rows of changes, standings and figures that were changed since they were written
 
-Each row has a checksum over its table and its members, so that a row that was changed since is found.
+Each row has a checksum over its table and its members, which shows whether the row was changed since.
 """
 import contextlib
 import fcntl
@@ -29,12 +29,12 @@ from .rows import (
     FOR_PEOPLE, GENERATIONS, INDEXES, INSERTS, TABLES, VERSION, Cell, Generation, KeptCall, KeptResult, KeptStanding, LastChanges, checksum_of, names_of,
 )
 
-# Something that is written together with others, or not at all.
+# A write that is carried out together with others, or not at all.
 Write = Callable[["Store"], object]
 
 
 class Store:
-    """The database of one monitor. A second one of the same site is refused."""
+    """The database of one monitor. A second monitor of the same site is refused."""
 
     def __init__(self, folder: pathlib.Path, log: Callable[[str], None] = lambda line: None) -> None:
         self.path, self._log = folder / "monitor.db", log
@@ -105,7 +105,7 @@ class Store:
             raise DamagedRow(f"{self.path}: {last - first + 1 - count} rows of calls are missing")
 
     def _sound(self, table: str, rows: Sequence[Sequence[Cell]]) -> List[Sequence[Cell]]:
-        """Those of these rows that are as they were written, without their checksums. Others are a fault, or set aside if only people read them."""
+        """Those of these rows that are as they were written, without their checksums. Other rows are a fault, or are set aside if only people read them."""
         sound = []
         for row in rows:
             number, *cells, checksum = row
@@ -141,13 +141,13 @@ class Store:
         return self.calls_between(part, number, self.last_call)
 
     def calls_between(self, part: int, number: int, last: int) -> List[KeptCall]:
-        """Those of them up to the call with the number `last`."""
+        """Those of these calls up to the call with the number `last`."""
         rows = "SELECT id, part, line, words FROM calls WHERE part = ? AND id > ? AND id <= ? AND id NOT IN (SELECT id FROM aside) ORDER BY id"
         with self._reading():
             return [KeptCall(*row) for row in self._database.execute(rows, (part, number, last))]
 
     def last_moment(self) -> int:
-        """The greatest moment that was kept. After a save there may be no calls, so the figures have a moment too."""
+        """The greatest stored moment. After a save there may be no calls, so the figures have a moment too."""
         moments = [0, int(self.figures().get("moment", 0)), *(generation.start for generation in self.generations().values())]
         for (line,) in self._database.execute("SELECT line FROM calls ORDER BY id DESC"):
             call = read_call(line)
@@ -167,12 +167,12 @@ class Store:
         return dict(self._database.execute("SELECT number, answer FROM requests ORDER BY id"))
 
     def outbox(self) -> List[Tuple[int, str]]:
-        """The documents that the command for changes hasn't taken, the oldest first."""
+        """The documents that the command for changes hasn't accepted, the oldest first."""
         with self._reading():
             return list(self._database.execute("SELECT id, document FROM outbox ORDER BY id"))
 
     def waiting_changes(self) -> Tuple[int, Optional[float]]:
-        """How many documents the command for changes hasn't taken, and the time of the first."""
+        """The number of documents that the command for changes hasn't accepted, and the time of the first."""
         with self._reading():
             count, first = self._database.execute("SELECT count(*), (SELECT document FROM outbox ORDER BY id LIMIT 1) FROM outbox").fetchone()
         return count, None if first is None else float(json.loads(first)["time"])
@@ -185,12 +185,12 @@ class Store:
         return {name: float(value) for name, value in self._database.execute("SELECT name, value FROM figures")}
 
     def standings(self) -> List[KeptStanding]:
-        """The standings that were kept."""
+        """The stored standings."""
         with self._reading():
             return [KeptStanding(*cells) for cells in self._database.execute(f"SELECT {', '.join(KeptStanding._fields)} FROM standings")]
 
     def last_changes(self, name: str) -> Optional[LastChanges]:
-        """Since when an object is in its last state, and in its last hard one, by the stored changes; None if it has none."""
+        """When an object's last state began, and its last hard one, from the stored changes; None if it has none."""
         last: Optional[LastChanges] = None
         with self._reading():
             rows = self._database.execute("SELECT * FROM changes WHERE name = ? ORDER BY id", (name,)).fetchall()
@@ -204,7 +204,7 @@ class Store:
     # ---- writing
 
     def write(self, *writes: Write) -> None:
-        """Writes all of these or nothing, and syncs it. `NotStored` if the disk is full or the file can't be written."""
+        """Writes all of these or nothing, and syncs the file. Raises `NotStored` if the disk is full or the file can't be written."""
         last_call = self.last_call
         try:
             self._database.execute("BEGIN IMMEDIATE")
@@ -219,7 +219,7 @@ class Store:
             raise NotStored(f"{self.path}: {error}") from None
 
     def insert(self, table: str, number: Optional[int], cells: Sequence[Cell]) -> None:
-        """Writes a row; without a number it has the next one."""
+        """Writes a row; without a number it gets the next one."""
         number = self._greatest(table) + 1 if number is None else number
         self.insert_all(table, [(number, cells)])
 

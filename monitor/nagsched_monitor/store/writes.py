@@ -4,7 +4,7 @@ from typing import Iterable, Mapping, Optional, Sequence, Tuple
 from .rows import Cell, Generation, KeptChange, KeptStanding, number_of, text_of
 from .store import Store, Write
 
-# How many answers to numbered requests are kept.
+# The number of stored answers to numbered requests.
 MOST_REQUESTS = 1_000
 
 
@@ -27,27 +27,27 @@ def all_of(writes: Iterable[Write]) -> Write:
 
 
 def replace(table: str, name: str, value: Cell) -> Write:
-    """A row in place of the one with the same name."""
+    """A row that replaces the one with the same name."""
     return all_of([delete(table, "name = ?", name), insert(table, None, name, value)])
 
 
 def keep_calls(calls: Sequence[Tuple[int, str, Optional[str]]]) -> Write:
-    """Calls that are about to be made: the part, the line and the plugin's words of each."""
+    """Calls before they are made: the part, the line and the plugin's output of each."""
     return lambda store: store.insert_calls(calls)
 
 
 def set_aside(number: int, part: int, line: str) -> Write:
-    """A call after which its scheduler ends: it isn't made again."""
+    """A call after which its scheduler ends, which isn't made again."""
     return insert("aside", number, part, line)
 
 
 def keep_request(number: str, answer: str) -> Write:
-    """The answer to a request that has a number: it isn't obeyed twice."""
+    """The answer to a request with a number, which isn't obeyed twice."""
     return all_of([insert("requests", None, number, answer), delete("requests", f"id <= (SELECT max(id) FROM requests) - {MOST_REQUESTS}")])
 
 
 def begin_generation(made: Generation) -> Write:
-    """A scheduler that is opened: what came before of its part isn't needed any more."""
+    """A scheduler that is opened: earlier rows of its part aren't needed any more."""
     gone = [delete(table, "part = ? AND id <= ?", made.part, made.last_call) for table in ("calls", "aside")]
     old = [delete(table, "part = ?", made.part) for table in ("generations", "mirrors")]
     mirrors = [insert("mirrors", None, made.part, text_of(made.mirrors))] if made.mirrors else []
@@ -55,38 +55,38 @@ def begin_generation(made: Generation) -> Write:
 
 
 def end_generation(part: int) -> Write:
-    """A part that the site has no more."""
+    """A part that the site no longer has."""
     return all_of(delete(table, "part = ?", part) for table in ("generations", "mirrors", "calls"))
 
 
 def set_switch(name: str, on: Optional[bool]) -> Write:
-    """An operator's switch; None takes it away."""
+    """An operator's switch; None removes it."""
     return delete("switches", "name = ?", name) if on is None else replace("switches", name, int(on))
 
 
 def keep_result(name: str, code: int, words: str, number: Optional[int] = None) -> Write:
-    """A passive result that came; without a number it has the next one."""
+    """A passive result that came; without a number it gets the next one."""
     return insert("passive", number, name, code, words)
 
 
 def drop_result(number: int) -> Write:
-    """A passive result that is reported with this."""
+    """A passive result that this write reports."""
     return delete("passive", "id = ?", number)
 
 
 def keep_change(made: KeptChange, document: Optional[str]) -> Write:
-    """A change of state, and the document for the command that is run for it, if it is run for this one."""
+    """A change of state, and the document for the command for changes, if the command is run for it."""
     change = insert("changes", made.id, made.time, made.name, made.state, made.kind, made.attempt, int(made.flapping), made.words)
     return change if document is None else all_of([change, insert("outbox", None, document)])
 
 
 def drop_documents(last: int) -> Write:
-    """The documents up to this one were taken, or are dropped."""
+    """The documents up to this one were accepted, or are dropped."""
     return delete("outbox", "id <= ?", last)
 
 
 def drop_changes_before(time: float) -> Write:
-    """Changes before a time of the wall clock aren't kept any more; the last one stays, since its number is looked at."""
+    """Drops the changes before a time of the wall clock. The last one stays, since its number is used."""
     return delete("changes", "time < ? AND id < (SELECT max(id) FROM changes)", time)
 
 
