@@ -1,4 +1,4 @@
-//! Execution dependencies: which objects' checks wait for the states of which others.
+//! Execution dependencies: the checks of an object wait for the states of other objects.
 
 /// The letters that the criteria of a dependency between services may have.
 pub const SERVICE_LETTERS: [&str; 6] = ["o", "w", "u", "c", "p", "n"];
@@ -22,7 +22,7 @@ pub struct Criteria {
     pub down: bool,
     /// `p`: never checked.
     pub pending: bool,
-    /// `n`: no state at all. It adds nothing to the others.
+    /// `n`: no state at all. This letter adds nothing to the others.
     pub none: bool,
 }
 
@@ -33,6 +33,6 @@ pub struct Dependency {
     pub master: u32,
     /// The states of the master in which the dependency fails.
     pub criteria: Criteria,
-    /// Whether the dependency fails too where one of the master's own does.
+    /// Whether the dependency also fails when one of the master's own dependencies fails.
     pub inherits: bool,
 }

@@ -1,4 +1,4 @@
-//! How a place of a document is written: its part, its index, and the name of the object there.
+//! Writes a place of a document: its part, its index, and the name of the object there.
 ghost use Rattle.std.specs.Prelude.{◌≡◌, ◌++◌, OnOk, false, option_map};
 ghost use Rattle.serde_json.specs.View.{view};
 ghost use Rattle.check_drafts.specs.declared.place.Part.TheVariants as part;
@@ -30,7 +30,7 @@ pub(crate) fn texts_of<'v>(item: &'v Value, first: &str, second: &str) -> Option
     }
 }
 
-/// Appends a place, a colon and a space: the part, and for an item of a list its index and its name.
+/// Appends a place, a colon and a space. The place is the part, and for an item of a list its index and name.
 pub(crate) fn push_place(line: &mut Line, tree: &Value, place: Place) -> Result<(), AllocError>
     ensures { OnOk result (line.new ≡ line.old ++ place_text (view tree.now) place) }
 {

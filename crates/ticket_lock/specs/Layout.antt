@@ -1,4 +1,4 @@
--- The layout of the table: the place of each of its words, and the list of them all. Only this file has it.
+-- The layout of the table: the place of each of its words, and the list of them all. Only this file defines it.
 use Rattle.std.specs.Prelude.{ℕ, ◌+◌, List, [], ◌∷◌, ◌++◌}
 use Rattle.ticket_steps.specs.Grants.{watched}
 

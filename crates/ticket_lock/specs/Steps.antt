@@ -1,4 +1,4 @@
--- The steps of the lock: the table after each kind of step, and what it means that a step is one event.
+-- The steps of the lock: the table after each kind of step, and the meaning of "a step is one event".
 use Rattle.std.specs.Prelude.{◌≡◌, ℕ, ◌+◌, ◌%◌, List, [], ◌∷◌, ◌++◌, slice_index, slice_set, Option, Some, ◌⊎◌}
 use mathlib.Core.Option.{some}
 use lib.ListN.{get_elem?}
@@ -15,7 +15,7 @@ use Rattle.ticket_lock.specs.Rule.{IsTableOf}
 use Rattle.ticket_lock.specs.Views.{first_view, spent_view, keeping_view, given_view, drawn_view, joined_view, reloaded_view, glanced_view, held_view}
 use Rattle.ticket_lock.specs.Views.{posted_view, left_view}
 
--- what an operation does to the number that it finds: an add of one, a load, and a store of a number
+-- the effect of an operation on the number that it finds: an add of one, a load, and a store of a number
 abbrev pub one_more : ℕ → ℕ
 one_more n = (n + 1) % 18446744073709551616
 
@@ -48,7 +48,7 @@ module _ {K C R : Type 0} where
   after_glance s id place entries me =
       stepped s (board_word place) (slice_index s.words (board_word place)) id me.1 (glanced_view entries me.0) keeps
 
-  -- the second load of a gather, at which the seat learns what the rule says of it
+  -- the second load of a gather, at which the seat learns the rule's facts about it
   abbrev pub after_second_load : State (Option K) (View K C R) → ℕ → Me (Option K) (View K C R) → State (Option K) (View K C R)
   after_second_load s id me = stepped s next_word (slice_index s.words next_word) id me.1 (reloaded_view me.0) keeps
 
@@ -67,7 +67,7 @@ module _ {K C R : Type 0} (k : Ghosts K C R) where
   abbrev pub word_in : K → ℕ → ℕ
   word_in book place = slice_index (k.board (k.state book)) place
 
-  -- post, a store of the word at the place of the call, by the holder that has recorded its call in the book that it has, and that still holds
+  -- post, a store of the word at the place of the call, by the holder that has recorded its call in its book, and that continues to hold
   abbrev pub after_posting : State (Option K) (View K C R) → ℕ → ℕ → ℕ → Me (Option K) (View K C R) → K → State (Option K) (View K C R)
   after_posting s id ticket place me book =
       stepped s (board_word place) (word_in book place) id me.1 (posted_view ticket (k.history book) (k.refusals book) me.0) keeps
@@ -122,15 +122,15 @@ module _ {K C R : Type 0} (k : Ghosts K C R) where
   abbrev pub IsNoEvent : TableMoment K k.State C R → State (Option K) (View K C R) → Type 0
   IsNoEvent m s = IsTableOf k m.start m.happened m.core s
 
-  -- In the table after a step this is the seat that made it, and this holds of the number that was found in the word, and of the seat. A store finds no
-  -- number, so its statement names none.
+  -- In the table after a step, this is the seat that made the step. This holds of the number that was found in the word, and of the seat. A store
+  -- finds no number, so its statement names none.
   pub record IsTold (m : TableMoment K k.State C R) (word : ℕ) (tells : ℕ → Me (Option K) (View K C R) → Type 0)
       (after : Me (Option K) (View K C R)) (s : State (Option K) (View K C R)) : Type 0 where
     pub stands : get_elem? s.views m.id ≡ some after.0
     pub told : tells (slice_index m.table.words word) after
 
-  -- A table that an operation by this seat can leave: an operation on this word, with this function, that meets the play. The seat has some view after it and
-  -- took or gave back what it could, and the play speaks of the number found and of the seat.
+  -- A table that an operation by this seat can leave: an operation on this word, with this function, that meets the play. The seat has some view
+  -- after the operation, and took or gave back what it could. The play is about the number found and the seat.
   pub record MayLeave (m : TableMoment K k.State C R) (word : ℕ) (makes : ℕ → ℕ)
       (tells : ℕ → Me (Option K) (View K C R) → Type 0) (s : State (Option K) (View K C R)) : Type 0 where
     pub view : View K C R

@@ -1,4 +1,4 @@
--- The rule, first pass: the words and the phases of the seats are a core state to which a schedule leads.
+-- The rule, first part: the words and the phases of the seats are a core state to which a schedule leads.
 use Rattle.std.specs.Prelude.{◌≡◌, ℕ, List, map, Option}
 use Rattle.atomic_table.specs.Table.{State}
 use Rattle.ticket_steps.specs.declared.kept.Kept.{Ghosts}

@@ -1,4 +1,4 @@
-//! What holds after every schedule.
+//! The law that holds after every schedule.
 ghost use Rattle.std.specs.Prelude.{◌≡◌, ℕ, ◌+◌, ◌<◌, ◌≤◌, ◌*◌, List, [], ◌∷◌, ◌++◌, length, true};
 ghost use mathlib.Core.Option.{some};
 ghost use lib.ListN.{get_elem?};
@@ -13,7 +13,7 @@ ghost use Rattle.ticket_steps.specs.Sums.{total, once_below};
 
 use crate::kept::Kept;
 
-/// A law without code: what holds of the core after every schedule, for every kind of book.
+/// A law without code. It holds of the core after every schedule, for every kind of book.
 ///
 /// A schedule is any list of events by any seats, each with its outcome, from the opening of a core
 /// with an empty book and 1 to 1,024 numbers. At its end:

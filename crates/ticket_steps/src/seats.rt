@@ -122,7 +122,7 @@ impl CoreSeat {
         self.calls += 1;
     }
 
-    /// Is gathered into another seat. Returns what it was.
+    /// Is gathered into another seat. Returns its former value.
     pub(crate) fn give_up(&mut self) -> CoreSeat
         ensures was { result ≡ self.old }
         ensures gone { self.new ≡ gone }
