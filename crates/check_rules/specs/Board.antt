@@ -34,7 +34,7 @@ standing_of word current last_hard = record {
   flapping = has_bit word 65536;
 }
 
--- the standing whose word this is, if it is one's: both numbers of states are below 7, and no bit above the 17 is set
+-- the standing of a word, if there is one: the numbers of both states are below 7, and no bit above the first 17 is set
 abbrev pub decoded : ℕ → Option Standing
 decoded word =
     if nat_lt word 131072

@@ -15,6 +15,6 @@ pub record IsSteady (setup : Configuration) (number : ℕ) (standing : Standing)
   pub stands : verdict_on standing (fine_state (is_host setup number)) (max_attempts_of setup number) true
       (is_flapping results standing.flapping (flap_thresholds_of setup number).0 (flap_thresholds_of setup number).1) ≡ standing
 
--- the same of the object with this number, in a state
+-- the same for the object with this number, in a state
 abbrev pub IsSteadyIn : State → ℕ → Type 0
 IsSteadyIn s number = IsSteady s.setup number (standing_at s.standings number) (results_at s.results number)

@@ -19,7 +19,7 @@ pub(crate) const OBJECTS: usize = 6;
 /// The number of the gateway: hosts by name, then services by host and description.
 pub(crate) const GATEWAY: u32 = 0;
 
-/// In milliseconds: how long the fastest machine takes to answer, an hour and a day.
+/// In milliseconds: the time that the fastest machine takes to answer, an hour and a day.
 pub(crate) const ANSWER: u64 = 5_000;
 
 pub(crate) const HOUR: u64 = 3_600_000;

@@ -22,8 +22,7 @@ struct Pending {
     call: Call,
 }
 
-/// The clock, the machines and the operator of some days. At half of them another setup is taken
-/// over.
+/// The clock, the machines and the operator of some days. After half of the days another setup is used.
 #[derive(Drop)]
 pub(crate) struct Days {
     now: u64,
@@ -78,8 +77,7 @@ impl Outside for Days {
         self.now.min(LAST_MOMENT)
     }
 
-    /// A check takes some seconds. Now and then a machine doesn't answer, or its plugin can't be
-    /// started.
+    /// A check takes some seconds. Sometimes a machine doesn't answer, or its plugin can't be started.
     fn begin(&mut self, object: u32, run: u64, now: u64) -> bool {
         if run % 31 == 0 {
             return false;
