@@ -24,7 +24,7 @@ use ticket_steps::{Entry, Kept, NoMemory};
 /// A scheduler that stores the history of its calls. Each call is stored with its reply, under the number
 /// of the pass that made it. (Our own profile.)
 ///
-/// The history is always legal: each reply is the scheduler's at its place, from the opening on, and the
+/// The history is always legal: each reply is the scheduler's at its place, from the opening on. The
 /// scheduler is in the state after those calls. Refused calls are entries too. If there is no memory for the
 /// entry of a call, the call isn't made, but counted.
 #[derive(Drop)]

@@ -32,7 +32,7 @@ pub fn histories()
 /// The replies that can come in the history of a book, however the book was opened.
 ///
 /// The reply to a take is an object that is taken or put off. Otherwise it says that no object is due, or
-/// that the limit is reached, or it is a refusal for its moment or because no run is left (`take`).
+/// that the limit is reached. Or it is a refusal, for its moment or because no run is left (`take`).
 ///
 /// The reply to the report of an object that was taken before is the object's standing. Otherwise it is a
 /// refusal because the object isn't being checked, or is being checked under another run (`report`).
@@ -78,12 +78,11 @@ pub fn board_shows_standings()
     ensures few { (book : Book) → length (book_board (state_of book)) ≤ 4096 }
 {}
 
-/// Histories continue from one book to the next. Let `earlier` be legal from a state, as from a scheduler's
-/// opening, and `later` from the state after `earlier`. Then `earlier` followed by `later` is legal from
-/// the first state (`legal`) and leaves the same state (`state`). The same holds of the schedulers of
-/// books, whatever their rooms (`book`, `book_state`), and no call changes a book's setup (`setup`). So
-/// each law of legal histories holds of the joined history of books that were
-/// [renewed](crate::Book::renew).
+/// Histories continue from one book to the next. Let `earlier` be legal from a state, for example from a
+/// scheduler's opening, and `later` from the state after `earlier`. Then `earlier` followed by `later` is
+/// legal from the first state (`legal`) and leaves the same state (`state`). The same holds of the schedulers
+/// of books, for all rooms (`book`, `book_state`). No call changes a book's setup (`setup`). So each law of
+/// legal histories holds of the joined history of books that were [renewed](crate::Book::renew).
 ///
 /// The same holds if a scheduler's state was saved and another book was [resumed](crate::Book::resume) from
 /// it, over the same setup, with any start and room (`resumed`, `resumed_state`). The state is the same

@@ -31,7 +31,7 @@ book_in_hand hold = hold.book
 abbrev pub opening_calls : ℕ
 opening_calls = 2 ^ 32 - 1
 
--- the pass of this number as a desk hands it out with this many calls: it answers for itself, has made no call and has seen nothing
+-- the pass of this number as a desk hands it out with this many calls; it answers for itself, has made no call and has seen nothing
 abbrev pub new_pass_with : ℕ → ℕ → Caller Call Reply
 new_pass_with calls number = caller number (number ∷ []) calls 0 true []
 

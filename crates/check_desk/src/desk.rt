@@ -287,12 +287,12 @@ impl Desk {
     }
 
     /// Reads the standing of an object, by one load: without a ticket, without waiting, and without a call of
-    /// the pass. The result is None exactly if the setup has no object of this number. There is no load then,
+    /// the pass. It returns None exactly if the setup has no object of this number. There is no load then,
     /// and the pass stays as it was.
     ///
-    /// The standing is the object's after a history of the desk. That history begins with all that the pass
-    /// had seen, and the rest has no entries of the numbers for which the pass answers. The pass has seen
-    /// that history now, so later glances never go back.
+    /// The standing is the object's after a history of the desk. This history begins with all that the pass
+    /// had seen, and the rest has no entries of the numbers for which the pass answers. The pass has seen it
+    /// now, so later glances never go back.
     pub fn glance(&self, pass: Pass, object: u32) -> (Pass, Option<Standing>)
         requires { IsPassOf self.now pass }
         ensures desk { IsPassOf self.now result.0 }

@@ -34,8 +34,8 @@ ghost use Rattle.check_desk.specs.Passes.{holder_of, pass_of, waiting_of};
 ghost use Rattle.check_desk.specs.Reports.{HasNoReport, HasSeen, IsAfter};
 ghost use Rattle.check_desk.specs.Schedules.{IsScheduleAfter, IsScheduleFrom, IsScheduleOver};
 
-/// A law without code. The history that all callers share is that of one thread, for all their calls, and for
-/// every order in which the steps of their passes come.
+/// A law without code. The history that all callers share is that of one thread. This holds for all their
+/// calls, and for every order of the steps of their passes.
 ///
 /// It holds for every setup, start and room, for 1 to 1,024 passes, and for every schedule of the core from
 /// the opening on. When no seat holds, the book is the one at home. While a seat holds, it is the book as its
@@ -56,8 +56,9 @@ ghost use Rattle.check_desk.specs.Schedules.{IsScheduleAfter, IsScheduleFrom, Is
 ///
 /// - `earlier` followed by its entries is one thread's history from the setup's opening on
 ///   (`joined_legal`), and leaves the state in which the scheduler is (`joined_state`).
-/// - No object is taken while it runs by the whole history (`joined_once`): a check that was running
-///   when a book ended is taken again only after its end. The numbers of runs continue (`joined_runs`).
+/// - No object is taken while the whole history shows it running (`joined_once`). If a check was running when
+///   a book ended, its object is taken again only after the end of that check. The numbers of runs continue
+///   (`joined_runs`).
 /// - The clauses about the schedule of the book's own callers hold as for the first book
 ///   (`later_entries`, `later_strangers`, `later_made`, `later_all`).
 pub fn headline()
@@ -127,8 +128,8 @@ pub fn headline()
 ///
 /// - Each reply is the sequential scheduler's at its place, from that state on (`legal`), and the
 ///   scheduler is in the state after those calls (`state`).
-/// - The history shows no object taken while it runs (`once`), nor while a check of it is running from
-///   before, until that run was reported or abandoned (`out`). The numbers of runs continue from those
+/// - The history shows no object taken while it runs (`once`). An object whose check was already running
+///   isn't taken until that run was reported or abandoned (`out`). The numbers of runs continue from those
 ///   that were handed out before (`runs`).
 /// - The clauses about the schedule of the book's callers hold as in `headline` (`entries`,
 ///   `strangers`, `made`, `all`).

@@ -53,8 +53,8 @@ pub struct Options {
     /// the document says so.
     pub use_aggressive_host_checking: bool,
     /// A flapping service stops flapping below this percentage of changes, 0 to 100 and at most the high
-    /// threshold (manual: Detection and Handling of State Flapping; the limits are our own profile). 20
-    /// unless the document says so.
+    /// threshold. 20 unless the document says so. (Manual: Detection and Handling of State Flapping; the
+    /// limits are our own profile.)
     pub low_service_flap_threshold: u64,
     /// A service flaps from this percentage of changes on, 0 to 100. 30 unless the document says so.
     pub high_service_flap_threshold: u64,

@@ -75,8 +75,8 @@ pub(crate) fn push_name_at(line: &mut Line, tree: &Value, place: Place) -> Resul
     }
 }
 
-/// Appends a space and the name of an item of a part: the name of a host, the full name of a service, or
-/// both ends of a dependency. Nothing is appended for an item without a name.
+/// Appends a space and the name of an item of a part. It is the name of a host, the full name of a service,
+/// or both ends of a dependency. Nothing is appended for an item without a name.
 fn push_item_name(line: &mut Line, item: &Value, part: Part) -> Result<(), AllocError>
     ensures { OnOk result (line.new ≡ line.old ++ after_space (name_shown part (view item.now))) }
 {

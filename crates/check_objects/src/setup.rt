@@ -99,7 +99,7 @@ impl Setup {
     }
 
     /// The setup of drafts without a fault. It is refused if some object depends on itself through one
-    /// dependency or more, or if some host is its own parent through one parent or more.
+    /// dependency or more. It is also refused if some host is its own parent through one parent or more.
     fn of_drafts(alloc: Global, drafts: &Drafts<'_>) -> Result<Setup, Fault>
         requires faultless { is_faultless (drafts_view drafts.now) ≡ Ok tt }
         requires hosts { All (λ h. HasFewAttempts h.check) drafts.now.hosts.items }
@@ -154,8 +154,8 @@ impl Setup {
 
     /// The number of objects, 0 to 4,096. The clause `setup` also states the facts that hold of every setup.
     /// Its names are good and ascend. Its parents and its services' hosts are hosts. Its dependencies are
-    /// between objects of one sort. Neither dependencies nor parents lead back to where they began. Its
-    /// counts and numbers are within their limits.
+    /// between objects of one sort. Neither dependencies nor parents form a cycle. Its counts and numbers are
+    /// within their limits.
     pub fn len(&self) -> usize
         ensures count { result ≡ object_count self.now }
         ensures few { result ≤ 4096 }

@@ -1,8 +1,8 @@
 #![tactic(auto)]
 //! Values for C: structs of numbers, one for each type of value.
 //!
-//! A standing, a call, a reply, an entry and the refusal of a document or of a saved state become structs
-//! here, and are read back from them. The structs have no handle, no text and no status.
+//! This crate makes structs from standings, calls, replies, entries, and the refusals of documents and of
+//! saved states. It also reads the structs back. They have no handle, no text and no status.
 //!
 //! The modules:
 //! - `kinds`: the numbers of calls, replies and refusals; `numbers`: the numbers of switches;

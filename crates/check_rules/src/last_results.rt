@@ -15,7 +15,6 @@ use std::marker::Model;
 ///
 /// When one more result is added to 21, the change between the two oldest goes with its weight of 57. Each
 /// other change weighs 2 less. The new change, if there is one, weighs 95.
-/// change weighs 2 less, and the new change, if there is one, weighs 95.
 #[derive(Drop)]
 pub struct LastResults {
     /// The results, with room for 21.

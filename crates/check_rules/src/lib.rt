@@ -1,7 +1,7 @@
 #![tactic(auto)]
 //! The rules that turn results of checks into states: the meaning of a return code for a service and for a
-//! host, the verdict on a result, flapping, and the dependencies that block checks. A verdict is the state,
-//! its kind and the attempt.
+//! host, the verdict on a result, flapping, and dependencies that block checks. A verdict is the state, its
+//! kind and the attempt.
 //!
 //! The rules are those of the Nagios Core 4 manual. Its chapters are "Plugin API", "Host Checks",
 //! "Determining Status and Reachability of Network Hosts", "State Types", "Detection and Handling of State

@@ -57,8 +57,8 @@ pub record HasFewAttempts (o : SavedObject) : Type 0 where
   pub attempt : o.standing.attempt < 256
   pub max_attempts : o.max_attempts < 256
 
--- The start and the number of runs handed out are at most 2^60, and the numbers of every object are within their limits; otherwise the first object
--- with a number that isn't.
+-- The start and the number of runs handed out are at most 2^60, and the numbers of every object are within their limits. Otherwise it is the first
+-- object with a number that isn't.
 abbrev pub good_ranges : Saved → Result (Unit {0}) SavedFault
 good_ranges saved =
     if nat_lt (2 ^ 60) saved.start || nat_lt (2 ^ 60) saved.runs then Err (faults.Range None)
@@ -104,8 +104,8 @@ is_same_run (Some one) (Some other) = one == other
 is_same_run (Some one) None = false
 is_same_run None other = false
 
--- Every object is possible, and no two of them run under the same number; otherwise the first object that isn't possible, or that runs under the
--- number of an earlier one.
+-- Every object is possible, and no two of them run under the same number. Otherwise it is the first object that isn't possible, or that runs under
+-- the number of an earlier one.
 abbrev pub lawful_objects : ℕ → List SavedObject → Result (Unit {0}) SavedFault
 lawful_objects runs objects =
     refused_at faults.Unlawful (earlier (position (λ o. not (can_be runs o)) objects) (first_repeat is_same_run (map run_number objects)))

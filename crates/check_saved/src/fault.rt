@@ -21,14 +21,14 @@ pub enum SavedFault {
     Shape(Option<usize>),
     /// There are more than 4,096 objects.
     TooMany,
-    /// A name is neither a host's nor a host's and a description around one `;`, each with 1 to 255 bytes,
-    /// none of them below 32 or 127.
+    /// A name is neither a host's nor a host's and a description around one `;`. Each of these has 1 to 255
+    /// bytes, none of them below 32 or 127.
     BadName(usize),
     /// An object has the name of an earlier one. The later one is reported.
     Duplicate(usize),
-    /// A number is out of its limits: a start above 2^60, more than 2^60 runs, a next time above 2^61, or an
-    /// attempt or a maximum of attempts that isn't from 1 to 255. There is no index for the start and the
-    /// total number of runs.
+    /// A number is out of its limits. A start is above 2^60, there are more than 2^60 runs, or a next time is
+    /// above 2^61. Or an attempt or a maximum of attempts isn't from 1 to 255. There is no index for the
+    /// start and the total number of runs.
     Range(Option<usize>),
     /// No scheduler can have this object. Its standing is impossible for its sort and its maximum of
     /// attempts, or its last hard state or a result is of the other sort. Or it has more than 21 results, or

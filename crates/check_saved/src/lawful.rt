@@ -31,7 +31,7 @@ pub(crate) fn verify_lawful(
     }
 }
 
-/// The earlier of two places. If only one is given, the result is that one. Without a place it is None.
+/// The earlier of two places, or the only one. None if neither is given.
 fn earlier(one: Option<usize>, other: Option<usize>) -> Option<usize>
     ensures { result ≡ earlier one other }
 {

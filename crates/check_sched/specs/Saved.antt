@@ -37,13 +37,13 @@ saved_of s = record { start = s.start; runs = s.runs; objects = map (saved_objec
 
 -- ---- one object that is kept
 
--- A soft problem with this new maximum of attempts: it stays soft, with an attempt below the maximum, and becomes hard if the maximum is 1.
+-- A soft problem with this new maximum of attempts. It stays soft, with an attempt below the maximum, and becomes hard if the maximum is 1.
 abbrev pub soft_kept : ℕ → Standing → Standing
 soft_kept max was =
     if max == 1 then record was { kind = kind.Hard; attempt = 1; last_hard = was.state } else record was { attempt = min was.attempt (max - 1) }
 
--- The standing of an object with this new maximum of attempts: a hard problem gets the maximum as its attempt, and OK and UP keep their
--- attempt, up to the maximum.
+-- The standing of an object with this new maximum of attempts. A hard problem gets the maximum as its attempt. OK and UP keep their attempt, up to
+-- the maximum.
 abbrev pub standing_kept : ℕ → Standing → Standing
 standing_kept max was =
     if is_soft_problem was then soft_kept max was else if is_problem was.state then record was { attempt = max } else record was { attempt = min was.attempt max }

@@ -9,8 +9,8 @@ use Rattle.check_sched.specs.declared.call.Refusal.TheVariants as refusal
 abbrev pub opening_object : Option ℕ → Bool → Scheduling
 opening_object first enabled = record { next = first; run = None; enabled = enabled; forced = false }
 
--- The time for which an object waits: its next time, if it has one, it isn't being checked, and its active checks are enabled or its next check is
--- forced. ("Service and Host Check Scheduling"; in our own profile a forced check ignores that the object is disabled.)
+-- The time for which an object waits. It is the object's next time, if it has one, isn't being checked, and its active checks are enabled or its next
+-- check is forced. ("Service and Host Check Scheduling"; in our own profile a forced check ignores that the object is disabled.)
 abbrev pub candidate_time : Scheduling → Option ℕ
 candidate_time o = if is_none o.run && (o.enabled || o.forced) then o.next else None
 

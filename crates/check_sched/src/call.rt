@@ -59,9 +59,9 @@ pub enum Reply {
         run: u64,
     },
     /// The object with this number was due, but isn't checked now, because one of its dependencies fails. It
-    /// was put off: `until` is the time of its next check in milliseconds, its check interval after the
-    /// moment of the call, or None if that interval is 0. (Manual: "Host and Service Dependencies"; the time
-    /// is our own profile.)
+    /// was put off: `until` is the time of its next check in milliseconds. This is its check interval after
+    /// the moment of the call, or None if that interval is 0. (Manual: "Host and Service Dependencies"; the
+    /// time is our own profile.)
     PutOff {
         object: u32,
         until: Option<u64>,
@@ -74,9 +74,9 @@ pub enum Reply {
     /// A service is due, but as many checks of services run as the option `max_concurrent_checks`
     /// allows. (Manual: "Main Configuration File Options".)
     AtLimit,
-    /// The result was recorded: the object's new standing, whether its state differs from the one before, and
-    /// the time of its next check in milliseconds, or None if no check is set. A status call gets the
-    /// object's present standing, with `changed` false.
+    /// The result was recorded. The reply has the object's new standing, whether its state differs from the
+    /// one before, and the time of its next check in milliseconds, or None if no check is set. A status call
+    /// gets the object's present standing, with `changed` false.
     Standing {
         standing: Standing,
         changed: bool,

@@ -55,10 +55,9 @@ pub fn constants()
     ensures max_runs { MAX_RUNS ≡ 2 ^ 60 }
 {}
 
-/// In every legal history of a newly opened scheduler, no object is taken while it runs (`once`): when
-/// it is taken, each earlier run of it in the history has ended, by its result or by an abandon. The
-/// numbers of runs are 1, 2, 3 and so on (`numbers`). The history of a book of check_book is such a
-/// history.
+/// In every legal history of a newly opened scheduler, no object is taken while it runs (`once`). When an
+/// object is taken, each earlier run of it in the history has ended, by its result or by an abandon. The
+/// numbers of runs are 1, 2, 3 and so on (`numbers`). The history of a book of check_book is such a history.
 pub fn runs_once()
     ensures once { (setup : Configuration) → (start : ℕ) → (front back : List (Entry Call Reply))
         → (e : Entry Call Reply) → (object run other : ℕ)
@@ -113,9 +112,9 @@ pub fn opening_states()
 {}
 
 /// If no object was saved and no run was handed out, a scheduler resumes in the state with which one opens
-/// (`nothing`). Let the full name of an object not be saved. Then the object has the scheduling, the standing
-/// and the results that it has at an opening from the same moment, for every saved state of the others
-/// (`scheduling`, `standing`, `results`).
+/// (`nothing`). Take an object whose full name wasn't saved. For every saved state of the others, it has the
+/// same scheduling, standing and results as at an opening from the same moment (`scheduling`, `standing`,
+/// `results`).
 pub fn new_objects()
     ensures nothing { (setup : Configuration) → (before start : ℕ)
         → resumed setup (record { start = before; runs = 0; objects = [] }) start ≡ opening setup start }

@@ -10,9 +10,9 @@ const NO_RUN: SavedRun = SavedRun {
     start: 0,
 };
 
-/// The scheduling of one object: the time of its next check in milliseconds, the run of its running check,
-/// whether its active checks are enabled, and whether its next check is forced. Contracts see it as a record
-/// `Scheduling` with the same fields.
+/// The scheduling of one object: the time of its next check in milliseconds, and the run of its running
+/// check. It also says whether the object's active checks are enabled, and whether its next check is forced.
+/// Contracts see it as a record `Scheduling` with the same fields.
 ///
 /// It takes half a cache line, 32 bytes, instead of the 48 of two options. One byte says whether there is a
 /// next time, and another whether there is a run. Without a next time or a run, its field has no meaning.

@@ -15,10 +15,10 @@ use check_queue::Queue;
 use std::alloc::{AllocError, Global};
 use std::marker::Model;
 
-/// The scheduling of each object, a queue of the hosts and one of the services that wait for a check, and the
-/// number of services that are being checked. Only [`Roster::change`] changes an object, so that its place in
-/// its queue always agrees with its state. Contracts see the number of hosts, and the state of each object by
-/// number.
+/// The scheduling of each object, and two queues of objects that wait for a check, one of hosts and one of
+/// services. It also counts the services that are being checked. Only [`Roster::change`] changes an object,
+/// so that its place in its queue always agrees with its state. Contracts see the number of hosts, and the
+/// state of each object by number.
 #[derive(Drop)]
 pub(crate) struct Roster {
     waiting_hosts: Queue,

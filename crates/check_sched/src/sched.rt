@@ -29,8 +29,9 @@ mod operators;
 mod resuming;
 mod saving;
 
-/// A scheduler over a setup. Contracts see it as a record `State`: the setup, the start, the scheduling,
-/// the standing and the last results of each object by number, and the number of runs handed out.
+/// A scheduler over a setup. Contracts see it as a record `State`. The record has the setup, the start, and
+/// the scheduling, the standing and the last results of each object by number. It also has the number of runs
+/// handed out.
 #[derive(Drop)]
 pub struct Sched {
     start: u64,

@@ -79,13 +79,13 @@ first_time spread objects position object =
 abbrev pub first_times : Spread → List Object → List (Option ℕ)
 first_times spread objects = map (λ p. first_time spread objects p.0 p.1) (enumerate_from 0 objects)
 
--- The time that pick chooses of two. If only one is given, the result is that one.
+-- The time that pick chooses of two, or the only one.
 abbrev pub picked : (ℕ → ℕ → ℕ) → Option ℕ → Option ℕ → Option ℕ
 picked pick None other = other
 picked pick (Some one) None = Some one
 picked pick (Some one) (Some other) = Some (pick one other)
 
--- the earlier of two times; if only one is given, the result is that one
+-- the earlier of two times, or the only one
 abbrev pub earlier : Option ℕ → Option ℕ → Option ℕ
 earlier one other = picked min one other
 

@@ -95,8 +95,8 @@ impl Spread {
     }
 }
 
-/// The smart delay: the average check interval divided by the number of objects, shortened so that
-/// no more than the maximum spread passes from the first check to the last.
+/// The smart delay: the average check interval divided by the number of objects. It is shortened so that no
+/// more than the maximum spread passes from the first check to the last.
 fn smart_delay(max_spread: u64, scheduled: Scheduled, rank: u64) -> u64
     requires spread { max_spread ≤ MAX_SPREAD * MINUTE }
     requires among { rank < scheduled.count }

@@ -19,7 +19,7 @@ use std::alloc::{AllocError, Global};
 /// its check interval is 0.
 ///
 /// Hosts and services each have their own inter-check delay method and maximum spread, and services are
-/// interleaved. (Manual: "Service and Host Check Scheduling"; our own profile defines the rounding of the
+/// interleaved. (Manual: "Service and Host Check Scheduling". Our own profile defines the rounding of the
 /// smart delay, and applies the maximum spread to the smart delay only.) The call takes time linear in the
 /// objects. An Err means out of memory.
 #[tactic(auto, unfolding(crate::specs::Spread::initial_times))]
@@ -125,7 +125,7 @@ pub fn milliseconds(setup: &Setup, interval: u64) -> u64
     interval * setup.options().interval_length * 1000
 }
 
-/// The earlier of two times. If only one is given, the result is that one. Without a time it is None.
+/// The earlier of two times, or the only one. None if neither is given.
 pub fn earlier(one: Option<u64>, other: Option<u64>) -> Option<u64>
     ensures { result ≡ earlier one other }
 {

@@ -13,8 +13,8 @@ use check_rules::Code;
 pub trait Plugin {
     ghost allows: { Self → ℕ → ℕ → ℕ → CodeOf → Type 0 };
 
-    /// Runs the check of the object with this number, which was taken as the run with this number at the
-    /// moment `now`, in milliseconds, and returns its return code.
+    /// Runs the check of an object, and returns its return code. `object` is the object's number, and `run`
+    /// the number of the run as which the check was taken. `now` is the moment of the take, in milliseconds.
     fn check(&self, object: u32, run: u64, now: u64) -> Code
         ensures { allows self.now object run now result };
 }

@@ -52,7 +52,7 @@ left_by asked runs = filter (λ run. not (names asked run)) runs
 abbrev pub left_of : List (Entry Call Reply) → List Run → List Run
 left_of entries runs = filter (λ run. not (is_named entries run)) runs
 
--- each run before that no call of these entries names is there after
+-- if no call of these entries names a run of the first list, the second list contains the run
 abbrev pub IsKept : List (Entry Call Reply) → List Run → List Run → Type 0
 IsKept entries before after = All (λ run. is_named entries run ≡ false → Contains after run) before
 

@@ -5,9 +5,9 @@
 //! the setup changes after half of the days.
 //!
 //! The argument is the number of days, 1 to 10,000. The program writes each setup that it uses, as one line.
-//! For each generation it writes the stored state, as one line. Then it writes a line for each entry: the
-//! call as `nagsched run` reads it, a tab, the number of the pass that made the call, and the reply as
-//! `nagsched run` writes it.
+//! For each generation it writes the stored state, as one line. Then it writes a line for each entry. The
+//! line has the call as `nagsched run` reads it, a tab, the number of the pass that made the call, and the
+//! reply as `nagsched run` writes it.
 //!
 //! The exit statuses:
 //! - 0: success;

@@ -1,8 +1,11 @@
-//! The whole loop of a program that monitors for months. It resumes the stored state, works at a desk round
-//! by round, stores the state from time to time and at the end, and changes to other setups.
+//! The whole loop of a program that monitors for months. It resumes the stored state, and works at a desk
+//! round by round. It stores the state from time to time and at the end, and changes to other setups.
 //!
-//! `outside` has the traits that the program implements, `round` a round, `runs` the list of the running
-//! checks and the time limits, and `restart` the text of a state.
+//! Other modules:
+//! - `outside`: the traits that the program implements;
+//! - `round`: a round;
+//! - `runs`: the list of the running checks, and the time limits;
+//! - `restart`: the text of a state.
 
 ghost use Rattle.std.specs.Prelude.{◌≡◌, List, [], Some, IfOk};
 ghost use Rattle.ticket_steps.specs.declared.kept.Entry.{Entry};

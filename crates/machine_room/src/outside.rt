@@ -67,9 +67,9 @@ pub(crate) trait Outside {
 
 /// The setup file, the file with the stored state, and the destination of the history.
 ///
-/// For contracts only: `kept` is the text that was stored last, `gives` the set of setups that the file may
-/// have, and `past` the set of histories that it may get. A program without proofs about these two allows
-/// all, by `⊤`.
+/// For contracts only: `kept` is the text that was stored last. `gives` is the set of setups that the file
+/// can contain, and `past` the set of histories that it can get. A program without proofs about these two
+/// allows all, by `⊤`.
 pub(crate) trait Files {
     ghost use Rattle.std.specs.Prelude.{ℕ, List, Option};
     ghost use Rattle.ticket_steps.specs.declared.kept.Entry.{Entry as EntryOf};

@@ -39,8 +39,8 @@ pub(crate) fn next_noon(now: u64) -> u64 {
 }
 
 /// The report of a machine at a moment. Each machine repeats a cycle of 31 hours: 5 hours critical, 2 hours
-/// with a warning, an hour with unknown state, and then 23 hours in order. The cycle of each machine begins
-/// 7 hours before that of the machine with the number below.
+/// with a warning, an hour with unknown state, and 23 hours in order. The cycle of each machine begins 7
+/// hours before that of the machine with the number below.
 pub(crate) fn code_at(object: u32, now: u64) -> Code {
     let ahead = u64::from(object) * 7;
     match (now / HOUR).wrapping_add(ahead) % 31 {

@@ -1,4 +1,4 @@
-//! A round of the loop: it makes the calls that have come in, abandons the runs that are past their limit,
+//! A round of the loop. It makes the calls that have come in, abandons the runs that are past their limit,
 //! takes a check that is due, and sleeps.
 
 ghost use Rattle.std.specs.Prelude.{◌≡◌, ℕ, Bool, ◌<◌, ◌≤◌, ◌∷◌, ◌++◌, []};

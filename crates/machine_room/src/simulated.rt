@@ -1,5 +1,5 @@
-//! The simulated environment of the loop: a clock that advances only while the loop sleeps, machines that
-//! answer after seconds or never, an operator, a setup that changes, and files in memory.
+//! The simulated environment of the loop. Its clock advances only while the loop sleeps, and its machines
+//! answer after seconds or never. It also has an operator, a setup that changes, and files in memory.
 
 ghost use Rattle.std.specs.Prelude.{⊤, option_map};
 

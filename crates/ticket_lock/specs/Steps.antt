@@ -53,8 +53,8 @@ module _ {K C R : Type 0} where
   after_second_load s id me = stepped s next_word (slice_index s.words next_word) id me.1 (reloaded_view me.0) keeps
 
 module _ {K C R : Type 0} (k : Ghosts K C R) where
-  -- the new table: no ticket is drawn, ticket 0 is served, the board shows the state in which the book was opened, the book is in its slot, and one seat has
-  -- all numbers
+  -- The new table: no ticket is drawn, and ticket 0 is served. The board shows the state in which the book was opened, the book is in its slot, and
+  -- one seat has all numbers.
   abbrev pub first_table : Start K → State (Option K) (View K C R)
   first_table start = opening (first_words (k.board (k.opening start.book))) (Some start.book ∷ []) (first_view start)
 
@@ -80,8 +80,8 @@ module _ {K C R : Type 0} (k : Ghosts K C R) where
   abbrev pub place_after : Start K → List (Entry C R) → C → Option ℕ
   place_after start entries call = k.posts_at (replay k.step (k.opening start.book) entries) call
 
-  -- the book is the one that was taken out with these entries and refusals, with one more entry of this number or one more refusal;
-  -- the call of that entry is posted at this place
+  -- The book is the one that was taken out with these entries and refusals, with one more entry of this number or one more refusal. The call of that
+  -- entry is posted at this place.
   pub record Returns (start : Start K) (own : ℕ) (seen : List (Entry C R)) (refused : ℕ) (place : Option ℕ) (book : K) : Type 0 where
     pub opening : k.opening book ≡ k.opening start.book
     pub more : ((e : Entry C R) × (e.pass ≡ own) × (k.history book ≡ seen ++ e ∷ []) × (k.refusals book ≡ refused)
@@ -98,8 +98,8 @@ module _ {K C R : Type 0} (k : Ghosts K C R) where
   abbrev pub IsEvent : Start K → List (Happening C R) → CoreState k.State C R → Happening C R → State (Option K) (View K C R) → Type 0
   IsEvent start happened c h s = (d : CoreState k.State C R) × Moves k start.draws c h d × IsTableOf k start (happened ++ h ∷ []) d s
 
--- a moment of the table, for one of its seats: how the lock was opened, the events so far, the core state to which they led, the table, and the seat that
--- makes the next step
+-- A moment of the table, for one of its seats. It has the start of the lock, the events so far, the core state to which they led, the table, and the
+-- seat that makes the next step.
 pub record TableMoment (K S C R : Type 0) : Type 0 where
   pub start : Start K
   pub happened : List (Happening C R)

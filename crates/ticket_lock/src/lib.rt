@@ -7,7 +7,7 @@
 //! Callers take part by tokens: a `Seat` draws, a `Turn` looks, a `Hold` posts and leaves. A `Seat` also
 //! reads a word of the board, by one load and without a ticket. Between any two steps the words and the
 //! tokens are a state of the core of `ticket_steps`. So `every_schedule` holds of the lock as it does of the
-//! core, for all orders of the threads' steps, and the board shows the state after the one history.
+//! core, for all orders of the threads' steps. The board shows the state after the one history.
 //!
 //! - `lock`: the lock and its calls; `layout`: the place of each word in the table.
 //! - `tokens`: seats, turns and holds; `counts`: their numbers at run time.

@@ -40,7 +40,7 @@ type LockTable<K> = Table<
 /// The lock shows the book's board: a caller reads one of its words, without a ticket, by one load
 /// (`glance`).
 ///
-/// For all orders of the threads' steps, the history of the book is that of one thread: each reply is that of
+/// For all orders of the threads' steps, the history of the book is that of one thread. Each reply is that of
 /// the book's sequential step at its place.
 #[derive(Drop)]
 pub struct TicketLock<K: Kept> {
@@ -275,8 +275,9 @@ impl<K: Kept> TicketLock<K> {
 
     /// Posts the hold's call: stores the book's word at the place of the call on the board. From now on
     /// everyone who glances there has seen the call. The book must be the one that was handed out, with one
-    /// more entry of the hold's own number, whose call is posted at this place, or with one more refusal.
-    /// With a refusal the word stays as it was. The hold continues to hold, and has seen the book's history.
+    /// more entry or one more refusal. The entry is of the hold's own number, and its call is posted at this
+    /// place. With a refusal the word stays as it was. The hold continues to hold, and has seen the book's
+    /// history.
     pub fn post(&self, hold: Hold<K>, book: &K, place: u32) -> Hold<K>
         requires lock { IsHoldOf self.now hold }
         requires unposted { has_posted hold ≡ false }
@@ -307,9 +308,9 @@ impl<K: Kept> TicketLock<K> {
         hold
     }
 
-    /// Puts the book back and ends the turn. If the hold has posted, the book must be the one that it
-    /// posted. Otherwise it must be the one that was handed out, with one more entry of the hold's own
-    /// number, whose call is not posted, or with one more refusal.
+    /// Puts the book back and ends the turn. If the hold has posted, the book must be the one that it posted.
+    /// Otherwise it must be the one that was handed out, with one more entry or one more refusal. The entry
+    /// is of the hold's own number, and its call is not posted.
     pub fn leave(&self, hold: Hold<K>, book: K) -> Seat<K>
         requires lock { IsHoldOf self.now hold }
         requires recorded { has_posted hold ≡ false → Returns K.Kept (start_of self.now)

@@ -1,7 +1,7 @@
 //! Seats, turns and holds: the tokens by which callers take part in the lock.
 //!
 //! Threads share no bytes of a token. Only in proofs, a token carries the knowledge of its caller: the
-//! history that the caller has seen, which is always a first part of the one history of the book.
+//! history that the caller has seen. It is always a first part of the one history of the book.
 ghost use Rattle.std.specs.Prelude.{◌≡◌, ◌+◌, ◌^◌, ◌<◌, ◌≤◌, nat_lt, false, cond, [], ◌∷◌, length, None};
 ghost use Rattle.std.specs.Coded.{Coded-set};
 ghost use Rattle.ticket_steps.specs.declared.seats.Phase.TheVariants.{Idle, Waiting, Holding, Posted};

@@ -45,7 +45,7 @@ module _ {C : Type 0} where
   HasDraw seats (Gather own other) = Unit {0}
 
 module _ {K C R : Type 0} (k : Ghosts K C R) where
-  -- a posted call has a place on the board, a call that a leave brings has none, and a glance is at the place of a word
+  -- a posted call has a place on the board, a call that a leave brings has no place, and a glance is at the place of a word
   abbrev pub IsPlaced : k.State → Event C → Type 0
   IsPlaced state (Split own count) = Unit {0}
   IsPlaced state (Draw own) = Unit {0}

@@ -117,7 +117,8 @@ module _ {K C R : Type 0} (k : Ghosts K C R) (draws : ℕ) where
   Moves b (waited own) c = (i : ℕ) × (p : CoreSeat) × (ticket : ℕ) × Stands b.seats i own (Waiting ticket) p × (ticket ≢ b.served) × (c ≡ b)
   -- a seat whose ticket is the number served becomes the holder
   Moves b (held own) c = (i : ℕ) × (p : CoreSeat) × Stands b.seats i own (Waiting b.served) p × (c ≡ with_seats b (slice_set b.seats i (holding b.served p)))
-  -- the holder posts its call, which has a place on the board: the call is recorded under the holder's own number, with the reply of the sequential step
+  -- the holder posts its call, which has a place on the board; the call is recorded under the holder's own number, with the reply of the sequential
+  -- step
   Moves b (posted own call reply) c =
       (i : ℕ) × (p : CoreSeat) × (ticket : ℕ) × Stands b.seats i own (Holding ticket) p × (reply ≡ (k.step b.book.state call).1)
       × (c ≡ after_post b i ticket p (with_entry k.step own call b.book)) × ((place : ℕ) × (k.posts_at b.book.state call ≡ Some place))
@@ -126,8 +127,8 @@ module _ {K C R : Type 0} (k : Ghosts K C R) (draws : ℕ) where
       (i : ℕ) × (p : CoreSeat) × (ticket : ℕ) × Stands b.seats i own (Holding ticket) p × (c ≡ after_post b i ticket p (with_refusal b.book))
   -- the holder leaves after it has posted its call: nothing more is recorded
   Moves b (left_posted own) c = (i : ℕ) × (p : CoreSeat) × (ticket : ℕ) × Stands b.seats i own (Posted ticket) p × (c ≡ after_leave b i p b.book)
-  -- the holder leaves with its call, which has no place on the board: the call is recorded under the holder's own number, with the reply of the sequential
-  -- step
+  -- the holder leaves with its call, which has no place on the board; the call is recorded under the holder's own number, with the reply of the
+  -- sequential step
   Moves b (recorded own call reply) c =
       (i : ℕ) × (p : CoreSeat) × (ticket : ℕ) × Stands b.seats i own (Holding ticket) p × (reply ≡ (k.step b.book.state call).1)
       × (c ≡ after_leave b i p (with_entry k.step own call b.book)) × (k.posts_at b.book.state call ≡ None)

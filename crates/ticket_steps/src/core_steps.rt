@@ -42,8 +42,8 @@ impl<K: Kept> Core<K> {
 
     /// A core with one seat, whose own number is 0, for all of `numbers`, and with the book at home. Each
     /// number brings 2^32 - 1 draws, the most that [`Core::open_with`] gives. The call makes places for all
-    /// possible seats, and a board of the book's words, so that later only a `Post` or a `Leave` can run out
-    /// of memory. If there is no memory for these, the call returns the book as it was.
+    /// possible seats, and a board of the book's words. Later only a `Post` or a `Leave` can run out of
+    /// memory. If there is no memory for the places and the board, the call returns the book as it was.
     pub fn open(alloc: Global, book: K, numbers: u32) -> Result<Core<K>, K>
         requires numbers { (0 < numbers) × (numbers ≤ 1024) }
         requires empty { (K.history book ≡ []) × (K.refusals book ≡ 0) }
@@ -100,8 +100,8 @@ impl<K: Kept> Core<K> {
     }
 
     /// Makes one event, and returns its outcome. If the event has a fault, nothing changes: `NoSeat` comes
-    /// before `Phase`, and `Phase` before `Spent`. If the call of a `Post` or a `Leave` is refused, out of
-    /// memory, that is not a fault: the seat has posted or left, and sees the refusal.
+    /// before `Phase`, and `Phase` before `Spent`. It is not a fault if the call of a `Post` or a `Leave` is
+    /// refused, out of memory. The seat has posted or left then, and sees the refusal.
     pub fn step(&mut self, event: Event<K::Call>) -> Result<Seen<K::Reply>, Fault>
         ensures shown { IfOk result (λ seen.
             Shows K.Kept (draws_of self.old) (state_of self.old) event seen (state_of self.new)) }

@@ -47,9 +47,9 @@ pub enum Fault {
     /// No seat has this own number, or it was gathered into another.
     NoSeat,
     /// The event doesn't fit the seat's phase. Or the seat to be split isn't fresh, or the count is out of
-    /// range. Or a leave brings a call although one was posted, or brings none although none was. Or a posted
-    /// call has no place on the board, or a call that a leave brings has one. Or a glance is at a place
-    /// without a word, or a seat is to be gathered into itself.
+    /// range. Or a leave brings a call although one was posted, or brings no call although no call was
+    /// posted. Or a posted call has no place on the board, or a call that a leave brings has one. Or a glance
+    /// is at a place without a word, or a seat is to be gathered into itself.
     Phase,
     /// No draw is left.
     Spent,

@@ -271,7 +271,7 @@ fn put_standing(standings: &mut Vec<Standing>, number: u32, standing: Standing)
     }
 }
 
-/// Whether two standings are equal. The fields are compared one by one: the proof search knows the meaning of
+/// Whether two standings are equal. The fields are compared one by one. The proof search knows the meaning of
 /// `==` on a field, but not of a derived `==` with two fields of the same enum. The state comes first: if it
 /// differs, no other field needs to be compared.
 fn is_same(one: Standing, other: Standing) -> bool
