@@ -24,7 +24,8 @@ use std::thread::yield_now;
 use ticket_lock::{Look, Seat, TicketLock};
 use ticket_steps::{DRAWS, Kept};
 
-/// The number of pauses of a waiting call between polls before the call yields. Each pause is twice as long.
+/// The number of pauses of a waiting call between polls before the call yields. Each pause is twice as long
+/// as the one before.
 const PAUSES: u32 = 3;
 
 /// A book in a lock, for up to 1,024 callers in any threads.

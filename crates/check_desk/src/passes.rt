@@ -14,7 +14,7 @@ use ticket_lock::Seat;
 /// The right of one caller to make calls: as many as the desk was opened with, up to 2^32 - 1. The calls are
 /// recorded under the pass's number.
 ///
-/// When their callers have returned, gathering joins passes.
+/// Passes can be gathered into one when their callers have returned.
 #[derive(Drop)]
 pub struct Pass {
     pub(crate) seat: Seat<Book>,

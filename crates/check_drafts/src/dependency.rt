@@ -1,9 +1,9 @@
 //! Execution dependencies: the checks of an object wait for the states of other objects.
 
-/// The letters that the criteria of a dependency between services may have.
+/// The letters that the criteria of a dependency between services can have.
 pub const SERVICE_LETTERS: [&str; 6] = ["o", "w", "u", "c", "p", "n"];
 
-/// The letters that the criteria of a dependency between hosts may have.
+/// The letters that the criteria of a dependency between hosts can have.
 pub const HOST_LETTERS: [&str; 5] = ["o", "u", "d", "p", "n"];
 
 /// The states of the master in which a dependency fails, one for each letter of the document's

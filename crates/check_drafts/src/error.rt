@@ -31,8 +31,8 @@ pub enum LoadError {
     UnknownMaster(Place),
     /// A number is out of its limits. An interval is above 525,600 units, or the attempts aren't from 1 to
     /// 255. Or an `interval_length` isn't from 1 to 86,400 seconds, or a fixed delay is above 86,400,000
-    /// milliseconds. Or a spread isn't from 1 to 525,600 minutes, an interleave factor isn't from 1 to 4,096,
-    /// or there are more than 1,000,000 concurrent checks.
+    /// milliseconds. Or a spread isn't from 1 to 525,600 minutes, or an interleave factor isn't from 1 to
+    /// 4,096. Or the limit of concurrent checks is above 1,000,000.
     Range(Place),
     /// An object depends on itself, through one dependency or more.
     DependencyCycle,

@@ -43,7 +43,7 @@ pub enum NameFault {
     Empty,
     /// The name has this many bytes, which is more than 255.
     Long(usize),
-    /// The name contains this byte, which is below 32, 127 or a semicolon. It is the first such byte.
+    /// The name contains this byte, which is below 32, or is 127 or a semicolon. It is the first such byte.
     Byte(u8),
 }
 

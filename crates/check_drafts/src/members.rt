@@ -119,7 +119,7 @@ pub const MAX_HOST_CHECK_SPREAD: Member = Member {
     purpose: "within how many minutes the smart method has the first checks of all hosts due",
 };
 
-/// How many service checks may run at a time.
+/// How many service checks may run at the same time.
 pub const MAX_CONCURRENT_CHECKS: Member = Member {
     name: "max_concurrent_checks",
     kind: Kind::Number {

@@ -33,7 +33,7 @@ pub struct Options {
     /// The minutes within which the smart method makes the first checks of all services due, 1 to 525,600. 30
     /// unless the document says so.
     pub max_service_check_spread: u64,
-    /// In what order the first checks of services are due. Smart unless the document says so.
+    /// The order in which the first checks of services are due. Smart unless the document says so.
     pub service_interleave_factor: InterleaveFactor,
     /// How the first checks of hosts are spread. Smart unless the document says so.
     pub host_inter_check_delay_method: DelayMethod,
@@ -60,6 +60,6 @@ pub struct Options {
     pub high_service_flap_threshold: u64,
     /// How many seconds a unit of the intervals lasts, 1 to 86,400. 60 unless the document says so.
     pub interval_length: u64,
-    /// How many service checks may run at a time, up to 1,000,000. 0, the default, is no limit.
+    /// How many service checks may run at the same time, up to 1,000,000. 0, the default, means no limit.
     pub max_concurrent_checks: u64,
 }

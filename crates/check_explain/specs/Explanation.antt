@@ -12,7 +12,7 @@ use Rattle.check_explain.specs.Names.{bad_name_text, duplicate_text, unknown_end
 use Rattle.check_explain.specs.Ranges.{range_text}
 use Rattle.check_explain.specs.Shapes.{IsOfShape}
 
--- a document that wasn't read is like an empty one
+-- the tree, or null for a document that wasn't read
 abbrev pub tree_or_null : Option Data → Data
 tree_or_null None = null
 tree_or_null (Some tree) = tree

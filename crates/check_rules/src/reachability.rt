@@ -45,7 +45,7 @@ fn is_problem_of_host(is_aggressive: bool, code: Code) -> bool
     }
 }
 
-/// Whether there are parents and all of them are down.
+/// Whether there are parents and each of them is DOWN or UNREACHABLE.
 fn is_cut_off(parents: &[u32], standings: &[Standing]) -> bool
     ensures { result ≡ is_cut_off standings.now parents.now }
 {

@@ -79,7 +79,7 @@ impl<'v> Model for ObjectDraft<'v> {
     ghost view = { object_draft };
 }
 
-/// The whole text. Contracts see it as any saved state.
+/// The whole text. Contracts see it as a saved state, without further conditions.
 #[derive(Drop)]
 pub(crate) struct SavedDraft<'v> {
     pub(crate) start: u64,

@@ -37,10 +37,10 @@ pub fn never_checked()
         → standing.checked ≡ false → standing ≡ pending_standing (is_host setup object) }
 {}
 
-/// After every history of a scheduler that was opened over a setup of
-/// [`Setup`](check_objects::Setup), each object has a standing that it can have. It is lawful for the
-/// object's maximum of attempts, its states are of the object's sort, and it is pending until the object
-/// is checked. The replies in the history may be any, so this holds of every legal history.
+/// After every history of a scheduler that was opened over a setup of [`Setup`](check_objects::Setup), each
+/// object has a standing that it can have. The standing is lawful for the object's maximum of attempts, its
+/// states are of the object's sort, and it is pending until the object is checked. The replies in the history
+/// can be any replies, so this holds of every legal history.
 pub fn standings_are_lawful()
     ensures { (setup : Configuration) → (start : ℕ) → (history : List (Entry Call Reply))
         → (object : ℕ) → IsSetup setup → object < object_count setup

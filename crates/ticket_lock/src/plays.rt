@@ -90,7 +90,7 @@ impl<K, C, R> Join<View<K, C, R>> for Gathers {
     ghost spent = { spent_view };
 }
 
-/// The second step of a gather. Joining two seats gives no facts of the rule. So the joined seat loads once
+/// The second step of a gather. Joining two seats gives no facts from the rule. So the joined seat loads once
 /// more, and learns that the two histories are first parts of one history.
 pub(crate) struct SecondLoad<K> {
     marker: PhantomData<K>,

@@ -26,8 +26,8 @@ pub(crate) type TableSeat<K> = atomic_table::Seat<
 pub struct Seat<K: Kept> {
     pub(crate) table_seat: TableSeat<K>,
     pub(crate) counts: SeatCounts,
-    /// The number of numbers that can be divided. They are all those for which the seat answers, until it
-    /// draws or another seat is gathered into it; from then on there are 0. The field is as wide as the
+    /// The number of numbers that can be divided. These are all numbers for which the seat answers, until it
+    /// draws or another seat is gathered into it. From then on the field is 0. The field is as wide as the
     /// fields before it: bytes between fields would be copied with each seat.
     pub(crate) parts: u64,
     ghost bare: { table_seat.me.1 ≡ [] },
