@@ -1,4 +1,4 @@
--- The board of a book: what its state shows to callers that read it without the lock.
+-- The board of a book: the words that callers read without the lock.
 use Rattle.std.specs.Prelude.{ℕ, List, Option}
 use Rattle.check_sched.specs.declared.call.Call.{Call}
 use Rattle.check_sched.specs.Board.{board_of, place_by}

@@ -1,4 +1,4 @@
--- What clauses see of a book.
+-- The parts of a book that clauses see.
 use Rattle.std.specs.Prelude.{ℕ, List, vec_capacity}
 use Rattle.ticket_steps.specs.declared.kept.Entry.{Entry}
 use Rattle.check_sched.specs.declared.call.Call.{Call}

@@ -24,9 +24,9 @@ use ticket_steps::{Entry, Kept, NoMemory};
 /// A scheduler that stores the history of its calls. Each call is stored with its reply, under the number
 /// of the pass that made it. (Our own profile.)
 ///
-/// The history is always legal: each reply is the scheduler's at its place, from the opening on, and the
-/// scheduler is in the state after those calls. Refused calls are entries too. If there is no memory for
-/// the entry of a call, the call isn't made, but counted.
+/// The history is always legal: each reply is the scheduler's at its place, from the opening on. The
+/// scheduler is in the state after those calls. Refused calls are entries too. If there is no memory for the
+/// entry of a call, the call isn't made, but counted.
 #[derive(Drop)]
 pub struct Book {
     /// In a box, so that moving a book moves a pointer.
@@ -79,9 +79,9 @@ impl Book {
     ghost use Rattle.check_book.specs.Books.{entries_of, opening_of, refused_of, room_of, sched_of, state_of};
 
     /// A book without entries over a new scheduler for the objects of `setup`, which starts at the moment
-    /// `start`, in milliseconds. There is room for `room` entries: their calls need no memory.
+    /// `start`, in milliseconds. There is room for `room` entries, so their calls need no memory.
     ///
-    /// An Err means out of memory, and hands the setup back as it was.
+    /// An Err means out of memory, and returns the setup as it was.
     pub fn open(alloc: Global, setup: Setup, start: u64, room: usize) -> Result<Book, Setup>
         requires { start ≤ LAST_MOMENT }
         ensures empty { IfOk result (λ book. (entries_of book ≡ []) × (refused_of book ≡ 0)) }
@@ -97,12 +97,12 @@ impl Book {
         Book::over(alloc, sched, entries, room)
     }
 
-    /// A book without entries over a scheduler that resumes what was saved of another ([`Sched::resume`]),
-    /// over this setup and from the moment `start` on, in milliseconds. There is room for `room` entries:
-    /// their calls need no memory. Run numbers continue from the saved ones, and a check that was running
-    /// is reported under its number as before.
+    /// A book without entries over a scheduler that resumes the saved state of another ([`Sched::resume`]),
+    /// over this setup and from the moment `start` on, in milliseconds. There is room for `room` entries, so
+    /// their calls need no memory. Run numbers continue from the saved ones, and a check that was running is
+    /// reported under its number as before.
     ///
-    /// An Err means out of memory, and hands the setup back as it was.
+    /// An Err means out of memory, and returns the setup as it was.
     pub fn resume(
         alloc: Global,
         setup: Setup,
@@ -126,7 +126,7 @@ impl Book {
     }
 
     /// A book over this scheduler, which opens in the scheduler's present state, with an empty list of
-    /// entries and its room. An Err means out of memory, and hands the setup back.
+    /// entries and its room. An Err means out of memory, and returns the setup.
     fn over(
         alloc: Global,
         sched: Sched,
@@ -156,21 +156,21 @@ impl Book {
         }
     }
 
-    /// What is saved of the scheduler ([`Sched::save`]), in the book's present state. The book stays as it
-    /// is. An Err means out of memory.
+    /// The saved state of the scheduler ([`Sched::save`]), from the book's present state. The book stays as
+    /// it is. An Err means out of memory.
     pub fn save(&self, alloc: Global) -> Result<Saved, AllocError>
         ensures { IfOk result (λ saved. saved ≡ saved_of (sched_of self.now)) }
     {
         self.log.sched.save(alloc)
     }
 
-    /// A new book that opens in the present state of this one, without entries and refusals, and with room
-    /// for `room` entries; also the entries of this one. The scheduler's knowledge is carried over:
-    /// standings, next times, running checks, stored results, and the number of runs handed out. The
-    /// entries are moved, not copied: only the room needs memory. The count of refusals ends with this
-    /// book, so read [`refused`](Kept::refused) first.
+    /// A new book, and the entries of this one. The new book opens in the present state of this one, without
+    /// entries and refusals, and with room for `room` entries. It has the scheduler's knowledge: standings,
+    /// next times, running checks, stored results, and the number of runs handed out. The entries are moved,
+    /// not copied, so only the room needs memory. The count of refusals ends with this book, so read
+    /// [`refused`](Kept::refused) first.
     ///
-    /// An Err means out of memory, and hands this book back as it was.
+    /// An Err means out of memory, and returns this book as it was.
     pub fn renew(self, alloc: Global, room: usize) -> Result<(Book, Vec<Entry<Call, Reply>>), Book>
         ensures opening { IfOk result (λ made. opening_of made.0 ≡ book_at (sched_of self) room) }
         ensures state { IfOk result (λ made. state_of made.0 ≡ book_at (sched_of self) room) }
@@ -186,7 +186,7 @@ impl Book {
         Ok((Book { log }, earlier))
     }
 
-    /// Gives the setup back, and ends the book.
+    /// Returns the setup, and ends the book.
     pub fn into_setup(self) -> Setup
         ensures { result ≡ (sched_of self).setup }
     {
@@ -243,8 +243,8 @@ impl Kept for Book {
     ghost posted = { λ s. step_posted s.sched };
 
     /// Makes one call on the scheduler, and stores it with its reply. Room for the entry is made first. If
-    /// there is no memory for it, the call isn't made, but counted. `NoMemory` comes only if the entries
-    /// have reached the room, and fill everything that was reserved since.
+    /// there is no memory for it, the call isn't made, but counted. `NoMemory` comes only if the entries have
+    /// reached the room and fill everything that was reserved since.
     fn record(&mut self, pass: u32, call: Call) -> Result<Reply, NoMemory>
         requires { refused_of self.old < 2 ^ 60 }
         ensures same { opening_of self.new ≡ opening_of self.old }
@@ -290,8 +290,8 @@ impl Kept for Book {
         self.log.sched.word(place)
     }
 
-    /// The object's number for a report of the run under which the object is being checked. No other call
-    /// is posted: neither a report that will be refused, nor a call that changes no standing.
+    /// The object's number, for a report of the run under which the object is being checked. No other call is
+    /// posted: neither a report that will be refused, nor a call that changes no standing.
     fn posts(&self, call: Call) -> Option<u32> {
         self.log.sched.place_of(call)
     }

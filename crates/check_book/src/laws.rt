@@ -1,4 +1,4 @@
-//! Laws of the definitions, each the contract of a function without parameters and code.
+//! Laws of the definitions. Each is the contract of a function without parameters and code.
 
 ghost use Rattle.std.specs.Prelude.{ℕ, ◌≡◌, ◌<◌, ◌≤◌, List, ◌∷◌, ◌++◌, [], Some, length, slice_index};
 ghost use Rattle.ticket_steps.specs.declared.kept.Entry.{Entry};
@@ -20,8 +20,8 @@ ghost use Rattle.check_book.specs.BookState.{BookState, book_at, book_opening, b
 ghost use Rattle.check_book.specs.Resumed.{resumed_from};
 
 /// The history of a book is a history of its scheduler (`books`). So
-/// [`runs_once`](check_sched::laws::runs_once) and
-/// [`flaps_by_history`](check_sched::laws::flaps_by_history) hold of it.
+/// [`runs_once`](check_sched::laws::runs_once) and [`flaps_by_history`](check_sched::laws::flaps_by_history)
+/// hold of it.
 pub fn histories()
     ensures books { (setup : Configuration) → (start room : ℕ)
         → (history : List (Entry Call Reply))
@@ -29,11 +29,13 @@ pub fn histories()
         → IsLegal step (opening setup start) history }
 {}
 
-/// The replies that can come in the history of a book, however it was opened. The reply to a take is an
-/// object that is taken or put off, or that none is due, or that the limit is reached, or a refusal for its
-/// moment or because no run is left (`take`). The reply to the report of an object that was taken before is
-/// the object's standing, or a refusal because the object isn't being checked, or is under another run
-/// (`report`).
+/// The replies that can come in the history of a book, however the book was opened.
+///
+/// The reply to a take is an object that is taken or put off. Otherwise it says that no object is due, or
+/// that the limit is reached. Or it is a refusal, for its moment or because no run is left (`take`).
+///
+/// The reply to the report of an object that was taken before is the object's standing. Otherwise it is a
+/// refusal because the object isn't being checked, or is being checked under another run (`report`).
 pub fn replies()
     ensures take { (opened : BookState) → (front : List (Entry Call Reply)) → (pass now : ℕ)
         → (answer : Reply)
@@ -47,12 +49,12 @@ pub fn replies()
         → IsReportReply answer }
 {}
 
-/// What the board of a book shows, after any calls since it was opened, one after another: a word for each
-/// object of the setup (`words`), which [`decode`](check_rules::decode) reads as the standing of the object
-/// with that number (`read`). This holds from every state that a scheduler can be in (`words_from`,
-/// `read_from`). Each book opens in such a state (`opened`), a renewed book does too, and a book is in such a
-/// state at any time (`state`). Each book is over a setup as [`Setup`](check_objects::Setup) has it
-/// (`books`), and so its board has at most 4,096 words (`few`).
+/// The board of a book, after any calls since the book was opened, one after another. It has a word for each
+/// object of the setup (`words`). [`decode`](check_rules::decode) reads the word as the standing of the
+/// object with that number (`read`). This holds from every state that a scheduler can be in (`words_from`,
+/// `read_from`). Each book opens in such a state (`opened`), and so does a renewed book. A book is in such a
+/// state at any time (`state`). Each book is over a setup like those of [`Setup`](check_objects::Setup)
+/// (`books`), so its board has at most 4,096 words (`few`).
 pub fn board_shows_standings()
     ensures words { (setup : Configuration) → (start room : ℕ)
         → (history : List (Entry Call Reply))
@@ -76,12 +78,11 @@ pub fn board_shows_standings()
     ensures few { (book : Book) → length (book_board (state_of book)) ≤ 4096 }
 {}
 
-/// Histories continue from one book to the next. Let `earlier` be legal from a state, as from a scheduler's
-/// opening, and `later` from the state after `earlier`. Then `earlier` followed by `later` is legal from
-/// the first state (`legal`) and leaves the same state (`state`). The same holds of the schedulers of
-/// books, whatever their rooms (`book`, `book_state`), and no call changes a book's setup (`setup`). So
-/// each law of legal histories holds of the joined history of books that were
-/// [renewed](crate::Book::renew).
+/// Histories continue from one book to the next. Let `earlier` be legal from a state, for example from a
+/// scheduler's opening, and `later` from the state after `earlier`. Then `earlier` followed by `later` is
+/// legal from the first state (`legal`) and leaves the same state (`state`). The same holds of the schedulers
+/// of books, for all rooms (`book`, `book_state`). No call changes a book's setup (`setup`). So each law of
+/// legal histories holds of the joined history of books that were [renewed](crate::Book::renew).
 ///
 /// The same holds if a scheduler's state was saved and another book was [resumed](crate::Book::resume) from
 /// it, over the same setup, with any start and room (`resumed`, `resumed_state`). The state is the same

@@ -1,11 +1,11 @@
-//! The state in which a book began, only for contracts.
+//! The state in which a book began. It exists only for contracts.
 
 ghost use Rattle.std.specs.Prelude.{◌≡◌};
 ghost use Rattle.std.specs.Borrow.{ftrue};
 
 use std::marker::{Model, PhantomData};
 
-/// A value as it once was. Contracts read it as `at`. No code reads it, and it takes no bytes.
+/// A former value. Contracts read it as `at`. No code reads it, and it takes no bytes.
 #[derive(Drop)]
 pub struct Opening<S> {
     of: PhantomData<S>,
@@ -16,7 +16,7 @@ impl<S> Model for Opening<S> {
     ghost also_owns = { λ _. ftrue };
 }
 
-// It owns nothing, so any thread can have it or share it.
+// It owns nothing, so any thread can have or share it.
 unsafe impl<S> Send for Opening<S> {}
 
 unsafe impl<S> Sync for Opening<S> {}

@@ -1,4 +1,4 @@
--- The fact that a pass or a turn is of a desk has no parts: a struct that keeps the two together can carry it as a ghost field.
+-- The fact that a pass or a turn belongs to a desk has no parts. So a struct that stores both can carry the fact as a ghost field.
 use Rattle.check_book.specs.contracts.book.Book.{the_row as book_row}
 use Rattle.ticket_lock.specs.Belonging.{IsSeatOf-prop, IsTurnOf-prop}
 use Rattle.check_desk.specs.declared.desk.Desk.{Desk}

@@ -1,4 +1,4 @@
--- What clauses see of a desk: how it was opened, its passes, turns and holds, and what a call adds.
+-- The parts of a desk that clauses see: how it was opened, its passes, turns and holds, and the effect of a call.
 use Rattle.std.specs.Prelude.{◌≡◌, ℕ, ◌+◌, ◌<◌, ◌≤◌, ⊤, List, [], ◌∷◌, ◌++◌, length}
 use Rattle.ticket_steps.specs.declared.kept.Entry.{Entry}
 use Rattle.ticket_steps.specs.History.{entry, replay, IsLegal}
@@ -30,7 +30,7 @@ opened_with desk = opening_of (start_of desk.lock).book
 abbrev pub passes_of : Desk → ℕ
 passes_of desk = (start_of desk.lock).numbers
 
--- the number of calls that each of them brought
+-- the number of calls that each pass brought
 abbrev pub calls_of : Desk → ℕ
 calls_of desk = (start_of desk.lock).draws
 
@@ -42,7 +42,7 @@ objects_of desk = object_count (opened_with desk).sched.setup
 abbrev pub standing_after : Desk → List (Entry Call Reply) → ℕ → Standing
 standing_after desk history number = standing_at (replay book_step (opened_with desk) history).sched.standings number
 
--- it is of this desk
+-- the pass is of this desk; the same for a turn and a hold
 abbrev pub IsPassOf : Desk → Pass → Type 0
 IsPassOf desk pass = IsSeatOf desk.lock pass.seat
 
@@ -62,13 +62,13 @@ AreNewPassesWith calls desk number [] = ⊤
 AreNewPassesWith calls desk number (pass ∷ passes) =
     IsPassOf desk pass × (pass_of pass ≡ new_pass_with calls number) × AreNewPassesWith calls desk (number + 1) passes
 
--- the same with as many calls as a pass can bring
+-- the same, with as many calls as a pass can bring
 abbrev pub AreNewPasses : Desk → ℕ → List Pass → Type 0
 AreNewPasses desk number passes = AreNewPassesWith opening_calls desk number passes
 
 -- ---- answers
 
--- the two answers of a poll
+-- the two outcomes of a poll
 abbrev pub MatchPoll : Poll → (Hold → Type 0) → (Turn → Type 0) → Type 0
 MatchPoll (found.Mine hold) P Q = P hold
 MatchPoll (found.NotYet turn) P Q = Q turn
@@ -79,19 +79,19 @@ MatchAnswer (answer.Reply reply) P Q R = P reply
 MatchAnswer answer.NoMemory P Q R = Q
 MatchAnswer answer.Spent P Q R = R
 
--- the caller after a call with this reply, if this was the history before it: one entry more, under its own number
+-- the caller after a call with this reply, if this was the history before it: one more entry, under the caller's own number
 abbrev pub recorded : Call → Reply → List (Entry Call Reply) → Caller Call Reply → Caller Call Reply
 recorded call reply history c = ended (history ++ entry c.own call reply ∷ []) c
 
--- A whole call with this reply. The history before it begins with what the caller had seen and has nothing new of its numbers; the call's entry was added to
--- it.
+-- A whole call with this reply. The history before it begins with all that the caller had seen, and the rest has no entries of the caller's numbers.
+-- The call's entry was added to that history.
 pub record HasRecorded (call : Call) (reply : Reply) (before after : Caller Call Reply) : Type 0 where
   pub history : List (Entry Call Reply)
   pub follows : Follows before.numbers before.seen history
   pub after_is : after ≡ recorded call reply history (drawn before)
   pub some_left : 0 < before.left
 
--- A whole call without memory for its entry: nothing of the caller's numbers is new, and the history has reached the room.
+-- A whole call without memory for its entry. There are no new entries of the caller's numbers, and the history has reached the room.
 pub record HasNoMemory (room : ℕ) (before after : Caller Call Reply) : Type 0 where
   pub follows : Follows before.numbers before.seen after.seen
   pub after_is : after ≡ ended after.seen (drawn before)

@@ -1,5 +1,5 @@
--- What clauses see of passes, turns and holds: their caller, with its own number, the numbers for which it answers, the calls that it has left and has made,
--- and the history that it has seen.
+-- The part of passes, turns and holds that clauses see: their caller. It has its own number, the numbers for which it answers, the calls that it has
+-- left and has made, and the history that it has seen.
 use Rattle.std.specs.Prelude.{ℕ, ◌-◌, ◌^◌, [], ◌∷◌, true}
 use Rattle.ticket_lock.specs.Callers.{Caller, caller}
 use Rattle.ticket_lock.specs.Tokens.{seat_of, turn_of, hold_of, ticket_of}
@@ -31,10 +31,10 @@ book_in_hand hold = hold.book
 abbrev pub opening_calls : ℕ
 opening_calls = 2 ^ 32 - 1
 
--- the pass of this number as a desk hands it out with this many calls: it answers for itself, has made no call and has seen nothing
+-- the pass of this number as a desk hands it out with this many calls; it answers for itself, has made no call and has seen nothing
 abbrev pub new_pass_with : ℕ → ℕ → Caller Call Reply
 new_pass_with calls number = caller number (number ∷ []) calls 0 true []
 
--- the same with as many calls as a pass can bring
+-- the same, with as many calls as a pass can bring
 abbrev pub new_pass : ℕ → Caller Call Reply
 new_pass number = new_pass_with opening_calls number

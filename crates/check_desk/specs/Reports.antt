@@ -1,4 +1,4 @@
--- What a pass knows of a call that it made, or that a pass gathered into it made, and what it then sees of the object at a glance.
+-- The knowledge of a pass about a call that it made, or that a pass gathered into it made, and the standing that it then sees at a glance.
 use Rattle.std.specs.Prelude.{◌≡◌, ◌≢◌, ℕ, ⊤, List, [], ◌∷◌, ◌++◌, Option, Some}
 use Rattle.ticket_steps.specs.declared.kept.Entry.{Entry}
 use Rattle.ticket_lock.specs.Callers.{Caller}
@@ -9,7 +9,7 @@ use Rattle.check_sched.specs.Board.{place_by}
 use Rattle.check_desk.specs.declared.desk.Desk.{Desk}
 use Rattle.check_desk.specs.Desks.{IsHistoryOf, standing_after}
 
--- the entry is in what the caller has seen
+-- the history that the caller has seen contains the entry
 pub record HasSeen (e : Entry Call Reply) (c : Caller Call Reply) : Type 0 where
   pub before : List (Entry Call Reply)
   pub since : List (Entry Call Reply)
@@ -22,7 +22,7 @@ pub record IsAfter (desk : Desk) (e : Entry Call Reply) (object : ℕ) (standing
   pub legal : IsHistoryOf desk (before ++ e ∷ since)
   pub shown : standing ≡ Some (standing_after desk (before ++ e ∷ since) object)
 
--- none of the entries is a report of the object whose reply is its standing
+-- no entry is a report of the object whose reply is the object's standing
 abbrev pub HasNoReport : ℕ → List (Entry Call Reply) → Type 0
 HasNoReport object [] = ⊤
 HasNoReport object (e ∷ es) = (place_by e.call e.reply ≢ Some object) × HasNoReport object es

@@ -1,4 +1,4 @@
--- The schedules of a desk's lock: where the steps of any callers, in any order, lead.
+-- The schedules of a desk's lock: the steps of any callers, in any order, and the states to which they lead.
 use Rattle.std.specs.Prelude.{◌≡◌, ℕ, List}
 use Rattle.ticket_steps.specs.declared.kept.Entry.{Entry}
 use Rattle.ticket_steps.specs.History.{replay, IsLegal}
@@ -11,20 +11,20 @@ use Rattle.check_sched.specs.Step.{step}
 use Rattle.check_book.specs.BookState.{BookState, book_at, book_opening}
 use Rattle.check_book.specs.contracts.book.BookKept.TheImpl.{ghosts as kept_book}
 
--- A schedule of the core, with 1 to 1,024 numbers, over a book that opens empty on this setup, at this start and with this
--- room: any steps of any seats, one after another.
+-- A schedule of the core, with 1 to 1,024 numbers, over a book that opens empty on this setup, at this start and with this room: any steps of any
+-- seats, one after another.
 pub record IsScheduleOver (setup : Configuration) (start room : ℕ) (s : Schedule BookState Call Reply) : Type 0 where
   pub schedule : IsSchedule kept_book s
   pub opening : s.opening ≡ book_opening setup start room
 
--- The same over a book that continues those before it: it opens in the state after `earlier`, a legal history of the scheduler on this setup, from this start
--- on. For the first book `earlier` is empty.
+-- The same over a book that continues the books before it. It opens in the state after `earlier`, a legal history of the scheduler on this setup,
+-- from this start on. For the first book, `earlier` is empty.
 pub record IsScheduleAfter (setup : Configuration) (start : ℕ) (earlier : List (Entry Call Reply)) (room : ℕ) (s : Schedule BookState Call Reply) : Type 0 where
   pub schedule : IsSchedule kept_book s
   pub legal_before : IsLegal step (opening setup start) earlier
   pub opens : s.opening ≡ book_at (replay step (opening setup start) earlier) room
 
--- The same over a book that opens empty in this state, as a book does that resumes what was saved.
+-- The same over a book that opens empty in this state. A book that resumes a saved state opens like that.
 pub record IsScheduleFrom (opened : BookState) (s : Schedule BookState Call Reply) : Type 0 where
   pub schedule : IsSchedule kept_book s
   pub opens : s.opening ≡ opened

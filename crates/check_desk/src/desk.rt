@@ -24,10 +24,11 @@ use std::thread::yield_now;
 use ticket_lock::{Look, Seat, TicketLock};
 use ticket_steps::{DRAWS, Kept};
 
-/// How often a waiting call pauses between polls, twice as long each time, before it yields.
+/// The number of pauses of a waiting call between polls before the call yields. Each pause is twice as long
+/// as the one before.
 const PAUSES: u32 = 3;
 
-/// A book behind a lock, for up to 1,024 callers in any threads.
+/// A book in a lock, for up to 1,024 callers in any threads.
 ///
 /// Each call needs a pass, turn or hold of this desk.
 #[derive(Drop)]
@@ -65,12 +66,12 @@ impl Desk {
     ghost use Rattle.check_desk.specs.Desks.{AreNewPassesWith, MatchPoll, calls_of, objects_of, opened_with, passes_of, recorded, standing_after};
     ghost use Rattle.check_desk.specs.Passes.{book_in_hand, drawn_ticket, holder_of, pass_of, waiting_of};
 
-    /// A desk over the book, and its passes in the order of their numbers, from 0. Each has 2^32 - 1 calls,
-    /// the most that [`Desk::open_with`] gives, answers only for itself, and has made no call and seen
-    /// nothing.
+    /// A desk over the book, and its passes in the order of their numbers, from 0. Each pass has 2^32 - 1
+    /// calls, the most that [`Desk::open_with`] gives. It answers only for itself, and has made no call and
+    /// seen nothing.
     ///
-    /// An Err means out of memory, and hands the book back as it was. Of the other calls only
-    /// [`Desk::finish`] and [`Desk::ask`] need memory, and only if the book's room is used up.
+    /// An Err means out of memory, and returns the book as it was. Only two other calls need memory,
+    /// [`Desk::finish`] and [`Desk::ask`], and they need it only if the book's room is used up.
     pub fn open(alloc: Global, book: Book, passes: u32) -> Result<(Desk, Vec<Pass>), Book>
         requires passes { (0 < passes) × (passes ≤ 1024) }
         requires empty { (entries_of book ≡ []) × (refused_of book ≡ 0) }
@@ -84,11 +85,11 @@ impl Desk {
         Desk::open_with(alloc, book, passes, DRAWS)
     }
 
-    /// A desk as `open` makes it, whose passes bring `calls` calls each: for callers that make few calls. A
-    /// pass is spent when it has made them.
+    /// A desk as `open` makes it, except that each pass brings `calls` calls. Use it for callers that make
+    /// few calls. A pass is spent when it has made its calls.
     ///
-    /// An Err means out of memory, and hands the book back as it was. [`Desk::open`] says which other calls
-    /// need memory.
+    /// An Err means out of memory, and returns the book as it was. [`Desk::open`] says which other calls need
+    /// memory.
     pub fn open_with(
         alloc: Global,
         book: Book,
@@ -144,8 +145,8 @@ impl Desk {
         list.push_reserved(Pass { seat: rest });
     }
 
-    /// Takes a ticket, by one of the pass's calls. The pass comes back as it was exactly if it has no call
-    /// left.
+    /// Takes a ticket, by one of the pass's calls. The call returns the pass as it was exactly if the pass
+    /// has no call left.
     pub fn begin(&self, pass: Pass) -> Result<Turn, Pass>
         requires { IsPassOf self.now pass }
         ensures spent { IsErr result ↔ ((pass_of pass).left ≡ 0) }
@@ -161,9 +162,9 @@ impl Desk {
 
     /// Looks whether the turn has come. It always has if the pass answers for all passes.
     ///
-    /// With the book the caller has seen its history. It begins with all that the caller had seen, and has
-    /// nothing new of the numbers for which the pass answers. The number of its entries and refusals is the
-    /// ticket, so that calls end in the order of their tickets.
+    /// With the book, the caller has seen the book's history. The history begins with all that the caller had
+    /// seen, and the rest has no entries of the numbers for which the pass answers. The number of its entries
+    /// and refusals is the ticket, so calls end in the order of their tickets.
     pub fn poll(&self, turn: Turn) -> Poll
         requires { IsWaitingAt self.now turn }
         ensures desk { MatchPoll result (λ hold. IsHolderAt self.now hold)
@@ -190,9 +191,9 @@ impl Desk {
         }
     }
 
-    /// Makes the call, records it under the pass's own number, and ends the turn. A report whose reply is
-    /// its object's standing is posted first, so that everyone who glances at the object from then on has
-    /// seen it. If there is no memory for the entry, the call isn't made, but counted. That happens only if
+    /// Makes the call, records it under the pass's own number, and ends the turn. A report whose reply is its
+    /// object's standing is posted first. From then on, everyone who glances at the object has seen the
+    /// report. If there is no memory for the entry, the call isn't made, but counted. This happens only if
     /// the history has reached the book's room.
     pub fn finish(&self, hold: Hold, call: Call) -> (Pass, Answer)
         requires { IsHolderAt self.now hold }
@@ -258,8 +259,8 @@ impl Desk {
         }
     }
 
-    /// Polls until the turn has come. It pauses between the first polls, each time longer. Between all
-    /// later ones it yields, so that a caller ahead that has no processor gets one.
+    /// Polls until the turn has come. Between the first polls it pauses, each time longer. Between all later
+    /// polls it yields, so that an earlier caller without a processor gets one.
     fn wait(&self, rt: &impl Wait, turn: Turn) -> Hold
         requires { IsWaitingAt self.now turn }
         ensures desk { IsHolderAt self.now result }
@@ -286,13 +287,13 @@ impl Desk {
         unreachable!()
     }
 
-    /// Reads what is known of an object, by one load: without a ticket, without waiting, and without a call
-    /// of the pass. None, with no load and the pass as it was, exactly if the setup has no object of this
-    /// number.
+    /// Reads the standing of an object, by one load: without a ticket, without waiting, and without a call of
+    /// the pass. It returns None exactly if the setup has no object of this number. There is no load then,
+    /// and the pass stays as it was.
     ///
-    /// The standing is the object's after a history of the desk that begins with all that the pass had
-    /// seen, and has nothing new of the numbers for which it answers. The pass has seen that history now,
-    /// so later glances never go back.
+    /// The standing is the object's after a history of the desk. This history begins with all that the pass
+    /// had seen, and the rest has no entries of the numbers for which the pass answers. The pass has seen it
+    /// now, so later glances never go back.
     pub fn glance(&self, pass: Pass, object: u32) -> (Pass, Option<Standing>)
         requires { IsPassOf self.now pass }
         ensures desk { IsPassOf self.now result.0 }
@@ -311,9 +312,9 @@ impl Desk {
         (Pass { seat }, decode(word))
     }
 
-    /// Joins two passes. The first pass stays, answers for the numbers of both, and has made the calls of
-    /// both. It has seen the longer history, to which neither's numbers added anything. The calls that the
-    /// second had left are lost.
+    /// Joins two passes. The first pass remains, answers for the numbers of both, and has made the calls of
+    /// both. It has seen the longer history, to which neither pass's numbers added anything. The calls that
+    /// the second pass had left are lost.
     #[tactic(auto, using(crate::proofs::PassLemmas::seen_history))]
     pub fn gather(&self, pass: Pass, other: Pass) -> Pass
         requires { IsPassOf self.now pass × IsPassOf self.now other }
@@ -329,10 +330,10 @@ impl Desk {
         }
     }
 
-    /// Gives the book back, if all passes were gathered into this one. Desk and pass come back as they were
-    /// exactly if passes are missing.
+    /// Returns the book, if all passes were gathered into this one. The call returns the desk and the pass as
+    /// they were exactly if passes are missing.
     ///
-    /// The book's history is what the pass has seen: it has each caller's calls once, in the caller's
+    /// The book's history is the one that the pass has seen. It has each caller's calls once, in the caller's
     /// order, and nothing else.
     pub fn close(self, pass: Pass) -> Result<Book, (Desk, Pass)>
         requires { IsPassOf self pass }

@@ -1,5 +1,4 @@
-//! Laws without code: what holds of the history that all callers share, of every pass, and of calls that
-//! have returned.
+//! Laws without code: of the history that all callers share, of every pass, and of calls that have returned.
 
 ghost use Rattle.std.specs.Prelude.{ℕ, ◌≡◌, ◌+◌, ◌<◌, ◌≤◌, ◌^◌, List, [], ◌∷◌, ◌++◌, length, Bool, true, false, Option, Some};
 ghost use Rattle.std.specs.List.{All, list_any};
@@ -35,13 +34,12 @@ ghost use Rattle.check_desk.specs.Passes.{holder_of, pass_of, waiting_of};
 ghost use Rattle.check_desk.specs.Reports.{HasNoReport, HasSeen, IsAfter};
 ghost use Rattle.check_desk.specs.Schedules.{IsScheduleAfter, IsScheduleFrom, IsScheduleOver};
 
-/// A law without code: whatever callers do, and in whatever order the steps of their passes come,
-/// the history that they share is that of one thread.
+/// A law without code. The history that all callers share is that of one thread. This holds for all their
+/// calls, and for every order of the steps of their passes.
 ///
-/// It holds for every setup, start and room, for 1 to 1,024 passes, and for every schedule of the core
-/// from the opening on. The book is the one at home, whenever no seat holds. While a seat holds, it is
-/// the book as its holder took it out, with what it has posted since. So no clause asks whether the
-/// lock is free.
+/// It holds for every setup, start and room, for 1 to 1,024 passes, and for every schedule of the core from
+/// the opening on. When no seat holds, the book is the one at home. While a seat holds, it is the book as its
+/// holder took it out, with what the holder has posted since. So no clause asks whether the lock is free.
 ///
 /// - Each reply is the sequential scheduler's at its place (`legal`), and the scheduler is in the
 ///   state after those calls (`state`).
@@ -53,13 +51,14 @@ ghost use Rattle.check_desk.specs.Schedules.{IsScheduleAfter, IsScheduleFrom, Is
 ///   numbers, they are the calls that it counts, plus one while it has posted a call and not left
 ///   (`all`).
 ///
-/// A book that was [renewed](check_book::Book::renew) continues those before it. For each such book,
-/// and any legal history `earlier` that led to its opening state:
+/// A book that was [renewed](check_book::Book::renew) continues the books before it. For each such book, and
+/// any legal history `earlier` that led to its opening state:
 ///
 /// - `earlier` followed by its entries is one thread's history from the setup's opening on
 ///   (`joined_legal`), and leaves the state in which the scheduler is (`joined_state`).
-/// - No object is taken while it runs by the whole history (`joined_once`): a check that was running
-///   when a book ended is taken again only after its end. The numbers of runs continue (`joined_runs`).
+/// - No object is taken while the whole history shows it running (`joined_once`). If a check was running when
+///   a book ended, its object is taken again only after the end of that check. The numbers of runs continue
+///   (`joined_runs`).
 /// - The clauses about the schedule of the book's own callers hold as for the first book
 ///   (`later_entries`, `later_strangers`, `later_made`, `later_all`).
 pub fn headline()
@@ -124,13 +123,13 @@ pub fn headline()
         → calls_taken s.end.book ≡ p.calls + posted_one p.phase }
 {}
 
-/// The same as [`headline`], for a book that opens in any state, as a book does that was
-/// [resumed](check_book::Book::resume) from what was saved, over the same setup or another.
+/// The same as [`headline`], for a book that opens in any state. A book that was
+/// [resumed](check_book::Book::resume) from a saved state opens like that, over the same setup or another.
 ///
 /// - Each reply is the sequential scheduler's at its place, from that state on (`legal`), and the
 ///   scheduler is in the state after those calls (`state`).
-/// - The history shows no object taken while it runs (`once`), nor while a check of it is running from
-///   before, until that run was reported or abandoned (`out`). The numbers of runs continue from those
+/// - The history shows no object taken while it runs (`once`). An object whose check was already running
+///   isn't taken until that run was reported or abandoned (`out`). The numbers of runs continue from those
 ///   that were handed out before (`runs`).
 /// - The clauses about the schedule of the book's callers hold as in `headline` (`entries`,
 ///   `strangers`, `made`, `all`).
@@ -163,11 +162,11 @@ pub fn headline_from_any_state()
         → calls_taken s.end.book ≡ p.calls + posted_one p.phase }
 {}
 
-/// What holds of every pass, at any time.
+/// A law of every pass, at any time.
 ///
-/// It has seen a history of its desk (`legal`). It answers for its own number (`own`), for at least one
-/// (`some`) and for at most 1,024 (`few`), and has made fewer than 2^42 calls (`few_calls`). New passes are
-/// of their desk (`new`).
+/// A pass has seen a history of its desk (`legal`). It answers for its own number (`own`), for at least one
+/// number (`some`) and for at most 1,024 (`few`). It has made fewer than 2^42 calls (`few_calls`). New passes
+/// are of their desk (`new`).
 pub fn every_pass()
     ensures legal { (desk : Desk) → (pass : Pass) → IsPassOf desk pass
         → IsHistoryOf desk (pass_of pass).seen }
@@ -182,15 +181,15 @@ pub fn every_pass()
 /// A report whose call has returned is on the board, for the pass that made it and for each pass that has
 /// gathered it. This follows from the clauses of `finish`, `ask`, `gather` and `glance` alone.
 ///
-/// The call is in what its pass has seen, under its own number (`finished`, `asked`). It stays there while
-/// a turn waits (`waiting`), and in everything that begins with what was seen (`later`). That includes what
-/// the pass sees by later polls, calls and glances, and what a pass has seen that gathered it. So the
-/// standing that such a pass sees at a glance is the standing after a history of the desk that contains the
-/// call (`glanced`). Let the call be a report whose reply was the object's standing, with no such report
-/// after it. Then the glance shows that very standing (`told`).
+/// The history that its pass has seen contains the call, under the pass's number (`finished`, `asked`). The
+/// call stays there while a turn waits (`waiting`), and in everything that begins with that history
+/// (`later`). This includes the histories that the pass sees by later polls, calls and glances, and those of
+/// passes that have gathered it. So the standing that such a pass sees at a glance is the standing after a
+/// history of the desk that contains the call (`glanced`). Let the call be a report whose reply was the
+/// object's standing, with no such report after it. Then the glance shows that very standing (`told`).
 ///
-/// No clause says this of other passes: as far as contracts know, they may see the standing before it. The
-/// report is posted before its turn ends because of the order of operations on the atomic word.
+/// No clause says this of other passes: as far as contracts know, they may see the standing before the
+/// report. The report is posted before its turn ends because of the order of operations on the atomic word.
 pub fn returned_reports()
     ensures finished { (call : Call) → (reply : Reply) → (hold : Hold) → (pass : Pass)
         → pass_of pass ≡ recorded call reply (holder_of hold).seen (holder_of hold)

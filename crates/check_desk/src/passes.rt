@@ -1,7 +1,7 @@
 //! Passes, turns and holds: the tokens of callers.
 //!
-//! They have no bytes of their own except their counts. The history that a caller has seen, which is always
-//! a first part of the one history, exists only in contracts.
+//! The tokens have no bytes of their own except their counts. The history that a caller has seen exists only
+//! in contracts. It is always a first part of the one history.
 
 ghost use Rattle.std.specs.Prelude.{◌≡◌, ◌+◌, ◌<◌, ◌≤◌, ◌^◌, false, length};
 ghost use Rattle.ticket_steps.specs.Sums.{times};
@@ -11,10 +11,10 @@ ghost use Rattle.ticket_lock.specs.Tokens.{has_posted, held_ticket_of, hold_of, 
 use check_book::Book;
 use ticket_lock::Seat;
 
-/// The right of one caller to make calls: as many as the desk was opened with, up to 2^32 - 1. They are
-/// recorded under its number.
+/// The right of one caller to make calls: as many as the desk was opened with, up to 2^32 - 1. The calls are
+/// recorded under the pass's number.
 ///
-/// Gathering joins passes, when their callers have returned.
+/// Passes can be gathered into one when their callers have returned.
 #[derive(Drop)]
 pub struct Pass {
     pub(crate) seat: Seat<Book>,
@@ -22,15 +22,15 @@ pub struct Pass {
 
 /// A pass that has a ticket and waits for its turn.
 ///
-/// One that isn't spent by `Desk::poll` doesn't compile in safe code: a ticket that nobody uses
-/// would stop all that come after it.
+/// Safe code that doesn't pass a turn to `Desk::poll` doesn't compile. A ticket that nobody uses would stop
+/// all that come after it.
 pub struct Turn {
     pub(crate) turn: ticket_lock::Turn<Book>,
 }
 
 /// A pass whose turn it is: it holds the book.
 ///
-/// One that isn't spent by `Desk::finish` doesn't compile in safe code: the book has to come back.
+/// Safe code that doesn't pass a hold to `Desk::finish` doesn't compile. The desk needs the book back.
 pub struct Hold {
     pub(crate) hold: ticket_lock::Hold<Book>,
     pub(crate) book: Book,
@@ -53,7 +53,7 @@ impl Pass {
         self.seat.number()
     }
 
-    /// How many passes it answers for, including itself.
+    /// The number of passes for which it answers, including itself.
     pub fn gathered(&self) -> u32
         ensures numbers { result ≡ length (pass_of self.now).numbers }
         ensures some { 0 < result }

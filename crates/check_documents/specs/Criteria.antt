@@ -5,11 +5,11 @@ use Rattle.check_drafts.specs.declared.dependency.Criteria.{Criteria}
 use Rattle.check_documents.specs.declared.criteria.Found.{Found}
 use Rattle.check_documents.specs.Tree.{is_among}
 
--- what stands before, between and behind the commas
+-- the pieces of a text before, between and after its commas
 abbrev pub pieces : List ℕ → List (List ℕ)
 pieces text = slice_split (λ b. b == 44) text
 
--- Each piece is one of the letters: there is at least one of them, a comma stands between two, and nothing else does.
+-- Each piece is one of the letters. So the text has at least one letter, a comma between two letters, and nothing else.
 abbrev pub are_letters : List (List ℕ) → List ℕ → Bool
 are_letters letters text = list_all (is_among letters) (pieces text)
 
@@ -29,11 +29,11 @@ criteria_in text = record {
   none = has_letter (codes "n") text;
 }
 
--- what a text says, whether it has only these letters or not
+-- the letters of a text, and whether it has only these letters
 abbrev pub found_in : List (List ℕ) → List ℕ → Found
 found_in letters text = record { known = are_letters letters text; criteria = criteria_in text }
 
--- what is said with one more piece
+-- the letters after one more piece
 abbrev pub with_piece : List (List ℕ) → Found → List ℕ → Found
 with_piece letters found piece = record {
   known = found.known && is_among letters piece;

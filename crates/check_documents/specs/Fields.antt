@@ -10,7 +10,7 @@ use Rattle.check_documents.specs.Criteria.{criteria_of}
 use Rattle.check_documents.specs.Reading.{delay_in, factor_in}
 use Rattle.check_documents.specs.Tree.{number_in, switch_in, texts_in, ◌>=>◌}
 
--- the text of a member that has to be there
+-- the text of a required member
 abbrev pub required_text : List ℕ → Data → Option (List ℕ)
 required_text name d = option_and_then as_str (get name d)
 

@@ -1,4 +1,4 @@
--- Why the code doesn't read a list, as a fault of the document.
+-- Why the code can't read a list, as a fault of the document.
 use Rattle.std.specs.Prelude.{◌≡◌, true, Option, Some, None, is_some}
 use Rattle.serde_json.specs.View.{view}
 use Rattle.check_drafts.specs.Fault as fault
@@ -12,7 +12,7 @@ abbrev pub list_fault : ListFault → Option Fault
 list_fault (faults.Shape place value) = Some (wrong_at place (view value.now))
 list_fault faults.Memory = None
 
--- something is wrong with the value by the table
+-- the value has a fault by the table
 abbrev pub IsWrong : Option Fault → Type 0
 IsWrong (Some (fault.shape place w)) = is_some w ≡ true
 IsWrong other = Unit {0}

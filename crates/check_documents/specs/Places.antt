@@ -1,4 +1,4 @@
--- What stands at the places of a document.
+-- The values at the places of a document.
 use Rattle.std.specs.Prelude.{ℕ, Option, Some, None}
 use Rattle.serde_json.specs.Data.{Data, Items, no_items}
 use Rattle.serde_json.specs.Find.{as_array, at, get}
@@ -26,6 +26,6 @@ abbrev pub or_no_items : Option Items → Items
 or_no_items None = no_items
 or_no_items (Some ds) = ds
 
--- the items of a list of the document; one that is absent or no array has none
+-- the items of a list of the document; a list that is absent or isn't an array has none
 abbrev pub items_at : Data → Part → Items
 items_at d p = or_no_items (value_of_part d p >=> as_array)

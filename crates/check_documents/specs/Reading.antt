@@ -1,4 +1,4 @@
--- The drafts of a document, by its tree; or its first fault of shape, and what is wrong there by the table of members.
+-- The drafts of a document, from its tree; or the document's first fault of shape, by the table of members.
 use Rattle.std.specs.Prelude.{ℕ, ◌+◌, Bool, true, List, [], ◌∷◌, Option, Some, None, option_and_then, Result, Ok, Err, ok_or}
 use Rattle.std.specs.Prelude.{if◌then◌else◌}
 use Rattle.serde_json.specs.Data.{Data, Items, no_items, item}
@@ -38,7 +38,7 @@ items_from shape place i (item d ds) = do
   more ← items_from shape place (i + 1) ds
   Ok (first ∷ more)
 
--- a member that is a list of such items; without it there are none
+-- a member that is a list of such items; a member that is absent has no items
 abbrev pub list_of : {A : Type 0} → (Data → Option A) → Place → (ℕ → Place) → Option Data → Result (List A) Fault
 list_of shape whole place None = Ok []
 list_of shape whole place (Some d) = do
@@ -59,7 +59,7 @@ check_draft d =
 abbrev pub host_members : List (List ℕ)
 host_members = names members.host_members
 
--- A host has a name, and may name its parents.
+-- A host has a name, and can name its parents.
 unfoldable pub host_draft : Data → Option HostDraft
 host_draft d = if has_only host_members d then
     (option_and_then as_str (get members.host_name.name d) >=> λ name.
@@ -85,7 +85,7 @@ service_draft d = if has_only service_members d then
 abbrev pub dependency_members : List (List ℕ)
 dependency_members = names (members.dependency_members kind.ServiceLetters)
 
--- A dependency names who depends on whom, and has criteria with these letters.
+-- A dependency names its dependent and its master, and has criteria with these letters.
 unfoldable pub dependency_draft : List (List ℕ) → Data → Option DependencyDraft
 dependency_draft letters d = if has_only dependency_members d then
     (option_and_then as_str (get members.dependent.name d) >=> λ dependent.
@@ -110,25 +110,25 @@ abbrev pub has_option_members : Option Data → Bool
 has_option_members None = true
 has_option_members (Some d) = has_only option_members d
 
--- the method that holds without a member
+-- the method that is used without a member
 abbrev pub delay_by_default : Option DefaultValue → Option DelayMethod
 delay_by_default (Some default.Smart) = Some method.Smart
 delay_by_default other = None
 
--- the factor that holds without a member
+-- the factor that is used without a member
 abbrev pub factor_by_default : Option DefaultValue → Option InterleaveFactor
 factor_by_default (Some default.Smart) = Some factor.Smart
 factor_by_default other = None
 
--- the delay of a member of an object that may be absent itself
+-- the delay of a member of an object, which can be absent itself
 abbrev pub delay_in : Row → Option Data → Option DelayMethod
 delay_in m value = read_by delay_method (delay_by_default m.default) (member_of m.name value)
 
--- the factor of a member of an object that may be absent itself
+-- the factor of a member of an object, which can be absent itself
 abbrev pub factor_in : Row → Option Data → Option InterleaveFactor
 factor_in m value = read_by interleave_factor (factor_by_default m.default) (member_of m.name value)
 
--- the options, each with its default where it isn't named, but the thresholds of flapping, for which 0 stands
+-- the options, except that the thresholds of flapping are 0; an option that isn't named has its default
 unfoldable pub options_but_thresholds : Option Data → Option Options
 options_but_thresholds value =
     number_in members.interval_length value >=> λ interval_length.
@@ -156,7 +156,7 @@ options_but_thresholds value =
       high_host_flap_threshold = 0;
     })))))))))
 
--- these options with the thresholds of flapping, each with its default where it isn't named
+-- these options with the thresholds of flapping; a threshold that isn't named has its default
 unfoldable pub with_thresholds : Option Data → Options → Option Options
 with_thresholds value options =
     number_in members.low_service_flap_threshold value >=> λ low_service.
@@ -170,7 +170,7 @@ with_thresholds value options =
       high_host_flap_threshold = high_host;
     }))))
 
--- the member `options`; what it doesn't name has its default
+-- the member `options`; an option that it doesn't name has its default
 abbrev pub options_of : Option Data → Option Options
 options_of value = if has_option_members value then options_but_thresholds value >=> with_thresholds value else None
 

@@ -1,4 +1,4 @@
--- What is wrong with the shape of a value, by the table of members.
+-- Faults in the shape of a value, by the table of members.
 use Rattle.std.specs.Prelude.{ℕ, ◌&&◌, Bool, true, false, not, List, [], ◌∷◌, Option, Some, None, find, is_some, is_none, map, option_map}
 use Rattle.std.specs.Prelude.{position, if◌then◌else◌}
 use Rattle.serde_json.specs.Data.{Data, Members, no_members, member}
@@ -18,12 +18,12 @@ use Rattle.check_documents.specs.Values.{delay_method, interleave_factor}
 abbrev pub names : List Row → List (List ℕ)
 names ms = map (λ m. m.name) ms
 
--- the first of two, if it is there, else the second
+-- the first of two, if it exists, otherwise the second
 abbrev pub first_of : {A : Type 0} → Option A → Option A → Option A
 first_of None other = other
 first_of (Some x) other = Some x
 
--- whether a value is of a kind; a number beyond its limits is
+-- whether a value is of a kind; a number beyond its limits still is
 abbrev pub has_kind : Kind → Data → Bool
 has_kind (kind.Part p) d = true
 has_kind kind.Text d = is_some (as_str d)
@@ -40,11 +40,11 @@ abbrev pub keys_in : Members → List (List ℕ)
 keys_in no_members = []
 keys_in (member k d ms) = k ∷ keys_in ms
 
--- the first member of an object, by its index, that has none of these names
+-- the index of the first member of an object that has none of these names
 abbrev pub first_unknown : List (List ℕ) → Members → Option ℕ
 first_unknown known ms = position (λ key. not (is_among known key)) (keys_in ms)
 
--- whether a member is required and isn't there
+-- whether a member is required and is missing
 abbrev pub is_missing : Data → Row → Bool
 is_missing d m = is_required m && is_none (get m.name d)
 
@@ -53,11 +53,11 @@ abbrev pub is_other : Kind → Option Data → Bool
 is_other k None = false
 is_other k (Some v) = not (has_kind k v)
 
--- whether a member is there and isn't of its kind
+-- whether a member is present and isn't of its kind
 abbrev pub is_misfit : Data → Row → Bool
 is_misfit d m = is_other m.kind (get m.name d)
 
--- what is wrong with an object that may have these members: the first unknown one, else the first missing one, else the first misfit
+-- the fault of an object that can have these members: the first unknown member, otherwise the first missing one, otherwise the first misfit
 abbrev pub wrong_member : List Row → Data → Members → Option WrongShape
 wrong_member ms d inside =
     first_of (option_map fault.unknown (first_unknown (names ms) inside))
@@ -67,15 +67,15 @@ abbrev pub wrong_inside : List Row → Data → Option Members → Option WrongS
 wrong_inside ms d None = Some fault.no_object
 wrong_inside ms d (Some inside) = wrong_member ms d inside
 
--- what is wrong with a value that has to be an object with such members, if anything is
+-- the fault of a value that must be an object with these members, if it has one
 abbrev pub wrong_object : List Row → Data → Option WrongShape
 wrong_object ms d = wrong_inside ms d (as_object d)
 
--- what is wrong with a value that has to be a list, if anything is
+-- the fault of a value that must be a list, if it has one
 abbrev pub wrong_list : Data → Option WrongShape
 wrong_list d = if is_some (as_array d) then None else Some fault.no_array
 
--- what is wrong with the shape of a value that may have such members, and that is a list where it may have none
+-- the fault in the shape of a value that can have these members; a value that can have none must be a list
 abbrev pub wrong_value : Option (List Row) → Data → Option WrongShape
 wrong_value None d = wrong_list d
 wrong_value (Some ms) d = wrong_object ms d

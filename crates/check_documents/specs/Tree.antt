@@ -1,4 +1,4 @@
--- The tree that `serde_json` reads, and what its values are read as.
+-- The tree that `serde_json` reads, and how its values are read.
 use Rattle.std.specs.Prelude.{ℕ, ◌&&◌, Bool, true, false, List, [], ◌∷◌, Option, Some, None, option_and_then, bytes_eq, if◌then◌else◌}
 use Rattle.std.specs.List.{list_any}
 use Rattle.std.specs.Str.{is_utf8}
@@ -20,7 +20,7 @@ abbrev pub only_members : List (List ℕ) → Members → Bool
 only_members names no_members = true
 only_members names (member k d ms) = is_among names k && only_members names ms
 
--- whether it is an object whose members all have one of the names
+-- whether a value is an object whose members all have one of the names
 abbrev pub has_only : List (List ℕ) → Data → Bool
 has_only names (object ms) = only_members names ms
 has_only names d = false
@@ -29,23 +29,23 @@ has_only names d = false
 abbrev pub whole_number : Data → Option ℕ
 whole_number d = option_and_then as_u64 (as_number d)
 
--- a member read by parse, or the default where it is absent
+-- a member read by parse, or the default if it is absent
 abbrev pub member_or : {A : Type 0} → (Data → Option A) → A → Option Data → Option A
 member_or parse default None = Some default
 member_or parse default (Some d) = parse d
 
--- a member read by parse; where it is absent the default, and no value where there is none
+-- a member read by parse; if it is absent, the default, or no value if it has no default
 abbrev pub read_by : {A : Type 0} → (Data → Option A) → Option A → Option Data → Option A
 read_by parse (Some default) value = member_or parse default value
 read_by parse None value = option_and_then parse value
 
 infixl 10 ◌>=>◌
--- what follows, if there is a value
+-- the next value, if there is a value
 abbrev pub ◌>=>◌ : {A B : Type 0} → Option A → (A → Option B) → Option B
 None >=> f = None
 (Some x) >=> f = f x
 
--- a member of an object that may be absent itself
+-- a member of an object, which can be absent itself
 abbrev pub member_of : List ℕ → Option Data → Option Data
 member_of name value = option_and_then (get name) value
 
@@ -54,15 +54,15 @@ abbrev pub texts_of : Items → Option (List (List ℕ))
 texts_of no_items = Some []
 texts_of (item d ds) = as_str d >=> λ t. (texts_of ds >=> λ ts. Some (t ∷ ts))
 
--- the texts of a member that is an array of them; without it there are none
+-- the texts of a member that is an array of texts; a member that is absent has no texts
 abbrev pub texts_in : Option Data → Option (List (List ℕ))
 texts_in None = Some []
 texts_in (Some d) = as_array d >=> texts_of
 
--- the whole number of a member of an object that may be absent itself
+-- the whole number of a member of an object, which can be absent itself
 abbrev pub number_in : Row → Option Data → Option ℕ
 number_in m value = read_by whole_number (default_number m) (member_of m.name value)
 
--- the truth value of a member of an object that may be absent itself
+-- the truth value of a member of an object, which can be absent itself
 abbrev pub switch_in : Row → Option Data → Option Bool
 switch_in m value = read_by as_bool (default_switch m) (member_of m.name value)

@@ -8,7 +8,7 @@ use Rattle.check_drafts.specs.declared.options.InterleaveFactor.{InterleaveFacto
 use Rattle.check_drafts.specs.declared.options.InterleaveFactor.TheVariants as factor
 use Rattle.check_documents.specs.Tree.{whole_number, ◌>=>◌}
 
--- a value by the text that it is, or the other one if it is no text
+-- a value by its text, or the other value if it isn't a text
 abbrev pub by_text : {A : Type 0} → (List ℕ → Option A) → Option A → Option (List ℕ) → Option A
 by_text from_letter other None = other
 by_text from_letter other (Some text) = from_letter text

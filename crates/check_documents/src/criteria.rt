@@ -6,7 +6,7 @@ ghost use Rattle.check_documents.specs.Criteria.{criteria_of, found_in, with_pie
 
 use check_drafts::Criteria;
 
-/// The letters that the pieces of a text are, so far.
+/// The letters so far among the pieces of a text.
 #[derive(Clone, Copy)]
 struct Found {
     /// Whether each piece so far is one of the letters.
@@ -29,8 +29,7 @@ const NOTHING: Found = Found {
     },
 };
 
-/// The criteria of a text: some of these letters, with one comma between two of them. The text is
-/// gone through once.
+/// The criteria of a text: some of these letters, with one comma between two of them. The text is read once.
 #[tactic(auto, unfolding(crate::specs::Criteria::criteria_of))]
 pub(crate) fn read_criteria(text: &str, letters: &[&str]) -> Option<Criteria>
     ensures { result ≡ criteria_of (map (λ letter. letter.now) letters.now) text.now }
@@ -69,7 +68,7 @@ fn with_piece(found: Found, piece: &str, letters: &[&str]) -> Found
     }
 }
 
-/// Whether the pieces before were letters, and this one is.
+/// Whether the earlier pieces were letters, and this one is.
 fn are_known(before: bool, piece: &str, letters: &[&str]) -> bool
     ensures { result ≡ (before && is_among (map (λ letter. letter.now) letters.now) piece.now) }
 {
@@ -83,7 +82,7 @@ fn is_letter(piece: &str, letters: &[&str]) -> bool
     letters.iter().any(|letter| *letter == piece)
 }
 
-/// Whether a letter was there before, or is this piece.
+/// Whether a letter was found before, or is this piece.
 fn is_found(before: bool, piece: &str, letter: &str) -> bool
     ensures { result ≡ (before || bytes_eq piece.now letter.now) }
 {

@@ -1,4 +1,4 @@
-//! Laws of the definitions, each the contract of a function without parameters and code.
+//! Laws of the definitions. Each is the contract of a function without parameters and code.
 ghost use Rattle.std.specs.Prelude.{◌≡◌, ℕ, is_none, is_some, List, Option, Some};
 ghost use Rattle.serde_json.specs.Data.{Data};
 ghost use Rattle.check_drafts.specs.declared.member.Kind.TheVariants as kind;
@@ -11,9 +11,9 @@ ghost use Rattle.check_documents.specs.Fields.{IsDependencyBy, IsHostBy, IsOptio
 ghost use Rattle.check_documents.specs.Shapes.{wrong_object};
 ghost use Rattle.check_documents.specs.Tree.{has_only};
 
-/// Reading the document and its options follows the table of members: each is read if and only if
-/// nothing is wrong with it by the table. So the names, the kinds and the required members are those of
-/// the table. Defaults and limits of numbers are taken from it.
+/// Reading the document and its options follows the table of members. Each of the two is read if and only if
+/// the table finds no fault in it. So the names, the kinds and the required members are those of the table.
+/// Defaults and limits of numbers are taken from it.
 #[tactic(auto, using(crate::proofs::ReadingLaws::document_by_table, crate::proofs::ReadingLaws::options_by_table))]
 pub fn the_document_is_read_by_the_table()
     ensures document { (d : Data) → has_only document_members d

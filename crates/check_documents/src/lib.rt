@@ -1,6 +1,6 @@
-//! A setup document: from its bytes to a tree, and from the tree to drafts.
+//! A setup document: reads its bytes to a tree, and the tree to drafts.
 //!
-//! [`read_tree`] refuses a document that isn't JSON, [`read_drafts`] one without the right shape. The
+//! [`read_tree`] refuses a document that isn't JSON, and [`read_drafts`] one without the right shape. The
 //! crate `check_faults` reports all other faults of drafts.
 #![tactic(auto)]
 

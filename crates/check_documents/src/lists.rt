@@ -1,4 +1,4 @@
-//! The lists of a document: each is read item by item, up to the first that hasn't the right shape.
+//! The lists of a document. Each is read item by item, up to the first item with a wrong shape.
 ghost use Rattle.std.specs.Prelude.{◌≡◌, List, ℕ, Option, map, option_map};
 ghost use Rattle.serde_json.specs.Data.{Data};
 ghost use Rattle.serde_json.specs.View.{view, items_view};
@@ -14,7 +14,7 @@ use check_drafts::{Fault, Part, Place};
 use serde_json::Value;
 use std::alloc::{AllocFailed, Global};
 
-/// Why a list isn't read.
+/// Why a list can't be read.
 #[derive(Clone, Copy)]
 pub(crate) enum ListFault<'v> {
     /// The value at this place has another shape.
@@ -31,7 +31,7 @@ impl<'v, T: Drop> From<AllocFailed<T>> for ListFault<'v> {
     }
 }
 
-/// The fault of a document whose list isn't read.
+/// The fault of a document with a list that can't be read.
 pub(crate) fn fault_of(fault: ListFault) -> Fault
     requires { IsWrong (list_fault fault) }
     ensures { but_memory (seen result) ≡ list_fault fault.entry }
@@ -42,8 +42,8 @@ pub(crate) fn fault_of(fault: ListFault) -> Fault
     }
 }
 
-/// An item of a list. An implementation names an item as the definitions see it (`Seen`, `seen`),
-/// and what a value says as one (`shape`), if it has the shape of one at all.
+/// An item of a list. An implementation names the item as the definitions see it (`Seen`, `seen`). It also
+/// names the item that a value describes (`shape`), if the value has the shape of one.
 pub(crate) trait Item<'v>: Drop {
     ghost Seen: { Type 0 };
 
@@ -51,15 +51,15 @@ pub(crate) trait Item<'v>: Drop {
 
     ghost shape: { List (List ℕ) → Data → Option Seen };
 
-    /// The item that a value is, or None if it has another shape. The letters are those that criteria
-    /// can have, for an item that has criteria.
+    /// The item that a value describes, or None if the value has another shape. If the item has criteria, the
+    /// letters are those that they can have.
     fn read(value: &'v Value, letters: &[&str]) -> Option<Self>
         ensures { option_map seen result
             ≡ shape (map (λ letter. letter.now) letters.now) (view value.now) };
 }
 
-/// The items of a part of the document, or the first value that has another shape. A part that is
-/// absent has none.
+/// The items of a part of the document, or the first value with another shape. A part that is absent has no
+/// items.
 pub(crate) fn read_list<'v, T: Item<'v>>(
     alloc: Global,
     value: Option<&'v Value>,

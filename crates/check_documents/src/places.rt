@@ -27,7 +27,7 @@ fn value_of_part(tree: &Value, part: Part) -> Option<&Value>
     }
 }
 
-/// The items of a list of the document. A list that is absent, or isn't an array, has no items.
+/// The items of a list of the document. A list that is absent or isn't an array has no items.
 pub fn items(tree: &Value, part: Part) -> &[Value]
     ensures { items_view result.now ≡ items_at (view tree.now) part }
 {

@@ -1,4 +1,4 @@
-//! Reading drafts from a document's tree. Every fault of shape is found here, and no other fault is.
+//! Reads drafts from a document's tree. This finds every fault of shape, and no other fault.
 ghost use Rattle.std.specs.Prelude.{◌≡◌, map, ok_or, option_map};
 ghost use Rattle.serde_json.specs.View.{view};
 ghost use Rattle.check_drafts.specs.Fault.{Tells};
@@ -33,9 +33,9 @@ use check_drafts::{
 use serde_json::Value;
 use std::alloc::Global;
 
-/// The drafts of a document's tree, or its first fault of shape, in the order of the document's
-/// members in [`Part`]. The fault names the member at fault by the table of members. If memory runs out,
-/// it is `Memory`.
+/// The drafts of a document's tree, or its first fault of shape, in the order of the document's members in
+/// [`Part`]. The fault names the member at fault by the table of members. If memory runs out, the fault is
+/// `Memory`.
 #[tactic(auto, unfolding(crate::specs::Reading::drafts_of))]
 pub fn read_drafts<'v>(alloc: Global, tree: &'v Value) -> Result<Drafts<'v>, Fault>
     ensures { Tells drafts_view result (drafts_of (view tree.now)) }
@@ -133,7 +133,7 @@ fn options_of(value: Option<&Value>) -> Option<Options>
     with_thresholds(value, options_but_thresholds(value)?)
 }
 
-/// The options, each with its default if it isn't named, except for the thresholds of flapping, which are 0.
+/// The options, except that the thresholds of flapping are 0. An option that isn't named has its default.
 #[tactic(auto, unfolding(crate::specs::Reading::options_but_thresholds))]
 fn options_but_thresholds(value: Option<&Value>) -> Option<Options>
     ensures { result ≡ options_but_thresholds (option_map (λ v. view v.now) value.entry) }
@@ -178,7 +178,7 @@ fn has_option_members(value: Option<&Value>) -> bool
     }
 }
 
-/// The delay of a member of an object that may be absent itself. Without the member it is the default,
+/// The delay of a member of an object. The object can be absent itself. Without the member it is the default,
 /// or None if the member is required.
 fn delay_in(object: Option<&Value>, wanted: Member) -> Option<DelayMethod>
     ensures { result ≡ delay_in (as_row wanted) (option_map (λ v. view v.now) object.entry) }
@@ -211,8 +211,8 @@ pub(crate) fn delay_method(value: &Value) -> Option<DelayMethod>
     }
 }
 
-/// The factor of a member of an object that may be absent itself. Without the member it is the default,
-/// or None if the member is required.
+/// The factor of a member of an object. The object can be absent itself. Without the member it is the
+/// default, or None if the member is required.
 fn factor_in(object: Option<&Value>, wanted: Member) -> Option<InterleaveFactor>
     ensures { result ≡ factor_in (as_row wanted) (option_map (λ v. view v.now) object.entry) }
 {

@@ -28,7 +28,7 @@ pub(crate) fn shape_fault(place: Place, value: &Value) -> Fault
     Fault::Shape(place, wrong_shape(place, value).unwrap())
 }
 
-/// The fault of shape of the value at a place, or None if its shape is right.
+/// The fault in the shape of the value at a place, or None if its shape is right.
 fn wrong_shape(place: Place, value: &Value) -> Option<ShapeFault>
     ensures { option_map shape_seen result ≡ wrong_value (members_at place) (view value.now) }
 {
@@ -38,7 +38,7 @@ fn wrong_shape(place: Place, value: &Value) -> Option<ShapeFault>
     }
 }
 
-/// The fault of a value that has to be a list, or None if it is one.
+/// The fault of a value that must be a list, or None if it is one.
 fn wrong_list(value: &Value) -> Option<ShapeFault>
     ensures { option_map shape_seen result ≡ wrong_list (view value.now) }
 {
@@ -49,7 +49,7 @@ fn wrong_list(value: &Value) -> Option<ShapeFault>
     }
 }
 
-/// The fault of a value that has to be an object with such members, or None if it is one.
+/// The fault of a value that must be an object with these members, or None if it is one.
 fn wrong_object(value: &Value, members: &[Member]) -> Option<ShapeFault>
     ensures { option_map shape_seen result ≡ wrong_object (map as_row members.now) (view value.now) }
 {
@@ -59,7 +59,7 @@ fn wrong_object(value: &Value, members: &[Member]) -> Option<ShapeFault>
     }
 }
 
-/// The fault of the first member at fault of an object, or None if all its members are right.
+/// The fault of an object's first member at fault, or None if all its members are right.
 fn wrong_member(
     value: &Value,
     object: &Map<String, Value>,
@@ -78,7 +78,7 @@ fn wrong_member(
     Some(ShapeFault::Misfit(member))
 }
 
-/// The first member of an object, by its index, that isn't one of these.
+/// The index of the first member of an object that isn't one of these.
 fn first_unknown(object: &Map<String, Value>, members: &[Member]) -> Option<usize>
     ensures { result ≡ first_unknown (names (map as_row members.now))
         (members_view object.now.entries) }
@@ -96,7 +96,7 @@ fn unknown_key(object: &Map<String, Value>, members: &[Member]) -> Option<usize>
         .position(|key| !is_known(key.as_str(), members))
 }
 
-/// The first of these members that is required and isn't there.
+/// The first of these members that is required and is missing.
 fn first_missing(object: &Value, members: &[Member]) -> Option<Member>
     ensures { option_map as_row result ≡ find (is_missing (view object.now)) (map as_row members.now) }
 {
@@ -114,7 +114,7 @@ fn is_missing(object: &Value, member: Member) -> bool
     member.is_required() && object.get(member.name).is_none()
 }
 
-/// The first of these members that is there and isn't of its kind.
+/// The first of these members that is present and isn't of its kind.
 fn first_misfit(object: &Value, members: &[Member]) -> Option<Member>
     ensures { option_map as_row result ≡ find (is_misfit (view object.now)) (map as_row members.now) }
 {
@@ -135,7 +135,7 @@ fn is_misfit(object: &Value, member: Member) -> bool
     }
 }
 
-/// Whether a value is of a kind. A number beyond its limits is.
+/// Whether a value is of a kind. A number beyond its limits still is.
 fn has_kind(value: &Value, kind: Kind) -> bool
     ensures { result ≡ has_kind kind (view value.now) }
 {
@@ -152,7 +152,7 @@ fn has_kind(value: &Value, kind: Kind) -> bool
     }
 }
 
-/// Whether a value is a text of these letters with one comma between two of them.
+/// Whether a value is a text of these letters, with one comma between two of them.
 fn has_letters(value: &Value, letters: &[&str]) -> bool
     ensures { result ≡ is_some
         (as_str (view value.now) >=> criteria_of (map (λ letter. letter.now) letters.now)) }

@@ -1,4 +1,4 @@
-//! Looking into the tree that `serde_json` reads from a document.
+//! Looks into the tree that `serde_json` reads from a document.
 ghost use Rattle.std.specs.Prelude.{◌≡◌, map, option_map, ok_or, is_some, string_bytes, bytes_eq};
 ghost use Rattle.std.specs.List.{list_all, list_any};
 ghost use Rattle.std.specs.BTreeMap.{keys};
@@ -62,7 +62,7 @@ pub(crate) fn is_known(key: &str, members: &[Member]) -> bool
     members.iter().any(|member| member.name == key)
 }
 
-/// A member of an object that may be absent itself.
+/// A member of an object. The object can be absent itself.
 pub(crate) fn member<'v>(value: Option<&'v Value>, name: &str) -> Option<&'v Value>
     ensures { option_map (λ v. view v.now) result
         ≡ member_of name.now (option_map (λ v. view v.now) value.entry) }
@@ -73,7 +73,7 @@ pub(crate) fn member<'v>(value: Option<&'v Value>, name: &str) -> Option<&'v Val
     }
 }
 
-/// The whole number of a member of an object that may be absent itself. Without the member it is the
+/// The whole number of a member of an object. The object can be absent itself. Without the member it is the
 /// default, or None if the member is required.
 pub(crate) fn number_in(object: Option<&Value>, wanted: Member) -> Option<u64>
     ensures { result ≡ number_in (as_row wanted) (option_map (λ v. view v.now) object.entry) }
@@ -84,7 +84,7 @@ pub(crate) fn number_in(object: Option<&Value>, wanted: Member) -> Option<u64>
     }
 }
 
-/// The truth value of a member of an object that may be absent itself. Without the member it is the
+/// The truth value of a member of an object. The object can be absent itself. Without the member it is the
 /// default, or None if the member is required.
 pub(crate) fn switch_in(object: Option<&Value>, wanted: Member) -> Option<bool>
     ensures { result ≡ switch_in (as_row wanted) (option_map (λ v. view v.now) object.entry) }
@@ -95,7 +95,7 @@ pub(crate) fn switch_in(object: Option<&Value>, wanted: Member) -> Option<bool>
     }
 }
 
-/// A member that is an array of texts; without it there are none.
+/// The texts of a member that is an array of texts. A member that is absent has no texts.
 pub(crate) fn texts_in<'v>(value: Option<&'v Value>) -> Option<&'v [Value]>
     ensures { option_map (λ items. map text items.now) result
         ≡ texts_in (option_map (λ v. view v.now) value.entry) }

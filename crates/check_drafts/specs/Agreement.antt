@@ -1,14 +1,14 @@
--- How a function of the code agrees with what the definitions say, running out of memory aside. The code's error is of any
--- type; `refusal` says which refusal an error is, if it isn't that the code is out of memory.
+-- How a function of the code agrees with the definitions, except when it runs out of memory. The code's error is of any type. `refusal` gives the
+-- refusal that an error is, and None if the code is out of memory.
 use Rattle.std.specs.Prelude.{◌≡◌, ℕ, ◌+◌, List, [], ◌∷◌, ◌++◌, Option, Some, None, Result, Ok, Err}
 
 infixl 10 ◌>>=◌
--- what follows, unless there was a refusal before it
+-- the next result, unless there was a refusal before it
 abbrev pub ◌>>=◌ : {A B E : Type 0} → Result A E → (A → Result B E) → Result B E
 (Ok x) >>= f = f x
 (Err e) >>= f = Err e
 
--- a list that goes on with what follows
+-- a list, followed by the rest
 abbrev pub with_front : {A E : Type 0} → List A → Result (List A) E → Result (List A) E
 with_front front rest = rest >>= λ more. Ok (front ++ more)
 
@@ -27,21 +27,21 @@ abbrev pub refused_as : {A E F : Type 0} → (E → F) → Result A E → Result
 refused_as fault (Ok x) = Ok x
 refused_as fault (Err e) = Err (fault e)
 
--- Every item of a list, the first of which has this index, passes a test; else the refusal of the first one that doesn't.
+-- Every item of a list passes a test, and this is the index of its first item; otherwise the refusal of the first item that doesn't pass.
 abbrev pub each_from : {A E : Type 0} → (ℕ → A → Result (Unit {0}) E) → ℕ → List A → Result (Unit {0}) E
 each_from test i [] = Ok tt
 each_from test i (x ∷ xs) = test i x >>= λ _. each_from test (i + 1) xs
 
--- the same of a whole list
+-- the same for a whole list
 abbrev pub each : {A E : Type 0} → (ℕ → A → Result (Unit {0}) E) → List A → Result (Unit {0}) E
 each test xs = each_from test 0 xs
 
--- the refusal is the one that is defined; where there is none the code is out of memory, which says nothing
+-- the refusal is the defined one; without a refusal the code is out of memory, which says nothing
 abbrev pub Fails : {Y R : Type 0} → Option R → Result Y R → Type 0
 Fails None expected = Unit {0}
 Fails (Some refusal) expected = expected ≡ Err refusal
 
--- what the code returned, seen by view, is what is defined, unless memory ran out
+-- the result of the code, seen by view, is the defined one, unless memory ran out
 abbrev pub Gives : {X Y E R : Type 0} → (E → Option R) → (X → Y) → Result X E → Result Y R → Type 0
 Gives refusal view (Ok x) expected = expected ≡ Ok (view x)
 Gives refusal view (Err e) expected = Fails (refusal e) expected

@@ -1,22 +1,22 @@
--- What a document says, before its names and numbers are verified.
+-- The contents of a document, before its names and numbers are verified.
 use Rattle.std.specs.Prelude.{ℕ, Bool, List}
 use Rattle.check_drafts.specs.declared.dependency.Criteria.{Criteria}
 use Rattle.check_drafts.specs.declared.draft.CheckDraft.{CheckDraft}
 use Rattle.check_drafts.specs.declared.options.Options.{Options}
 
--- a host as the document has it
+-- a host as the document describes it
 pub record HostDraft : Type 0 where
   pub name : List ℕ
   pub parents : List (List ℕ)
   pub check : CheckDraft
 
--- a service as the document has it
+-- a service as the document describes it
 pub record ServiceDraft : Type 0 where
   pub host : List ℕ
   pub description : List ℕ
   pub check : CheckDraft
 
--- a dependency as the document has it
+-- a dependency as the document describes it
 pub record DependencyDraft : Type 0 where
   pub dependent : List ℕ
   pub master : List ℕ

@@ -1,4 +1,4 @@
--- The ends of dependencies: whether what depends and what is depended on is there, and of the right sort.
+-- The ends of dependencies: whether the dependent and the master exist, and are of the right sort.
 use Rattle.std.specs.Prelude.{ℕ, ◌&&◌, Bool, List, Result, Ok, Err, map, bytes_eq, if◌then◌else◌}
 use Rattle.std.specs.List.{list_any}
 use Rattle.check_drafts.specs.declared.fault.End.{End}
@@ -27,11 +27,11 @@ full_names services = map (λ s. full_name (key_of s)) services
 abbrev pub has_known_ends : List (List ℕ) → DependencyDraft → Bool
 has_known_ends names d = is_known names d.dependent && is_known names d.master
 
--- what is wrong with an end that has none of the names of its sort, by the names of the other sort
+-- the fault of an end that has none of the names of its sort, given the names of the other sort
 abbrev pub wrong_end : List (List ℕ) → End → List ℕ → EndFault
 wrong_end others e name = if is_known others name then wrong.OtherSort e else wrong.Unknown e
 
--- an end has one of these names; the others are those of the other sort
+-- an end has one of these names; the other names are those of the other sort
 abbrev pub known_end : List (List ℕ) → List (List ℕ) → End → List ℕ → Result (Unit {0}) EndFault
 known_end names others e name = if is_known names name then Ok tt else Err (wrong_end others e name)
 
@@ -43,11 +43,11 @@ known_both names others d = known_end names others end.Dependent d.dependent >>=
 abbrev pub known_at : Part → List (List ℕ) → List (List ℕ) → ℕ → DependencyDraft → Result (Unit {0}) Fault
 known_at p names others i d = refused_as (fault.unknown_end (item_of_part p i)) (known_both names others d)
 
--- both ends of every dependency of a part have one of these names; else the first dependency with one that hasn't, and that end
+-- both ends of every dependency of a part have one of these names; otherwise the first dependency with an end that doesn't, and that end
 abbrev pub known_ends : Part → List (List ℕ) → List (List ℕ) → List DependencyDraft → Result (Unit {0}) Fault
 known_ends p names others ds = each (known_at p names others) ds
 
--- both ends of every dependency are there, those of services among the first names and those of hosts among the others
+-- both ends of every dependency exist: those of services are among the first names, and those of hosts among the second
 abbrev pub known_dependencies : List (List ℕ) → List (List ℕ) → Drafts → Result (Unit {0}) Fault
 known_dependencies services hosts drafts =
     known_ends part.ServiceDependencies services hosts drafts.service_dependencies >>= λ _.

@@ -1,4 +1,4 @@
--- What is wrong with a setup document: the refusal, and what the test that failed has found.
+-- Faults of a setup document: the refusal, and the details that the failed test has found.
 use Rattle.std.specs.Prelude.{ℕ, List, Option, Some, None, Result}
 use Rattle.check_drafts.specs.declared.error.LoadError.{LoadError}
 use Rattle.check_drafts.specs.declared.error.LoadError.TheVariants as errors
@@ -17,7 +17,7 @@ use Rattle.check_drafts.specs.Agreement as agreement
 use Rattle.check_drafts.specs.Member.{Row, as_row}
 use Rattle.check_drafts.specs.Place.{host_at, service_at}
 
--- what is wrong with the shape of a value: the index of an unknown member is that among the object's, in their order
+-- a fault in the shape of a value; the index of an unknown member is that among the object's members, in their order
 pub data WrongShape : Type 0 where
   no_array : WrongShape
   no_object : WrongShape
@@ -25,7 +25,7 @@ pub data WrongShape : Type 0 where
   missing : Row → WrongShape
   misfit : Row → WrongShape
 
--- which number is out of its limits, and the number; of thresholds the low and the high one
+-- which number is out of its limits, and the number; for thresholds the low and the high one
 pub data WrongNumber : Type 0 where
   beyond : Row → ℕ → WrongNumber
   service_thresholds : ℕ → ℕ → WrongNumber
@@ -34,7 +34,7 @@ pub data WrongNumber : Type 0 where
 pub data Fault : Type 0 where
   too_long : Fault
   not_json : Fault
-  -- what is wrong by the table of members; the reader never fails where that is nothing
+  -- the fault by the table of members; the reader never fails if there is no such fault
   shape : Place → Option WrongShape → Fault
   too_many : Count → ℕ → Fault
   bad_name : Place → NameFault → Fault
@@ -51,7 +51,7 @@ pub data Fault : Type 0 where
   parent_cycle : List ℕ → Fault
   memory : Fault
 
--- the refusal without what was found
+-- the refusal without the details
 abbrev pub load_error : Fault → LoadError
 load_error too_long = errors.TooLong
 load_error not_json = errors.NotJson
@@ -96,11 +96,11 @@ seen (faults.DependencyCycle p cycle) = dependency_cycle p cycle.items
 seen (faults.ParentCycle cycle) = parent_cycle cycle.items
 seen faults.Memory = memory
 
--- the fault that an error of the code is: each is one, but that the code is out of memory
+-- the fault that an error of the code is; None if the code is out of memory
 abbrev pub but_memory : Fault → Option Fault
 but_memory memory = None
 but_memory other = Some other
 
--- what the code returned, seen by view, is what is defined, unless memory ran out
+-- the result of the code, seen by view, is the defined one, unless memory ran out
 abbrev pub Tells : {X Y : Type 0} → (X → Y) → Result X declared.Fault → Result Y Fault → Type 0
 Tells view result expected = agreement.Gives (λ f. but_memory (seen f)) view result expected

@@ -1,4 +1,4 @@
--- A member of a setup document's objects: its name, what its value has to be, and what holds without it.
+-- A member of a setup document's objects: its name, the value that it must have, and its default.
 use Rattle.std.specs.Prelude.{ℕ, ◌&&◌, Bool, true, List, Option, Some, None, nat_le, is_none}
 use Rattle.check_drafts.specs.declared.member.DefaultValue.{DefaultValue}
 use Rattle.check_drafts.specs.declared.member.DefaultValue.TheVariants as default
@@ -6,11 +6,11 @@ use Rattle.check_drafts.specs.declared.member.Kind.{Kind}
 use Rattle.check_drafts.specs.declared.member.Kind.TheVariants as kind
 use Rattle.check_drafts.specs.declared.member.Member as declared
 
--- what reading goes by; what a member is for is left out, since nothing goes by it
+-- the fields that reading uses; the purpose of a member is left out, since reading doesn't use it
 pub record Row : Type 0 where
   pub name : List ℕ
   pub kind : Kind
-  -- None where the member is required
+  -- None if the member is required
   pub default : Option DefaultValue
 
 abbrev pub as_row : declared.Member → Row
@@ -20,14 +20,14 @@ as_row m = record { name = m.name.now; kind = m.kind; default = m.default }
 abbrev pub is_required : Row → Bool
 is_required m = is_none m.default
 
--- the least and the most that a number can be
+-- the least and the greatest value of a number
 abbrev pub limits_of : Kind → Option (ℕ × ℕ)
 limits_of (kind.Number low high) = Some (low, high)
 limits_of kind.Delay = Some (0, 86400000)
 limits_of kind.Factor = Some (1, 4096)
 limits_of other = None
 
--- whether a number is from the least to the most
+-- whether a number is from the least to the greatest value
 abbrev pub is_between : Option (ℕ × ℕ) → ℕ → Bool
 is_between None n = true
 is_between (Some limits) n = nat_le limits.0 n && nat_le n limits.1
@@ -36,7 +36,7 @@ is_between (Some limits) n = nat_le limits.0 n && nat_le n limits.1
 abbrev pub is_within_limits : Row → ℕ → Bool
 is_within_limits m n = is_between (limits_of m.kind) n
 
--- the number that holds without a member
+-- the number that is used without a member
 abbrev pub number_by_default : Option DefaultValue → Option ℕ
 number_by_default (Some (default.Number n)) = Some n
 number_by_default other = None
@@ -44,7 +44,7 @@ number_by_default other = None
 abbrev pub default_number : Row → Option ℕ
 default_number m = number_by_default m.default
 
--- the truth value that holds without a member
+-- the truth value that is used without a member
 abbrev pub switch_by_default : Option DefaultValue → Option Bool
 switch_by_default (Some (default.Switch b)) = Some b
 switch_by_default other = None

@@ -1,4 +1,4 @@
--- The members that each sort of object of a setup document may have.
+-- The members that each sort of object of a setup document can have.
 use Rattle.std.specs.Prelude.{ℕ, true, false, List, [], ◌∷◌, Option, Some, None, codes}
 use Rattle.check_drafts.specs.declared.member.DefaultValue.{DefaultValue}
 use Rattle.check_drafts.specs.declared.member.DefaultValue.TheVariants as default
@@ -9,7 +9,7 @@ use Rattle.check_drafts.specs.declared.place.Part.TheVariants as part
 use Rattle.check_drafts.specs.declared.place.Place.{Place}
 use Rattle.check_drafts.specs.Member.{Row}
 
--- a member that an object without it is refused for
+-- a required member: an object without it is refused
 abbrev pub required : List ℕ → Kind → Row
 required name kind = record { name = name; kind = kind; default = None }
 
@@ -132,7 +132,7 @@ master = required (codes "master") kind.Text
 abbrev pub criteria_name : List ℕ
 criteria_name = codes "criteria"
 
--- the criteria of a dependency, of letters that a service or a host may have
+-- the criteria of a dependency, of letters that a service or a host can have
 abbrev pub criteria : Kind → Row
 criteria letters = required criteria_name letters
 
@@ -145,7 +145,7 @@ dependency_members letters = dependent ∷ master ∷ criteria letters ∷ inher
 
 -- ---- by place
 
--- the word for a part: the name of the document's member that it is
+-- the name of a part: that of its member of the document
 abbrev pub part_name : Part → List ℕ
 part_name part.Document = codes "document"
 part_name part.Options = options.name
@@ -163,7 +163,7 @@ item_members part.Services = service_members
 item_members part.ServiceDependencies = dependency_members kind.ServiceLetters
 item_members part.HostDependencies = dependency_members kind.HostLetters
 
--- the members of an object at a part, at this index of its list where it has one; a list has none
+-- the members of an object of a part, with an index if it is an item of the part's list; a list has none
 abbrev pub members_of : Part → Option ℕ → Option (List Row)
 members_of part.Document index = Some document_members
 members_of part.Options index = Some option_members

@@ -1,4 +1,4 @@
--- The parts of a setup document by their numbers, and its places.
+-- The parts of a setup document with their numbers, and its places.
 use Rattle.std.specs.Prelude.{ℕ, ◌==◌, List, [], ◌∷◌, Option, Some, None, find}
 use Rattle.check_drafts.specs.declared.place.Place.{Place}
 use Rattle.check_drafts.specs.declared.place.Part.{Part}

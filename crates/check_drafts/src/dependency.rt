@@ -1,9 +1,9 @@
-//! Execution dependencies: which objects' checks wait for the states of which others.
+//! Execution dependencies: the checks of an object wait for the states of other objects.
 
-/// The letters that the criteria of a dependency between services may have.
+/// The letters that the criteria of a dependency between services can have.
 pub const SERVICE_LETTERS: [&str; 6] = ["o", "w", "u", "c", "p", "n"];
 
-/// The letters that the criteria of a dependency between hosts may have.
+/// The letters that the criteria of a dependency between hosts can have.
 pub const HOST_LETTERS: [&str; 5] = ["o", "u", "d", "p", "n"];
 
 /// The states of the master in which a dependency fails, one for each letter of the document's
@@ -22,7 +22,7 @@ pub struct Criteria {
     pub down: bool,
     /// `p`: never checked.
     pub pending: bool,
-    /// `n`: no state at all. It adds nothing to the others.
+    /// `n`: no state at all. This letter adds nothing to the others.
     pub none: bool,
 }
 
@@ -33,6 +33,6 @@ pub struct Dependency {
     pub master: u32,
     /// The states of the master in which the dependency fails.
     pub criteria: Criteria,
-    /// Whether the dependency fails too where one of the master's own does.
+    /// Whether the dependency also fails when one of the master's own dependencies fails.
     pub inherits: bool,
 }

@@ -1,6 +1,6 @@
-//! Drafts: what a document says once its members have the right names and kinds.
+//! Drafts: the contents of a document whose members have the right names and kinds.
 //!
-//! Texts are borrowed from the document's tree, and numbers are as the document has them.
+//! Texts are borrowed from the document's tree. Numbers are those of the document.
 ghost use Rattle.std.specs.Prelude.{◌≡◌};
 ghost use Rattle.check_drafts.specs.Text.{text};
 
@@ -8,7 +8,7 @@ use crate::dependency::Criteria;
 use crate::options::Options;
 use serde_json::Value;
 
-/// What a document says of how an object is checked.
+/// How an object is checked, as the document says it.
 #[derive(Clone, Copy)]
 pub struct CheckDraft {
     /// From one check to the next, in units of `interval_length`.
@@ -22,7 +22,7 @@ pub struct CheckDraft {
     pub enabled: bool,
 }
 
-/// What a document says of a host.
+/// A host as the document describes it.
 #[derive(Clone, Copy)]
 pub struct HostDraft<'v> {
     /// The host's name.
@@ -33,7 +33,7 @@ pub struct HostDraft<'v> {
     pub check: CheckDraft,
 }
 
-/// What a document says of a service.
+/// A service as the document describes it.
 #[derive(Clone, Copy)]
 pub struct ServiceDraft<'v> {
     /// The name of the service's host.
@@ -44,7 +44,7 @@ pub struct ServiceDraft<'v> {
     pub check: CheckDraft,
 }
 
-/// What a document says of a dependency, between services or between hosts.
+/// A dependency as the document describes it, between services or between hosts.
 #[derive(Clone, Copy)]
 pub struct DependencyDraft<'v> {
     /// The full name of the object that depends on the other.
@@ -53,14 +53,14 @@ pub struct DependencyDraft<'v> {
     pub master: &'v str,
     /// The states of the master in which the dependency fails.
     pub criteria: Criteria,
-    /// Whether the dependency fails too where one of the master's own does.
+    /// Whether the dependency also fails when one of the master's own dependencies fails.
     pub inherits: bool,
 }
 
 /// A document in the right shape. Each list is in the document's order.
 #[derive(Drop)]
 pub struct Drafts<'v> {
-    /// The options, each with its default where the document has none.
+    /// The options. An option that the document leaves out has its default.
     pub options: Options,
     /// The hosts.
     pub hosts: Vec<HostDraft<'v>>,
@@ -72,7 +72,7 @@ pub struct Drafts<'v> {
     pub host_dependencies: Vec<DependencyDraft<'v>>,
 }
 
-/// The text of a value that is one, as a parent's name is. Any other value has no byte.
+/// The text of a value, as a parent's name is one. A value that isn't a text gives no bytes.
 pub fn text(value: &Value) -> &str
     ensures { result.now ≡ text value.now }
 {

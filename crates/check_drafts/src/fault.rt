@@ -1,4 +1,4 @@
-//! What is wrong with a setup document: the refusal, and what the test that failed has found.
+//! Faults of a setup document: the refusal, and the details that the failed test has found.
 ghost use Rattle.std.specs.Prelude.{◌≡◌};
 ghost use Rattle.check_drafts.specs.Fault.{seen, load_error};
 ghost use Rattle.check_drafts.specs.declared.fault.Fault.TheVariants.{Memory};
@@ -8,7 +8,7 @@ use crate::member::Member;
 use crate::place::{Part, Place};
 use std::alloc::{AllocError, AllocFailed};
 
-/// Where reading a document stops that isn't JSON.
+/// The position at which reading stops in a document that isn't JSON.
 #[derive(Clone, Copy, Debug, PartialEq, Eq)]
 pub struct Unread {
     /// The line, from 1.
@@ -19,16 +19,16 @@ pub struct Unread {
     pub is_at_end: bool,
 }
 
-/// What is wrong with the shape of the value at a place. The first of these that holds, in the order of
+/// A fault in the shape of the value at a place. The first of these that holds is reported, in the order of
 /// the variants.
 #[derive(Clone, Copy, Debug, PartialEq, Eq)]
 pub enum ShapeFault {
-    /// A list of the document is no array.
+    /// A list of the document isn't an array.
     NotAnArray,
-    /// A value that has members is no object.
+    /// A value that has members isn't an object.
     NotAnObject,
-    /// A member that isn't in the table: the first of the object's, in the order of their names. This
-    /// is its index in that order, from 0.
+    /// A member isn't in the table: the first such member of the object, in the order of their names. The
+    /// number is its index in that order, from 0.
     Unknown(usize),
     /// A required member of the table is missing: the first one, in the order of the table.
     Missing(Member),
@@ -36,14 +36,14 @@ pub enum ShapeFault {
     Misfit(Member),
 }
 
-/// What is wrong with a name. The first of these that holds, in the order of the variants.
+/// A fault of a name. The first of these that holds is reported, in the order of the variants.
 #[derive(Clone, Copy, Debug, PartialEq, Eq)]
 pub enum NameFault {
-    /// It has no byte.
+    /// The name has no byte.
     Empty,
-    /// It has this many bytes, which is more than 255.
+    /// The name has this many bytes, which is more than 255.
     Long(usize),
-    /// It has this byte, which is below 32, 127 or a semicolon: the first such one.
+    /// The name contains this byte, which is below 32, or is 127 or a semicolon. It is the first such byte.
     Byte(u8),
 }
 
@@ -56,7 +56,7 @@ pub enum End {
     Master,
 }
 
-/// What is wrong with the ends of a dependency, the dependent before the master.
+/// A fault in the ends of a dependency. The dependent is tested before the master.
 #[derive(Clone, Copy, Debug, PartialEq, Eq)]
 pub enum EndFault {
     /// Neither a host nor a service has the name of this end.
@@ -66,18 +66,19 @@ pub enum EndFault {
     OtherSort(End),
 }
 
-/// Which number is out of its limits. The first of these that holds, in the order of the variants.
+/// Which number is out of its limits. The first of these that holds is reported, in the order of the
+/// variants.
 #[derive(Clone, Copy, Debug, PartialEq, Eq)]
 pub enum RangeFault {
-    /// The number of this member, and the number: the first one, in the order of the table.
+    /// The number of this member, and the number itself: the first one, in the order of the table.
     Beyond(Member, u64),
-    /// The low threshold of flapping of services is above the high one: both.
+    /// The low threshold for the flapping of services is above the high one. Both are given.
     ServiceThresholds(u64, u64),
-    /// The low threshold of flapping of hosts is above the high one: both.
+    /// The low threshold for the flapping of hosts is above the high one. Both are given.
     HostThresholds(u64, u64),
 }
 
-/// What there is too much of. The first of these that is past its limit, in the order of the variants.
+/// A count that is past its limit. The first of these that holds is reported, in the order of the variants.
 #[derive(Clone, Copy, Debug, PartialEq, Eq)]
 pub enum Count {
     /// More than 4,096 hosts and services together.
@@ -88,41 +89,41 @@ pub enum Count {
     Dependencies,
 }
 
-/// Why a setup was not read, as [`LoadError`] says, with what the test that failed has found.
+/// Why a setup was not read, as in [`LoadError`], with the details that the failed test has found.
 /// `LoadError::from` gives the refusal. The faults are our own profile.
 ///
 /// Indices are those of the document's lists, from 0.
 #[derive(Debug, Drop)]
 pub enum Fault {
-    /// More than 16,777,216 bytes.
+    /// The document has more than 16,777,216 bytes.
     TooLong,
-    /// `serde_json` gives no reading, for another cause than memory, and where it stops.
+    /// `serde_json` gives no reading, for another reason than memory. The position at which it stops.
     NotJson(Unread),
-    /// A member that is unknown, missing or of the wrong kind, and which.
+    /// A member is unknown, missing or of the wrong kind. The fault names the member.
     Shape(Place, ShapeFault),
-    /// Too many objects, parents or dependencies, and how many there are.
+    /// There are too many objects, parents or dependencies. The number of them is given.
     TooMany(Count, u64),
-    /// A host name or a service description that can't be one, and why.
+    /// A host name or a service description isn't allowed, and why.
     BadName(Place, NameFault),
-    /// A host or a service with the name of an earlier one, and the index of the first such one in the
-    /// same list.
+    /// A host or a service has the name of an earlier one. The index is that of the first one with this name
+    /// in the same list.
     Duplicate(Place, usize),
-    /// A host with a parent that isn't a host: the index of the host, and the index of the parent in the
-    /// host's list.
+    /// A parent of a host isn't a host. The first index is that of the host, the second that of the parent in
+    /// the host's list.
     UnknownParent(usize, usize),
-    /// A service whose host isn't a host: the index of the service.
+    /// The host of a service isn't a host. The index is that of the service.
     UnknownHost(usize),
-    /// A dependency with an end that is no object, or is of the other sort.
+    /// An end of a dependency isn't an object, or is of the other sort.
     UnknownEnd(Place, EndFault),
-    /// A number out of its limits, and which.
+    /// A number is out of its limits. The fault says which number.
     Range(Place, RangeFault),
-    /// Services or hosts each of which depends on the next one, and the last on the first: their
-    /// indices, from the one that comes first in the document.
+    /// A cycle of services or hosts: each depends on the next one, and the last on the first. The indices
+    /// begin with the object that comes first in the document.
     DependencyCycle(Part, Vec<usize>),
-    /// Hosts each of which has the next one for a parent, and the last the first: their indices, from the
-    /// one that comes first in the document.
+    /// A cycle of hosts: each has the next one for a parent, and the last has the first. The indices begin
+    /// with the host that comes first in the document.
     ParentCycle(Vec<usize>),
-    /// Out of memory. It may come in place of any answer but `TooLong`.
+    /// Out of memory. It can come in place of any result except `TooLong`.
     Memory,
 }
 

@@ -1,4 +1,4 @@
-//! Laws of the constants, each the contract of a function without parameters and code.
+//! Laws of the constants. Each is the contract of a function without parameters and code.
 
 ghost use Rattle.std.specs.Prelude.{◌≡◌};
 ghost use Rattle.check_drafts.specs.Place.{the_document, the_hosts, the_options, the_services};
@@ -36,7 +36,7 @@ pub fn limits_of_a_setup()
     ensures flap_threshold { MAX_FLAP_THRESHOLD ≡ 100 }
 {}
 
-/// The places of whole parts: each is the part that it is named after, with no index.
+/// The places of whole parts. Each place is the part after which it is named, without an index.
 pub fn places_of_whole_parts()
     ensures document { DOCUMENT ≡ the_document }
     ensures options { OPTIONS ≡ the_options }

@@ -1,10 +1,10 @@
-//! What a setup document says: its options, its hosts, services and dependencies as drafts, where a
-//! fault of it lies and which fault that is.
+//! The contents of a setup document: its options, and its hosts, services and dependencies as drafts. The
+//! crate also has the document's faults and their places.
 //!
-//! Drafts are the document's, in its order and by its names; nothing in them is verified. The values
-//! that a setup keeps, [`Options`], [`Object`], [`Criteria`] and [`Dependency`], stand here too, with
-//! the limits of a setup, which `laws` says as numbers, and the table of the members that a document
-//! may have (`members`).
+//! Drafts are in the document's order and use its names. Nothing in them is verified. This crate also has:
+//! - the values that a setup stores: [`Options`], [`Object`], [`Criteria`] and [`Dependency`];
+//! - `limits`: the limits of a setup, which `laws` states as numbers;
+//! - `members`: the table of the members that a document can have.
 #![tactic(auto)]
 
 mod dependency;

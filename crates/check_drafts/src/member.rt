@@ -1,14 +1,12 @@
-//! The members of a setup document's objects: what the value of one has to be, and what holds without
-//! it.
+//! The members of a setup document's objects: the value that each must have, and its default.
 
 use crate::limits::{MAX_DELAY, MAX_FACTOR};
 use crate::place::Part;
 
-/// What the value of a member has to be.
+/// The kind of value that a member must have.
 #[derive(Clone, Copy, Debug, PartialEq, Eq)]
 pub enum Kind {
-    /// A part of the document: its options, or one of its lists. What is wrong in it has a place of
-    /// its own.
+    /// A part of the document: its options, or one of its lists. A fault inside has a place of its own.
     Part(Part),
     /// A text.
     Text,
@@ -18,9 +16,9 @@ pub enum Kind {
     Switch,
     /// A whole number from `low` to `high`.
     Number {
-        /// The least that it can be.
+        /// The least value.
         low: u64,
-        /// The most that it can be.
+        /// The greatest value.
         high: u64,
     },
     /// An inter-check delay: `"n"`, `"d"`, `"s"`, or a whole number of milliseconds from 0 to
@@ -28,15 +26,13 @@ pub enum Kind {
     Delay,
     /// An interleave factor: `"s"`, or a whole number from 1 to [`MAX_FACTOR`].
     Factor,
-    /// The criteria of a dependency between services: letters of `SERVICE_LETTERS` with a comma
-    /// between two.
+    /// The criteria of a dependency between services: letters of `SERVICE_LETTERS`, with a comma between two.
     ServiceLetters,
-    /// The criteria of a dependency between hosts: letters of `HOST_LETTERS` with a comma between
-    /// two.
+    /// The criteria of a dependency between hosts: letters of `HOST_LETTERS`, with a comma between two.
     HostLetters,
 }
 
-/// What holds where an optional member is absent.
+/// The value that is used if an optional member is absent.
 #[derive(Clone, Copy, Debug, PartialEq, Eq)]
 pub enum DefaultValue {
     /// This number.
@@ -45,20 +41,20 @@ pub enum DefaultValue {
     Switch(bool),
     /// The smart delay or the smart factor, `"s"`.
     Smart,
-    /// Nothing is in it: no item of a list, no text, and of the options none.
+    /// Nothing: an empty list, an empty text, or options without members.
     Empty,
 }
 
-/// A member that an object of the document may have.
+/// A member that an object of the document can have.
 #[derive(Clone, Copy, Debug, PartialEq, Eq)]
 pub struct Member {
     /// Its name.
     pub name: &'static str,
-    /// What its value has to be.
+    /// The kind of value that it must have.
     pub kind: Kind,
-    /// What holds without it. None where an object without it is refused.
+    /// The value that is used without it. None if an object without it is refused.
     pub default: Option<DefaultValue>,
-    /// What it is for, in a line.
+    /// Its purpose, in one line.
     pub purpose: &'static str,
 }
 
@@ -66,7 +62,7 @@ impl Kind {
     ghost use Rattle.std.specs.Prelude.{◌≡◌};
     ghost use Rattle.check_drafts.specs.Member.{limits_of};
 
-    /// The least and the most that a number of the kind can be. None for a kind without numbers.
+    /// The least and the greatest number of the kind. None for a kind without numbers.
     pub fn limits(self) -> Option<(u64, u64)>
         ensures { result ≡ limits_of self }
     {
@@ -83,14 +79,14 @@ impl Member {
     ghost use Rattle.std.specs.Prelude.{◌≡◌};
     ghost use Rattle.check_drafts.specs.Member.{as_row, default_number, default_switch, is_required, is_within_limits};
 
-    /// Whether an object without it is refused.
+    /// Whether an object without this member is refused.
     pub fn is_required(self) -> bool
         ensures { result ≡ is_required (as_row self) }
     {
         self.default.is_none()
     }
 
-    /// Whether a number is within its limits. Every number is where its kind has none.
+    /// Whether a number is within its limits. If its kind has no limits, every number is.
     pub fn allows(self, number: u64) -> bool
         ensures { result ≡ is_within_limits (as_row self) number }
     {
@@ -100,7 +96,8 @@ impl Member {
         }
     }
 
-    /// The number that holds without it. None where it is required, or another kind's.
+    /// The number that is used without the member. None if the member is required, or its default is of
+    /// another kind.
     pub fn default_number(self) -> Option<u64>
         ensures { result ≡ default_number (as_row self) }
     {
@@ -110,7 +107,8 @@ impl Member {
         }
     }
 
-    /// The truth value that holds without it. None where it is required, or another kind's.
+    /// The truth value that is used without the member. None if the member is required, or its default is of
+    /// another kind.
     pub fn default_switch(self) -> Option<bool>
         ensures { result ≡ default_switch (as_row self) }
     {

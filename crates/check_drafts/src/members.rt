@@ -1,6 +1,6 @@
-//! The table of the members that each sort of object of a setup document may have (manual: Main
-//! Configuration File Options, Object Definitions; limits and defaults are our own profile where the
-//! manual has none). What reads a document, explains its faults or describes it goes by this table.
+//! The table of the members that each sort of object of a setup document can have (manual: Main Configuration
+//! File Options, Object Definitions). Limits and defaults that the manual doesn't give are our own profile.
+//! The code that reads a document, explains its faults or describes it uses this table.
 ghost use Rattle.std.specs.Prelude.{◌≡◌, option_map, map};
 ghost use Rattle.check_drafts.specs.Member.{as_row};
 ghost use Rattle.check_drafts.specs.Members.{members_at};
@@ -119,7 +119,7 @@ pub const MAX_HOST_CHECK_SPREAD: Member = Member {
     purpose: "within how many minutes the smart method has the first checks of all hosts due",
 };
 
-/// How many service checks may run at a time.
+/// How many service checks may run at the same time.
 pub const MAX_CONCURRENT_CHECKS: Member = Member {
     name: "max_concurrent_checks",
     kind: Kind::Number {
@@ -146,7 +146,7 @@ pub const USE_AGGRESSIVE_HOST_CHECKING: Member = Member {
     purpose: "whether a WARNING of a host's plugin counts as a problem",
 };
 
-/// Where a service stops flapping.
+/// The threshold below which a service stops flapping.
 pub const LOW_SERVICE_FLAP_THRESHOLD: Member = Member {
     name: "low_service_flap_threshold",
     kind: PERCENT,
@@ -154,7 +154,7 @@ pub const LOW_SERVICE_FLAP_THRESHOLD: Member = Member {
     purpose: "below how many percent of changes a flapping service stops flapping; at most the high threshold",
 };
 
-/// Where a service starts flapping.
+/// The threshold from which a service starts flapping.
 pub const HIGH_SERVICE_FLAP_THRESHOLD: Member = Member {
     name: "high_service_flap_threshold",
     kind: PERCENT,
@@ -162,7 +162,7 @@ pub const HIGH_SERVICE_FLAP_THRESHOLD: Member = Member {
     purpose: "from how many percent of changes on a service flaps",
 };
 
-/// Where a host stops flapping.
+/// The threshold below which a host stops flapping.
 pub const LOW_HOST_FLAP_THRESHOLD: Member = Member {
     name: "low_host_flap_threshold",
     kind: PERCENT,
@@ -170,7 +170,7 @@ pub const LOW_HOST_FLAP_THRESHOLD: Member = Member {
     purpose: "below how many percent of changes a flapping host stops flapping; at most the high threshold",
 };
 
-/// Where a host starts flapping.
+/// The threshold from which a host starts flapping.
 pub const HIGH_HOST_FLAP_THRESHOLD: Member = Member {
     name: "high_host_flap_threshold",
     kind: PERCENT,
@@ -234,7 +234,7 @@ pub const DESCRIPTION: Member = Member {
     purpose: "the service's description: 1 to 255 bytes, no control character and no semicolon",
 };
 
-/// From one check to the next.
+/// The time from one check to the next.
 pub const CHECK_INTERVAL: Member = Member {
     name: "check_interval",
     kind: UNITS,
@@ -242,7 +242,7 @@ pub const CHECK_INTERVAL: Member = Member {
     purpose: "from one check to the next, in units of interval_length; 0 means that no check follows by itself",
 };
 
-/// From one check to the next of a soft problem.
+/// The time from one check to the next of a soft problem.
 pub const RETRY_INTERVAL: Member = Member {
     name: "retry_interval",
     kind: UNITS,
@@ -250,7 +250,7 @@ pub const RETRY_INTERVAL: Member = Member {
     purpose: "from one check to the next while the object is a soft problem, in units of interval_length",
 };
 
-/// How many checks find a problem before it is hard.
+/// The number of checks that find a problem before it is hard.
 pub const MAX_CHECK_ATTEMPTS: Member = Member {
     name: "max_check_attempts",
     kind: Kind::Number {
@@ -296,7 +296,7 @@ pub static SERVICE_MEMBERS: [Member; 6] = [
 
 // ---- dependencies
 
-/// What depends on the other.
+/// The object that depends on the other.
 pub const DEPENDENT: Member = Member {
     name: "dependent",
     kind: Kind::Text,
@@ -304,7 +304,7 @@ pub const DEPENDENT: Member = Member {
     purpose: "the full name of the object that depends on the other: a host's name, or host;description",
 };
 
-/// What is depended on.
+/// The object that the other depends on.
 pub const MASTER: Member = Member {
     name: "master",
     kind: Kind::Text,
@@ -312,10 +312,10 @@ pub const MASTER: Member = Member {
     purpose: "the full name of the object that is depended on: a host's name, or host;description",
 };
 
-/// What the criteria of both sorts of dependencies are called.
+/// The name of the member with the criteria, for both sorts of dependencies.
 pub const CRITERIA: &str = "criteria";
 
-/// In which states of the master a dependency between services fails.
+/// The states of the master in which a dependency between services fails.
 pub const SERVICE_CRITERIA: Member = Member {
     name: CRITERIA,
     kind: Kind::ServiceLetters,
@@ -323,7 +323,7 @@ pub const SERVICE_CRITERIA: Member = Member {
     purpose: "the states of the master in which the dependency fails: OK (o), WARNING (w), UNKNOWN (u), CRITICAL (c), pending (p), none (n)",
 };
 
-/// In which states of the master a dependency between hosts fails.
+/// The states of the master in which a dependency between hosts fails.
 pub const HOST_CRITERIA: Member = Member {
     name: CRITERIA,
     kind: Kind::HostLetters,
@@ -331,7 +331,7 @@ pub const HOST_CRITERIA: Member = Member {
     purpose: "the states of the master in which the dependency fails: UP (o), UNREACHABLE (u), DOWN (d), pending (p), none (n)",
 };
 
-/// Whether a dependency looks further.
+/// Whether a dependency also looks at the master's own dependencies.
 pub const INHERITS_PARENT: Member = Member {
     name: "inherits_parent",
     kind: Kind::Switch,
@@ -357,8 +357,8 @@ pub static HOST_DEPENDENCY_MEMBERS: [Member; 4] = [
 
 // ---- by place
 
-/// The members that the object at a place may have, each with its name, its kind and its default. None
-/// where a list has to stand there.
+/// The members that the object at a place can have, each with its name, its kind and its default. None if the
+/// place is that of a list.
 pub fn members_at(place: Place) -> Option<&'static [Member]>
     ensures { option_map (λ members. map as_row members.now) result ≡ members_at place }
 {

@@ -1,4 +1,4 @@
-//! Which texts may be names, and the names of services.
+//! Names: which texts can be names, and the full names of services.
 ghost use Rattle.std.specs.Prelude.{◌≡◌, IfOk, find, not, string_bytes};
 ghost use Rattle.check_drafts.specs.Name.{full_name, is_name, is_name_byte, name_fault};
 
@@ -14,8 +14,8 @@ pub fn full_name(alloc: Global, host: &str, description: &str) -> Result<String,
     Ok(format!(in alloc; "{host};{description}")?)
 }
 
-/// What is wrong with a text as the name of a host or the description of a service. None if it has 1 to
-/// 255 bytes, none of which is a control byte or a semicolon.
+/// The fault of a text as the name of a host or the description of a service. None if the text has 1 to 255
+/// bytes, without a control byte or a semicolon.
 pub fn name_fault(name: &str) -> Option<NameFault>
     ensures { result ≡ name_fault name.now }
 {
@@ -31,7 +31,7 @@ pub fn name_fault(name: &str) -> Option<NameFault>
     }
 }
 
-/// Whether a text may be the name of a host or the description of a service.
+/// Whether a text can be the name of a host or the description of a service.
 pub fn is_name(name: &str) -> bool
     ensures { result ≡ is_name name.now }
 {

@@ -1,11 +1,11 @@
-//! What a setup says of one object.
+//! An object of a setup.
 
 /// How one host or service is checked (manual: Service and Host Check Scheduling; State Types).
 #[derive(Clone, Copy, Debug, PartialEq, Eq)]
 pub struct Object {
-    // What each report reads stands first, side by side.
-    /// From one check to the next, in units of `interval_length`, 0 to 525,600. 0 means that no
-    /// check follows by itself.
+    // The fields that each report reads come first, next to each other.
+    /// From one check to the next, in units of `interval_length`, 0 to 525,600. 0 means that no check follows
+    /// automatically.
     pub check_interval: u64,
     /// How many checks in a row must find a problem before it is hard, 1 to 255.
     pub max_check_attempts: u8,

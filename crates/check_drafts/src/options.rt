@@ -8,20 +8,20 @@ pub enum DelayMethod {
     NoDelay,
     /// `"d"`: the dumb delay, one second from one to the next.
     Dumb,
-    /// `"s"`: the smart delay, the default: the average check interval divided by the number of
-    /// objects, and shorter where the maximum spread asks for it.
+    /// `"s"`: the smart delay, the default. It is the average check interval divided by the number of
+    /// objects, and shorter if the maximum spread requires it.
     Smart,
-    /// A number: so many milliseconds from one to the next, 0 to 86,400,000.
+    /// A number of milliseconds from one to the next, 0 to 86,400,000.
     Fixed(u64),
 }
 
-/// How many places further on the next service stands whose first check is due (manual: Service
-/// and Host Check Scheduling, service interleaving).
+/// How many services to step over to the next one whose first check is due (manual: Service and Host Check
+/// Scheduling, service interleaving).
 #[derive(Clone, Copy, Debug, PartialEq, Eq)]
 pub enum InterleaveFactor {
-    /// `"s"`: the smart factor, the default: the services of a host on average, rounded up.
+    /// `"s"`: the smart factor, the default. It is the average number of services of a host, rounded up.
     Smart,
-    /// A number, 1 to 4,096. 1 is no interleaving.
+    /// A number, 1 to 4,096. 1 means no interleaving.
     Fixed(u64),
 }
 
@@ -30,36 +30,36 @@ pub enum InterleaveFactor {
 pub struct Options {
     /// How the first checks of services are spread. Smart unless the document says so.
     pub service_inter_check_delay_method: DelayMethod,
-    /// Within how many minutes the smart method has the first checks of all services due, 1 to
-    /// 525,600. 30 unless the document says so.
+    /// The minutes within which the smart method makes the first checks of all services due, 1 to 525,600. 30
+    /// unless the document says so.
     pub max_service_check_spread: u64,
-    /// In what order the first checks of services are due. Smart unless the document says so.
+    /// The order in which the first checks of services are due. Smart unless the document says so.
     pub service_interleave_factor: InterleaveFactor,
     /// How the first checks of hosts are spread. Smart unless the document says so.
     pub host_inter_check_delay_method: DelayMethod,
-    /// Within how many minutes the smart method has the first checks of all hosts due, 1 to
-    /// 525,600. 30 unless the document says so.
+    /// The minutes within which the smart method makes the first checks of all hosts due, 1 to 525,600. 30
+    /// unless the document says so.
     pub max_host_check_spread: u64,
-    // What calls read stands from here on, and what a call for a service reads stands last.
-    /// Below how many percent of changes a flapping host stops flapping, 0 to 100 and at most the
-    /// high threshold. 20 unless the document says so.
+    // Calls read the fields from here on. A call for a service reads the last ones.
+    /// A flapping host stops flapping below this percentage of changes, 0 to 100 and at most the high
+    /// threshold. 20 unless the document says so.
     pub low_host_flap_threshold: u64,
-    /// From how many percent of changes on a host flaps, 0 to 100. 30 unless the document says so.
+    /// A host flaps from this percentage of changes on, 0 to 100. 30 unless the document says so.
     pub high_host_flap_threshold: u64,
-    /// Whether dependencies look at the current state of the master in place of its last hard one
-    /// (manual: Host and Service Dependencies). False unless the document says so.
+    /// Whether dependencies look at the current state of the master, and not at its last hard state (manual:
+    /// Host and Service Dependencies). False unless the document says so.
     pub soft_state_dependencies: bool,
     /// Whether a WARNING of a host's plugin counts as a problem (manual: Host Checks). False unless
     /// the document says so.
     pub use_aggressive_host_checking: bool,
-    /// Below how many percent of changes a flapping service stops flapping, 0 to 100 and at most the
-    /// high threshold (manual: Detection and Handling of State Flapping; the limits are our own
-    /// profile). 20 unless the document says so.
+    /// A flapping service stops flapping below this percentage of changes, 0 to 100 and at most the high
+    /// threshold. 20 unless the document says so. (Manual: Detection and Handling of State Flapping; the
+    /// limits are our own profile.)
     pub low_service_flap_threshold: u64,
-    /// From how many percent of changes on a service flaps, 0 to 100. 30 unless the document says so.
+    /// A service flaps from this percentage of changes on, 0 to 100. 30 unless the document says so.
     pub high_service_flap_threshold: u64,
     /// How many seconds a unit of the intervals lasts, 1 to 86,400. 60 unless the document says so.
     pub interval_length: u64,
-    /// How many service checks may run at a time, up to 1,000,000. 0, the default, is no limit.
+    /// How many service checks may run at the same time, up to 1,000,000. 0, the default, means no limit.
     pub max_concurrent_checks: u64,
 }

@@ -1,4 +1,4 @@
-//! Where in a setup document a fault lies.
+//! The places of faults in a setup document.
 
 use crate::members;
 
@@ -24,7 +24,7 @@ impl Part {
     ghost use Rattle.check_drafts.specs.Members.{part_name};
     ghost use Rattle.check_drafts.specs.Place.{numbered_part, part_number};
 
-    /// The word for the part: the name of the document's member that it is, or `document`.
+    /// The name of the part: that of its member of the document, or `document`.
     pub fn name(self) -> &'static str
         ensures { result.now ≡ part_name self }
     {
@@ -38,8 +38,8 @@ impl Part {
         }
     }
 
-    /// The number of the part, 1 for the document to 6 for the dependencies of hosts, in the order of
-    /// the variants.
+    /// The number of the part, in the order of the variants. 1 is the document, and 6 is the list of
+    /// dependencies between hosts.
     pub fn number(self) -> u32
         ensures { result ≡ part_number self }
     {
@@ -69,12 +69,12 @@ impl Part {
     }
 }
 
-/// Where a fault of the document lies.
+/// The place of a fault in the document.
 #[derive(Clone, Copy, Debug, PartialEq, Eq)]
 pub struct Place {
     /// The part at fault.
     pub part: Part,
-    /// The index in that part's list, from 0. None where the part itself is at fault.
+    /// The index in that part's list, from 0. None if the part itself is at fault.
     pub index: Option<usize>,
 }
 

@@ -1,9 +1,9 @@
--- How a count that is past its limit is explained.
+-- The explanation of a count that is past its limit.
 use Rattle.std.specs.Prelude.{ℕ, List, ◌++◌, codes, decimal}
 use Rattle.check_drafts.specs.declared.fault.Count.{Count}
 use Rattle.check_drafts.specs.declared.fault.Count.TheVariants as count
 
--- how much of it there can be
+-- the limit of a count
 abbrev pub limit_of : Count → ℕ
 limit_of count.Objects = 4096
 limit_of count.Parents = 16384
@@ -14,6 +14,6 @@ counted_words count.Objects = codes " hosts and services"
 counted_words count.Parents = codes " parents of all hosts"
 counted_words count.Dependencies = codes " dependencies of both sorts"
 
--- how much of it there is, and how much there can be
+-- a count, and its limit
 abbrev pub count_text : Count → ℕ → List ℕ
 count_text c n = codes "there are " ++ (decimal n ++ (counted_words c ++ (codes "; there can be " ++ decimal (limit_of c))))

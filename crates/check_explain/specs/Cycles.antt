@@ -1,4 +1,4 @@
--- How a cycle is explained: by the objects that form it.
+-- The explanation of a cycle: the objects that form it.
 use Rattle.std.specs.Prelude.{ℕ, ◌-◌, List, [], ◌∷◌, ◌++◌, codes, decimal, length, nat_lt, take, if◌then◌else◌}
 use Rattle.serde_json.specs.Data.{Data}
 use Rattle.check_drafts.specs.declared.place.Part.{Part}
@@ -12,7 +12,7 @@ abbrev pub objects_text : Data → Part → List ℕ → List ℕ
 objects_text tree p [] = []
 objects_text tree p (index ∷ cycle) = name_text tree (item_of_part p index) ++ (codes " ->" ++ objects_text tree p cycle)
 
--- how many objects are left out after the first eight
+-- the number of objects that are left out after the first eight
 abbrev pub more_text : ℕ → List ℕ
 more_text count = if nat_lt 8 count then codes " (" ++ (decimal (count - 8) ++ codes " more) ->") else []
 

@@ -1,4 +1,4 @@
--- The explanation of a fault, over the tree of the document that has it.
+-- The explanation of a fault, from the tree of the document that has it.
 use Rattle.std.specs.Prelude.{◌≡◌, ℕ, true, false, Bool, List, ◌++◌, Option, Some, None, codes, decimal}
 use Rattle.serde_json.specs.Data.{Data, null}
 use Rattle.check_drafts.specs.declared.fault.Fault as declared
@@ -12,7 +12,7 @@ use Rattle.check_explain.specs.Names.{bad_name_text, duplicate_text, unknown_end
 use Rattle.check_explain.specs.Ranges.{range_text}
 use Rattle.check_explain.specs.Shapes.{IsOfShape}
 
--- a document that wasn't read has nothing in it
+-- the tree, or null for a document that wasn't read
 abbrev pub tree_or_null : Option Data → Data
 tree_or_null None = null
 tree_or_null (Some tree) = tree
@@ -20,7 +20,7 @@ tree_or_null (Some tree) = tree
 abbrev pub too_long_text : List ℕ
 too_long_text = codes "the document has more than " ++ (decimal 16777216 ++ codes " bytes")
 
--- the whole line; for a value of another kind what `IsOfShape` says, and where reading stops is in `IsOfUnread`
+-- the whole line; `IsOfShape` defines it for a value of another kind, and `IsOfUnread` for the position at which reading stops
 abbrev pub IsExplanation : Data → Fault → List ℕ → Type 0
 IsExplanation tree fault.too_long text = text ≡ too_long_text
 IsExplanation tree fault.not_json text = Unit {0}
@@ -40,7 +40,7 @@ abbrev pub stop_words : Bool → List ℕ
 stop_words true = codes ": the document ends before its JSON does"
 stop_words false = codes ": no JSON can be read on from here"
 
--- where reading a document stops that isn't JSON
+-- the position at which reading stops in a document that isn't JSON
 abbrev pub unread_text : Unread → List ℕ
 unread_text u = codes "line " ++ (decimal u.line ++ (codes ", column " ++ (decimal u.column ++ stop_words u.is_at_end)))
 

@@ -1,4 +1,4 @@
--- How faults of names are explained: a bad name, a repeated one, and the name of an object that isn't there.
+-- The explanations of faults of names: a bad name, a repeated name, and the name of an object that doesn't exist.
 use Rattle.std.specs.Prelude.{ℕ, ◌==◌, List, ◌++◌, Option, Some, codes, decimal, option_and_then, if◌then◌else◌}
 use Rattle.serde_json.specs.Data.{Data}
 use Rattle.serde_json.specs.Find.{as_str, at, get}
@@ -18,7 +18,7 @@ use Rattle.check_explain.specs.Shown.{shown}
 
 -- ---- bad names
 
--- the member whose text has to be a name
+-- the member whose text must be a name
 abbrev pub name_member : Part → List ℕ
 name_member part.Services = codes "description"
 name_member p = codes "name"
@@ -44,9 +44,9 @@ repeat_words p = codes " has that name too"
 abbrev pub duplicate_text : Data → Place → ℕ → List ℕ
 duplicate_text tree place earlier = place_text tree place ++ (part_text place.part (Some earlier) ++ repeat_words place.part)
 
--- ---- hosts that aren't there
+-- ---- hosts that don't exist
 
--- the parent at this index of the list of the host at that index
+-- the parent at the second index in the list of the host at the first index
 abbrev pub parent_name : Data → ℕ → ℕ → Option (List ℕ)
 parent_name tree host index = option_and_then as_str (option_and_then (at index) (option_and_then (get (codes "parents")) (value_at tree (host_at host))))
 
@@ -59,7 +59,7 @@ unknown_host_text tree service =
     place_text tree (service_at service)
     ++ (named (codes "host ") (option_and_then (text_in (codes "host")) (value_at tree (service_at service))) ++ codes " isn't among the hosts")
 
--- ---- ends that aren't there, or are of the other sort
+-- ---- ends that don't exist, or are of the other sort
 
 abbrev pub end_of : EndFault → End
 end_of (end_fault.Unknown e) = e
@@ -73,7 +73,7 @@ abbrev pub end_role : End → List ℕ
 end_role end.Dependent = codes "dependent "
 end_role end.Master = codes "master "
 
--- what is wrong with an end of a dependency of this part
+-- the fault of an end of a dependency of this part
 abbrev pub end_words : Part → EndFault → List ℕ
 end_words part.HostDependencies (end_fault.Unknown e) = codes " isn't among the hosts"
 end_words part.HostDependencies (end_fault.OtherSort e) = codes " is a service; it has to be a host"

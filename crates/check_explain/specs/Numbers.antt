@@ -2,13 +2,13 @@
 use Rattle.std.specs.Prelude.{Bool, true, false, ◌||◌}
 use Rattle.serde_json.specs.Data.{Num, unsigned, negative, float, Data, null, boolean, number, string, array, object, Items, no_items, item, Members, no_members, member}
 
--- a number with a point, an exponent or a sign is no whole number from 0 to 2^64 - 1
+-- a number with a point, an exponent or a sign isn't a whole number from 0 to 2^64 - 1
 abbrev pub is_other : Num → Bool
 is_other (unsigned n) = false
 is_other (negative z) = true
 is_other (float x) = true
 
--- whether a number stands anywhere in the tree that is no whole number from 0 to 2^64 - 1
+-- whether the tree contains a number that isn't a whole number from 0 to 2^64 - 1
 abbrev mutual
   pub has_other_number : Data → Bool
   has_other_number null = false

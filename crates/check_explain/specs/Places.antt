@@ -1,4 +1,4 @@
--- How a place of a document is written: its part, its index, and the name that stands there.
+-- The text of a place of a document: its part, its index, and the name of the object there.
 use Rattle.std.specs.Prelude.{ℕ, List, [], ◌++◌, Option, Some, None, codes, decimal, option_and_then, option_map}
 use Rattle.serde_json.specs.Data.{Data}
 use Rattle.serde_json.specs.Find.{as_str, get}
@@ -23,7 +23,7 @@ both first second = None
 abbrev pub texts_in : List ℕ → List ℕ → Data → Option (List ℕ × List ℕ)
 texts_in first second d = both (text_in first d) (text_in second d)
 
--- ---- the name that stands at a place, as it is shown
+-- ---- the name of the object at a place, as it is shown
 
 abbrev pub service_shown : List ℕ × List ℕ → List ℕ
 service_shown name = codes "\"" ++ (cut name.0 ++ (codes ";" ++ (cut name.1 ++ codes "\"")))
@@ -49,15 +49,15 @@ after_space (Some text) = codes " " ++ text
 abbrev pub part_text : Part → Option ℕ → List ℕ
 part_text p index = part_name p ++ after_space (option_map decimal index)
 
--- a space and the name that stands at a place
+-- a space and the name of the object at a place
 abbrev pub name_text : Data → Place → List ℕ
 name_text tree place = after_space (option_and_then (name_shown place.part) (value_at tree place))
 
--- a place: its part, its index, the name that stands there, a colon and a space
+-- a place: its part, its index, the name of the object there, a colon and a space
 abbrev pub place_text : Data → Place → List ℕ
 place_text tree place = part_text place.part place.index ++ (name_text tree place ++ codes ": ")
 
--- what a name is, and the name, if there is one
+-- the role of a name, and the name, if there is one
 abbrev pub named : List ℕ → Option (List ℕ) → List ℕ
 named role None = []
 named role (Some name) = role ++ shown name

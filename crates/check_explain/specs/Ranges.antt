@@ -1,4 +1,4 @@
--- How a number that is out of its limits is explained.
+-- The explanation of a number that is out of its limits.
 use Rattle.std.specs.Prelude.{ℕ, List, [], ◌++◌, Option, Some, None, codes, decimal}
 use Rattle.serde_json.specs.Data.{Data}
 use Rattle.check_drafts.specs.declared.place.Place.{Place}

@@ -1,4 +1,4 @@
--- What the schema of a setup names.
+-- The names that the schema of a setup contains.
 use Rattle.std.specs.Prelude.{◌≡◌, ℕ, List, [], ◌∷◌, ◌++◌}
 use Rattle.json.specs.Print.{quoted}
 use Rattle.check_drafts.specs.declared.member.Kind.{Kind}
@@ -8,7 +8,7 @@ use Rattle.check_drafts.specs.declared.place.Part.TheVariants as part
 use Rattle.check_drafts.specs.Member.{Row}
 use Rattle.check_drafts.specs.Members.{item_members, option_members}
 
--- a text that has this one in it
+-- a text that contains this one
 pub record Has (part text : List ℕ) : Type 0 where
   pub before : List ℕ
   pub after : List ℕ

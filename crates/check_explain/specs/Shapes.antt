@@ -1,4 +1,4 @@
--- How a fault of shape is explained.
+-- The explanation of a fault of shape.
 use Rattle.std.specs.Prelude.{◌≡◌, ℕ, List, ◌++◌, Option, Some, None, codes, option_and_then, slice_get}
 use Rattle.serde_json.specs.Data.{Data, Members}
 use Rattle.serde_json.specs.Find.{as_object}
@@ -15,7 +15,7 @@ pub record Begins (head text : List ℕ) : Type 0 where
   pub rest : List ℕ
   pub is : text ≡ head ++ rest
 
--- the name of the member at this index, by the order of an object's names
+-- the name of the member at this index, in the order of an object's names
 abbrev pub key_at : ℕ → Members → Option (List ℕ)
 key_at index ms = slice_get (keys_in ms) index
 
@@ -29,8 +29,8 @@ unknown_text tree place index = named (codes "a member ") (key_of tree place ind
 abbrev pub missing_text : List ℕ → List ℕ
 missing_text name = codes "the member " ++ (shown name ++ codes " is missing")
 
--- The place, and the member at fault. The whole line of a member that is unknown or missing; of a value of another kind all
--- that comes before the value.
+-- The place, and the member at fault. For a member that is unknown or missing, the text is the whole line. For a value of another kind, it is
+-- everything that comes before the value.
 abbrev pub IsOfShape : Data → Place → Option WrongShape → List ℕ → Type 0
 IsOfShape tree p (Some (fault.unknown i)) text = text ≡ place_text tree p ++ unknown_text tree p i
 IsOfShape tree p (Some (fault.missing m)) text = text ≡ place_text tree p ++ missing_text m.name

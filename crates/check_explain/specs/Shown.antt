@@ -1,4 +1,4 @@
--- How a text of the document is shown in a line: as a JSON string, cut behind 80 characters.
+-- A text of the document as a line shows it: a JSON string, cut after 80 characters.
 use Rattle.std.specs.Prelude.{ℕ, ◌/◌, ◌%◌, ◌==◌, ◌&&◌, ◌||◌, Bool, List, [], ◌∷◌, ◌++◌, codes, flat_map, length, nat_le, nat_lt, take, if◌then◌else◌}
 use Rattle.std.specs.Char.{digit_char, encode_utf8}
 use Rattle.std.specs.Str.{chars}
@@ -7,16 +7,16 @@ use Rattle.std.specs.Str.{chars}
 abbrev pub is_control : ℕ → Bool
 is_control c = nat_le c 31 || (nat_le 127 c && nat_le c 159)
 
--- the escape of a control character by its number
+-- the escape of a control character: its number
 abbrev pub escape_of : ℕ → List ℕ
 escape_of c = codes "\\u00" ++ (digit_char (c / 16) ∷ digit_char (c % 16) ∷ [])
 
--- a character as it stands in a JSON string; control characters stand by their numbers
+-- a character as it is written in a JSON string; control characters are written as their numbers
 abbrev pub escaped : ℕ → List ℕ
 escaped c = if c == 34 then codes "\\\"" else (if c == 92 then codes "\\\\" else (if c == 10 then codes "\\n" else (if c == 13 then codes "\\r"
     else (if c == 9 then codes "\\t" else (if is_control c then escape_of c else encode_utf8 c)))))
 
--- at most this many of the characters; dots stand for the rest
+-- at most this many of the characters; dots replace the rest
 abbrev pub cut_behind : ℕ → List ℕ → List ℕ
 cut_behind most characters = flat_map escaped (take most characters) ++ (if nat_lt most (length characters) then codes "..." else [])
 

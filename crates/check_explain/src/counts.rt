@@ -7,7 +7,7 @@ use crate::line::Line;
 use check_drafts::{Count, MAX_DEPENDENCIES, MAX_OBJECTS, MAX_PARENTS};
 use std::alloc::AllocError;
 
-/// Appends how much there is of what there is too much of, and how much there can be.
+/// Appends a count that is past its limit, and the limit.
 pub(crate) fn push_count(line: &mut Line, count: Count, number: u64) -> Result<(), AllocError>
     ensures { OnOk result (line.new ≡ line.old ++ count_text count number) }
 {
@@ -18,7 +18,7 @@ pub(crate) fn push_count(line: &mut Line, count: Count, number: u64) -> Result<(
     line.push_number(limit_of(count))
 }
 
-/// How much of it there can be.
+/// The limit of a count.
 fn limit_of(count: Count) -> u64
     ensures { result ≡ limit_of count }
 {

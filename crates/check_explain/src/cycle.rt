@@ -9,7 +9,7 @@ use check_drafts::{Part, Place};
 use serde_json::Value;
 use std::alloc::AllocError;
 
-/// How many objects of a cycle are named. The rest are only counted.
+/// The number of objects of a cycle that are named. The other objects are only counted.
 const MOST_NAMED: usize = 8;
 
 /// Appends a cycle of hosts: each host has the next one for a parent, and the last host has the first.

@@ -12,9 +12,9 @@ use check_drafts::{Fault, MAX_DOCUMENT_BYTES};
 use serde_json::Value;
 use std::alloc::Global;
 
-/// Writes the document with this tree in JSON's compact form, without a line feed in it or at its end.
-/// The line is read to the same tree (`same`). The clauses `text` and `too_long` are about trees
-/// without a float: a good setup has none.
+/// Writes the document with this tree in JSON's compact form, without a line feed in it or at its end. The
+/// line is read to the same tree (`same`). The clauses `text` and `too_long` are about trees without a float.
+/// A valid setup contains no float.
 ///
 /// The error is `TooLong` if the line has more than 16,777,216 bytes, or `Memory`.
 pub fn write_line(alloc: Global, tree: &Value) -> Result<Vec<u8>, Fault>

@@ -17,13 +17,13 @@ use check_drafts::{Fault, MAX_DOCUMENT_BYTES, Unread};
 use serde_json::Value;
 use std::alloc::{AllocError, Global};
 
-/// Explains on one line why a document with this tree was refused. A document that is too long or isn't
-/// JSON has no tree.
+/// Explains on one line why a document with this tree was refused. A document that is too long or isn't JSON
+/// has no tree.
 ///
-/// The line names the place of the fault, the object there, the member or the name at fault, and the
-/// values that it can have. A cycle is shown by its objects, in their order.
-/// Texts of the document are shown as JSON strings of at most 80 characters. The one error is that
-/// memory ran out. The words are this project's own: Nagios checks its configuration in other ways.
+/// The line names the place of the fault, the object there, the member or the name at fault, and the values
+/// that it can have. A cycle is shown by its objects, in their order. Texts of the document are shown as JSON
+/// strings of at most 80 characters. The only error is out of memory. The words are this project's own:
+/// Nagios checks its configuration in other ways.
 pub fn explain(alloc: Global, tree: Option<&Value>, fault: &Fault) -> Result<String, AllocError>
     ensures line { IfOk result (λ text. HasNoFeed (string_bytes text)) }
     ensures text { IfOk result (λ text.
@@ -68,7 +68,7 @@ fn explanation(alloc: Global, tree: &Value, fault: &Fault) -> Result<Line, Alloc
     Ok(line)
 }
 
-/// Appends how many bytes a document can have.
+/// Appends the most bytes that a document can have.
 fn push_too_long(line: &mut Line) -> Result<(), AllocError>
     ensures { OnOk result (line.new ≡ line.old ++ too_long_text) }
 {
@@ -77,7 +77,7 @@ fn push_too_long(line: &mut Line) -> Result<(), AllocError>
     line.push_words(" bytes")
 }
 
-/// Appends the place in the text at which a document stops being JSON.
+/// Appends the position in the text at which a document stops being JSON.
 fn push_unread(line: &mut Line, unread: Unread) -> Result<(), AllocError>
     ensures { OnOk result (line.new ≡ line.old ++ unread_text unread) }
 {

@@ -1,4 +1,4 @@
-//! How a kind of members and a value are written.
+//! Writes kinds of members, and values.
 ghost use Rattle.std.specs.Prelude.{◌≡◌, ◌++◌, OnOk, false};
 ghost use Rattle.check_explain.specs.Feeds.{has_feed};
 ghost use Rattle.check_explain.specs.Shapes.{Begins};

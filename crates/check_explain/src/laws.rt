@@ -1,4 +1,4 @@
-//! Laws of the definitions, each the contract of a function without parameters and code.
+//! Laws of the definitions. Each is the contract of a function without parameters and code.
 
 ghost use Rattle.std.specs.Prelude.{◌≡◌, ℕ, List, false, Ok, Some};
 ghost use Rattle.serde_json.specs.Data.{Data};
@@ -8,9 +8,9 @@ ghost use Rattle.check_documents.specs.Reading.{drafts_of};
 ghost use Rattle.check_documents.specs.Tree.{tree_of};
 ghost use Rattle.check_explain.specs.Numbers.{has_other_number};
 
-/// Each number anywhere in a document of the right shape is a whole number from 0 to 2^64 - 1
-/// (`whole`). So none is a float (`no_float`), and what [`write_line`](crate::write_line) says of a
-/// document without a float it says of every good setup.
+/// Each number anywhere in a document of the right shape is a whole number from 0 to 2^64 - 1 (`whole`). So
+/// no number is a float (`no_float`). The clauses of [`write_line`](crate::write_line) about documents
+/// without a float therefore hold of every valid setup.
 pub fn read_numbers_are_whole()
     ensures whole { (document : List ℕ) (tree : Data) (drafts : Drafts)
         → tree_of document ≡ Some tree → drafts_of tree ≡ Ok drafts

@@ -1,4 +1,4 @@
-//! JSON text that is laid out: one line per member, indented by two spaces for each object around it.
+//! JSON text with a layout: one line per member, indented by two spaces for each object around it.
 ghost use Rattle.std.specs.Prelude.{◌≡◌, ◌++◌, IfOk, OnOk, string_bytes};
 ghost use Rattle.json.specs.Print.{quoted};
 ghost use Rattle.check_explain.specs.Schema.{Has};
@@ -14,9 +14,9 @@ use std::marker::Model;
 pub(crate) struct Layout {
     alloc: Global,
     text: String,
-    /// How many objects are open.
+    /// The number of open objects.
     depth: usize,
-    /// Whether the innermost one has a member already.
+    /// Whether the innermost object already has a member.
     has_member: bool,
 }
 
@@ -61,7 +61,7 @@ impl Layout {
         Ok(())
     }
 
-    /// Begins a member, by its name.
+    /// Begins a member with this name.
     pub(crate) fn begin(&mut self, name: &str) -> Result<(), AllocError>
         ensures grows { OnOk result (Begins self.old self.new) }
         ensures named { OnOk result (Has (quoted name.now) self.new) }

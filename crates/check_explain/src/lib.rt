@@ -1,15 +1,18 @@
 #![tactic(auto)]
 //! A setup document as a reader sees it: its places, the explanation of its fault, its line.
 //!
-//! [`explain`] explains in plain words why a document is refused: the place of the fault, the name of
-//! the object there, the member at fault, and the reason. [`write_line`] writes a document as the one
-//! line that a run and a conversation read. [`write_schema`] writes the JSON schema of a document, from
-//! the table of its members.
+//! [`explain`] explains in plain words why a document is refused: the place of the fault, the name of the
+//! object there, the member at fault, and the reason. [`write_line`] writes a document as the one line that a
+//! run and a conversation read. [`write_schema`] writes the JSON schema of a document, from the table of its
+//! members.
 //!
-//! The module `line` has a line that never gets a line feed. `places` writes places, and `kinds` writes
-//! kinds and values. `shapes`, `names`, `ranges`, `counts` and `cycle` write the faults of each sort, and
-//! `explanation` puts them together. `document_line` writes the line of a document; `laws` has a law about
-//! the numbers in it. `schema` writes the schema with `layout`, which lays out JSON.
+//! The modules:
+//! - `line`: a line that never gets a line feed;
+//! - `places`: writes places; `kinds`: writes kinds and values;
+//! - `shapes`, `names`, `ranges`, `counts` and `cycle`: write the faults of each sort;
+//! - `explanation`: combines them;
+//! - `document_line`: writes the line of a document; `laws`: a law about the numbers in it;
+//! - `schema`: writes the schema; `layout`: gives JSON a layout.
 
 mod counts;
 mod cycle;

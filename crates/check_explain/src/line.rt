@@ -1,4 +1,4 @@
-//! A line of text that grows, and never has a line feed in it.
+//! A line of text that grows, and never contains a line feed.
 ghost use Rattle.std.specs.Prelude.{◌≡◌, ◌≢◌, ◌<◌, ◌++◌, ◌∷◌, false, [], OnOk, decimal, option_map, string_bytes};
 ghost use Rattle.std.specs.Char.{digit_char, encode_utf8};
 ghost use Rattle.check_explain.specs.Places.{named};
@@ -9,7 +9,7 @@ use itoa::Buffer;
 use std::alloc::{AllocError, Global};
 use std::marker::Model;
 
-/// How many characters of a text of the document are shown.
+/// The number of characters of a document's text that are shown.
 const SHOWN: usize = 80;
 
 /// A line of text without a line feed. Contracts see its bytes.
@@ -81,7 +81,7 @@ impl Line {
         self.push_words("\"")
     }
 
-    /// Appends what a name is, and the name, if there is one.
+    /// Appends the role of a name, and the name, if there is one.
     pub(crate) fn push_name(&mut self, role: &str, name: Option<&str>) -> Result<(), AllocError>
         requires { has_feed role.now ≡ false }
         ensures text { OnOk result (self.new
@@ -96,7 +96,7 @@ impl Line {
         }
     }
 
-    /// Appends a text, escaped as in a JSON string, and dots in place of all after 80 characters.
+    /// Appends a text, escaped as in a JSON string. If it has more than 80 characters, dots replace the rest.
     pub(crate) fn push_cut(&mut self, text: &str) -> Result<(), AllocError>
         ensures text { OnOk result (self.new ≡ self.old ++ cut text.now) }
     {
@@ -113,7 +113,7 @@ impl Line {
         }
     }
 
-    /// Appends a character, escaped as in a JSON string, and a control character by its number.
+    /// Appends a character, escaped as in a JSON string. A control character is written as its number.
     fn push_escaped(&mut self, character: char) -> Result<(), AllocError>
         ensures text { OnOk result (self.new ≡ self.old ++ escaped character) }
     {
@@ -128,7 +128,7 @@ impl Line {
         }
     }
 
-    /// Appends the escape of a control character with this number.
+    /// Appends the escape of the control character with this number.
     fn push_code(&mut self, code: u32) -> Result<(), AllocError>
         requires { code < 256 }
         ensures text { OnOk result (self.new ≡ self.old ++ escape_of code) }

@@ -1,4 +1,4 @@
-//! Faults of names: bad names, repeated ones, and names of objects that aren't there.
+//! Faults of names: bad names, repeated names, and names of objects that don't exist.
 ghost use Rattle.std.specs.Prelude.{◌≡◌, ◌++◌, OnOk, false, option_and_then, option_map};
 ghost use Rattle.serde_json.specs.View.{view};
 ghost use Rattle.check_drafts.specs.Place.{service_at};
@@ -18,7 +18,7 @@ use std::alloc::AllocError;
 
 // ---- bad names
 
-/// Appends that a name can't be one, and why.
+/// Appends why a name isn't allowed.
 pub(crate) fn push_bad_name(
     line: &mut Line,
     tree: &Value,
@@ -32,7 +32,7 @@ pub(crate) fn push_bad_name(
     push_name_fault(line, fault)
 }
 
-/// The member whose text has to be a name: the description of a service.
+/// The member whose text must be a name. For a service it is the description.
 pub(crate) fn name_member(part: Part) -> &'static str
     ensures { result.now ≡ name_member part }
 {
@@ -93,9 +93,9 @@ fn repeat_words(part: Part) -> &'static str
     }
 }
 
-// ---- hosts that aren't there
+// ---- hosts that don't exist
 
-/// Appends that a parent of a host isn't there, by the index of the host and that of the parent.
+/// Appends that a parent of a host doesn't exist, by the index of the host and that of the parent.
 pub(crate) fn push_unknown_parent(
     line: &mut Line,
     tree: &Value,
@@ -118,7 +118,7 @@ fn parent_name(tree: &Value, host: usize, parent: usize) -> Option<&str>
     parents.get(parent)?.as_str()
 }
 
-/// Appends that the host of the service at this index isn't there.
+/// Appends that the host of the service at this index doesn't exist.
 pub(crate) fn push_unknown_host(
     line: &mut Line,
     tree: &Value,
@@ -140,9 +140,9 @@ fn text_at<'v>(tree: &'v Value, place: Place, member: &str) -> Option<&'v str>
     text_of(value_at(tree, place)?, member)
 }
 
-// ---- ends that aren't there
+// ---- ends that don't exist
 
-/// Appends which end of a dependency isn't there, or is of the other sort.
+/// Appends which end of a dependency doesn't exist, or is of the other sort.
 pub(crate) fn push_unknown_end(
     line: &mut Line,
     tree: &Value,

@@ -1,4 +1,4 @@
-//! How a place of a document is written: its part, its index, and the name of the object there.
+//! Writes a place of a document: its part, its index, and the name of the object there.
 ghost use Rattle.std.specs.Prelude.{◌≡◌, ◌++◌, OnOk, false, option_map};
 ghost use Rattle.serde_json.specs.View.{view};
 ghost use Rattle.check_drafts.specs.declared.place.Part.TheVariants as part;
@@ -30,7 +30,7 @@ pub(crate) fn texts_of<'v>(item: &'v Value, first: &str, second: &str) -> Option
     }
 }
 
-/// Appends a place, a colon and a space: the part, and for an item of a list its index and its name.
+/// Appends a place, a colon and a space. The place is the part, and for an item of a list its index and name.
 pub(crate) fn push_place(line: &mut Line, tree: &Value, place: Place) -> Result<(), AllocError>
     ensures { OnOk result (line.new ≡ line.old ++ place_text (view tree.now) place) }
 {
@@ -75,8 +75,8 @@ pub(crate) fn push_name_at(line: &mut Line, tree: &Value, place: Place) -> Resul
     }
 }
 
-/// Appends a space and the name of an item of a part: the name of a host, the full name of a service, or
-/// both ends of a dependency. Nothing is appended for an item without a name.
+/// Appends a space and the name of an item of a part. It is the name of a host, the full name of a service,
+/// or both ends of a dependency. Nothing is appended for an item without a name.
 fn push_item_name(line: &mut Line, item: &Value, part: Part) -> Result<(), AllocError>
     ensures { OnOk result (line.new ≡ line.old ++ after_space (name_shown part (view item.now))) }
 {

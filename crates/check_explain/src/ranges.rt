@@ -15,7 +15,7 @@ use check_drafts::{Kind, Member, Place, RangeFault};
 use serde_json::Value;
 use std::alloc::AllocError;
 
-/// Appends which number is out of its limits, and what it can be.
+/// Appends which number is out of its limits, and its limits.
 pub(crate) fn push_range(
     line: &mut Line,
     tree: &Value,
@@ -56,7 +56,7 @@ fn push_number(line: &mut Line, member: Member, number: u64) -> Result<(), Alloc
     line.push_number(number)
 }
 
-/// Appends the least and the most that a number of a kind can be.
+/// Appends the least and the greatest number of a kind.
 fn push_limits(line: &mut Line, kind: Kind) -> Result<(), AllocError>
     ensures { OnOk result (line.new ≡ line.old ++ limits_text (limits_of kind)) }
 {

@@ -26,9 +26,9 @@ isn't above its high one; there are at most 4096 hosts and services together, 16
 together, and 16384 dependencies of both sorts together; a whole number is written without point, exponent \
 or sign (1.0, 1e2 and -0 pass here and are refused); a lone surrogate in a text is refused.";
 
-/// Writes the JSON schema, of draft 2020-12, of a setup document: the members that each object may
-/// have, with their kinds, limits and defaults, from the table of members. It names each member of the
-/// table. The one error is that memory ran out. (Our own profile.)
+/// Writes the JSON schema, of draft 2020-12, of a setup document. The schema describes the members of each
+/// object, with their kinds, limits and defaults, from the table of members. It names each member of the
+/// table. The only error is out of memory. (Our own profile.)
 pub fn write_schema(alloc: Global) -> Result<String, AllocError>
     ensures names { IfOk result (λ text. NamesAll document_members (string_bytes text)) }
 {
@@ -43,7 +43,7 @@ pub fn write_schema(alloc: Global) -> Result<String, AllocError>
     layout.into_text()
 }
 
-/// Writes what each of these parts of the document is.
+/// Writes the schema of each of these parts of the document.
 fn push_parts(layout: &mut Layout, members: &[Member]) -> Result<(), AllocError>
     ensures { OnOk result (NamesAll (map as_row members.now) layout.new) }
 {
@@ -55,7 +55,7 @@ fn push_parts(layout: &mut Layout, members: &[Member]) -> Result<(), AllocError>
     Ok(())
 }
 
-/// Writes what a part of the document is.
+/// Writes the schema of a part of the document.
 fn push_part_kind(layout: &mut Layout, member: Member) -> Result<(), AllocError>
     ensures grows { OnOk result (Begins layout.old layout.new) }
     ensures names { OnOk result (NamesInner member.kind layout.new) }
@@ -66,7 +66,7 @@ fn push_part_kind(layout: &mut Layout, member: Member) -> Result<(), AllocError>
     }
 }
 
-/// Writes what a part of the document is: its options, or a list of objects.
+/// Writes the schema of a part of the document: its options, or a list of objects.
 fn push_part(layout: &mut Layout, part: Part, purpose: &str) -> Result<(), AllocError>
     ensures grows { OnOk result (Begins layout.old layout.new) }
     ensures names { OnOk result (NamesEach (inner_members part) layout.new) }
@@ -100,7 +100,7 @@ fn inner_members(part: Part) -> &'static [Member]
     }
 }
 
-/// Writes what a list of the document is.
+/// Writes the schema of a list of the document.
 fn push_list(layout: &mut Layout, part: Part, most: usize) -> Result<(), AllocError>
     ensures grows { OnOk result (Begins layout.old layout.new) }
     ensures names { OnOk result (NamesEach (inner_members part) layout.new) }
@@ -113,7 +113,7 @@ fn push_list(layout: &mut Layout, part: Part, most: usize) -> Result<(), AllocEr
     layout.close()
 }
 
-/// Writes what an object of this part is: its members.
+/// Writes the schema of an object of this part: its members.
 fn push_members(layout: &mut Layout, part: Part, members: &[Member]) -> Result<(), AllocError>
     ensures grows { OnOk result (Begins layout.old layout.new) }
     ensures names { OnOk result (NamesEach (map as_row members.now) layout.new) }
@@ -136,7 +136,7 @@ fn push_each(layout: &mut Layout, part: Part, members: &[Member]) -> Result<(), 
     Ok(())
 }
 
-/// Writes that something is an object, and which of these members it has to have.
+/// Writes that a value is an object, and which of these members it must have.
 fn push_object(layout: &mut Layout, members: &[Member]) -> Result<(), AllocError>
     ensures { OnOk result (Begins layout.old layout.new) }
 {
@@ -170,7 +170,7 @@ fn push_item(layout: &mut Layout, is_first: bool, text: &str) -> Result<(), Allo
     layout.push_quoted(text)
 }
 
-/// Writes what a member is: its kind with its limits, its default, and what it is for.
+/// Writes the schema of a member: its kind with its limits, its default, and its purpose.
 fn push_member(layout: &mut Layout, part: Part, member: Member) -> Result<(), AllocError>
     ensures { OnOk result (Begins layout.old layout.new) }
 {
@@ -194,7 +194,7 @@ fn push_default(layout: &mut Layout, default: DefaultValue, kind: Kind) -> Resul
     }
 }
 
-/// Writes which values are of a kind, and of a text whether it has to be a name.
+/// Writes which values are of a kind. For a text it also writes whether the text must be a name.
 fn push_kind(layout: &mut Layout, kind: Kind, is_name: bool) -> Result<(), AllocError>
     ensures { OnOk result (Begins layout.old layout.new) }
 {
@@ -269,7 +269,7 @@ fn push_between(layout: &mut Layout, low: u64, high: u64) -> Result<(), AllocErr
     layout.push_json("}")
 }
 
-/// Writes that a text has these letters, with one comma between two.
+/// Writes that a text has these letters, with one comma between two of them.
 fn push_letters(layout: &mut Layout, letters: &[&str]) -> Result<(), AllocError>
     ensures { OnOk result (Begins layout.old layout.new) }
 {

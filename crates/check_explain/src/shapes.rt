@@ -15,7 +15,7 @@ use check_drafts::{Kind, Member, Place, ShapeFault};
 use serde_json::{Map, Value};
 use std::alloc::{AllocError, Global};
 
-/// Appends a fault of shape of the value at a place.
+/// Appends a fault in the shape of the value at a place.
 pub(crate) fn push_shape(
     alloc: Global,
     line: &mut Line,
@@ -63,7 +63,7 @@ fn push_unknown(line: &mut Line, tree: &Value, place: Place, index: usize) -> Re
     line.push_words(" isn't known here")
 }
 
-/// The name of the member at this index of the object at a place, by the order of its members' names.
+/// The name of the member at this index of the object at a place, in the order of its members' names.
 fn key_of(tree: &Value, place: Place, index: usize) -> Option<&str>
     ensures { option_map (λ key. key.now) result ≡ key_of (view tree.now) place index }
 {
@@ -113,7 +113,7 @@ fn push_misfit(
     }
 }
 
-/// Appends what a value is, and what it has to be.
+/// Appends the kind of a value, and the kind that it must have.
 fn push_other_kind(
     alloc: Global,
     line: &mut Line,

@@ -1,5 +1,5 @@
--- Verifying drafts, which are in the right shape: one test after another, each over all drafts. What a test refuses is the fault of the first item that
--- doesn't pass it.
+-- Verifies drafts that are in the right shape: one test after another, each over all drafts. The fault is that of the first item that doesn't pass a
+-- test.
 use Rattle.std.specs.Prelude.{ℕ, ◌+◌, List, length, map, option_map, sum_by, position, not, Result, Ok, Err, bytes_eq, nat_lt, nat_le, if◌then◌else◌}
 use Rattle.check_drafts.specs.declared.draft.CheckDraft.{CheckDraft}
 use Rattle.check_drafts.specs.declared.fault.Count.{Count}
@@ -22,15 +22,15 @@ use Rattle.check_drafts.specs.Ends.{is_known, full_names, known_dependencies}
 
 -- ---- counts
 
--- a number as far as 64 bits count
+-- a number, up to the largest number of 64 bits
 abbrev pub in_word : ℕ → ℕ
 in_word n = if nat_lt n 18446744073709551615 then n else 18446744073709551615
 
--- there are at most so many of these
+-- there are at most this many
 abbrev pub at_most : Count → ℕ → ℕ → Result (Unit {0}) Fault
 at_most what most n = if nat_lt most n then Err (fault.too_many what n) else Ok tt
 
--- how many parents all hosts have together
+-- the number of parents of all hosts together
 abbrev pub parent_count : List HostDraft → ℕ
 parent_count hosts = sum_by (λ h. length h.parents) hosts
 
@@ -43,21 +43,21 @@ few_items drafts =
 
 -- ---- names
 
--- the host at this index has a name that is one
+-- the name of the host at this index is allowed
 abbrev pub good_host_name : ℕ → HostDraft → Result (Unit {0}) Fault
 good_host_name i h = unless (option_map (fault.bad_name (host_at i)) (name_fault h.name))
 
--- the service at this index has a description that is one
+-- the description of the service at this index is allowed
 abbrev pub good_description : ℕ → ServiceDraft → Result (Unit {0}) Fault
 good_description i s = unless (option_map (fault.bad_name (service_at i)) (name_fault s.description))
 
--- every host has a name that is one, and every service a description
+-- the name of every host and the description of every service are allowed
 abbrev pub good_names : List HostDraft → List ServiceDraft → Result (Unit {0}) Fault
 good_names hosts services = each good_host_name hosts >>= λ _. each good_description services
 
 -- ---- repeats
 
--- every host has a name of its own; else the first host whose name occurred before, and the first host with that name
+-- every host has a name of its own; otherwise the first host whose name occurred before, and the first host with that name
 abbrev pub no_repeated_hosts : List HostDraft → Result (Unit {0}) Fault
 no_repeated_hosts hosts = refused_at (λ i. fault.duplicate (host_at i) (first_like bytes_eq (names_of hosts) i)) (first_repeat bytes_eq (names_of hosts))
 
@@ -65,30 +65,31 @@ no_repeated_hosts hosts = refused_at (λ i. fault.duplicate (host_at i) (first_l
 abbrev pub host_names : List HostDraft → Result (List (List ℕ)) Fault
 host_names hosts = no_repeated_hosts hosts >>= λ _. Ok (names_of hosts)
 
--- no two services have both the same host and the same description; else the first that occurred before, and the first that is like it
+-- no two services have both the same host and the same description; otherwise the first service whose pair occurred before, and the first with that
+-- pair
 abbrev pub no_repeated_services : List ServiceDraft → Result (Unit {0}) Fault
 no_repeated_services services =
     refused_at (λ i. fault.duplicate (service_at i) (first_like same_key (map key_of services) i)) (first_repeat same_key (map key_of services))
 
 -- ---- links
 
--- every parent of the host at this index is there; else the first that isn't
+-- every parent of the host at this index exists; otherwise the first parent that doesn't
 abbrev pub known_parents_at : List (List ℕ) → ℕ → HostDraft → Result (Unit {0}) Fault
 known_parents_at names i h = refused_at (fault.unknown_parent i) (position (λ p. not (is_known names p)) h.parents)
 
--- every parent of every host is there
+-- every parent of every host exists
 abbrev pub known_parents : List (List ℕ) → List HostDraft → Result (Unit {0}) Fault
 known_parents names hosts = each (known_parents_at names) hosts
 
--- the host of the service at this index is there
+-- the host of the service at this index exists
 abbrev pub known_host_at : List (List ℕ) → ℕ → ServiceDraft → Result (Unit {0}) Fault
 known_host_at names i s = if is_known names s.host then Ok tt else Err (fault.unknown_host i)
 
--- the host of every service is there
+-- the host of every service exists
 abbrev pub known_hosts : List (List ℕ) → List ServiceDraft → Result (Unit {0}) Fault
 known_hosts names services = each (known_host_at names) services
 
--- what is named is there: parents, the hosts of services, and what depends and is depended on
+-- every named object exists: parents, the hosts of services, and both ends of dependencies
 abbrev pub known_links : List (List ℕ) → Drafts → Result (Unit {0}) Fault
 known_links names drafts =
     known_parents names drafts.hosts >>= λ _.
@@ -116,7 +117,7 @@ check_within c =
     within members.check_interval c.check_interval >>= λ _.
     (within members.retry_interval c.retry_interval >>= λ _. within members.max_check_attempts c.max_check_attempts)
 
--- each number of the options but the thresholds of flapping is within the limits of its member
+-- each number of the options, except for the thresholds of flapping, is within the limits of its member
 abbrev pub numbers_within : Options → Result (Unit {0}) WrongNumber
 numbers_within o =
     within members.interval_length o.interval_length >>= λ _.
@@ -162,7 +163,7 @@ good_service_range i s = refused_as (fault.range (service_at i)) (check_within s
 abbrev pub good_ranges : Options → List HostDraft → List ServiceDraft → Result (Unit {0}) Fault
 good_ranges options hosts services = good_options options >>= λ _. (each good_host_range hosts >>= λ _. each good_service_range services)
 
--- ---- all of them
+-- ---- all tests
 
 -- the first fault after the shape, if there is one
 unfoldable pub is_faultless : Drafts → Result (Unit {0}) Fault

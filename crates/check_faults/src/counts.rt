@@ -1,4 +1,4 @@
-//! How many items a document has.
+//! The counts of a document's items.
 ghost use Rattle.std.specs.Prelude.{◌≤◌, ◌≡◌, ◌+◌, length, map, nat_lt, OnOk};
 ghost use Rattle.check_drafts.specs.Drafted.{drafts_view, host};
 ghost use Rattle.check_drafts.specs.Fault.{Tells};
@@ -21,7 +21,7 @@ pub(crate) fn verify_counts(drafts: &Drafts<'_>) -> Result<(), Fault>
     verify_count(Count::Dependencies, MAX_DEPENDENCIES, dependencies)
 }
 
-/// Whether there are at most so many of these.
+/// Whether this count isn't above the limit.
 fn verify_count(what: Count, most: usize, count: u64) -> Result<(), Fault>
     ensures exact { Tells (λ u. u) result (at_most what most count) }
     ensures few { OnOk result (count ≤ most) }
@@ -33,14 +33,14 @@ fn verify_count(what: Count, most: usize, count: u64) -> Result<(), Fault>
     }
 }
 
-/// The sum of two counts, as far as 64 bits count.
+/// The sum of two counts, up to the largest number of 64 bits.
 fn sum(first: usize, second: usize) -> u64
     ensures { result ≡ in_word (first + second) }
 {
     (first as u64).saturating_add(second as u64)
 }
 
-/// How many parents all hosts have together, as far as 64 bits count.
+/// The number of parents of all hosts together, up to the largest number of 64 bits.
 fn count_parents(hosts: &[HostDraft<'_>]) -> u64
     ensures { result ≡ in_word (parent_count (map host hosts.now)) }
 {

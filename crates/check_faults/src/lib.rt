@@ -1,7 +1,7 @@
-//! What is wrong with the drafts of a setup document, except for cycles: [`verify`].
+//! Finds the faults of the drafts of a setup document, except for cycles: [`verify`].
 //!
 //! The modules, in the order of the tests:
-//! - `counts`: how many items there are;
+//! - `counts`: the numbers of items;
 //! - `names`: names, and names that occur twice;
 //! - `links`: parents, the hosts of services, and the ends of dependencies;
 //! - `ranges`: numbers and their limits.

@@ -127,7 +127,7 @@ fn distinct_texts<'t>(alloc: Global, all: &'t [String]) -> Result<IndexSet<&'t s
     Ok(set)
 }
 
-/// Whether both ends of each dependency of a part are among the names of their sort; `others` are the names
+/// Whether both ends of each dependency of a part are among the names of their sort. `others` are the names
 /// of the other sort.
 fn verify_dependencies(
     part: Part,

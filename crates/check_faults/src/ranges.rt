@@ -148,7 +148,7 @@ fn verify_thresholds(options: &Options) -> Result<(), RangeFault>
     verify_number(HIGH_HOST_FLAP_THRESHOLD, options.high_host_flap_threshold)
 }
 
-/// Whether no low threshold of flapping is above its high one.
+/// Whether no low threshold of flapping is above its high threshold.
 fn verify_thresholds_in_order(options: &Options) -> Result<(), RangeFault>
     ensures { Gives (λ f. Some (range_seen f)) (λ u. u) result
         (thresholds_in_order options.now) }

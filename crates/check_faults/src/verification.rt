@@ -1,5 +1,5 @@
-//! Verifying drafts (manual: "Verifying Your Configuration"): counts, names, repeats, links, limits.
-//! Each test covers all drafts before the next test begins.
+//! Verifies drafts (manual: "Verifying Your Configuration"): counts, names, repeats, links, limits. Each test
+//! covers all drafts before the next test begins.
 ghost use Rattle.std.specs.Prelude.{◌≤◌, ◌+◌, length, OnOk, All};
 ghost use Rattle.check_drafts.specs.Drafted.{drafts_view, HasFewAttempts};
 ghost use Rattle.check_drafts.specs.Fault.{Tells};
@@ -12,9 +12,9 @@ use crate::ranges::verify_ranges;
 use check_drafts::{Drafts, Fault};
 use std::alloc::Global;
 
-/// Whether drafts are without a fault except for cycles, or the first fault after the shape, in the order
-/// of [`LoadError`](check_drafts::LoadError), with all that the test has found. `Memory` may come in place
-/// of either.
+/// Whether drafts have no fault except for cycles. The error is the first fault after the shape, in the order
+/// of [`LoadError`](check_drafts::LoadError), with all details that the test has found. `Memory` can come in
+/// place of either.
 #[tactic(auto, unfolding(crate::specs::Verification::is_faultless))]
 pub fn verify(alloc: Global, drafts: &Drafts<'_>) -> Result<(), Fault>
     ensures exact { Tells (λ u. u) result (is_faultless (drafts_view drafts.now)) }

@@ -38,7 +38,7 @@ pub record Configuration : Type 0 where
   pub hosts : List Host
   -- in the order of their hosts' names and then of their descriptions, each by its bytes
   pub services : List Service
-  -- of each object by number what it depends on, in the document's order
+  -- for each object by number its dependencies, in the document's order
   pub dependencies : List (List Dependency)
 
 abbrev pub named_host : Host → Named
@@ -51,11 +51,11 @@ named_service s = record { name = s.name; object = s.object }
 abbrev pub objects_of : Configuration → List Named
 objects_of c = map named_host c.hosts ++ map named_service c.services
 
--- how many hosts there are; they have the numbers below this one
+-- the number of hosts; each host's number is below it
 abbrev pub host_count : Configuration → ℕ
 host_count c = length c.hosts
 
--- how many objects there are
+-- the number of objects
 abbrev pub object_count : Configuration → ℕ
 object_count c = length (objects_of c)
 
@@ -79,15 +79,15 @@ host_of c n = if nat_lt n (host_count c) then None else option_map (λ s. s.host
 abbrev pub parents_of : Configuration → ℕ → List ℕ
 parents_of c n = unwrap_or (option_map (λ h. h.parents) (slice_get c.hosts n)) []
 
--- what the object with this number depends on, in the document's order
+-- the dependencies of the object with this number, in the document's order
 abbrev pub dependencies_of : Configuration → ℕ → List Dependency
 dependencies_of c n = slice_index_or c.dependencies n []
 
--- the numbers of those that these dependencies are on
+-- the numbers of the masters of these dependencies
 abbrev pub masters_in : List Dependency → List ℕ
 masters_in ds = map (λ d. d.master) ds
 
--- of each object by number those that it depends on
+-- for each object by number its masters
 abbrev pub masters_of : Configuration → List (List ℕ)
 masters_of c = map masters_in c.dependencies
 
@@ -99,11 +99,11 @@ is_object_in_range o = nat_le o.check_interval 525600 && nat_le o.retry_interval
 abbrev pub parents_by_host : Configuration → List (List ℕ)
 parents_by_host c = map (λ h. h.parents) c.hosts
 
--- what a service is known by: the name of its host, and its description
+-- the key of a service: the name of its host, and its description
 abbrev pub pair_of : Configuration → Service → List ℕ × List ℕ
 pair_of c s = (name_of c s.host, s.description)
 
--- the two numbers are both of hosts, or both of services
+-- both numbers are those of hosts, or both are those of services
 abbrev pub IsSameSort : Configuration → ℕ → ℕ → Type 0
 IsSameSort c m n = nat_lt m (host_count c) ≡ nat_lt n (host_count c)
 
@@ -121,10 +121,9 @@ abbrev pub IsFactorInRange : InterleaveFactor → Type 0
 IsFactorInRange factor.Smart = Unit {0}
 IsFactorInRange (factor.Fixed n) = IsWithin 1 4096 n
 
--- What is true of every setup: it has at most 4,096 objects, 16,384 parents and 16,384 dependencies. Its hosts have names
--- and its services descriptions, and both ascend, so that no two objects have the same full name. Its parents and its
--- services' hosts are hosts, its dependencies are between objects of one sort, no object depends on itself and no host is
--- its own parent, through one link or more, and its numbers are within their limits.
+-- Every setup is like this: it has at most 4,096 objects, 16,384 parents and 16,384 dependencies. Its hosts have names and its services descriptions,
+-- and both ascend, so no two objects have the same full name. Its parents and its services' hosts are hosts. Its dependencies are between objects of
+-- one sort. No object depends on itself, and no host is its own parent, through one link or more. Its numbers are within their limits.
 pub record IsSetup (c : Configuration) : Type 0 where
   pub few : length c.hosts + length c.services ≤ 4096
   pub few_parents : sum_by (λ h. length h.parents) c.hosts ≤ 16384

@@ -9,15 +9,15 @@ use Rattle.check_drafts.specs.declared.object.Object.{Object}
 use Rattle.check_numbers.specs.Configuration as spec
 use Rattle.check_drafts.specs.Text.{text}
 
--- what is kept of a host behind its name
+-- a host as it is stored under its name
 abbrev pub sorted_host : Bor (List ℕ) × (Object × Bor (List Value)) → List ℕ × (Object × List (List ℕ))
 sorted_host e = (e.0.now, (e.1.0, map text e.1.1.now))
 
--- what is kept of a service behind its host's name and its description
+-- a service as it is stored under its host's name and its description
 abbrev pub sorted_service : (Bor (List ℕ) × Bor (List ℕ)) × Object → (List ℕ × List ℕ) × Object
 sorted_service e = ((e.0.0.now, e.0.1.now), e.1)
 
--- what stands behind the first semicolon of a full name: the code keeps a service's description only there
+-- the text after the first semicolon of a full name: the code stores a service's description only there
 abbrev pub description_in : List ℕ → List ℕ
 description_in [] = []
 description_in (b ∷ name) = if b == 59 then name else description_in name
@@ -28,7 +28,7 @@ host_entry e = record { name = string_bytes e.0; object = e.1.object; parents = 
 abbrev pub service_entry : String Global × Service → spec.Service
 service_entry e = record { name = string_bytes e.0; description = description_in (string_bytes e.0); object = e.1.object; host = e.1.host }
 
--- an object behind its full name
+-- an object and its full name
 abbrev pub named : List ℕ → Object → spec.Named
 named name object = record { name = name; object = object }
 
@@ -36,6 +36,6 @@ named name object = record { name = name; object = object }
 abbrev pub objects_in : List (String Global × Host) → List (String Global × Service) → List spec.Named
 objects_in hosts services = map spec.named_host (map host_entry hosts) ++ map spec.named_service (map service_entry services)
 
--- the names that a map has, in its order
+-- the names of a map, in its order
 abbrev pub names_in : {T : Type 0} → List (String Global × T) → List (List ℕ)
 names_in entries = map (λ e. string_bytes e.0) entries

@@ -1,4 +1,4 @@
-//! The dependencies of each object by number, and an order of the objects that they agree with.
+//! The dependencies of each object by number, and an order of the objects that agrees with them.
 ghost use Rattle.std.specs.Prelude.{◌≡◌, ◌≤◌, ◌+◌, ◌++◌, ℕ, List, length, map, nat_lt, true, false, IfOk, OnOk};
 ghost use Rattle.std.specs.List.{list_all};
 ghost use Rattle.link_order.specs.Cycles.{are_within};
@@ -17,14 +17,14 @@ use link_order::{OrderOrCycle, empty_lists, order_by_links, push_at};
 use smallvec::SmallVec;
 use std::alloc::{AllocError, Global};
 
-/// The dependencies of an object, in the document's order. Most objects have one at most, which takes no
-/// block of its own: a list is then 32 bytes, of which two lie in a line of the cache.
+/// The dependencies of an object, in the document's order. Most objects have at most one, which needs no
+/// block of its own. A list is then 32 bytes, so that two lists fit in a cache line.
 pub type Dependencies = SmallVec<Dependency, 1>;
 
 // ---- numbers
 
-/// The dependencies of each object by number, in the document's order, if both ends of each one are
-/// there. An Err means out of memory.
+/// The dependencies of each object by number, in the document's order, if both ends of each one exist. An Err
+/// means out of memory.
 pub fn list_dependencies(
     alloc: Global,
     drafts: &Drafts<'_>,
@@ -54,8 +54,8 @@ pub fn list_dependencies(
     list_by_dependent(alloc, host_count + services.len(), &numbered)
 }
 
-/// Adds each dependency by the numbers of its dependent and its master among these objects, which
-/// come after so many others. An Err means out of memory.
+/// Adds each dependency by the numbers of its dependent and its master among these objects. This many other
+/// objects come before them. An Err means out of memory.
 fn number_dependencies<T>(
     numbered: &mut Vec<(u32, Dependency)>,
     drafts: &[DependencyDraft<'_>],
@@ -74,8 +74,8 @@ fn number_dependencies<T>(
     Ok(())
 }
 
-/// The number of a dependency's dependent, and the dependency by number, both ends among these objects,
-/// which come after so many others.
+/// The number of a dependency's dependent, and the dependency by number. Both ends are among these objects,
+/// and this many other objects come before them.
 fn number_dependency<T>(
     draft: DependencyDraft<'_>,
     others: u32,
@@ -96,7 +96,7 @@ fn number_dependency<T>(
     (dependent, dependency)
 }
 
-/// The number of the object with this name among these, which come after so many others.
+/// The number of the object with this name among these. This many other objects come before them.
 fn number_behind<T>(others: u32, objects: &IndexMap<String, T>, name: &str) -> u32
     requires few { others + length objects.now.entries ≤ 4096 }
     requires known { is_known (names_in objects.now.entries) name.now ≡ true }
@@ -106,8 +106,8 @@ fn number_behind<T>(others: u32, objects: &IndexMap<String, T>, name: &str) -> u
     others + index as u32
 }
 
-/// The dependencies of each of so many objects, those of an object in the same order. An Err means out of
-/// memory.
+/// The dependencies of each of this many objects. Those of one object stay in the same order. An Err means
+/// out of memory.
 fn list_by_dependent(
     alloc: Global,
     count: usize,
@@ -126,9 +126,9 @@ fn list_by_dependent(
 
 // ---- the order
 
-/// The numbers of the objects in an order in which each comes after all that it depends on; or the
-/// objects of a cycle, each of which depends on the next one, and the last on the first. An Err means out
-/// of memory.
+/// The numbers of the objects in an order in which each comes after all that it depends on. If there is no
+/// such order, the objects of a cycle: each depends on the next one, and the last on the first. An Err means
+/// out of memory.
 pub fn order_by_masters(
     alloc: Global,
     dependencies: &[Dependencies],
@@ -143,8 +143,7 @@ pub fn order_by_masters(
     order_by_links(alloc, &links)
 }
 
-/// The masters of each object, by number, where its dependencies are given so. An Err means out of
-/// memory.
+/// The masters of each object, by number, from its dependencies. An Err means out of memory.
 pub fn master_links(
     alloc: Global,
     dependencies: &[Dependencies],

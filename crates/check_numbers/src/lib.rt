@@ -1,5 +1,5 @@
-//! The numbers of objects: hosts in the order of their names' bytes, then services in the order of
-//! their hosts' names and then of their descriptions; and all links between them by number.
+//! The numbers of objects, and all links between them by number. Hosts come first, in the order of their
+//! names' bytes. Then come services, in the order of their hosts' names and then of their descriptions.
 #![tactic(auto)]
 
 mod dependency_lists;

@@ -1,5 +1,5 @@
-//! The numbers of objects: hosts in the order of their names' bytes, then services in the order of
-//! their hosts' names and then of their descriptions; and the links between them by number.
+//! The numbers of objects, and the links between them by number. Hosts come first, in the order of their
+//! names' bytes. Then come services, in the order of their hosts' names and then of their descriptions.
 ghost use Rattle.std.specs.Prelude.{◌≡◌, ◌≤◌, ◌<◌, length, map, bytes_eq, IfOk, OnOk, All, None, true, false, [], ◌∷◌, ◌++◌, string_bytes};
 ghost use Rattle.std.specs.List.{list_all, list_any};
 ghost use Rattle.check_numbers.specs.Numbering.{numbered, hosts_in_order, services_in_order, number_in, numbered_host, numbered_service, object_of};
@@ -20,7 +20,7 @@ use std::collections::BTreeMap;
 /// The parents of a host, by number. Most hosts have few.
 pub type Parents = SmallVec<u32, 4>;
 
-/// A host as the setup keeps it, behind its name.
+/// A host as the setup stores it, under its name.
 #[derive(Drop)]
 pub struct Host {
     /// How the host is checked.
@@ -29,7 +29,7 @@ pub struct Host {
     pub parents: Parents,
 }
 
-/// A service as the setup keeps it, behind its full name.
+/// A service as the setup stores it, under its full name.
 #[derive(Drop)]
 pub struct Service {
     /// How the service is checked.
@@ -66,8 +66,8 @@ pub fn number_objects(
 
 // ---- the order
 
-/// The hosts, whose names are distinct, in the order of their names' bytes: of each the object, and
-/// its parents' names.
+/// The hosts, whose names are distinct, in the order of their names' bytes. Each has its object and its
+/// parents' names.
 fn sort_hosts<'v>(
     alloc: Global,
     drafts: &[HostDraft<'v>],
@@ -84,8 +84,8 @@ fn sort_hosts<'v>(
     Ok(sorted)
 }
 
-/// The services, no two of which have both the same host and the same description, in the order of
-/// their hosts' names and then of their descriptions.
+/// The services, in the order of their hosts' names and then of their descriptions. No two of them have both
+/// the same host and the same description.
 fn sort_services<'v>(
     alloc: Global,
     drafts: &[ServiceDraft<'v>],
@@ -179,7 +179,7 @@ fn index_hosts(
     Ok(hosts)
 }
 
-/// The services by full name, each at the index that is its number behind those of the hosts.
+/// The services by full name. The number of each is its index plus the number of hosts.
 fn index_services(
     alloc: Global,
     sorted: BTreeMap<(&str, &str), Object>,
@@ -199,7 +199,7 @@ fn index_services(
     Ok(services)
 }
 
-/// The number of the object with this full name, or None where there is no such object.
+/// The number of the object with this full name, or None if there is no such object.
 pub fn object_number(
     hosts: &IndexMap<String, Host>,
     services: &IndexMap<String, Service>,
@@ -217,7 +217,7 @@ pub fn object_number(
     }
 }
 
-/// Puts a new name behind those of the map.
+/// Adds a new name at the end of the map.
 fn append<T: Drop>(map: &mut IndexMap<String, T>, name: String, value: T) -> Result<(), AllocError>
     requires { list_any (λ e. bytes_eq (string_bytes name) (string_bytes e.0)) map.old.entries
         ≡ false }

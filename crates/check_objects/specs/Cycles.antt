@@ -1,4 +1,4 @@
--- Cycles of a document, by the indices of its lists.
+-- Cycles of a document, as indices of its lists.
 use Rattle.std.specs.Prelude.{◌≡◌, ℕ, ◌<◌, ◌≤◌, ◌&&◌, Bool, true, false, List, [], get_or, length, bytes_eq}
 use Rattle.std.specs.List.{list_any}
 use Rattle.check_drafts.specs.declared.place.Part.{Part}
@@ -12,7 +12,7 @@ use Rattle.check_numbers.specs.Numbering.{configuration}
 use Rattle.link_order.specs.Cycles.{has_cycle}
 use Rattle.link_order.specs.Ordering.{follower}
 
--- indices below a count, all different, each linked to the next one and the last to the first; the least comes first
+-- different indices below a count, each linked to the next one and the last to the first; the least comes first
 pub record IsRound (count : ℕ) (linked : ℕ → ℕ → Bool) (cycle : List ℕ) : Type 0 where
   pub some : 0 < length cycle
   pub within : (place : ℕ) → place < length cycle → get_or cycle place 0 < count
@@ -22,15 +22,15 @@ pub record IsRound (count : ℕ) (linked : ℕ → ℕ → Bool) (cycle : List �
 
 -- ---- dependencies
 
--- whether one of these dependencies has the one name for its dependent's and the other for its master's
+-- whether one of these dependencies has the first name for its dependent and the second for its master
 abbrev pub has_dependency : List DependencyDraft → List ℕ → List ℕ → Bool
 has_dependency ds dependent master = list_any (λ d. bytes_eq d.dependent dependent && bytes_eq d.master master) ds
 
--- whether one of these dependencies is of the object at the first index on the one at the second, by the objects' names
+-- whether one of these dependencies is that of the object at the first index on the object at the second, by the objects' names
 abbrev pub depends : List DependencyDraft → List (List ℕ) → ℕ → ℕ → Bool
 depends ds names dependent master = has_dependency ds (get_or names dependent []) (get_or names master [])
 
--- services or hosts each of which depends on the next one, and the last on the first
+-- a cycle of services or hosts: each depends on the next one, and the last on the first
 abbrev pub IsDependencyCycle : Drafts → Part → List ℕ → Type 0
 IsDependencyCycle ds part.Services cycle = IsRound (length ds.services) (depends ds.service_dependencies (full_names ds.services)) cycle
 IsDependencyCycle ds part.Hosts cycle = IsRound (length ds.hosts) (depends ds.host_dependencies (names_of ds.hosts)) cycle
@@ -38,21 +38,21 @@ IsDependencyCycle ds other cycle = ⊥
 
 -- ---- parents
 
--- whether the host with the one name has the other for a parent's
+-- whether the host with the first name has the second name for a parent
 abbrev pub has_parent : Drafts → List ℕ → List ℕ → Bool
 has_parent ds child parent = list_any (λ h. bytes_eq h.name child && is_known h.parents parent) ds.hosts
 
--- whether the host at the second index is a parent of the one at the first, by the hosts' names
+-- whether the host at the second index is a parent of the host at the first, by the hosts' names
 abbrev pub is_child : Drafts → ℕ → ℕ → Bool
 is_child ds child parent = has_parent ds (get_or (names_of ds.hosts) child []) (get_or (names_of ds.hosts) parent [])
 
--- hosts each of which has the next one for a parent, and the last the first
+-- a cycle of hosts: each has the next one for a parent, and the last has the first
 abbrev pub IsParentCycle : Drafts → List ℕ → Type 0
 IsParentCycle ds cycle = IsRound (length ds.hosts) (is_child ds) cycle
 
 -- ---- faults
 
--- The fault is a cycle of the drafts. One of parents is told only where there is none of dependencies.
+-- The fault is a cycle of the drafts. A cycle of parents is reported only if there is no cycle of dependencies.
 abbrev pub IsCycleFault : Drafts → Fault → Type 0
 IsCycleFault ds (dependency_cycle p cycle) = IsDependencyCycle ds p cycle
 IsCycleFault ds (parent_cycle cycle) = (has_cycle (masters_of (configuration ds)) ≡ false) × IsParentCycle ds cycle

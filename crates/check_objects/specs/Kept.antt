@@ -15,7 +15,7 @@ configuration_of s =
           (λ list. list.items) s.dependencies.items;
     }
 
--- a setup, and an order that its dependencies agree with
+-- a setup, and an order that agrees with its dependencies
 pub record IsKept (s : Inside) : Type 0 where
   pub setup : IsSetup (configuration_of s)
   pub order : IsOrder (masters_of (configuration_of s)) s.order.items

@@ -1,4 +1,4 @@
--- The links of a setup with their ends' names in place of numbers.
+-- The links of a setup, with the names of their ends in place of numbers.
 use Rattle.std.specs.Prelude.{ℕ, List, map}
 use Rattle.std.specs.List.{flat_map, range_with_len}
 use Rattle.check_drafts.specs.declared.dependency.Dependency.{Dependency}
@@ -17,6 +17,6 @@ named_dependency c n d = record { dependent = name_of c n; master = name_of c d.
 abbrev pub named_dependencies : Configuration → ℕ → List DependencyDraft
 named_dependencies c n = map (named_dependency c n) (dependencies_of c n)
 
--- those of all objects together
+-- the dependencies of all objects together
 abbrev pub all_named_dependencies : Configuration → List DependencyDraft
 all_named_dependencies c = flat_map (named_dependencies c) (range_with_len 0 (object_count c))

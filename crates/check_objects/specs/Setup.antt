@@ -1,5 +1,5 @@
--- The setup that a document is, or its first refusal: the tree, its drafts, the tests, the numbers, and that no
--- object depends on itself and no host is its own parent. And the fault, which says besides what the test that failed has found.
+-- The setup of a document, or the document's first refusal. The tests follow the tree, its drafts and the numbers; no object depends on itself, and
+-- no host is its own parent. The fault has the same refusal, and also the details that the failed test has found.
 use Rattle.std.specs.Prelude.{◌≡◌, ℕ, true, List, length, Option, Some, None, Result, Ok, Err, ok_or, nat_lt, if◌then◌else◌}
 use Rattle.serde_json.specs.Data.{Data}
 use Rattle.check_drafts.specs.declared.error.LoadError.{LoadError}
@@ -20,7 +20,7 @@ use Rattle.check_objects.specs.Cycles.{IsCycleFault, IsParentCycle}
 abbrev pub document_of : List ℕ → Result Data Fault
 document_of bytes = if nat_lt 16777216 (length bytes) then Err faults.too_long else ok_or (tree_of bytes) faults.not_json
 
--- the drafts of a tree, if they have no fault but cycles
+-- the drafts of a tree, if they have no fault except for cycles
 abbrev pub faultless_drafts : Data → Result Drafts Fault
 faultless_drafts d = drafts_of d >>= λ drafts. (is_faultless drafts >>= λ _. Ok drafts)
 
@@ -34,7 +34,7 @@ without_dependency_cycle c = if has_cycle (masters_of c) then Err errors.Depende
 abbrev pub without_parent_cycle : Configuration → Result Configuration LoadError
 without_parent_cycle c = if has_cycle (parents_by_host c) then Err errors.ParentCycle else Ok c
 
--- The setup, unless it has a cycle. One of dependencies is reported before one of parents.
+-- The setup, unless it has a cycle. A cycle of dependencies is reported before a cycle of parents.
 abbrev pub without_cycles : Configuration → Result Configuration LoadError
 without_cycles c = without_dependency_cycle c >>= without_parent_cycle
 
@@ -48,7 +48,7 @@ setup_of bytes = refused_as load_error (document_of bytes) >>= setup_of_tree
 
 -- ---- the fault
 
--- the fault of a tree: the first one of its drafts, and if they have none but cycles, one of these
+-- the fault of a tree: the first one of its drafts; if they have no fault except for cycles, one of the cycles
 abbrev pub IsFaultBy : Result Drafts Fault → Fault → Type 0
 IsFaultBy (Err e) f = f ≡ e
 IsFaultBy (Ok drafts) f = IsCycleFault drafts f
@@ -64,7 +64,7 @@ IsFaultIn (Ok d) f = IsFaultOfTree d f
 abbrev pub IsFaultOf : List ℕ → Fault → Type 0
 IsFaultOf bytes f = IsFaultIn (document_of bytes) f
 
--- The drafts are refused for this fault. Where the code is out of memory, nothing is known.
+-- The drafts are refused for this fault. None means that the code is out of memory, and says nothing.
 abbrev pub AreRefusedFor : Drafts → Option Fault → Type 0
 AreRefusedFor ds None = Unit {0}
 AreRefusedFor ds (Some f) = IsCycleFault ds f × (without_cycles (configuration ds) ≡ Err (load_error f))

@@ -1,4 +1,4 @@
-//! Cycles of a document: from the numbers of their objects to the indices of the document's lists.
+//! Cycles of a document: converts the numbers of their objects to the indices of the document's lists.
 ghost use Rattle.std.specs.Prelude.{◌≡◌, ◌<◌, ◌≤◌, ◌+◌, ◌-◌, ℕ, List, [], IfOk, Ok, Some, bytes_eq, get_or, length, map, string_bytes, true};
 ghost use Rattle.check_drafts.specs.Drafted.{drafts_view, host};
 ghost use Rattle.check_drafts.specs.Ends.{is_known};
@@ -21,7 +21,7 @@ use check_numbers::{Host, Service};
 use indexmap::IndexMap;
 use std::alloc::{AllocError, Global};
 
-/// A cycle of dependencies as a fault, by its objects' numbers. An Err means out of memory.
+/// A cycle of dependencies as a fault, from its objects' numbers. An Err means out of memory.
 pub(crate) fn dependency_cycle(
     alloc: Global,
     drafts: &Drafts<'_>,
@@ -52,7 +52,7 @@ pub(crate) fn dependency_cycle(
     }
 }
 
-/// A cycle of parents as a fault, by its hosts' numbers. An Err means out of memory.
+/// A cycle of parents as a fault, from its hosts' numbers. An Err means out of memory.
 pub(crate) fn parent_cycle(
     alloc: Global,
     drafts: &Drafts<'_>,
@@ -86,8 +86,8 @@ fn host_names(alloc: Global, hosts: &[HostDraft<'_>]) -> Result<Vec<String>, All
 
 // ---- indices
 
-/// For each of these numbers the index of the object's name among the names. The objects come after so
-/// many others. An Err means out of memory.
+/// For each of these numbers the index of the object's name among the names. This many other objects come
+/// before these objects. An Err means out of memory.
 fn document_indices<T>(
     alloc: Global,
     numbers: &[u32],
@@ -133,7 +133,7 @@ fn index_by_name<'t>(
 
 // ---- the first of a cycle
 
-/// Turns a cycle so that it begins with its least index.
+/// Rotates a cycle so that it begins with its least index.
 fn begin_with_least(cycle: &mut Vec<usize>)
     requires { 0 < length cycle.old.items }
     ensures { BeginsWithLeast cycle.old.items cycle.new.items }

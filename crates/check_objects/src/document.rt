@@ -9,8 +9,8 @@ use check_drafts::{Fault, MAX_DOCUMENT_BYTES};
 use serde_json::Value;
 use std::alloc::Global;
 
-/// The tree of a setup document of at most 16,777,216 bytes in JSON. `Memory` may come in place of a tree
-/// and of `NotJson`.
+/// The tree of a setup document, which is JSON of at most 16,777,216 bytes. `Memory` can come in place of a
+/// tree and of `NotJson`.
 pub fn read_document(alloc: Global, bytes: &[u8]) -> Result<Value, Fault>
     ensures exact { Tells view result (document_of bytes.now) }
     ensures too_long { 16777216 < length bytes.now → result ≡ Err Fault.TooLong }

@@ -1,4 +1,4 @@
-//! Laws of the definitions, each the contract of a function without parameters and code.
+//! Laws of the definitions. Each is the contract of a function without parameters and code.
 ghost use Rattle.std.specs.Prelude.{◌≡◌, ◌<◌, ℕ, List, Ok, Some, None, map, bytes_eq, slice_get};
 ghost use Rattle.std.specs.List.{filter};
 ghost use Rattle.std.specs.List.Sorted.{IsPermutation, IsStrictlySortedBy};
@@ -10,11 +10,13 @@ ghost use Rattle.check_objects.specs.Links.{named_parents, named_dependencies, a
 ghost use Rattle.check_numbers.specs.Numbering.{all_dependencies, configuration, body_of, object_of, hosts_in_order, services_in_order, smaller_among};
 ghost use Rattle.check_drafts.specs.Name.{text_order, pair_order};
 
-/// What the order is worth. The hosts in order are all hosts of the document (`hosts`), and where no
-/// name comes twice their names ascend by their bytes (`names_ascend`); the services in order are all
-/// its services (`services`), and where no two have both host and description in common they ascend
-/// by the bytes of their hosts' names and then of their descriptions (`pairs_ascend`). Ascending is
-/// strict: no two are equal. A document without a fault is such a one (`apart`).
+/// Numbers follow the order of names.
+///
+/// The hosts in order are all hosts of the document (`hosts`). If no name occurs twice, their names ascend by
+/// their bytes (`names_ascend`). The services in order are all services of the document (`services`). If no
+/// two have both host and description in common, they ascend by the bytes of their hosts' names and then of
+/// their descriptions (`pairs_ascend`). Ascending is strict: no two are equal. A document without a fault
+/// meets both conditions (`apart`).
 pub fn numbers_follow_names()
     ensures hosts { (d : Drafts)
         → IsPermutation (map (λ h. (h.name, body_of h)) d.hosts) (hosts_in_order d.hosts) }
@@ -30,9 +32,9 @@ pub fn numbers_follow_names()
         × (first_repeat same_key (map key_of d.services) ≡ None) }
 {}
 
-/// The number of an object is a count. In every setup the number of a host is how many host names
-/// are smaller (`hosts`), and the place of a service behind the hosts is how many pairs of a host's
-/// name and a description are smaller (`services`).
+/// The number of an object is a count. In every setup the number of a host is the number of host names that
+/// are smaller (`hosts`). The place of a service after the hosts is the number of pairs of a host's name and
+/// a description that are smaller (`services`).
 pub fn numbers_are_counts()
     ensures hosts { (c : Configuration) → (n : ℕ) → IsSetup c → n < host_count c
         → smaller_among text_order (map (λ h. h.name) c.hosts) (name_of c n) ≡ n }
@@ -41,18 +43,19 @@ pub fn numbers_are_counts()
         → smaller_among pair_order (map (pair_of c) c.services) (pair_of c s) ≡ n }
 {}
 
-/// In every setup the full name of an object leads back to it: `setup.number(setup.name(n))` is
-/// `Some(n)` for the number n of an object, so no two objects have the same full name.
+/// In every setup the full name of an object leads back to the object. For the number n of an object,
+/// `setup.number(setup.name(n))` is `Some(n)`, so no two objects have the same full name.
 pub fn names_lead_back()
     ensures { (c : Configuration) → (n : ℕ) → IsSetup c → n < object_count c
         → number_of c (name_of c n) ≡ Some n }
 {}
 
-/// The links of a document without a fault are all kept, and no other is made, whatever the
-/// definitions would give to a name that isn't there. With names in place of numbers, the
-/// dependencies of an object are those of the document that name it, in the same order
-/// (`dependencies`), all objects' together are the document's (`together`), and so are the hosts with
-/// their parents, of each in the same order (`parents`).
+/// A setup has all links of a document without a fault, and no others.
+///
+/// Take names in place of numbers. The dependencies of an object are those of the document that name it, in
+/// the same order (`dependencies`). The dependencies of all objects together are the document's (`together`).
+/// The hosts with their parents are the document's too, and each host's parents are in the same order
+/// (`parents`).
 #[tactic(auto, using(crate::proofs::LinkLemmas::dependencies_by_name, crate::proofs::LinkLemmas::dependencies_together, crate::proofs::LinkLemmas::parents_together))]
 pub fn links_are_kept()
     ensures dependencies { (d : Drafts) → (n : ℕ) → is_faultless d ≡ Ok tt

@@ -1,16 +1,15 @@
-//! The setup that a scheduler works on: the hosts and services that are checked, their names and
-//! numbers, and the links between them.
+//! The setup that a scheduler works on: the hosts and services that are checked, their names and numbers, and
+//! the links between them.
 //!
-//! A setup is read from one JSON document, whole or not at all. Each fault of a document has a
-//! name of its own, and the first one, in the order of [`LoadError`], is reported with its place.
-//! Reading costs time linear in the document, except for the sort of the names; a name is looked up
-//! by its hash.
+//! A setup is read from one JSON document, completely or not at all. Each fault of a document has a name. The
+//! first fault, in the order of [`LoadError`], is reported with its place. Reading takes time linear in the
+//! document, except for the sort of the names. A name is looked up by its hash.
 //!
 //! The modules:
-//! - `document` reads the tree;
-//! - `setup` makes a setup of the tree;
-//! - `cycles` makes a fault of a cycle;
-//! - `laws` says what numbers and links are worth.
+//! - `document`: reads the tree;
+//! - `setup`: makes a setup from the tree;
+//! - `cycles`: makes a fault from a cycle;
+//! - `laws`: the properties of numbers and links.
 #![tactic(auto)]
 
 mod cycles;

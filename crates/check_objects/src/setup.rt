@@ -31,15 +31,15 @@ use std::marker::Model;
 
 /// The objects that are checked, with their names and numbers.
 ///
-/// Numbers begin at 0. Hosts come first, in the order of their names' bytes; then services, in the
-/// order of their hosts' names and then of their descriptions. A setup never changes once it is
-/// read. Contracts see it as a `Configuration`.
+/// Numbers begin at 0. Hosts come first, in the order of their names' bytes. Then come services, in the order
+/// of their hosts' names and then of their descriptions. A setup never changes after it is read. Contracts
+/// see it as a `Configuration`.
 #[derive(Drop)]
 pub struct Setup {
     hosts: IndexMap<String, Host>,
     order: Vec<u32>,
-    // What a call for a service reads stands side by side: the last of the options, the dependencies, and
-    // how the services begin.
+    // A call for a service reads fields that are next to each other: the last options, the dependencies, and
+    // the beginning of the services.
     options: Options,
     dependencies: Vec<Dependencies>,
     services: IndexMap<String, Service>,
@@ -56,9 +56,9 @@ impl Model for Setup {
 impl Setup {
     /// Reads one setup document, in JSON, of at most 16,777,216 bytes.
     ///
-    /// The setup is the document's, or the error is the document's first fault in the order of
-    /// [`LoadError`], but that `Memory` may come in place of either. Nothing is made then.
-    /// [`examine`](Setup::examine) returns what was found of the fault too.
+    /// The result is the document's setup. Otherwise the error is the document's first fault in the order of
+    /// [`LoadError`]. `Memory` can come in place of either. Nothing is made if there is an error. Call
+    /// [`examine`](Setup::examine) for the details of the fault.
     pub fn read(alloc: Global, bytes: &[u8]) -> Result<Setup, LoadError>
         ensures exact { Gives (λ s. s) result (setup_of bytes.now) }
         ensures too_long { 16777216 < length bytes.now → result ≡ Err LoadError.TooLong }
@@ -69,10 +69,10 @@ impl Setup {
         }
     }
 
-    /// Reads one setup document as [`read`](Setup::read) does, and returns of a refused one the fault
-    /// with all that the test that failed has found.
+    /// Reads one setup document as [`read`](Setup::read) does. For a refused document it returns the fault
+    /// with all details that the failed test has found.
     ///
-    /// `Memory` may come in place of a setup and of a fault. Nothing is made then.
+    /// `Memory` can come in place of a setup and of a fault. Nothing is made then.
     #[tactic(auto, unfolding(crate::specs::Setup::setup_of))]
     pub fn examine(alloc: Global, bytes: &[u8]) -> Result<Setup, Fault>
         ensures setup { IfOk result (λ setup. setup_of bytes.now ≡ Ok setup) }
@@ -83,10 +83,10 @@ impl Setup {
         Setup::examine_tree(alloc, &tree)
     }
 
-    /// The setup of a document's tree, as [`read_document`](crate::read_document) gives it, or its fault
-    /// with all that the test that failed has found.
+    /// The setup of a document's tree, as [`read_document`](crate::read_document) returns it. For a refused
+    /// tree it returns the fault with all details that the failed test has found.
     ///
-    /// `Memory` may come in place of a setup and of a fault. Nothing is made then.
+    /// `Memory` can come in place of a setup and of a fault. Nothing is made then.
     #[tactic(auto, unfolding(crate::specs::Setup::setup_of_tree))]
     pub fn examine_tree(alloc: Global, tree: &Value) -> Result<Setup, Fault>
         ensures setup { IfOk result (λ setup. setup_of_tree (view tree.now) ≡ Ok setup) }
@@ -98,8 +98,8 @@ impl Setup {
         Setup::of_drafts(alloc, &drafts)
     }
 
-    /// The setup of drafts without a fault, unless some object depends on itself through one dependency or
-    /// more, or some host is its own parent through one parent or more.
+    /// The setup of drafts without a fault. It is refused if some object depends on itself through one
+    /// dependency or more. It is also refused if some host is its own parent through one parent or more.
     fn of_drafts(alloc: Global, drafts: &Drafts<'_>) -> Result<Setup, Fault>
         requires faultless { is_faultless (drafts_view drafts.now) ≡ Ok tt }
         requires hosts { All (λ h. HasFewAttempts h.check) drafts.now.hosts.items }
@@ -114,8 +114,8 @@ impl Setup {
         Setup::without_cycles(alloc, drafts, hosts, services, dependencies)
     }
 
-    /// The setup of drafts without a fault, whose objects and dependencies were numbered, unless it
-    /// has a cycle.
+    /// The setup of drafts without a fault, after their objects and dependencies were numbered. It is refused
+    /// if it has a cycle.
     fn without_cycles(
         alloc: Global,
         drafts: &Drafts<'_>,
@@ -152,10 +152,10 @@ impl Setup {
         }
     }
 
-    /// How many objects there are, 0 to 4,096. A caller learns here besides what is true of every
-    /// setup: its names are good and ascend, its parents and its services' hosts are hosts, its
-    /// dependencies are between objects of one sort, neither they nor the parents lead back to where
-    /// they began, and its counts and numbers are within their limits.
+    /// The number of objects, 0 to 4,096. The clause `setup` also states the facts that hold of every setup.
+    /// Its names are good and ascend. Its parents and its services' hosts are hosts. Its dependencies are
+    /// between objects of one sort. Neither dependencies nor parents form a cycle. Its counts and numbers are
+    /// within their limits.
     pub fn len(&self) -> usize
         ensures count { result ≡ object_count self.now }
         ensures few { result ≤ 4096 }
@@ -171,7 +171,7 @@ impl Setup {
         self.len() == 0
     }
 
-    /// How many hosts there are. They have the numbers below this one.
+    /// The number of hosts. Each host's number is below it.
     pub fn hosts(&self) -> usize
         ensures count { result ≡ host_count self.now }
         ensures within { result ≤ object_count self.now }
@@ -179,7 +179,7 @@ impl Setup {
         self.hosts.len()
     }
 
-    /// The options, each with its default where the document has none.
+    /// The options. An option that the document leaves out has its default.
     pub fn options(&self) -> &Options
         ensures { result.now ≡ self.now.options }
     {
@@ -207,7 +207,7 @@ impl Setup {
     }
 
     /// The full name of the object with this number, and how it is checked.
-    // In each caller the compiler keeps only the half that is asked for: a call reads no name.
+    // Each caller uses only one half, and the compiler removes the other: a call reads no name.
     #[inline(always)]
     fn entry(&self, number: u32) -> (&str, &Object)
         requires { number < object_count self.now }
@@ -224,7 +224,7 @@ impl Setup {
         }
     }
 
-    /// The number of the object with this full name, or None where there is no such object.
+    /// The number of the object with this full name, or None if there is no such object.
     pub fn number(&self, name: &str) -> Option<u32>
         ensures { result ≡ number_of self.now name.now }
     {
@@ -257,8 +257,8 @@ impl Setup {
         }
     }
 
-    /// What the object with this number depends on, in the document's order: services on services,
-    /// hosts on hosts.
+    /// The dependencies of the object with this number, in the document's order. Services depend on services,
+    /// and hosts on hosts.
     pub fn dependencies(&self, number: u32) -> &[Dependency]
         requires { number < object_count self.now }
         ensures dependencies { result.now ≡ dependencies_of self.now number }
@@ -285,8 +285,7 @@ impl Setup {
         parent_links(alloc, &self.hosts)
     }
 
-    /// The numbers of all objects, each once, in an order in which every object stands behind all
-    /// that it depends on.
+    /// The numbers of all objects, each once. Every object comes after all that it depends on.
     pub fn order(&self) -> &[u32]
         ensures { IsOrder (masters_of self.now) result.now }
     {

@@ -8,7 +8,7 @@ use Rattle.check_queue.specs.Positions.{AreLinked}
 pub record IsHeap (entries : List Entry) (n : ℕ) : Type 0 where
   pub order : (i j : ℕ) → 2 * i + 1 ≤ j → j ≤ 2 * i + 2 → j < n → IsNotBefore (entry_at entries j) (entry_at entries i)
 
--- the same, if the entry at the hole were removed and its children put below its parent
+-- a heap, if the entry at the hole were removed and its children were put below its parent
 pub record IsHeapAround (entries : List Entry) (n hole : ℕ) : Type 0 where
   pub order : (i j : ℕ) → i ≢ hole → j ≢ hole → 2 * i + 1 ≤ j → j ≤ 2 * i + 2 → j < n → IsNotBefore (entry_at entries j) (entry_at entries i)
   pub across : (i j : ℕ) → 2 * i + 1 ≤ hole → hole ≤ 2 * i + 2 → 2 * hole + 1 ≤ j → j ≤ 2 * hole + 2 → j < n

@@ -1,4 +1,4 @@
--- The queue of the code as contracts see it.
+-- The queue of the code, as contracts see it.
 use Rattle.std.specs.Prelude.{ℕ, List, Option}
 use Rattle.check_queue.specs.Heap.{IsOrdered}
 use Rattle.check_queue.specs.Positions.{times_in}
@@ -8,6 +8,6 @@ use Rattle.check_queue.specs.declared.queue.Queue.TheInside.{Inside}
 abbrev pub times_of : Inside → List (Option ℕ)
 times_of q = times_in q.entries.items q.positions.items
 
--- what is true of the fields of every queue
+-- the facts of the fields of every queue
 abbrev pub IsKept : Inside → Type 0
 IsKept q = IsOrdered q.entries.items q.positions.items q.len

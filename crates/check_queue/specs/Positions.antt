@@ -1,4 +1,4 @@
--- The position of each number in the heap, and the time that is found there.
+-- The position of each number in the heap, and the time at this position.
 use Rattle.std.specs.Prelude.{◌≡◌, ◌≢◌, ℕ, ◌<◌, ◌≤◌, ◌^◌, ◌==◌, if◌then◌else◌, List, length, map, Option, Some, None, option_map, slice_index_or}
 use Rattle.check_queue.specs.declared.entry.Entry.{Entry}
 use Rattle.check_queue.specs.Entries.{entry_at}
@@ -33,7 +33,8 @@ pub record IsAt (entries : List Entry) (n hole k p : ℕ) : Type 0 where
   pub apart : p ≢ hole
   pub number : (entry_at entries p).number ≡ k
 
--- The first n entries, except the one at the hole, agree with the positions of their numbers, and no other number has a position. Without a hole, it is n.
+-- The first n entries, except for the one at the hole, agree with the positions of their numbers. No other number has a position. If there is no
+-- hole, `hole` is n.
 pub record AreLinked (entries : List Entry) (positions : List ℕ) (n hole : ℕ) : Type 0 where
   pub room : n ≤ length entries
   pub few : length entries < 2 ^ 32

@@ -10,15 +10,15 @@ use crate::sift::{ABSENT, close_hole, sift_up};
 use std::alloc::{AllocError, Global};
 use std::marker::Model;
 
-/// The numbers from 0 on, below a bound, each with or without a time. Contracts see it as the list of these
-/// times, by number. (Our own profile.)
+/// The numbers from 0 on, below a bound, each with or without a time. Contracts see the queue as the list of
+/// these times, by number. (Our own profile.)
 #[derive(Drop)]
 pub struct Queue {
-    /// The heap: the entries of the numbers that have a time are the first `len`.
+    /// The heap. Its first `len` entries are those of the numbers that have a time.
     entries: Vec<Entry>,
-    /// The position in the heap of each number, by number; ABSENT if the number has no time.
+    /// The position in the heap of each number, by number. It is `ABSENT` if the number has no time.
     positions: Vec<u32>,
-    /// How many numbers have a time.
+    /// The number of numbers that have a time.
     len: usize,
 }
 
@@ -35,7 +35,7 @@ impl Model for Queue {
 }
 
 impl Queue {
-    /// A queue of the numbers below `n`, all of them without a time.
+    /// A queue of the numbers below `n`, all without a time.
     ///
     /// An Err means out of memory. Only this call needs memory.
     pub fn new(alloc: Global, n: u32) -> Result<Queue, AllocError>
@@ -50,7 +50,7 @@ impl Queue {
         })
     }
 
-    /// The time of a number; None if it has none, or isn't below the bound.
+    /// The time of a number. None if the number has no time, or isn't below the bound.
     pub fn time_of(&self, number: u32) -> Option<u64>
         ensures { result ≡ slice_index_or self.now number None }
     {
@@ -58,8 +58,7 @@ impl Queue {
         Some(self.entries[position].time)
     }
 
-    /// The least time with its number, and of equal times the one with the least number. None if no number
-    /// has a time.
+    /// The least time and its number. At equal times it is the least number. None if no number has a time.
     pub fn first(&self) -> Option<(u64, u32)>
         ensures least { result ≡ least (pairs_of self.now) }
         ensures there { MatchOption result
@@ -74,8 +73,7 @@ impl Queue {
         Some((first.time, first.number as u32))
     }
 
-    /// Gives a number this time, which replaces the time that it may have. All other numbers stay as they
-    /// are.
+    /// Gives a number this time, which replaces any earlier time. All other numbers stay as they are.
     pub fn put(&mut self, number: u32, time: u64)
         requires { number < length self.old }
         ensures { self.new ≡ slice_set self.old number (Some time) }
@@ -90,8 +88,8 @@ impl Queue {
         sift_up(&mut self.entries, &mut self.positions, self.len, end, entry);
     }
 
-    /// Removes the time of a number, and returns whether it had one. All other numbers stay as they are,
-    /// and so does the queue if the number isn't below the bound.
+    /// Removes the time of a number, and returns whether it had one. All other numbers stay as they are. If
+    /// the number isn't below the bound, the whole queue does.
     pub fn remove(&mut self, number: u32) -> bool
         ensures had { result ≡ is_some (slice_index_or self.old number None) }
         ensures after { self.new ≡ slice_set self.old number None }
@@ -107,7 +105,7 @@ impl Queue {
     }
 }
 
-/// The position of a number; None if it isn't in the heap, or isn't below the bound.
+/// The position of a number. None if the number isn't in the heap, or isn't below the bound.
 fn position_of(positions: &[u32], number: u32) -> Option<usize>
     ensures { result ≡ position_of positions.now number }
 {

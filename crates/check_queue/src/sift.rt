@@ -9,8 +9,8 @@ ghost use Rattle.check_queue.specs.Positions.{IsOutside, times_in};
 
 use crate::entry::{Entry, is_before};
 
-/// The stored position of a number without a time. No heap is that long, since there are at most `u32::MAX`
-/// numbers.
+/// The stored position of a number without a time. No heap is as long as this, since there are at most
+/// `u32::MAX` numbers.
 pub(crate) const ABSENT: u32 = u32::MAX;
 
 /// Writes an entry to a position, and the position to the entry's number.
@@ -25,7 +25,7 @@ fn put_at(entries: &mut [Entry], positions: &mut [u32], position: usize, entry: 
     positions[entry.number as usize] = position as u32;
 }
 
-/// The position of the child of `hole` that comes first.
+/// The position of the first child of `hole` in the order of entries.
 fn first_child(entries: &[Entry], len: usize, hole: usize) -> usize
     requires room { len ≤ length entries.now }
     requires few { length entries.now < 2 ^ 32 }
@@ -36,7 +36,7 @@ fn first_child(entries: &[Entry], len: usize, hole: usize) -> usize
     left + usize::from(is_before(entries[left + 1], entries[left]))
 }
 
-/// Moves the hole up to where `held` fits, and puts `held` there.
+/// Moves the hole up until `held` fits, and puts `held` there.
 pub(crate) fn sift_up(
     entries: &mut [Entry],
     positions: &mut [u32],
@@ -63,8 +63,8 @@ pub(crate) fn sift_up(
 }
 
 /// Closes the hole with the last entry, so that the heap is one entry shorter. The hole moves down until it
-/// doesn't have two children. From there the last entry, which mostly belongs low, rises to where it fits.
-/// If the hole reached the last position, the last entry has moved already, or was the one removed.
+/// doesn't have two children. Then the last entry, which mostly belongs low, rises until it fits. If the hole
+/// reached the last position, the last entry has moved already, or was the one removed.
 pub(crate) fn close_hole(entries: &mut [Entry], positions: &mut [u32], len: usize, mut hole: usize)
     requires { HasHole entries.old positions.old len hole }
     ensures ordered { IsOrdered entries.new positions.new (len - 1) }

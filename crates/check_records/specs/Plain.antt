@@ -51,7 +51,7 @@ plain_standing s = record {
   flapping = flag s.flapping;
 }
 
--- the standing of a reply that has none
+-- the standing in a reply that has no standing
 abbrev pub no_standing : PlainStanding
 no_standing = record { checked = 0; state = 0; kind = 0; attempt = 0; last_hard = 0; flapping = 0 }
 
@@ -66,12 +66,12 @@ plain_call (call.Reschedule object time forced) = call_struct CALL_RESCHEDULE ob
 plain_call (call.Enable object on) = call_struct CALL_ENABLE object 0 0 0 (flag on)
 plain_call (call.Status object) = call_struct CALL_STATUS object 0 0 0 0
 
--- a time or an index, or 0 if there is none
+-- a time or an index, or 0 for None
 abbrev pub number_or_0 : Option ℕ → ℕ
 number_or_0 (Some number) = number
 number_or_0 None = 0
 
--- 1 if there is a number, 0 if there is none
+-- 1 for a number, 0 for None
 abbrev pub is_there : Option ℕ → ℕ
 is_there (Some number) = 1
 is_there None = 0

@@ -19,7 +19,7 @@ ghost use Rattle.check_records.specs.declared.kinds.TheConstants.{REFUSAL_MEMORY
 ghost use Rattle.check_records.specs.SavedFaults.{plain_fault};
 ghost use Rattle.check_records.specs.Plain.{plain_call, plain_entry, plain_refusal, plain_reply, plain_standing};
 
-/// Two standings, calls, replies, entries or refusals with the same struct are the same.
+/// If two standings, calls, replies, entries or refusals have the same struct, they are equal.
 pub fn structs_tell()
     ensures standings { (a b : Standing) → plain_standing a ≡ plain_standing b → a ≡ b }
     ensures calls { (a b : Call) → plain_call a ≡ plain_call b → a ≡ b }
@@ -29,7 +29,7 @@ pub fn structs_tell()
     ensures saved_faults { (a b : SavedFault) → plain_fault a ≡ plain_fault b → a ≡ b }
 {}
 
-/// No struct is both that of a document's refusal and that of a saved state's.
+/// No struct is both that of a document's refusal and that of a saved state's refusal.
 pub fn refusals_are_apart()
     ensures { (of_document : LoadError) → (of_saved : SavedFault)
         → plain_refusal of_document ≢ plain_fault of_saved }
@@ -62,7 +62,7 @@ pub fn numbers_of_replies()
 {}
 
 /// The number of each refusal of a document or of a saved state, as in the header. The header doesn't have
-/// the last two: for out of memory C gets a status.
+/// the last two numbers: out of memory is a status for C.
 pub fn numbers_of_refusals()
     ensures too_long { REFUSAL_TOO_LONG ≡ 0 }
     ensures not_json { REFUSAL_NOT_JSON ≡ 1 }

@@ -1,13 +1,14 @@
 #![tactic(auto)]
-//! What crosses to C by value: structs of numbers, one for each type of value.
+//! Values for C: structs of numbers, one for each type of value.
 //!
-//! A standing, a call, a reply, an entry and the refusal of a document or of a saved state become structs
-//! here, and are read back from them. The structs have no handle, no text and no status.
+//! This crate makes structs from standings, calls, replies, entries, and the refusals of documents and of
+//! saved states. It also reads the structs back. They have no handle, no text and no status.
 //!
-//! The modules: `kinds` has the numbers of calls, replies and refusals, `numbers` those of switches.
-//! `plain` has the structs, and makes each from its value. `reading` reads structs back. `saved_faults`
-//! does both for the refusals of a saved state. `laws` has the law that nothing is lost on the way, and the
-//! number of each kind.
+//! The modules:
+//! - `kinds`: the numbers of calls, replies and refusals; `numbers`: the numbers of switches;
+//! - `plain`: the structs, each made from its value; `reading`: reads structs back;
+//! - `saved_faults`: makes and reads the structs for the refusals of a saved state;
+//! - `laws`: the law that nothing is lost on the way, and the number of each kind.
 
 mod kinds;
 pub mod laws;

@@ -1,5 +1,5 @@
-//! The numbers of switches, and the values with given numbers. Parts have theirs in check_drafts; codes,
-//! states and kinds in check_rules.
+//! The numbers of switches, and the values with given numbers. `check_drafts` has the numbers of parts, and
+//! `check_rules` those of codes, states and kinds.
 
 ghost use Rattle.std.specs.Prelude.{◌≡◌};
 ghost use Rattle.check_records.specs.Plain.{flag, flag_of};
@@ -15,7 +15,7 @@ pub(crate) fn flag(yes: bool) -> u32
     if yes { 1 } else { 0 }
 }
 
-/// Yes or no, if the number is 1 or 0.
+/// Yes or no, if the number is 1 or 0. None for any other number.
 pub fn flag_of(number: u32) -> Option<bool>
     ensures { result ≡ flag_of number }
 {
@@ -26,7 +26,7 @@ pub fn flag_of(number: u32) -> Option<bool>
     }
 }
 
-/// The return code of this number; `Unknown` if no code has it.
+/// The return code of this number, or `Unknown` if no code has it.
 pub(crate) fn code_back(number: u32) -> Code
     ensures { result ≡ code_back number }
 {
@@ -36,7 +36,7 @@ pub(crate) fn code_back(number: u32) -> Code
     }
 }
 
-/// The state of this number; `Unreachable` if no state has it.
+/// The state of this number, or `Unreachable` if no state has it.
 pub(crate) fn state_back(number: u32) -> State
     ensures { result ≡ state_back number }
 {
@@ -46,7 +46,7 @@ pub(crate) fn state_back(number: u32) -> State
     }
 }
 
-/// The kind of a state by its number: `Soft` for 0, `Hard` for any other number.
+/// The kind of a state from its number: `Soft` for 0, `Hard` for any other number.
 pub(crate) fn kind_back(number: u32) -> Kind
     ensures { result ≡ kind_back number }
 {
@@ -56,7 +56,7 @@ pub(crate) fn kind_back(number: u32) -> Kind
     }
 }
 
-/// The part of a document of this number; `HostDependencies` if no part has it.
+/// The part of a document of this number, or `HostDependencies` if no part has it.
 pub(crate) fn part_back(number: u32) -> Part
     ensures { result ≡ part_back number }
 {

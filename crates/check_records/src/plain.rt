@@ -1,7 +1,7 @@
-//! What crosses to C by value: structs of numbers, each made from its value.
+//! Values for C: structs of numbers, each made from its value.
 //!
-//! Each has the layout that `nagsched.h` gives it: no padding and no `bool`. A field that a kind doesn't
-//! use is 0. Two values with the same struct are the same ([`crate::laws`]).
+//! Each struct has the layout that `nagsched.h` gives it: no padding and no `bool`. A field that a kind
+//! doesn't use is 0. If two values have the same struct, they are equal ([`crate::laws`]).
 
 ghost use Rattle.std.specs.Prelude.{◌≡◌, None};
 ghost use Rattle.check_sched.specs.declared.call.Reply.TheVariants as reply;
@@ -15,7 +15,7 @@ use check_rules::Standing;
 use check_sched::{Call, Refusal, Reply};
 use ticket_steps::Entry;
 
-/// What is known of an object.
+/// The standing of an object.
 #[repr(C)]
 #[derive(Clone, Copy, PartialEq)]
 pub struct PlainStanding {
@@ -83,13 +83,13 @@ pub struct PlainEntry {
     pub reply: PlainReply,
 }
 
-/// Why a document is no setup, or a text no saved state, and where.
+/// Why a document isn't a setup, or a text isn't a saved state, and the place of the fault.
 #[repr(C)]
 #[derive(Clone, Copy, PartialEq)]
 pub struct PlainRefusal {
     /// The reason: 0 to 10 for a document, 11 to 19 for a saved state.
     pub kind: u32,
-    /// The part of the document, 1 to 6, or 0 if the kind has no place, and for a saved state.
+    /// The part of the document, 1 to 6. It is 0 if the kind has no place, and for a saved state.
     pub part: u32,
     /// 1 if there is an index, otherwise 0.
     pub has_index: u64,
@@ -107,7 +107,7 @@ const FIRST_TAKE: PlainCall = PlainCall {
     flag: 0,
 };
 
-/// The standing of a reply that has none.
+/// The standing in a reply that has no standing.
 const NO_STANDING: PlainStanding = PlainStanding {
     checked: 0,
     state: 0,
@@ -128,7 +128,7 @@ const NO_REPLY: PlainReply = PlainReply {
     standing: NO_STANDING,
 };
 
-/// What is known of an object, for C.
+/// The standing of an object, for C.
 pub fn plain_standing(standing: Standing) -> PlainStanding
     ensures { result ≡ plain_standing standing }
 {
@@ -190,7 +190,7 @@ pub fn plain_call(call: Call) -> PlainCall
     }
 }
 
-/// The number, or 0 where there is none.
+/// The number, or 0 for None.
 fn number_or_0(number: Option<u64>) -> u64
     ensures { result ≡ number_or_0 number }
 {
@@ -210,7 +210,7 @@ fn is_there(number: Option<u64>) -> u32
     }
 }
 
-/// Writes a time. No time is written as 0, with `has_time` 0.
+/// Writes a time. Without a time, it writes 0, with `has_time` 0.
 fn tell_time(time: Option<u64>, told: &mut PlainReply)
     ensures { told.new ≡ with_time time told.old }
 {
@@ -335,7 +335,7 @@ fn refusal_at(kind: u32, place: Place) -> PlainRefusal
     }
 }
 
-/// Why a document is no setup, for C. Out of memory is a status, so C never gets its struct.
+/// Why a document isn't a setup, for C. Out of memory is a status, so C never gets its struct.
 pub fn plain_refusal(error: LoadError) -> PlainRefusal
     ensures { result ≡ plain_refusal error }
 {

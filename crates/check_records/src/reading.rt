@@ -1,4 +1,4 @@
-//! Structs read back: the call, the reply, the entry or the refusal with a struct, if there is one.
+//! Reads structs back: the call, the reply, the entry or the refusal with a struct, if there is one.
 
 ghost use Rattle.std.specs.Prelude.{◌≡◌, ◌≢◌, ◌↔◌, ◌≤◌, ◌^◌, true, IfNone, IfSome};
 ghost use Rattle.check_drafts.specs.declared.error.LoadError.TheVariants.{Memory};
@@ -172,8 +172,8 @@ pub fn refusal_of(plain: PlainRefusal) -> Option<LoadError>
     }
 }
 
-/// The refusal that the fields of a struct name, if they are those of a refusal. For others it is out of
-/// memory, which no function writes.
+/// The refusal that the fields of a struct name, if they are those of a refusal. For other fields it is
+/// `Memory`, whose struct no function writes.
 fn refusal_back(plain: PlainRefusal) -> LoadError
     ensures { result ≡ refusal_back plain }
 {

@@ -1,4 +1,4 @@
-//! Why a saved state is refused, as a struct, and read back.
+//! Structs for the refusals of a saved state, in both directions.
 
 ghost use Rattle.std.specs.Prelude.{◌≡◌, ◌≢◌, IfNone, IfSome};
 ghost use Rattle.check_saved.specs.declared.fault.SavedFault.TheVariants.{Memory};
@@ -58,8 +58,8 @@ pub fn fault_of(plain: PlainRefusal) -> Option<SavedFault>
     }
 }
 
-/// The refusal that the fields of a struct name, if they are those of a refusal. For others it is out of
-/// memory, which no function writes.
+/// The refusal that the fields of a struct name, if they are those of a refusal. For other fields it is
+/// `Memory`, whose struct no function writes.
 fn fault_back(plain: PlainRefusal) -> SavedFault
     ensures { result ≡ fault_back plain }
 {

@@ -11,8 +11,8 @@ use Rattle.check_rules.specs.Numbers.{kind_number, numbered_state, state_number}
 abbrev pub flag : Bool → ℕ
 flag b = if b then 1 else 0
 
--- bit 0 whether it is checked, bits 1 to 3 the state, bit 4 whether it is hard, bits 5 to 12 the attempt, bits 13 to 15 the last
--- hard state, bit 16 whether it flaps
+-- Bit 0 says whether the object is checked. Bits 1 to 3 are the state, and bit 4 says whether it is hard. Bits 5 to 12 are the attempt, bits 13 to 15
+-- the last hard state. Bit 16 says whether the object flaps.
 abbrev pub encoded : Standing → ℕ
 encoded s =
     flag s.checked + 2 * state_number s.state + 16 * kind_number s.kind + 32 * s.attempt + 8192 * state_number s.last_hard + 65536 * flag s.flapping
@@ -34,7 +34,7 @@ standing_of word current last_hard = record {
   flapping = has_bit word 65536;
 }
 
--- the standing whose word this is, if it is one's: both numbers of states are below 7, and no bit above the 17 is set
+-- the standing of a word, if there is one: the numbers of both states are below 7, and no bit above the first 17 is set
 abbrev pub decoded : ℕ → Option Standing
 decoded word =
     if nat_lt word 131072

@@ -1,4 +1,4 @@
--- Whether a dependency holds an object's check back ("Host and Service Dependencies": execution dependencies).
+-- Whether a dependency blocks an object's check ("Host and Service Dependencies": execution dependencies).
 use Rattle.std.specs.Prelude.{ℕ, zero, suc, Bool, false, ◌&&◌, ◌||◌, List, slice_get, if◌then◌else◌}
 use Rattle.std.specs.List.{list_any}
 use Rattle.std.specs.Option.{option_map_or}
@@ -19,12 +19,11 @@ is_criterion c state.Up = c.ok
 is_criterion c state.Down = c.down
 is_criterion c state.Unreachable = c.unknown
 
--- the state that a dependency reads: the last hard one, or with `soft_state_dependencies` the current one
+-- the state that a dependency reads: the last hard state, or with `soft_state_dependencies` the current state
 abbrev pub state_read : Bool → Standing → State
 state_read reads_soft s = if reads_soft then s.state else s.last_hard
 
--- Whether the standing of a master is among the criteria; one that was never checked meets only
--- `pending`. (Our own profile.)
+-- Whether the standing of a master is among the criteria. A master that was never checked meets only `pending`. (Our own profile.)
 abbrev pub meets : Bool → Criteria → Standing → Bool
 meets reads_soft c s = if s.checked then is_criterion c (state_read reads_soft s) else c.pending
 
@@ -32,20 +31,17 @@ meets reads_soft c s = if s.checked then is_criterion c (state_read reads_soft s
 abbrev pub is_met : Configuration → List Standing → Dependency → Bool
 is_met setup standings d = option_map_or (meets setup.options.soft_state_dependencies d.criteria) (slice_get standings d.master) false
 
--- Whether a dependency fails, by which objects are blocked: its master is in one of its criteria, or
--- it inherits and its master is blocked.
+-- Whether a dependency fails, given which objects are blocked: its master is in one of its criteria, or it inherits and its master is blocked.
 abbrev pub fails : (ℕ → Bool) → Configuration → List Standing → Dependency → Bool
 fails blocked setup standings d = is_met setup standings d || (d.inherits && blocked d.master)
 
--- Whether some dependency of the object fails, if inherited ones are followed through this number of
--- masters. A dependency fails if its master is in one of its criteria, or if it inherits and some
--- dependency of its master fails.
+-- Whether some dependency of the object fails, if inherited dependencies are followed through this number of masters. A dependency fails if its
+-- master is in one of its criteria, or if it inherits and some dependency of its master fails.
 abbrev pub is_blocked_within : ℕ → Configuration → List Standing → ℕ → Bool
 is_blocked_within zero setup standings n = false
 is_blocked_within (suc k) setup standings n =
     list_any (fails (is_blocked_within k setup standings) setup standings) (dependencies_of setup n)
 
--- Whether some dependency of the object fails. No chain of masters is longer than there are
--- objects, since none comes twice.
+-- Whether some dependency of the object fails. No chain of masters is longer than the number of objects, since no master comes twice.
 abbrev pub is_blocked : Configuration → List Standing → ℕ → Bool
 is_blocked setup standings n = is_blocked_within (object_count setup) setup standings n

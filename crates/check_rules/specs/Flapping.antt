@@ -1,5 +1,5 @@
--- Flapping: an object whose state keeps changing. ("Detection and Handling of State Flapping"; the number
--- of results that count, the weight of a change, and a start at the high threshold are our own profile.)
+-- Flapping: an object whose state keeps changing. ("Detection and Handling of State Flapping". The number of results that count, the weight of a
+-- change, and a start at the high threshold are our own profile.)
 use Rattle.std.specs.Prelude.{ℕ, ◌≡◌, ◌≤◌, ◌+◌, ◌*◌, ◌==◌, Bool, true, not, List, [], ◌∷◌, ◌++◌, length, zip, drop, nat_lt, nat_le, if◌then◌else◌, ◌/◌}
 use Rattle.std.specs.List.{enumerate_from, list_all, sum_by}
 use Rattle.circular_buffer.specs.Buffer.{keep_last}
@@ -19,7 +19,7 @@ pub record AreResultsFor (host : Bool) (results : List State) : Type 0 where
 
 -- ---- the percent
 
--- the weight of change i, counted from the oldest, which is change 0: newer changes weigh more
+-- the weight of change i; the oldest is change 0, and newer changes weigh more
 abbrev pub weight_of_change : ℕ → ℕ
 weight_of_change i = 57 + 2 * i
 
@@ -27,25 +27,25 @@ weight_of_change i = 57 + 2 * i
 abbrev pub weight_of_all : ℕ
 weight_of_all = 1520
 
--- the change between a result and the one after it: none if the two are the same state
+-- the weight of the change between a result and the next one; 0 if both are the same state
 abbrev pub weight_between : ℕ × (State × State) → ℕ
 weight_between pair = if is_another_state pair.1.1 pair.1.0 then weight_of_change pair.0 else 0
 
--- the changes: each result with the one after it, numbered from the oldest
+-- the changes: each result with the next one, numbered from the oldest
 abbrev pub pairs_of : List State → List (ℕ × (State × State))
 pairs_of results = enumerate_from 0 (zip results (drop 1 results))
 
--- the weights of the changes that took place, added up
+-- the total weight of the changes that took place
 abbrev pub changes_weight : List State → ℕ
 changes_weight results = sum_by weight_between (pairs_of results)
 
--- how much of all that could change did, in whole percents; 0 before there are 21 results
+-- the weight of these changes as a share of the weight of all 20, in whole percents; 0 until there are 21 results
 abbrev pub percent_of : List State → ℕ
 percent_of results = if length results == 21 then 100 * changes_weight results / weight_of_all else 0
 
 -- ---- whether an object flaps
 
--- Whether an object with these results flaps now: one that didn't begins to at the high threshold, one
--- that did stops below the low one.
+-- Whether an object with these results flaps now. An object that didn't flap begins at the high threshold. An object that did flap stops below the
+-- low threshold.
 abbrev pub is_flapping : List State → Bool → ℕ → ℕ → Bool
 is_flapping results was low high = if was then not (nat_lt (percent_of results) low) else nat_le high (percent_of results)

@@ -9,7 +9,7 @@ use Rattle.check_rules.specs.Flapping.{changes_weight}
 abbrev pub results_of : Inside → List State
 results_of r = r.kept.items
 
--- the facts that hold of the fields of every value
+-- the facts of the fields of every value
 pub record IsKept (r : Inside) : Type 0 where
   -- there is room for 21 results
   pub room : r.kept.capacity ≡ 21

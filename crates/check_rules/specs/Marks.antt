@@ -14,6 +14,6 @@ is_marked marks object = slice_index_or marks object false
 abbrev pub AreUnblocked : Configuration → List Standing → List Bool → Type 0
 AreUnblocked setup standings marks = (object : ℕ) → is_marked marks object ≡ true → is_blocked setup standings object ≡ false
 
--- whether a dependency fails by what it inherits: its master is blocked
+-- whether a dependency fails because it inherits: its master is blocked
 abbrev pub is_inheriting : Configuration → List Standing → Dependency → Bool
 is_inheriting setup standings d = d.inherits && is_blocked setup standings d.master

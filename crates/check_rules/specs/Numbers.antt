@@ -19,7 +19,7 @@ abbrev pub numbered_code : ℕ → Option Code
 numbered_code number = if number == 0 then Some code.Ok else (if number == 1 then Some code.Warning
     else (if number == 2 then Some code.Critical else (if number == 3 then Some code.Unknown else None)))
 
--- a number of its own for each state
+-- each state has a number of its own
 abbrev pub state_number : State → ℕ
 state_number state.Ok = 0
 state_number state.Warning = 1

@@ -1,4 +1,4 @@
--- The state of a host by the return code of its check and by its parents.
+-- The state of a host, from the return code of its check and from its parents.
 use Rattle.std.specs.Prelude.{ℕ, Bool, true, false, not, ◌&&◌, ◌==◌, List, length, slice_get, if◌then◌else◌}
 use Rattle.std.specs.List.{list_all}
 use Rattle.std.specs.Option.{option_map_or}
@@ -27,8 +27,8 @@ is_down_at standings number = option_map_or is_down (slice_get standings number)
 abbrev pub is_cut_off : List Standing → List ℕ → Bool
 is_cut_off standings parents = not (length parents == 0) && list_all (is_down_at standings) parents
 
--- The state of a host: UP without a problem, else UNREACHABLE if it is cut off, else DOWN. ("Determining
--- Status and Reachability of Network Hosts".)
+-- The state of a host: UP without a problem, otherwise UNREACHABLE if it is cut off, otherwise DOWN. ("Determining Status and Reachability of Network
+-- Hosts".)
 abbrev pub host_state_of : Configuration → List Standing → ℕ → Code → State
 host_state_of setup standings number code =
     if is_problem_of_host setup.options.use_aggressive_host_checking code

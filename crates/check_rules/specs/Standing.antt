@@ -33,7 +33,7 @@ abbrev pub problem_phase : Kind → Phase
 problem_phase kind.Soft = phase.SoftProblem
 problem_phase kind.Hard = phase.HardProblem
 
--- The phase that an object is in: fine at OK and UP, else a soft or a hard problem. ("State Types".)
+-- The phase of an object: fine at OK and UP, otherwise a soft or a hard problem. ("State Types".)
 abbrev pub phase_of : Standing → Phase
 phase_of s = if is_problem s.state then problem_phase s.kind else phase.Fine
 
@@ -46,8 +46,7 @@ is_soft_problem_phase phase.HardProblem = false
 abbrev pub is_soft_problem : Standing → Bool
 is_soft_problem s = is_soft_problem_phase (phase_of s)
 
--- The attempts of a phase: a problem is soft before the last attempt and hard at it. ("State
--- Types"; the attempt of OK and UP is our own profile.)
+-- The attempts of a phase. A problem is soft before the last attempt and hard at it. ("State Types"; the attempt of OK and UP is our own profile.)
 abbrev pub is_attempt_of : Phase → ℕ → ℕ → Bool
 is_attempt_of phase.Fine attempt max = nat_le 1 attempt && nat_le attempt max
 is_attempt_of phase.SoftProblem attempt max = nat_le 1 attempt && nat_lt attempt max

@@ -18,7 +18,7 @@ abbrev pub is_of_sort : Bool → State → Bool
 is_of_sort true state = is_host_state state
 is_of_sort false state = not (is_host_state state)
 
--- Whether a state is a problem: any but OK and UP. ("State Types".)
+-- Whether a state is a problem: any state except OK and UP. ("State Types".)
 abbrev pub is_problem : State → Bool
 is_problem state.Ok = false
 is_problem state.Up = false

@@ -1,5 +1,4 @@
--- The verdict on a result, as a table. The first row that fits decides. (Our own profile, drawn after the
--- manual's "State Types".)
+-- The verdict on a result, as a table. The first row that fits decides. (Our own profile, after the manual's "State Types".)
 use Rattle.std.specs.Prelude.{ℕ, ◌+◌, Bool, true, false, not, ◌&&◌, ◌==◌, List, [], ◌∷◌, find, Option, Some, None, if◌then◌else◌}
 use Rattle.check_rules.specs.declared.state.State.{State}
 use Rattle.check_rules.specs.declared.standing.Kind.{Kind}
@@ -102,11 +101,11 @@ abbrev pub given_by : Option Row → Standing → ℕ → Kind × ℕ
 given_by None before max = (before.kind, before.attempt)
 given_by (Some r) before max = (kind_of r.kind_after (attempt_of r.attempt_after before.attempt max) max, attempt_of r.attempt_after before.attempt max)
 
--- the kind and the attempt of the first row that fits; some row fits
+-- the kind and the attempt of the first row that fits; there always is one
 abbrev pub kind_and_attempt : Standing → State → ℕ → Bool → Kind × ℕ
 kind_and_attempt before found max host_up = given_by (find (fits (phase_of before) found host_up) table) before max
 
--- the last hard state after: the result if the kind is hard, else the last hard state before
+-- the last hard state after a result: the result if the kind is hard, otherwise the last hard state before
 abbrev pub last_hard_after : Kind → State → State → State
 last_hard_after kind.Hard found before = found
 last_hard_after kind.Soft found before = before

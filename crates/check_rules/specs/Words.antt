@@ -17,7 +17,7 @@ state_word state.Up = codes "UP"
 state_word state.Down = codes "DOWN"
 state_word state.Unreachable = codes "UNREACHABLE"
 
--- the state that has this word
+-- the state with this word
 abbrev pub worded_state : List ℕ → Option State
 worded_state word = find (λ s. bytes_eq word (state_word s)) all_states
 
@@ -25,13 +25,13 @@ abbrev pub kind_word : Kind → List ℕ
 kind_word kind.Soft = codes "SOFT"
 kind_word kind.Hard = codes "HARD"
 
--- the kind that has this word
+-- the kind with this word
 abbrev pub worded_kind : List ℕ → Option Kind
 worded_kind word = find (λ k. bytes_eq word (kind_word k)) (kind.Soft ∷ kind.Hard ∷ [])
 
 -- ---- letters
 
--- the letter of a state: o w c u of a service's, o d u of a host's, in the order of their numbers
+-- the letter of a state: o, w, c, u for a service, and o, d, u for a host, in the order of their numbers
 abbrev pub state_letter : State → ℕ
 state_letter s = get_or (codes "owcuodu") (state_number s) 0
 
@@ -39,7 +39,7 @@ state_letter s = get_or (codes "owcuodu") (state_number s) 0
 abbrev pub is_letter : ℕ → Bool
 is_letter b = b == 111 || b == 119 || b == 117 || b == 99 || b == 100
 
--- The state of a host, or of a service, that has this letter. A letter of the other sort is a state of that sort.
+-- The state of a host, or of a service, with this letter. A letter of the other sort is a state of that sort.
 abbrev pub lettered_state : Bool → ℕ → State
 lettered_state host letter =
     if letter == 111 then (if host then state.Up else state.Ok)

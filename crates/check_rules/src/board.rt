@@ -7,8 +7,8 @@ use crate::standing::{Kind, Standing};
 use crate::state::State;
 
 /// The word of a standing. Bit 0 says whether the object was checked. Bits 1 to 3 are its state, and bit 4
-/// says whether that is hard. Bits 5 to 12 are the attempt, bits 13 to 15 the last hard state, and bit 16
-/// says whether the object flaps. OK, WARNING, CRITICAL, UNKNOWN, UP, DOWN, UNREACHABLE are 0 to 6.
+/// says whether the state is hard. Bits 5 to 12 are the attempt, and bits 13 to 15 the last hard state. Bit
+/// 16 says whether the object flaps. OK, WARNING, CRITICAL, UNKNOWN, UP, DOWN, UNREACHABLE are 0 to 6.
 /// [`decode`] reads the word. (Our own profile.)
 pub fn code(standing: Standing) -> u64
     ensures value { result ≡ encoded standing }

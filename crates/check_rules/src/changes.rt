@@ -31,8 +31,8 @@ pub(crate) struct Changes {
 }
 
 impl Changes {
-    /// The changes among these results. The two parts of the ring are scanned one after the other, each
-    /// from the result before it. The oldest result counts as its own predecessor.
+    /// The changes among these results. The two parts of the ring are scanned one after the other, each from
+    /// the result before it. The oldest result counts as its own predecessor.
     pub(crate) fn among(results: &HeapCircularBuffer<State>) -> Changes
         requires { length results.now.items ≤ KEPT_RESULTS }
         ensures weight { result.weight ≡ changes_weight results.now.items }
@@ -55,9 +55,9 @@ impl Changes {
         }
     }
 
-    /// The changes after one more result, which pushes out the oldest of 21. `goes` says whether a change
-    /// goes with the oldest, and `comes` whether the new result is a change. Each change that stays weighs
-    /// 2 less.
+    /// The changes after one more result, which pushes out the oldest of 21. `goes` says whether a change is
+    /// pushed out with the oldest result. `comes` says whether the new result is a change. Each change that
+    /// stays weighs 2 less.
     pub(crate) fn after(self, goes: bool, comes: bool) -> Changes
         requires there { flag goes ≤ self.count }
         requires few { self.count ≤ 20 }

@@ -1,4 +1,4 @@
-//! Execution dependencies, which can hold back the check of an object.
+//! Execution dependencies, which can block the check of an object.
 
 ghost use Rattle.std.specs.Prelude.{◌≡◌, ◌<◌, [], false, length, All};
 ghost use Rattle.std.specs.List.{list_any};
@@ -14,13 +14,13 @@ use check_objects::{Criteria, Dependency, Setup};
 /// Whether some execution dependency of the object with this number fails, given the standings of all
 /// objects, by number.
 ///
-/// A dependency fails if its master's state is among its criteria: the last hard state, or with the
-/// option `soft_state_dependencies` the current one. A dependency that inherits also fails if some
-/// dependency of its master does. (Manual: "Host and Service Dependencies".) A master that was never
-/// checked meets only the criterion `p`. (Our own profile.)
+/// A dependency fails if its master's state is among its criteria. This state is the last hard state, or with
+/// the option `soft_state_dependencies` the current state. A dependency that inherits also fails if some
+/// dependency of its master does. (Manual: "Host and Service Dependencies".) A master that was never checked
+/// meets only the criterion `p`. (Our own profile.)
 ///
-/// `marks` is scratch space with a place for each object, and may hold anything. It isn't used if a master
-/// of the object meets a criterion, or if no dependency of the object inherits. Else it is cleared, and
+/// `marks` is scratch space with a place for each object, and can contain anything. It isn't used if a master
+/// of the object meets a criterion, or if no dependency of the object inherits. Otherwise it is cleared, and
 /// each master that is reached through inheriting dependencies is examined at most once.
 pub fn blocked(setup: &Setup, standings: &[Standing], marks: &mut [bool], n: u32) -> bool
     requires there { n < object_count setup.now }
@@ -42,8 +42,8 @@ pub fn blocked(setup: &Setup, standings: &[Standing], marks: &mut [bool], n: u32
     is_any_master_blocked(setup, standings, dependencies, marks, depth)
 }
 
-/// Whether the master of some of the dependencies that inherit is blocked. No chain of masters that
-/// begins at one of them has `depth` members.
+/// Whether the master of some of the dependencies that inherit is blocked. No chain of masters that begins at
+/// one of these masters has `depth` members.
 #[cycle(masters)]
 fn is_any_master_blocked(
     setup: &Setup,
@@ -70,8 +70,8 @@ fn is_any_master_blocked(
     false
 }
 
-/// Whether a master is blocked. A marked master was examined before, and isn't. No chain of masters that
-/// begins here has `depth` members.
+/// Whether a master is blocked. A marked master was examined before, and isn't blocked. No chain of masters
+/// that begins here has `depth` members.
 #[cycle(masters)]
 fn is_master_blocked(
     setup: &Setup,
@@ -103,7 +103,7 @@ fn is_master_blocked(
     false
 }
 
-/// Whether some of the dependencies inherits.
+/// Whether some of the dependencies inherit.
 fn inherits_any(dependencies: &[Dependency]) -> bool
     ensures { result ≡ list_any (λ d. d.inherits) dependencies.now }
 {

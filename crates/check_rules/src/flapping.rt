@@ -1,6 +1,6 @@
 //! Flapping: whether the state of an object keeps changing. (Manual: "Detection and Handling of State
-//! Flapping"; our own profile defines the weights, and starts flapping at a percent equal to the high
-//! threshold too.)
+//! Flapping". Our own profile defines the weights, and lets flapping also start at a percentage equal to the
+//! high threshold.)
 
 ghost use Rattle.std.specs.Prelude.{◌≡◌, ◌≤◌, nat_le, nat_lt, not, if◌then◌else◌};
 ghost use Rattle.check_rules.specs.Flapping.{is_flapping, percent_of};
@@ -9,11 +9,11 @@ use crate::changes::Changes;
 use crate::state::State;
 use circular_buffer::HeapCircularBuffer;
 
-/// The number of an object's last results that are stored, so that there are at most 20 changes among them.
+/// The number of an object's last results that are stored. There are at most 20 changes among them.
 pub const KEPT_RESULTS: usize = 21;
 
-/// How much the state of an object changed over its last 21 results, in whole percents, rounded down.
-/// It is 0 before there are 21 results.
+/// How much the state of an object changed over its last 21 results, in whole percents, rounded down. It is 0
+/// until there are 21 results.
 ///
 /// The changes are numbered from the oldest, 0 to 19. Change i takes place if result i + 1 differs from
 /// result i. It weighs 57 + 2i, and all changes together weigh 1,520. (Our own profile, after the manual's
@@ -30,12 +30,12 @@ pub fn percent(results: &HeapCircularBuffer<State>) -> u8
     }
 }
 
-/// Whether an object flaps after a result. `results` are its last 21 with that one, and `was` says whether
-/// it flapped before. If it didn't, it begins at a percent of at least `high`. If it did, it stops below
-/// `low`.
+/// Whether an object flaps after a result. `results` are its last 21 with that one, and `was` says whether it
+/// flapped before. An object that didn't flap begins at a percentage of at least `high`. An object that did
+/// flap stops below `low`.
 ///
-/// With a high threshold of 0 an object flaps from its first result on. (Manual: "Detection and Handling
-/// of State Flapping"; in our own profile a percent equal to the high threshold starts flapping.)
+/// With a high threshold of 0 an object flaps from its first result on. (Manual: "Detection and Handling of
+/// State Flapping"; in our own profile flapping starts at a percentage equal to the high threshold too.)
 pub fn flaps(results: &HeapCircularBuffer<State>, was: bool, low: u8, high: u8) -> bool
     requires { results.now.capacity ≡ KEPT_RESULTS }
     ensures { result ≡ is_flapping results.now.items was low high }
@@ -43,7 +43,7 @@ pub fn flaps(results: &HeapCircularBuffer<State>, was: bool, low: u8, high: u8) 
     flaps_at(percent(results), was, low, high)
 }
 
-/// Whether an object flaps if its results have this percent.
+/// Whether an object flaps if its results have this percentage.
 pub(crate) fn flaps_at(percent: u8, was: bool, low: u8, high: u8) -> bool
     ensures { result ≡ (if was then not (nat_lt percent low) else nat_le high percent) }
 {

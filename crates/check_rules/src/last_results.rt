@@ -1,5 +1,5 @@
-//! The last results of an object, with the weight of the changes among them, so that one more result
-//! needs no scan of all results.
+//! The last results of an object, with the weight of the changes among them. So one more result needs no scan
+//! of all results.
 
 ghost use Rattle.std.specs.Prelude.{◌≡◌, ◌≤◌, [], IfOk, IsTrue, length};
 ghost use Rattle.check_rules.specs.Flapping.{is_flapping, kept_after, percent_of};
@@ -13,13 +13,13 @@ use std::marker::Model;
 
 /// The last results of an object, at most 21. Contracts see them as a list, the oldest first.
 ///
-/// With one more result, the change between the two oldest of 21 goes with its weight of 57, each other
-/// change weighs 2 less, and the new change, if there is one, weighs 95.
+/// When one more result is added to 21, the change between the two oldest goes with its weight of 57. Each
+/// other change weighs 2 less. The new change, if there is one, weighs 95.
 #[derive(Drop)]
 pub struct LastResults {
     /// The results, with room for 21.
     kept: HeapCircularBuffer<State>,
-    /// The changes among 21 results. While there are fewer, nothing reads it.
+    /// The changes among 21 results. Nothing reads it while there are fewer results.
     changes: Changes,
     /// The newest result, if there is one.
     newest: State,
@@ -68,9 +68,9 @@ impl LastResults {
         self.kept.to_vec(alloc)
     }
 
-    /// Stores one more result. It pushes out the oldest of 21. Returns whether the object flaps with the
-    /// stored results, as [`flaps`](crate::flaps) does: `was` says whether it flapped before, and `low` and
-    /// `high` are the thresholds in percents. It needs no memory.
+    /// Stores one more result, which pushes out the oldest of 21. Returns whether the object flaps with the
+    /// stored results, as [`flaps`](crate::flaps) does. `was` says whether it flapped before, and `low` and
+    /// `high` are the thresholds in percents. The call needs no memory.
     pub fn push(&mut self, found: State, was: bool, low: u8, high: u8) -> bool
         ensures kept { self.new ≡ kept_after self.old found }
         ensures flaps { result ≡ is_flapping (kept_after self.old found) was low high }
@@ -104,8 +104,8 @@ impl LastResults {
         flaps_at(self.changes.percent(), was, low, high)
     }
 
-    /// Whether there are 21 results, and all are this state, so that one more of it leaves them as they
-    /// are.
+    /// Whether there are 21 results, and all are this state. Then one more result of this state leaves them
+    /// as they are.
     pub fn are_all(&self, found: State) -> bool
         ensures kept { IsTrue result → kept_after self.now found ≡ self.now }
         ensures percent { IsTrue result → percent_of self.now ≡ 0 }

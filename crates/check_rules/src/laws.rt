@@ -1,4 +1,4 @@
-//! Laws of the definitions, each the contract of a function without parameters and code.
+//! Laws of the definitions. Each is the contract of a function without parameters and code.
 
 ghost use Rattle.std.specs.Prelude.{ℕ, ◌≡◌, Bool, false, List, length};
 ghost use Rattle.std.specs.List.{list_any};
@@ -10,9 +10,8 @@ ghost use Rattle.check_rules.specs.declared.standing.Standing.{Standing};
 
 /// In a setup whose dependencies have no cycle, an object is blocked if and only if some dependency of it
 /// fails. A dependency fails because its master meets one of its criteria, or because it inherits and its
-/// master is blocked (`blocked`). This rule has one solution: every test of objects that follows it, with
-/// its own answers for the masters, gives the same answers (`alone`). (Manual: "Host and Service
-/// Dependencies".)
+/// master is blocked (`blocked`). This rule has one solution. Every test of objects that follows it, with its
+/// own answers for the masters, gives the same answers (`alone`). (Manual: "Host and Service Dependencies".)
 pub fn blocked_where_a_dependency_fails()
     ensures blocked { (setup : Configuration) → (standings : List Standing)
         → has_cycle (masters_of setup) ≡ false → length setup.dependencies ≡ object_count setup

@@ -1,14 +1,13 @@
 #![tactic(auto)]
-//! The rules that turn results of checks into states: the meaning of a return code for a service and for
-//! a host, the verdict on a result (the state, its kind and the attempt), flapping, and the dependencies
-//! that hold checks back.
+//! The rules that turn results of checks into states: the meaning of a return code for a service and for a
+//! host, the verdict on a result, flapping, and dependencies that block checks. A verdict is the state, its
+//! kind and the attempt.
 //!
 //! The rules are those of the Nagios Core 4 manual. Its chapters are "Plugin API", "Host Checks",
-//! "Determining Status and Reachability of Network Hosts", "State Types", "Detection and Handling of
-//! State Flapping" and "Host and Service Dependencies". If the manual leaves a choice, the profile of this
-//! project makes it, and the item says so. A function changes only the values that it gets for that
-//! purpose. None takes memory, except [`LastResults::none`], [`LastResults::of`] and
-//! [`LastResults::to_vec`].
+//! "Determining Status and Reachability of Network Hosts", "State Types", "Detection and Handling of State
+//! Flapping" and "Host and Service Dependencies". If the manual leaves a choice, the profile of this project
+//! makes it, and the item says so. A function changes only the values that it gets for that purpose. No
+//! function needs memory, except [`LastResults::none`], [`LastResults::of`] and [`LastResults::to_vec`].
 //!
 //! The modules:
 //!
@@ -20,7 +19,7 @@
 //! - `last_results`: the results that flapping depends on.
 //! - `changes`: the changes among them.
 //! - `reachability`: the state of a host by its parents.
-//! - `dependencies`: whether a dependency holds a check back.
+//! - `dependencies`: whether a dependency blocks a check.
 //! - `board`: a standing as one word.
 //! - `laws`: facts about these rules.
 

@@ -1,4 +1,4 @@
-//! The state of a host: up, down, or unreachable because of its parents.
+//! The state of a host: UP, DOWN, or UNREACHABLE because of its parents.
 
 ghost use Rattle.std.specs.Prelude.{◌≡◌, ◌<◌, IsTrue, length};
 ghost use Rattle.std.specs.List.{list_all};
@@ -13,11 +13,11 @@ use check_objects::Setup;
 /// The state of the host with this number after its check returned this code, given the standings of all
 /// objects, by number.
 ///
-/// 0 is UP, 2 and 3 are a problem, and 1 is a problem if the option `use_aggressive_host_checking` is on,
-/// and UP if it is off. (Manual: "Host Checks".) A host with a problem is UNREACHABLE if it has parents
-/// and each of them is DOWN or UNREACHABLE. Otherwise it is DOWN. (Manual: "Determining Status and
-/// Reachability of Network Hosts".) The current state of a parent counts, soft or hard. A parent that was
-/// never checked counts as UP. (Our own profile.)
+/// 0 is UP, and 2 and 3 are a problem. 1 is a problem if the option `use_aggressive_host_checking` is on, and
+/// UP if it is off. (Manual: "Host Checks".) A host with a problem is UNREACHABLE if it has parents and each
+/// of them is DOWN or UNREACHABLE. Otherwise it is DOWN. (Manual: "Determining Status and Reachability of
+/// Network Hosts".) The current state of a parent counts, soft or hard. A parent that was never checked
+/// counts as UP. (Our own profile.)
 pub fn host_state(setup: &Setup, standings: &[Standing], number: u32, code: Code) -> State
     requires host { number < host_count setup.now }
     requires one_each { length standings.now ≡ object_count setup.now }
@@ -45,7 +45,7 @@ fn is_problem_of_host(is_aggressive: bool, code: Code) -> bool
     }
 }
 
-/// Whether there are parents and none of them is up.
+/// Whether there are parents and each of them is DOWN or UNREACHABLE.
 fn is_cut_off(parents: &[u32], standings: &[Standing]) -> bool
     ensures { result ≡ is_cut_off standings.now parents.now }
 {

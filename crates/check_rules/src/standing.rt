@@ -5,8 +5,7 @@ ghost use Rattle.check_rules.specs.Standing.{as_checked, is_down, is_lawful, is_
 
 use crate::state::State;
 
-/// Whether a state is soft, which is to be confirmed by further checks, or hard. (Manual: "State
-/// Types".)
+/// Whether a state is soft or hard. Further checks have to confirm a soft state. (Manual: "State Types".)
 #[derive(Clone, Copy, Debug, PartialEq, Eq)]
 pub enum Kind {
     Soft,
@@ -18,20 +17,20 @@ pub enum Kind {
 pub struct Standing {
     /// Whether a result has ever come in.
     pub checked: bool,
-    /// The current state; of an object that was never checked `Ok` or `Up`.
+    /// The current state. It is `Ok` or `Up` for an object that was never checked.
     pub state: State,
     /// The kind of the current state.
     pub kind: Kind,
     /// The number of the check attempt, 1 to the object's maximum.
     pub attempt: u8,
-    /// The state of the last result whose state was hard; before one `Ok` or `Up`.
+    /// The state of the last result whose state was hard. It is `Ok` or `Up` before there is one.
     pub last_hard: State,
     /// Whether the state keeps changing: see [`flaps`](crate::flaps).
     pub flapping: bool,
 }
 
-/// The three phases of the manual's "State Types": no problem, a problem that is being retried, a
-/// problem that is confirmed.
+/// The three phases of the manual's "State Types": no problem, a problem that is being retried, a confirmed
+/// problem.
 #[derive(Clone, Copy)]
 pub(crate) enum Phase {
     Fine,
@@ -40,8 +39,8 @@ pub(crate) enum Phase {
 }
 
 impl Standing {
-    /// Whether the host is down: it was checked, and its state is DOWN or UNREACHABLE. Nothing else
-    /// counts as down. (That a host never checked counts as up is our own profile.)
+    /// Whether the host is down: it was checked, and its state is DOWN or UNREACHABLE. No other standing
+    /// counts as down. (In our own profile a host that was never checked counts as up.)
     pub fn is_down(self) -> bool
         ensures { result ≡ is_down self }
     {
@@ -68,7 +67,7 @@ impl Standing {
         }
     }
 
-    /// This standing, or that of an object that was never checked as [`pending`].
+    /// This standing. For an object that was never checked it is [`pending`].
     pub(crate) fn as_checked(self) -> Standing
         ensures { result ≡ as_checked self }
     {
@@ -81,8 +80,7 @@ impl Standing {
 }
 
 /// The standing of a host, or of a service, that was never checked: `Up` or `Ok`, hard, attempt 1, not
-/// flapping.
-/// (Our own profile.)
+/// flapping. (Our own profile.)
 pub fn pending(is_host: bool) -> Standing
     ensures { result ≡ pending_standing is_host }
 {
@@ -97,10 +95,10 @@ pub fn pending(is_host: bool) -> Standing
     }
 }
 
-/// Whether an object with `max` check attempts can have this standing. A soft problem has an
-/// attempt from 1 to `max - 1`, a hard problem the attempt `max`, and OK and UP one from 1 to
-/// `max`; and except for hard problems the last hard state is OK or UP. Any may flap. (Our own profile, after the
-/// manual's "State Types".)
+/// Whether an object with `max` check attempts can have this standing. A soft problem has an attempt from 1
+/// to `max - 1`, and a hard problem the attempt `max`. OK and UP have one from 1 to `max`. Except for hard
+/// problems, the last hard state is OK or UP. Any standing can flap. (Our own profile, after the manual's
+/// "State Types".)
 pub fn lawful(standing: Standing, max: u8) -> bool
     ensures { result ≡ is_lawful standing max }
 {

@@ -37,7 +37,7 @@ impl State {
         matches!(self, State::Up | State::Down | State::Unreachable)
     }
 
-    /// Whether this is a problem: any state but `Ok` and `Up`.
+    /// Whether this is a problem: any state except `Ok` and `Up`.
     pub fn is_problem(self) -> bool
         ensures { result ≡ is_problem self }
     {
@@ -51,7 +51,7 @@ impl State {
         matches!(self, State::Down | State::Unreachable)
     }
 
-    /// Whether this is another state than that one.
+    /// Whether this state differs from the other.
     pub(crate) fn is_another(self, other: State) -> bool
         ensures { result ≡ is_another_state self other }
     {

@@ -8,10 +8,12 @@ ghost use Rattle.check_rules.specs.Verdict.{kind_and_attempt, kind_at, last_hard
 use crate::standing::{Kind, Phase, Standing};
 use crate::state::State;
 
-/// The standing of an object after a check whose result is the state `found`. `before` is its
-/// standing before, `max` its maximum of check attempts, `host_up` whether the host of a service is
-/// up; it doesn't count for a host, whose caller hands in `true`. `flapping`, whether the object flaps
-/// with this result ([`flaps`](crate::flaps)), is carried into the answer and decides nothing else.
+/// The standing of an object after a check whose result is the state `found`.
+///
+/// `before` is the standing before the check, and `max` the object's maximum of check attempts. `host_up`
+/// says whether the host of a service is up. It doesn't count for a host, so that callers pass `true`.
+/// `flapping` says whether the object flaps with this result ([`flaps`](crate::flaps)). It is copied into the
+/// new standing and decides nothing else.
 ///
 /// The kind and the attempt are those of the first row that fits:
 ///
@@ -25,9 +27,9 @@ use crate::state::State;
 /// | a problem | a soft problem | hard if the attempt is `max`, else soft | one more |
 /// | a problem | a hard problem | hard | `max` |
 ///
-/// The state after is the result. The last hard state becomes the result if the kind after is hard, and
-/// stays otherwise. The standing before is [`pending`] for an object that was never checked. (Our own
-/// profile, drawn after the manual's "State Types".)
+/// The new state is the result. If the new kind is hard, the last hard state becomes the result. Otherwise it
+/// stays as it was. The standing before is [`pending`] for an object that was never checked. (Our own
+/// profile, after the manual's "State Types".)
 pub fn verdict(before: Standing, found: State, max: u8, host_up: bool, flapping: bool) -> Standing
     requires attempts { 1 ≤ max }
     requires lawful { IsTrue (is_lawful before max) }
@@ -84,7 +86,7 @@ fn kind_at(attempt: u8, max: u8) -> Kind
     }
 }
 
-/// The last hard state after a result: the result if the kind is hard, else the last hard state before.
+/// The last hard state after a result: the result if the kind is hard, otherwise the last hard state before.
 fn last_hard_after(kind: Kind, found: State, last_hard: State) -> State
     ensures { result ≡ last_hard_after kind found last_hard }
 {

@@ -23,7 +23,7 @@ impl State {
         }
     }
 
-    /// The state that has this word, if one has it. (Manual: "State Types".)
+    /// The state with this word, if there is one. (Manual: "State Types".)
     pub fn worded(word: &str) -> Option<State>
         ensures { result ≡ worded_state word.now }
     {
@@ -60,8 +60,8 @@ impl State {
         byte == b'o' || byte == b'w' || byte == b'u' || byte == b'c' || byte == b'd'
     }
 
-    /// The state of a host, or of a service, that has this letter. A letter of the other sort is a
-    /// state of that sort, and a byte that is no letter is DOWN's.
+    /// The state of a host, or of a service, with this letter. A letter of the other sort is a state of that
+    /// sort. A byte that isn't a letter counts as the letter of DOWN.
     pub fn lettered(host: bool, letter: u8) -> State
         ensures { result ≡ lettered_state host letter }
     {
@@ -81,7 +81,7 @@ impl Kind {
     ghost use Rattle.std.specs.Prelude.{◌≡◌, ◌≤◌, length};
     ghost use Rattle.check_rules.specs.Words.{kind_word, worded_kind};
 
-    /// The kind that has this word, if one has it. (Manual: "State Types".)
+    /// The kind with this word, if there is one. (Manual: "State Types".)
     pub fn worded(word: &str) -> Option<Kind>
         ensures { result ≡ worded_kind word.now }
     {

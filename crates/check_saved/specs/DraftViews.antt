@@ -1,4 +1,4 @@
--- A draft, as contracts see it: a record like a saved state, which may be any.
+-- A draft, as contracts see it: a record like a saved state, without further conditions.
 use Rattle.check_drafts.specs.Name.{is_host_name}
 use Rattle.check_saved.specs.declared.draft.ObjectDraft.TheInside as one
 use Rattle.check_saved.specs.Saved.{SavedObject}

@@ -1,4 +1,4 @@
--- The members of an object's tree as they are put one after another.
+-- The members of an object's tree, in the order in which they are written.
 use Rattle.std.specs.Prelude.{◌^◌, ⊤, Bool, codes, nat_lt}
 use Rattle.serde_json.specs.Data.{boolean, string, Members, put}
 use Rattle.check_rules.specs.declared.standing.Standing.{Standing}
@@ -34,7 +34,7 @@ setup_members o ms =
     put (codes "max_check_attempts") (number_tree o.max_attempts) (
     put (codes "check_interval") (number_tree o.interval) ms))
 
--- what opens all of them
+-- the opening of all members
 unfoldable pub members_put : ⊤
 unfolding state_members standing_members scheduling_members setup_members
 members_put = tt

@@ -30,7 +30,7 @@ switch_in name d = option_and_then as_bool (get name d)
 abbrev pub state_in : List ℕ → Data → Option rules.State
 state_in name d = text_in name d >=> worded_state
 
--- null is no time
+-- null means no time
 abbrev pub time_of : Data → Option (Option ℕ)
 time_of d = if is_some (as_null d) then Some None else (whole_number d >=> λ time. Some (Some time))
 
@@ -44,7 +44,7 @@ open_run_of d = if has_only run_members d then
     Some (record { number = number; start = start })))
     else None
 
--- null is no run
+-- null means no run
 abbrev pub run_of : Data → Option (Option OpenRun)
 run_of d = if is_some (as_null d) then Some None else (open_run_of d >=> λ run. Some (Some run))
 
@@ -107,7 +107,7 @@ object_of d = if has_only object_members d then
     Some (lettered_object name standing letters scheduling interval max_attempts setup_enabled))))))))
     else None
 
--- the objects of a list from the one at index i on, each in its shape; else the first that isn't
+-- the objects of a list from the one at index i on, each in its shape; otherwise the first that isn't
 abbrev pub objects_from : ℕ → Items → Result (List SavedObject) SavedFault
 objects_from i no_items = Ok []
 objects_from i (item d ds) = do
@@ -121,7 +121,7 @@ abbrev pub is_other_format : Option ℕ → Bool
 is_other_format None = false
 is_other_format (Some format) = not (format == 1)
 
--- A number other than 1 is another format. No number is a fault of shape.
+-- A number other than 1 is another format. A `format` that is missing or isn't a whole number is a fault of shape.
 abbrev pub in_this_format : Data → Result (Unit {0}) SavedFault
 in_this_format d = if is_other_format (number_in (codes "format") d) then Err faults.Version else Ok tt
 

@@ -16,7 +16,7 @@ pub record SavedObject : Type 0 where
   pub standing : Standing
   -- the stored results, the oldest first
   pub results : List rules.State
-  -- its next time, the run that is out, whether it is enabled, and whether its next check is forced
+  -- its next time, its run, whether it is enabled, and whether its next check is forced
   pub scheduling : Scheduling
   -- its values in its setup: the check interval in milliseconds, the maximum of attempts, and whether it is enabled
   pub interval : ℕ
@@ -28,23 +28,23 @@ pub record Saved : Type 0 where
   pub start : ℕ
   -- the number of runs that were handed out
   pub runs : ℕ
-  -- in the order of their numbers, if a scheduler made it; any other order means the same
+  -- in the order of their numbers, if a scheduler made it; any other order has the same meaning
   pub objects : List SavedObject
 
 -- the saved object with this full name, if there is one
 abbrev pub saved_named : Saved → List ℕ → Option SavedObject
 saved_named saved name = find (λ o. bytes_eq name o.name) saved.objects
 
--- ---- the facts that hold of every saved state
+-- ---- the facts of every saved state
 
 -- a host's name; or a host's name and a description around a semicolon
 abbrev pub IsFullName : List ℕ → Type 0
 IsFullName name =
     (is_name name ≡ true) ⊎ ((host description : List ℕ) × (name ≡ full_name (host, description)) × (is_name host ≡ true) × (is_name description ≡ true))
 
--- A saved object of a scheduler that handed out this number of runs. It has a full name. Its standing and its results are possible for its sort
--- and its maximum of attempts. Its times are within their limits. Its run, if its check is out, is one of those that were handed out. It has a
--- next time if it is forced.
+-- A saved object of a scheduler that handed out this number of runs. It has a full name. Its standing and its results are possible for its sort and
+-- its maximum of attempts. Its times are within their limits. If its check is running, its run is one of those that were handed out. It has a next
+-- time if it is forced.
 pub record IsSavedObject (runs : ℕ) (o : SavedObject) : Type 0 where
   pub name : IsFullName o.name
   pub standing : IsStandingFor (is_host_name o.name) o.max_attempts o.standing
@@ -55,7 +55,7 @@ pub record IsSavedObject (runs : ℕ) (o : SavedObject) : Type 0 where
   pub some_attempts : 1 ≤ o.max_attempts
   pub few_attempts : o.max_attempts ≤ 255
 
--- The facts that hold of every saved state. It has at most 4,096 objects, and no two have one name or one run.
+-- The facts of every saved state. It has at most 4,096 objects, and no two of them have the same name or the same run.
 pub record IsSaved (saved : Saved) : Type 0 where
   pub few : length saved.objects ≤ 4096
   pub start : saved.start ≤ 2 ^ 60

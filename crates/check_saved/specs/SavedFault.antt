@@ -1,10 +1,10 @@
--- Refusals of a saved state, and how a function of the code agrees with what the definitions say of them.
+-- Refusals of a saved state, and how a function of the code agrees with their definitions.
 use Rattle.std.specs.Prelude.{Option, Some, None, Result}
 use Rattle.check_drafts.specs.Agreement as agreement
 use Rattle.check_saved.specs.declared.fault.SavedFault.{SavedFault}
 use Rattle.check_saved.specs.declared.fault.SavedFault.TheVariants as faults
 
--- the refusal that an error of the code is: each is one, but that the code is out of memory
+-- the refusal that an error of the code is; None if the code is out of memory
 abbrev pub refusal : SavedFault → Option SavedFault
 refusal faults.Memory = None
 refusal e = Some e

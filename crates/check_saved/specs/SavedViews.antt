@@ -18,6 +18,6 @@ object_view o = record {
 abbrev pub saved_view : all.Inside → Saved
 saved_view s = record { start = s.start; runs = s.runs; objects = s.objects.items }
 
--- the facts that hold of the fields of every saved state
+-- the facts of the fields of every saved state
 pub record IsKept (s : all.Inside) : Type 0 where
   pub saved : IsSaved (saved_view s)

@@ -1,8 +1,7 @@
--- The scheduling of one object, and the facts that hold of it in schedulers and in saved states.
+-- The scheduling of one object, and its facts in schedulers and in saved states.
 use Rattle.std.specs.Prelude.{ℕ, ◌^◌, ◌&&◌, Bool, true, not, Option, Some, None, nat_le}
 
--- A check that was handed out and hasn't come back: its number, and the moment at which it was handed
--- out, in milliseconds.
+-- A running check, whose result hasn't come back: its number, and the moment at which it was handed out, in milliseconds.
 pub record OpenRun : Type 0 where
   pub number : ℕ
   pub start : ℕ
@@ -10,7 +9,7 @@ pub record OpenRun : Type 0 where
 pub record Scheduling : Type 0 where
   -- the time of the next check in milliseconds, if one is set
   pub next : Option ℕ
-  -- the check that is out, if one is
+  -- the running check, if there is one
   pub run : Option OpenRun
   -- whether active checks are enabled
   pub enabled : Bool

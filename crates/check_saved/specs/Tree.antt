@@ -15,7 +15,7 @@ abbrev pub time_tree : Option ℕ → Data
 time_tree None = null
 time_tree (Some time) = number_tree time
 
--- a run that is out, or null
+-- a run, or null
 abbrev pub run_tree : Option OpenRun → Data
 run_tree None = null
 run_tree (Some run) = object (member (codes "number") (number_tree run.number) (member (codes "start") (number_tree run.start) no_members))

@@ -1,4 +1,4 @@
--- Verifying a draft, which has the right shape: one test after another, each over the whole draft.
+-- Verifies a draft, which has the right shape: one test after another, each over the whole draft.
 use Rattle.std.specs.Prelude.{ℕ, ◌^◌, ◌<◌, ◌==◌, ◌&&◌, ◌||◌, Bool, true, false, not, List, length, map, position, Option, Some, None, option_map}
 use Rattle.std.specs.Prelude.{Result, Ok, Err, bytes_eq, nat_le, nat_lt, if◌then◌else◌}
 use Rattle.std.specs.List.{after_first, before_first, list_all}
@@ -17,7 +17,7 @@ use Rattle.check_saved.specs.Saved.{Saved, SavedObject}
 use Rattle.check_saved.specs.Scheduling.{OpenRun, is_in_time, is_timed_if_forced}
 use Rattle.check_spread.specs.Spread.{earlier}
 
--- ---- how many
+-- ---- counts
 
 -- at most 4,096 objects
 abbrev pub few_objects : List SavedObject → Result (Unit {0}) SavedFault
@@ -34,11 +34,11 @@ abbrev pub is_full_name : List ℕ → Bool
 is_full_name name =
     if is_host_name name then is_name name else (is_name (before_first is_semicolon name) && is_name (after_first is_semicolon name))
 
--- every object has a full name; else the first that hasn't
+-- every object has a full name; otherwise the first object that doesn't
 abbrev pub good_names : List SavedObject → Result (Unit {0}) SavedFault
 good_names objects = refused_at faults.BadName (position (λ o. not (is_full_name o.name)) objects)
 
--- every name appears once; else the first object with the name of an earlier one
+-- every name occurs once; otherwise the first object with the name of an earlier one
 abbrev pub distinct_names : List SavedObject → Result (Unit {0}) SavedFault
 distinct_names objects = refused_at faults.Duplicate (first_repeat bytes_eq (map (λ o. o.name) objects))
 
@@ -57,14 +57,14 @@ pub record HasFewAttempts (o : SavedObject) : Type 0 where
   pub attempt : o.standing.attempt < 256
   pub max_attempts : o.max_attempts < 256
 
--- The start and the number of runs handed out are at most 2^60, and the numbers of every object are within their limits; else the first
+-- The start and the number of runs handed out are at most 2^60, and the numbers of every object are within their limits. Otherwise it is the first
 -- object with a number that isn't.
 abbrev pub good_ranges : Saved → Result (Unit {0}) SavedFault
 good_ranges saved =
     if nat_lt (2 ^ 60) saved.start || nat_lt (2 ^ 60) saved.runs then Err (faults.Range None)
     else refused_at (λ i. faults.Range (Some i)) (position (λ o. not (is_in_range o)) saved.objects)
 
--- ---- what an object can have
+-- ---- possible objects
 
 abbrev pub is_hard : Kind → Bool
 is_hard kind.Soft = false
@@ -74,8 +74,8 @@ is_hard kind.Hard = true
 abbrev pub is_as_pending : Standing → Bool
 is_as_pending s = not (is_problem s.state) && is_hard s.kind && s.attempt == 1 && not (is_problem s.last_hard) && not s.flapping
 
--- An object, a host or a service, with this maximum of attempts can have this standing. It is lawful for that maximum, its states are of
--- the object's sort, and until the object is checked it is pending.
+-- An object with this maximum of attempts can have this standing. The object is a host or a service. The standing is lawful for that maximum, its
+-- states are of the object's sort, and until the object is checked it is pending.
 abbrev pub can_stand : Bool → ℕ → Standing → Bool
 can_stand host max s = is_lawful s max && is_of_sort host s.state && is_of_sort host s.last_hard && (s.checked || is_as_pending s)
 
@@ -83,7 +83,7 @@ can_stand host max s = is_lawful s max && is_of_sort host s.state && is_of_sort 
 abbrev pub can_have_results : Bool → List rules.State → Bool
 can_have_results host results = nat_le (length results) 21 && list_all (is_of_sort host) results
 
--- a run that is out, if there is one, is one of those that were handed out
+-- a run, if there is one, is one of those that were handed out
 abbrev pub is_numbered : ℕ → Option OpenRun → Bool
 is_numbered runs None = true
 is_numbered runs (Some run) = nat_le 1 run.number && nat_le run.number runs
@@ -94,25 +94,25 @@ can_be runs o =
     can_stand (is_host_name o.name) o.max_attempts o.standing && can_have_results (is_host_name o.name) o.results
     && is_numbered runs o.scheduling.run && is_timed_if_forced o.scheduling
 
--- the number of the run that is out, if one is
+-- the number of the run, if there is one
 abbrev pub run_number : SavedObject → Option ℕ
 run_number o = option_map (λ r. r.number) o.scheduling.run
 
--- whether two objects are out under one number
+-- whether two objects run under the same number
 abbrev pub is_same_run : Option ℕ → Option ℕ → Bool
 is_same_run (Some one) (Some other) = one == other
 is_same_run (Some one) None = false
 is_same_run None other = false
 
--- every object is possible, and no two are out under one number; else the first that isn't possible, or that is out under the number of an
--- earlier one
+-- Every object is possible, and no two of them run under the same number. Otherwise it is the first object that isn't possible, or that runs under
+-- the number of an earlier one.
 abbrev pub lawful_objects : ℕ → List SavedObject → Result (Unit {0}) SavedFault
 lawful_objects runs objects =
     refused_at faults.Unlawful (earlier (position (λ o. not (can_be runs o)) objects) (first_repeat is_same_run (map run_number objects)))
 
--- ---- all of it
+-- ---- all tests
 
--- the tests except for what an object can have
+-- the tests, except for those of possible objects
 abbrev pub tests_of_draft : Saved → Result (Unit {0}) SavedFault
 tests_of_draft saved =
     few_objects saved.objects >>= λ _.

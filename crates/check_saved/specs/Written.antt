@@ -1,8 +1,8 @@
--- The facts that hold of the names and check intervals of every saved state, besides those that a scheduler needs.
+-- Further facts of every saved state, about names and check intervals. A scheduler doesn't need them.
 use Rattle.std.specs.Prelude.{◌≡◌, ◌^◌, ◌<◌, ℕ, IsUtf8, Some, slice_get}
 use Rattle.check_saved.specs.Saved.{Saved, SavedObject}
 
--- a name is text, and an interval a number of 64 bits
+-- each name is text, and each interval is a number of 64 bits
 pub record IsWritableObject (o : SavedObject) : Type 0 where
   pub name : IsUtf8 o.name
   pub interval : o.interval < 2 ^ 64

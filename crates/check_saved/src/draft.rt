@@ -9,7 +9,7 @@ use check_rules::{Kind, Standing, State};
 use std::alloc::{AllocError, Global};
 use std::marker::Model;
 
-/// An object's standing in a text. Contracts see it as a standing, whose attempt may be any number.
+/// An object's standing in a text. Contracts see it as a standing, whose attempt can be any number.
 #[derive(Clone, Copy)]
 pub(crate) struct StandingDraft {
     pub(crate) checked: bool,
@@ -57,7 +57,7 @@ impl Model for SchedulingDraft {
     ghost inverse = { λ s. record { next = s.next; run = s.run; enabled = s.enabled; forced = s.forced } };
 }
 
-/// One object in a text. Contracts see it as a saved object, whose numbers may be any.
+/// One object in a text. Contracts see it as a saved object, whose numbers can be any.
 #[derive(Drop)]
 pub(crate) struct ObjectDraft<'v> {
     pub(crate) name: &'v str,
@@ -79,7 +79,7 @@ impl<'v> Model for ObjectDraft<'v> {
     ghost view = { object_draft };
 }
 
-/// The whole text. Contracts see it as a saved state, which may be any.
+/// The whole text. Contracts see it as a saved state, without further conditions.
 #[derive(Drop)]
 pub(crate) struct SavedDraft<'v> {
     pub(crate) start: u64,

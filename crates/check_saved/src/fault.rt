@@ -4,39 +4,38 @@ ghost use Rattle.check_saved.specs.declared.fault.SavedFault.TheVariants.{Memory
 
 use std::alloc::{AllocError, AllocFailed};
 
-/// Why a saved state was refused. `TooLong` is tested first. Then each test covers the whole text before
-/// the next begins, in the order of these variants. The first object with a fault is reported, by its
-/// index in the list of objects. If two objects conflict, it is the later one. A refusal makes nothing.
-/// The refusals are our own profile.
+/// Why a saved state was refused. `TooLong` is tested first. Then each test covers the whole text before the
+/// next test begins, in the order of these variants. The first object with a fault is reported, by its index
+/// in the list of objects. If two objects conflict, the later one is reported. A refusal makes nothing. The
+/// refusals are our own profile.
 #[derive(Clone, Copy, Debug, PartialEq, Eq)]
 pub enum SavedFault {
-    /// More than 16,777,216 bytes. Tested first, and without any need of memory.
+    /// The text has more than 16,777,216 bytes. This is tested first, and needs no memory.
     TooLong,
-    /// `serde_json` can't read it, and memory isn't the cause.
+    /// `serde_json` can't read the text, for another reason than memory.
     NotJson,
-    /// An object of JSON whose `format` is another number than 1.
+    /// The text is an object of JSON, but its `format` is another number than 1.
     Version,
-    /// A member that is unknown, missing or of the wrong kind, a word that isn't allowed there, or a byte
-    /// that isn't the letter of a result. There is no index if the fault isn't one of an object in the
-    /// list.
+    /// A member is unknown, missing or of the wrong kind. Or a word isn't allowed there, or a byte isn't the
+    /// letter of a result. There is no index if the fault isn't one of an object in the list.
     Shape(Option<usize>),
-    /// More than 4,096 objects.
+    /// There are more than 4,096 objects.
     TooMany,
-    /// A name that is neither a host's nor a host's and a description around one `;`, each with 1 to
-    /// 255 bytes, none of them below 32 or 127.
+    /// A name is neither a host's nor a host's and a description around one `;`. Each of these has 1 to 255
+    /// bytes, none of them below 32 or 127.
     BadName(usize),
-    /// An object with the name of an earlier one. The later one is reported.
+    /// An object has the name of an earlier one. The later one is reported.
     Duplicate(usize),
-    /// A number out of its limits: a start above 2^60, more than 2^60 runs, a next time above 2^61,
-    /// an attempt or a maximum of attempts that isn't from 1 to 255. There is no index for the start and
-    /// the number of runs of the whole.
+    /// A number is out of its limits. A start is above 2^60, there are more than 2^60 runs, or a next time is
+    /// above 2^61. Or an attempt or a maximum of attempts isn't from 1 to 255. There is no index for the
+    /// start and the total number of runs.
     Range(Option<usize>),
-    /// An object that no scheduler can have. Its standing is impossible for its sort and its maximum of
-    /// attempts, or its last hard state or a result is of the other sort, or it has more than 21 results,
-    /// or a forced check without a next time. Or the number of its run is 0, above the number of runs
-    /// handed out, or that of an earlier object's run.
+    /// No scheduler can have this object. Its standing is impossible for its sort and its maximum of
+    /// attempts, or its last hard state or a result is of the other sort. Or it has more than 21 results, or
+    /// a forced check without a next time. Or the number of its run is 0, above the number of runs handed
+    /// out, or that of an earlier object's run.
     Unlawful(usize),
-    /// Out of memory, at any allocation. It may come in place of any answer but `TooLong`.
+    /// Out of memory, at any allocation. It can come in place of any result except `TooLong`.
     Memory,
 }
 

@@ -17,7 +17,7 @@ use indexmap::IndexSet;
 use std::alloc::Global;
 
 /// Tests that each of these objects is possible in a scheduler that handed out `runs` runs, and that no two
-/// are out under one number. An error names the first object that fails.
+/// of them run under the same number. An error names the first object that fails.
 pub(crate) fn verify_lawful(
     alloc: Global,
     runs: u64,
@@ -31,7 +31,7 @@ pub(crate) fn verify_lawful(
     }
 }
 
-/// The earlier of two places. If only one is given, it is that one; without a place it is None.
+/// The earlier of two places, or the only one. None if neither is given.
 fn earlier(one: Option<usize>, other: Option<usize>) -> Option<usize>
     ensures { result ≡ earlier one other }
 {
@@ -48,7 +48,7 @@ fn unlawful(runs: u64, objects: &[SavedObject]) -> Option<usize>
     objects.iter().position(|object| !can_be(runs, object))
 }
 
-/// The first object that is out under the number of an earlier one.
+/// The first object that runs under the number of an earlier one.
 fn repeated_run(alloc: Global, objects: &[SavedObject]) -> Result<Option<usize>, SavedFault>
     ensures place { IfOk result (λ place. place
         ≡ first_repeat is_same_run (map run_number objects.now)) }
@@ -65,7 +65,7 @@ fn repeated_run(alloc: Global, objects: &[SavedObject]) -> Result<Option<usize>,
     Ok(None)
 }
 
-/// The number of the object's run, if its check is out.
+/// The number of the object's run, if its check is running.
 fn run_number(object: &SavedObject) -> Option<u64>
     ensures { result ≡ run_number object.now }
 {

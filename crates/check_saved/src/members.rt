@@ -1,4 +1,4 @@
-//! Looking up the members of an object of JSON by their names.
+//! Looks up the members of an object of JSON by their names.
 ghost use Rattle.std.specs.Prelude.{◌≡◌, map, option_map, string_bytes, bytes_eq};
 ghost use Rattle.std.specs.List.{list_all, list_any};
 ghost use Rattle.std.specs.BTreeMap.{keys};
@@ -33,21 +33,21 @@ fn is_known(key: &str, names: &[&str]) -> bool
     names.iter().any(|name| *name == key)
 }
 
-/// The member of this name, if there is one and it is a text.
+/// The member of this name, if it exists and is a text.
 pub(crate) fn text_in<'v>(value: &'v Value, name: &str) -> Option<&'v str>
     ensures { option_map (λ text. text.now) result ≡ text_in name.now (view value.now) }
 {
     value.get(name).and_then(Value::as_str)
 }
 
-/// The member of this name, if there is one and it is a whole number.
+/// The member of this name, if it exists and is a whole number.
 pub(crate) fn number_in(value: &Value, name: &str) -> Option<u64>
     ensures { result ≡ number_in name.now (view value.now) }
 {
     value.get(name).and_then(Value::as_u64)
 }
 
-/// The member of this name, if there is one and it is a truth value.
+/// The member of this name, if it exists and is a truth value.
 pub(crate) fn switch_in(value: &Value, name: &str) -> Option<bool>
     ensures { result ≡ switch_in name.now (view value.now) }
 {

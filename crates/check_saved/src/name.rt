@@ -1,4 +1,4 @@
-//! Tests whether a text may be the full name of an object.
+//! Tests whether a text can be the full name of an object.
 ghost use Rattle.std.specs.Prelude.{◌≡◌};
 ghost use Rattle.check_drafts.specs.Name.{is_host_name};
 ghost use Rattle.check_saved.specs.Verification.{is_full_name};

@@ -1,4 +1,5 @@
-//! Reading the draft of a saved state from its tree. This module finds every fault of shape, and no other.
+//! Reads the draft of a saved state from its tree. This module finds every fault of shape, and no other
+//! fault.
 ghost use Rattle.std.specs.Prelude.{◌≡◌, option_map};
 ghost use Rattle.serde_json.specs.View.{items_view, view};
 ghost use Rattle.check_saved.specs.Reading.{draft_of, in_this_format, letters_in, object_of, objects_from};
@@ -37,7 +38,7 @@ const OBJECT_MEMBERS: [&str; 15] = [
     "enabled_in_setup",
 ];
 
-/// The members of a run that is out.
+/// The members of a run.
 const RUN_MEMBERS: [&str; 2] = ["number", "start"];
 
 /// Tests that the format is this one, if there is a number for it.
@@ -50,7 +51,7 @@ pub(crate) fn verify_format(tree: &Value) -> Result<(), SavedFault>
     }
 }
 
-/// The draft in a tree, or its first fault of shape: those of the document itself come before those of its
+/// The draft in a tree, or its first fault of shape. Faults of the document itself come before those of its
 /// objects.
 #[tactic(auto, unfolding(crate::specs::Reading::draft_of))]
 pub(crate) fn read_draft<'v>(alloc: Global, tree: &'v Value) -> Result<SavedDraft<'v>, SavedFault>
@@ -145,7 +146,7 @@ fn read_scheduling(value: &Value) -> Option<SchedulingDraft>
     })
 }
 
-/// A time, or null for none.
+/// A time. None for null.
 fn read_time(value: &Value) -> Option<Option<u64>>
     ensures { result ≡ time_of (view value.now) }
 {
@@ -155,7 +156,7 @@ fn read_time(value: &Value) -> Option<Option<u64>>
     Some(Some(value.as_u64()?))
 }
 
-/// A run that is out, or null for none.
+/// A run. None for null.
 fn read_run(value: &Value) -> Option<Option<SavedRun>>
     ensures { result ≡ run_of (view value.now) }
 {

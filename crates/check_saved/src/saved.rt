@@ -6,7 +6,8 @@ use check_rules::{Standing, State};
 use check_spread::LAST_MOMENT;
 use std::marker::Model;
 
-/// A check that was handed out and hasn't come back. Contracts see it as a record `OpenRun`.
+/// A running check: it was handed out, and its result hasn't come back. Contracts see it as a record
+/// `OpenRun`.
 #[derive(Clone, Copy)]
 pub struct SavedRun {
     /// The number under which it was handed out.
@@ -25,8 +26,8 @@ impl Model for SavedRun {
     ghost inverse = { λ run. record { number = run.number; start = run.start } };
 }
 
-/// One saved object: its standing, its last results, its scheduling, and three values of its setup.
-/// Contracts see it as a record `SavedObject` of the same.
+/// One saved object: its standing, its last results, its scheduling, and three values of its setup. Contracts
+/// see it as a record `SavedObject` with the same fields.
 #[derive(Drop)]
 pub struct SavedObject {
     /// Its full name: a host's name, or a host's name and a description around a semicolon.
@@ -36,7 +37,7 @@ pub struct SavedObject {
     pub results: Vec<State>,
     /// The time of its next check in milliseconds, if one is set.
     pub next: Option<u64>,
-    /// The check of it that is out, if one is.
+    /// Its running check, if there is one.
     pub run: Option<SavedRun>,
     /// Whether its active checks are enabled.
     pub enabled: bool,
@@ -63,9 +64,9 @@ impl Model for SavedObject {
 /// All of a scheduler except its setup: the number of runs handed out, the moment at which scheduling
 /// started, and each object. (Our own profile; Nagios uses retention files.)
 ///
-/// A scheduler can be resumed from every value of this type. No two objects have one name. Each has a
-/// standing, results and times that are possible for its sort. Each run that is out is one of those that
-/// were handed out. Contracts see it as a record `Saved`, and `IsSaved` holds of it.
+/// A scheduler can be resumed from every value of this type. No two objects have the same name. Each has a
+/// standing, results and times that are possible for its sort. Each run of a running check is one of those
+/// that were handed out. Contracts see it as a record `Saved`, and `IsSaved` holds of it.
 #[derive(Drop)]
 pub struct Saved {
     start: u64,

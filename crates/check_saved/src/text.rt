@@ -1,4 +1,4 @@
-//! Writing a saved state as one line of JSON, and reading it.
+//! Writes a saved state as one line of JSON, and reads it.
 use crate::draft::{ObjectDraft, SavedDraft};
 use crate::fault::SavedFault;
 use crate::lawful::verify_lawful;
@@ -33,9 +33,9 @@ impl Saved {
         Ok(text)
     }
 
-    /// Reads a saved state from a text, whose members may be in any order. An error is the first refusal.
+    /// Reads a saved state from a text. The members can be in any order. An error is the first refusal.
     ///
-    /// `Memory` may come in place of any other answer but `TooLong`.
+    /// `Memory` can come in place of any other result except `TooLong`.
     pub fn read(alloc: Global, text: &[u8]) -> Result<Saved, SavedFault>
         ensures exact { Gives (λ saved. saved) result (saved_of_text text.now) }
         ensures too_long { 16777216 < length text.now → result ≡ Err SavedFault.TooLong }

@@ -1,4 +1,4 @@
-//! Verifying a draft: counts, names, repeats, limits. Each test covers the whole draft before the next
+//! Verifies a draft: counts, names, repeats, limits. Each test covers the whole draft before the next test
 //! begins, and reports the first object with a fault.
 ghost use Rattle.std.specs.Prelude.{◌≡◌, ◌≤◌, All, IfNone, IsTrue, OnOk, bytes_eq, length, map, not, position};
 ghost use Rattle.check_saved.specs.SavedFault.{Gives};

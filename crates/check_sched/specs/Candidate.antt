@@ -16,7 +16,7 @@ candidate number o = option_map (λ time. (time, number)) (candidate_time o)
 abbrev pub candidates_among : List Scheduling → List Candidate
 candidates_among objects = filter_map (λ p. candidate p.0 p.1) (enumerate_from 0 objects)
 
--- those whose time has come: it is at most now
+-- the candidates whose time has come: it is at most now
 abbrev pub due_among : ℕ → List Candidate → List Candidate
 due_among now candidates = filter (λ c. nat_le c.0 now) candidates
 

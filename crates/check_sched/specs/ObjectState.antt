@@ -3,7 +3,7 @@ use Rattle.std.specs.Prelude.{Some, None, if◌then◌else◌}
 use Rattle.check_sched.specs.declared.object_state.ObjectState.TheInside.{Inside}
 use Rattle.check_saved.specs.Scheduling.{Scheduling}
 
--- the next time and the run are the values of the fields, if there are any
+-- the next time and the run are the values of the fields, if they are present
 abbrev pub scheduling_of : Inside → Scheduling
 scheduling_of o = record {
   next = if o.has_time then Some o.time else None;

@@ -63,7 +63,7 @@ IsTakeReply (reply.Freed next) = ⊥
 IsTakeReply reply.Done = ⊥
 IsTakeReply (reply.Refused why) = IsTakeRefusal why
 
--- a reason to refuse the report of an object that is there
+-- a reason to refuse the report of an object that exists
 abbrev pub IsReportRefusal : Refusal → Type 0
 IsReportRefusal refusal.UnknownObject = ⊥
 IsReportRefusal refusal.TimeRange = ⊥
@@ -71,7 +71,7 @@ IsReportRefusal refusal.RunsSpent = ⊥
 IsReportRefusal refusal.NotRunning = ⊤
 IsReportRefusal refusal.WrongRun = ⊤
 
--- a reply that the report of an object that is there can have
+-- a reply that the report of an object that exists can have
 abbrev pub IsReportReply : Reply → Type 0
 IsReportReply (reply.Taken object run) = ⊥
 IsReportReply (reply.PutOff object until) = ⊥

@@ -14,8 +14,8 @@ use Rattle.check_rules.specs.Verdict.{verdict_on}
 use Rattle.check_spread.specs.Spread.{milliseconds}
 use Rattle.check_sched.specs.State.{flap_thresholds_of, max_attempts_of, results_at, standing_at}
 
--- The state that the code of an object's check means. A service has a host; the state of a host
--- depends on its parents. ("Host Checks", "Plugin API".)
+-- The meaning of the return code of an object's check, as a state. A service has a host. The state of a host depends on its parents. ("Host Checks",
+-- "Plugin API".)
 abbrev pub state_found_by : Option ℕ → Configuration → List Standing → ℕ → Code → State
 state_found_by None setup standings number code = host_state_of setup standings number code
 state_found_by (Some host) setup standings number code = service_state_of code
@@ -43,23 +43,21 @@ flaps_with setup standings results number found =
     is_flapping (kept_after (results_at results number) found) (standing_at standings number).flapping
     (flap_thresholds_of setup number).0 (flap_thresholds_of setup number).1
 
--- The interval to the next check, in units of interval_length: the retry interval while the object
--- is a soft problem, else the check interval. ("Service and Host Check Scheduling", "State Types".)
+-- The interval to the next check, in units of interval_length: the retry interval while the object is a soft problem, otherwise the check interval.
+-- ("Service and Host Check Scheduling", "State Types".)
 abbrev pub interval_after : Object → Standing → ℕ
 interval_after o standing = if is_soft_problem standing then o.retry_interval else o.check_interval
 
--- The time of the next check is the interval after the start of this one; an interval of 0 gives
--- none. (Our own profile.)
+-- The time of the next check is the interval after the start of this one, and None if the interval is 0. (Our own profile.)
 abbrev pub time_after : Configuration → ℕ → ℕ → Option ℕ
 time_after setup start interval = if interval == 0 then None else Some (start + milliseconds setup interval)
 
--- The next time after a report: a time that was set while the check ran stays; else it follows from
--- the interval. (Our own profile.)
+-- The next time after a report. A time that was set while the check ran stays. Otherwise it follows from the interval. (Our own profile.)
 abbrev pub next_after : Configuration → ℕ → Standing → ℕ → Option ℕ → Option ℕ
 next_after setup number standing start already =
     option_or already (option_and_then (λ o. time_after setup start (interval_after o.object standing)) (slice_get (objects_of setup) number))
 
--- The time to which an object is put off if its dependency fails: the check interval after the moment
--- of the call; an interval of 0 gives none. (Our own profile.)
+-- The time to which an object is put off if its dependency fails: the check interval after the moment of the call, and None if the interval is 0.
+-- (Our own profile.)
 abbrev pub put_off_until : Configuration → ℕ → ℕ → Option ℕ
 put_off_until setup number now = option_and_then (λ o. time_after setup now o.object.check_interval) (slice_get (objects_of setup) number)

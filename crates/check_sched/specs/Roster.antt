@@ -7,7 +7,7 @@ use Rattle.check_sched.specs.declared.roster.Roster.TheInside.{Inside}
 use Rattle.check_drafts.specs.declared.limits.TheConstants.{MAX_OBJECTS}
 
 pub record RosterState : Type 0 where
-  -- how many of the objects are hosts: they have the first numbers
+  -- the number of hosts among the objects; they have the first numbers
   pub hosts : ℕ
   -- the scheduling of each object, by number
   pub objects : List Scheduling
@@ -23,15 +23,15 @@ waiting_from k picked objects = map (λ p. if picked p.0 then candidate_time p.1
 abbrev pub waiting_times : (ℕ → Bool) → List Scheduling → List (Option ℕ)
 waiting_times picked objects = waiting_from 0 picked objects
 
--- the roster that the fields hold
+-- the roster in the fields
 abbrev pub roster_of : Inside → RosterState
 roster_of r = record { hosts = r.hosts; objects = r.objects.items }
 
--- the facts that hold of the fields of every roster
+-- the facts of the fields of every roster
 pub record IsKept (r : Inside) : Type 0 where
-  -- each queue has the objects of its sort that wait, each with its time, and no other
+  -- each queue has the objects of its sort that wait, each with its time, and no others
   pub waiting_hosts : r.waiting_hosts ≡ waiting_times (λ number. nat_lt number r.hosts) r.objects.items
   pub waiting_services : r.waiting_services ≡ waiting_times (λ number. not (nat_lt number r.hosts)) r.objects.items
-  -- as many services are counted as run
+  -- the count of services that are being checked is right
   pub running_services : r.running_services ≡ running_among (drop r.hosts r.objects.items)
   pub few : length r.objects.items ≤ MAX_OBJECTS

@@ -12,7 +12,7 @@ abbrev pub begins_by : ℕ → ℕ → Reply → Bool
 begins_by object run (reply.Taken o r) = o == object && (r == run)
 begins_by object run other = false
 
--- whether the answer ends this run of the object: its result was taken, or it was abandoned
+-- whether the answer ends this run of the object: its result was recorded, or it was abandoned
 abbrev pub ends_by : ℕ → ℕ → Call → Reply → Bool
 ends_by object run (call.Report o r code) (reply.Standing standing changed next) = o == object && (r == run)
 ends_by object run (call.Abandon o r now) (reply.Freed next) = o == object && (r == run)

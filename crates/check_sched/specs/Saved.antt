@@ -37,13 +37,13 @@ saved_of s = record { start = s.start; runs = s.runs; objects = map (saved_objec
 
 -- ---- one object that is kept
 
--- A soft problem with this new maximum of attempts: it stays soft, with an attempt below the maximum, and becomes hard if the maximum is 1.
+-- A soft problem with this new maximum of attempts. It stays soft, with an attempt below the maximum, and becomes hard if the maximum is 1.
 abbrev pub soft_kept : ℕ → Standing → Standing
 soft_kept max was =
     if max == 1 then record was { kind = kind.Hard; attempt = 1; last_hard = was.state } else record was { attempt = min was.attempt (max - 1) }
 
--- The standing of an object with this new maximum of attempts: a hard problem gets the maximum as its attempt, and OK and UP keep their
--- attempt, up to the maximum.
+-- The standing of an object with this new maximum of attempts. A hard problem gets the maximum as its attempt. OK and UP keep their attempt, up to
+-- the maximum.
 abbrev pub standing_kept : ℕ → Standing → Standing
 standing_kept max was =
     if is_soft_problem was then soft_kept max was else if is_problem was.state then record was { attempt = max } else record was { attempt = min was.attempt max }
@@ -53,7 +53,7 @@ abbrev pub is_same_switch : Bool → Bool → Bool
 is_same_switch true other = other
 is_same_switch false other = not other
 
--- Whether the saved next time stays: the check interval and the setup's switch are the same, or the object is out, or its next check is
+-- Whether the saved next time stays: the check interval and the setup's switch are the same, or the object is being checked, or its next check is
 -- forced.
 abbrev pub keeps_time : Configuration → Object → SavedObject → Bool
 keeps_time setup object saved =
@@ -70,7 +70,7 @@ scheduling_kept setup first object saved = record {
   forced = saved.scheduling.forced;
 }
 
--- ---- every object of a setup: kept if its name was saved, else new
+-- ---- every object of a setup: kept if its name was saved, otherwise new
 
 abbrev pub scheduling_of : Configuration → Option ℕ → Object → Option SavedObject → Scheduling
 scheduling_of setup first object None = opening_object first object.enabled
@@ -84,17 +84,17 @@ abbrev pub results_of : Option SavedObject → List rules.State
 results_of None = []
 results_of (Some saved) = saved.results
 
--- ---- the limit of services that are checked at once
+-- ---- the limit of services that are checked at the same time
 
 -- an object whose run, if it has one, is abandoned at this moment
 abbrev pub given_up : ℕ → Scheduling → Scheduling
 given_up now o = if is_some o.run then ended (Some (freed_time now o)) o else o
 
--- whether no more services are out than the limit allows; a limit of 0 allows any number
+-- whether no more services are running than the limit allows; a limit of 0 allows any number
 abbrev pub keeps_limit : Configuration → List Scheduling → Bool
 keeps_limit setup objects = limit_of setup == 0 || not (nat_lt (limit_of setup) (running_among (drop (host_count setup) objects)))
 
--- If more services are out than the limit allows, the runs of all services are abandoned.
+-- If more services are running than the limit allows, the runs of all services are abandoned.
 abbrev pub within_limit : Configuration → ℕ → List Scheduling → List Scheduling
 within_limit setup now objects =
     let hosts = host_count setup in
@@ -128,7 +128,7 @@ standings_resumed setup saved = each_object setup (λ p. standing_of (is_host se
 abbrev pub results_resumed : Configuration → Saved → List (List rules.State)
 results_resumed setup saved = each_object setup (λ p. results_of (saved_named saved p.1.name))
 
--- over this setup, from this moment on
+-- the state of a scheduler that is resumed over this setup, from this moment on
 abbrev pub resumed : Configuration → Saved → ℕ → State
 resumed setup saved start = record {
   setup = setup;
@@ -139,14 +139,14 @@ resumed setup saved start = record {
   runs = saved.runs;
 }
 
--- ---- what is still out
+-- ---- checks that are still running
 
--- the number of the run under which the object with this number was out when it was saved, if it was
+-- the number of the run under which the object with this number was being checked when it was saved, if it was
 abbrev pub run_saved_of : Configuration → Saved → ℕ → Option ℕ
 run_saved_of setup saved number =
     option_map (λ r. r.number) (option_and_then (λ o. o.scheduling.run) (saved_named saved (name_of setup number)))
 
--- Whether the check of the object with this number stays out, if one was: a host's check always does, a service's if no more services are out
--- than the limit allows.
+-- Whether the check of the object with this number continues, if one was running. A host's check always does. A service's check does if no more
+-- services are running than the limit allows.
 abbrev pub stays_out : Configuration → Saved → ℕ → ℕ → Bool
 stays_out setup saved start number = is_host setup number || keeps_limit setup (objects_kept setup saved (initial_times setup start))

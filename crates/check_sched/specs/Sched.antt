@@ -1,4 +1,4 @@
--- The scheduler of the code as contracts see it.
+-- The scheduler of the code, as contracts see it.
 use Rattle.std.specs.Prelude.{ℕ, ◌≡◌, length, false, true, replicate, Some, slice_get}
 use Rattle.check_objects.specs.Configuration.{Configuration, host_count, object_count}
 use Rattle.check_sched.specs.State.{State, IsState}
@@ -7,7 +7,7 @@ use Rattle.check_sched.specs.Steady.{IsSteadyIn}
 use Rattle.check_sched.specs.declared.sched.Parts.{Parts}
 use Rattle.check_sched.specs.declared.sched.Sched.TheInside.{Inside}
 
--- the state in the fields; the marks are scratch space, and no part of it
+-- the state in the fields; the marks are scratch space, and not part of it
 abbrev pub state_of : Inside → State
 state_of s = record {
   setup = s.setup;
@@ -18,7 +18,7 @@ state_of s = record {
   runs = s.runs;
 }
 
--- the facts that hold of the fields of every scheduler
+-- the facts of the fields of every scheduler
 pub record IsKept (s : Inside) : Type 0 where
   pub state : IsState (state_of s)
   -- one mark for each object
@@ -44,7 +44,7 @@ state_with setup start runs parts = record {
   runs = runs;
 }
 
--- the facts that hold of the parts of a new scheduler over this setup
+-- the facts of the parts of a new scheduler over this setup
 pub record AreParts (setup : Configuration) (parts : Parts) : Type 0 where
   pub marks : length parts.marks.items ≡ object_count setup
   pub hosts : parts.roster.hosts ≡ host_count setup

@@ -1,4 +1,4 @@
--- The state of a scheduler as contracts see it, and the state that it opens with.
+-- The state of a scheduler as contracts see it, and the state with which a scheduler opens.
 use Rattle.std.specs.Prelude.{ℕ, ◌^◌, ◌<◌, ◌≤◌, ◌≡◌, ◌||◌, ◌==◌, Bool, true, false, List, [], length, map, zip, drop, replicate, count_by, Option, Some}
 use Rattle.std.specs.Prelude.{None, is_some, option_map, option_and_then, slice_get, nat_lt, unwrap_or, if◌then◌else◌}
 use Rattle.std.specs.List.{list_all, enumerate_from}
@@ -53,18 +53,17 @@ is_host setup number = nat_lt number (host_count setup)
 abbrev pub max_attempts_of : Configuration → ℕ → ℕ
 max_attempts_of setup number = option_map_or (λ o. o.object.max_check_attempts) (slice_get (objects_of setup) number) 1
 
--- The low and the high flap threshold of the object with this number, in percent: those of hosts for a host, those of services for a
--- service. ("Detection and Handling of State Flapping".)
+-- The low and the high flap threshold of the object with this number, in percent: those of hosts for a host, and those of services for a service.
+-- ("Detection and Handling of State Flapping".)
 abbrev pub flap_thresholds_of : Configuration → ℕ → ℕ × ℕ
 flap_thresholds_of setup number =
     if is_host setup number
     then (setup.options.low_host_flap_threshold, setup.options.high_host_flap_threshold)
     else (setup.options.low_service_flap_threshold, setup.options.high_service_flap_threshold)
 
--- ---- the limit of checks that run
+-- ---- the limit of running checks
 
--- the number of checks of services that may run at a time; 0 is no limit ("Main Configuration File Options",
--- max_concurrent_checks)
+-- the number of checks of services that may run at the same time; 0 means no limit ("Main Configuration File Options", max_concurrent_checks)
 abbrev pub limit_of : Configuration → ℕ
 limit_of setup = setup.options.max_concurrent_checks
 
@@ -102,7 +101,7 @@ opening_standings setup = map (λ p. pending_standing (is_host setup p.0)) (enum
 abbrev pub opening_results : Configuration → List (List rules.State)
 opening_results setup = replicate (object_count setup) []
 
--- the state that a scheduler opens with: no run was handed out
+-- the state with which a scheduler opens: no run was handed out
 abbrev pub opening : Configuration → ℕ → State
 opening setup start = record {
   setup = setup;
@@ -113,7 +112,7 @@ opening setup start = record {
   runs = 0;
 }
 
--- ---- the facts that hold of every scheduler
+-- ---- the facts of every scheduler
 
 -- the object with this number is pending if it was never checked
 abbrev pub IsPendingUntilChecked : Configuration → ℕ → Standing → Type 0
@@ -127,7 +126,7 @@ IsStandingOf setup number standing = IsStandingFor (is_host setup number) (max_a
 abbrev pub AreResultsOf : Configuration → ℕ → List rules.State → Type 0
 AreResultsOf setup number results = AreResultsFor (is_host setup number) results
 
--- the facts that hold of every state that a scheduler can be in
+-- the facts of every state that a scheduler can be in
 pub record IsState (s : State) : Type 0 where
   pub valid_setup : IsSetup s.setup
   pub start : s.start ≤ 2 ^ 60
@@ -138,7 +137,7 @@ pub record IsState (s : State) : Type 0 where
   pub times : list_all is_in_time s.objects ≡ true
   pub limit : IsWithinLimit s
   pub standings : (number : ℕ) (standing : Standing) → slice_get s.standings number ≡ Some standing → IsStandingOf s.setup number standing
-  -- each run that is out has one of the numbers that were handed out, and no two have the same
+  -- each run has one of the numbers that were handed out, and no two runs have the same number
   pub numbered : (number run : ℕ) → run_number_of number s ≡ Some run → (1 ≤ run) × (run ≤ s.runs)
   pub once : (one other run : ℕ) → run_number_of one s ≡ Some run → run_number_of other s ≡ Some run → one ≡ other
   pub forced : list_all is_timed_if_forced s.objects ≡ true

@@ -28,7 +28,7 @@ update_at number f [] = []
 update_at zero f (x ∷ xs) = f x ∷ xs
 update_at (suc number) f (x ∷ xs) = x ∷ update_at number f xs
 
--- the state with the object of this number changed by f, and all else as it was
+-- the state in which f has changed the object of this number, and all else is as it was
 abbrev pub with_object : ℕ → (Scheduling → Scheduling) → State → State
 with_object number f s = record {
   setup = s.setup;
@@ -42,12 +42,12 @@ with_object number f s = record {
 -- ---- refusals, in the order in which they are tested
 
 infixl 10 ◌>>=◌
--- what follows, unless there was a refusal before it
+-- the next result, unless there was a refusal before it
 abbrev pub ◌>>=◌ : {A B : Type 0} → Result A Refusal → (A → Result B Refusal) → Result B Refusal
 (Ok x) >>= f = f x
 (Err why) >>= f = Err why
 
--- an object that isn't there is refused
+-- an object that doesn't exist is refused
 abbrev pub known : ℕ → State → Result Scheduling Refusal
 known number s = ok_or (slice_get s.objects number) refusal.UnknownObject
 
@@ -70,9 +70,8 @@ candidates s = candidates_among s.objects
 abbrev pub due : ℕ → State → List Candidate
 due now s = due_among now (candidates s)
 
--- whether the check of the object with this number may begin while others run: a host's always may, a
--- service's if there is room for one more ("Main Configuration File Options", max_concurrent_checks; in
--- our own profile a forced check keeps to the limit)
+-- Whether the check of the object with this number may begin while others run. A host's check always may. A service's check may if there is room for
+-- one more. ("Main Configuration File Options", max_concurrent_checks; in our own profile a forced check keeps to the limit.)
 abbrev pub is_open : State → ℕ → Bool
 is_open s number = is_host s.setup number || has_room s
 
@@ -91,8 +90,7 @@ taken now number s = record {
   runs = s.runs + 1;
 }
 
--- The reply if no object may be checked: the limit if some service is due, else the least time of all
--- that wait.
+-- The reply if no object may be checked: the limit if some service is due, otherwise the least time of all objects that wait.
 abbrev pub waiting_reply : ℕ → State → Reply
 waiting_reply now s = if list_any (λ c. not (is_host s.setup c.1)) (due now s) then reply.AtLimit else reply.Idle (option_map (λ c. c.0) (least (candidates s)))
 
@@ -100,9 +98,8 @@ waiting_reply now s = if list_any (λ c. not (is_host s.setup c.1)) (due now s) 
 abbrev pub is_forced : State → ℕ → Bool
 is_forced s number = option_map_or (λ o. o.forced) (slice_get s.objects number) false
 
--- Whether the object with this number isn't to be checked now that its turn has come: some dependency
--- of it fails, and its check isn't forced. ("Host and Service Dependencies"; in our own profile a
--- forced check ignores dependencies.)
+-- Whether the object with this number isn't to be checked although its turn has come: some dependency of it fails, and its check isn't forced. ("Host
+-- and Service Dependencies"; in our own profile a forced check ignores dependencies.)
 abbrev pub is_held_back : State → ℕ → Bool
 is_held_back s number = not (is_forced s number) && is_blocked s.setup s.standings number
 
@@ -116,8 +113,7 @@ take_turn now number s =
     if is_held_back s number then (put_off now number s, reply.PutOff number (put_off_until s.setup number now))
     else (taken now number s, reply.Taken number (s.runs + 1))
 
--- It is the turn of the least of those whose check may begin, if there is one. (The order of equal
--- times is our own profile: the least number.)
+-- It is the turn of the least candidate whose check may begin, if there is one. (The order of equal times is our own profile: the least number.)
 abbrev pub take_least : ℕ → State → Option Candidate → State × Reply
 take_least now s (Some c) = take_turn now c.1 s
 take_least now s None = (s, waiting_reply now s)
@@ -127,8 +123,8 @@ take_answer now s = within_range now >>= λ _. (run_left s >>= λ _. Ok (take_le
 
 -- ---- Report
 
--- The state after a report: the object's run has ended, its standing and next time are these, and the
--- state that was found is the last of its results.
+-- The state after a report. The object's run has ended, its standing and next time are these, and the state that was found is the last of its
+-- results.
 abbrev pub reported : ℕ → rules.State → Standing → Option ℕ → State → State
 reported number found standing next s = record {
   setup = s.setup;
@@ -139,12 +135,12 @@ reported number found standing next s = record {
   runs = s.runs;
 }
 
--- The reply to a report: the new standing, whether its state differs from the one before (the state of
--- an object that was never checked is OK or UP: our own profile), and the next time.
+-- The reply to a report: the new standing, whether its state differs from the one before, and the next time. (In our own profile, the state of an
+-- object that was never checked is OK or UP.)
 abbrev pub standing_reply : ℕ → Standing → Option ℕ → State → Reply
 standing_reply number standing next s = reply.Standing standing (is_another_state standing.state (standing_at s.standings number).state) next
 
--- the state that this code of the object's check means
+-- the state for this code of the object's check
 abbrev pub found_in : State → ℕ → Code → rules.State
 found_in s number code = state_found s.setup s.standings number code
 
@@ -174,7 +170,7 @@ abandon_answer number run now s =
     known number s >>= λ o. (within_range now >>= λ _. (run_under run o.run >>= λ _.
     Ok (with_object number (ended (Some (freed_time now o))) s, reply.Freed (freed_time now o))))
 
--- Reschedule: the next check is at this time, forced or not, whether the object runs or not.
+-- Reschedule: the next check is at this time, forced or not, whether the object is being checked or not.
 abbrev pub reschedule_answer : ℕ → ℕ → Bool → State → Result (State × Reply) Refusal
 reschedule_answer number time forced s = known number s >>= λ _. (within_range time >>= λ _. Ok (with_object number (rescheduled time forced) s, reply.Done))
 
@@ -182,7 +178,7 @@ reschedule_answer number time forced s = known number s >>= λ _. (within_range 
 abbrev pub enable_answer : ℕ → Bool → State → Result (State × Reply) Refusal
 enable_answer number on s = known number s >>= λ _. Ok (with_object number (enabled_as on) s, reply.Done)
 
--- Status: the standing and the next time as they are; nothing changes.
+-- Status: returns the standing and the next time, and changes nothing.
 abbrev pub status_answer : ℕ → State → Result (State × Reply) Refusal
 status_answer number s = known number s >>= λ o. Ok (s, reply.Standing (standing_at s.standings number) false o.next)
 

@@ -1,5 +1,5 @@
-//! The intervals of each object in milliseconds, computed once for all reports, and the next time after
-//! a report.
+//! The intervals of each object in milliseconds, computed once for all reports, and the next time after a
+//! report.
 
 ghost use Rattle.std.specs.Prelude.{◌≡◌, ◌≤◌, IfOk, IfSome, OnOk};
 ghost use Rattle.check_objects.specs.Configuration.{IsSetup};
@@ -11,8 +11,8 @@ use check_rules::Standing;
 use check_spread::{LAST_MOMENT, LAST_TIME, milliseconds};
 use std::alloc::{AllocError, Global};
 
-/// The intervals of an object in milliseconds: from a check to the next, and to the next while the object
-/// is a soft problem.
+/// The intervals of an object in milliseconds: from a check to the next, and from a check to the next while
+/// the object is a soft problem.
 #[derive(Clone, Copy)]
 pub(crate) struct Intervals {
     pub(crate) check: u64,
@@ -47,8 +47,8 @@ fn intervals_for(setup: &Setup, object: &Object) -> Intervals
     }
 }
 
-/// The time of the check that follows one that began at `start`. It is `already` if a time was set
-/// while the check ran, else the interval after the start, or None if the interval is 0.
+/// The time of the check that follows one that began at `start`. It is `already` if a time was set while the
+/// check ran. Otherwise it is the interval after the start, or None if the interval is 0.
 pub(crate) fn next_by(
     intervals: Intervals,
     standing: Standing,
@@ -64,8 +64,8 @@ pub(crate) fn next_by(
     next_past(interval_by(intervals, standing), start, already)
 }
 
-/// The time of the check that follows one that began at `start`, by this interval. It is `already` if a
-/// time was set while the check ran, else the interval after the start, or None if the interval is 0.
+/// The time of the check that follows one that began at `start`, by this interval. It is `already` if a time
+/// was set while the check ran. Otherwise it is the interval after the start, or None if the interval is 0.
 pub(crate) fn next_past(interval: u64, start: u64, already: Option<u64>) -> Option<u64>
     requires few { interval ≤ 45411840000000 }
     requires moment { start ≤ LAST_MOMENT }

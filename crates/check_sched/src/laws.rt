@@ -1,4 +1,4 @@
-//! Laws of the definitions, each the contract of a function without parameters and code.
+//! Laws of the definitions. Each is the contract of a function without parameters and code.
 
 ghost use Rattle.std.specs.Prelude.{ℕ, ◌≡◌, ◌≢◌, ◌+◌, ◌^◌, ◌<◌, ◌≤◌, true, false, IsUtf8, List, [], ◌∷◌, ◌++◌, None, Some, slice_get};
 ghost use Rattle.std.specs.List.{list_any};
@@ -21,8 +21,8 @@ ghost use Rattle.check_sched.specs.Runs.{begins, ends, runs_begun, runs_under};
 ghost use Rattle.check_sched.specs.Flapping.{flapping_in, never_checked, states_told, with_results};
 ghost use Rattle.check_sched.specs.declared.call.Reply.{Reply};
 
-/// After every sequence of calls of a newly opened scheduler, no more services are being checked than
-/// the option `max_concurrent_checks` allows. An option of 0 is no limit.
+/// After every sequence of calls of a newly opened scheduler, no more services are being checked than the
+/// option `max_concurrent_checks` allows. 0 means no limit.
 pub fn limit()
     ensures { (setup : Configuration) → (start : ℕ) → (calls : List Call)
         → IsWithinLimit (after (opening setup start) calls) }
@@ -37,10 +37,10 @@ pub fn never_checked()
         → standing.checked ≡ false → standing ≡ pending_standing (is_host setup object) }
 {}
 
-/// After every history of a scheduler that was opened over a setup of
-/// [`Setup`](check_objects::Setup), each object has a standing that it can have. It is lawful for the
-/// object's maximum of attempts, its states are of the object's sort, and it is pending until the object
-/// is checked. The replies in the history may be any, so this holds of every legal history.
+/// After every history of a scheduler that was opened over a setup of [`Setup`](check_objects::Setup), each
+/// object has a standing that it can have. The standing is lawful for the object's maximum of attempts, its
+/// states are of the object's sort, and it is pending until the object is checked. The replies in the history
+/// can be any replies, so this holds of every legal history.
 pub fn standings_are_lawful()
     ensures { (setup : Configuration) → (start : ℕ) → (history : List (Entry Call Reply))
         → (object : ℕ) → IsSetup setup → object < object_count setup
@@ -55,10 +55,9 @@ pub fn constants()
     ensures max_runs { MAX_RUNS ≡ 2 ^ 60 }
 {}
 
-/// In every legal history of a newly opened scheduler, no object is taken while it runs (`once`): when
-/// it is taken, each earlier run of it in the history has ended, by its result or by an abandon. The
-/// numbers of runs are 1, 2, 3 and so on (`numbers`). The history of a book of check_book is such a
-/// history.
+/// In every legal history of a newly opened scheduler, no object is taken while it runs (`once`). When an
+/// object is taken, each earlier run of it in the history has ended, by its result or by an abandon. The
+/// numbers of runs are 1, 2, 3 and so on (`numbers`). The history of a book of check_book is such a history.
 pub fn runs_once()
     ensures once { (setup : Configuration) → (start : ℕ) → (front back : List (Entry Call Reply))
         → (e : Entry Call Reply) → (object run other : ℕ)
@@ -70,12 +69,12 @@ pub fn runs_once()
         → run ≡ runs_begun front + 1 }
 {}
 
-/// In every legal history of a newly opened scheduler, an object's stored results are determined by the
-/// history: by the states in the answers to the object's reports, in their order. Folding these states
-/// one after another, under the object's thresholds, gives the stored results and whether the object
-/// flaps (`fold`). Each state pushes the oldest one out if there are 21 already, and the results that
-/// include it decide whether the object begins to flap or stops. So the stored results are the last 21 of
-/// all (`last`). The history of a book of check_book is such a history.
+/// In every legal history of a newly opened scheduler, the history determines an object's stored results.
+/// They depend on the states in the answers to the object's reports, in their order. Fold these states one
+/// after another, under the object's thresholds. The outcome is the stored results, and whether the object
+/// flaps (`fold`). Each state pushes the oldest one out if there are 21 already. The results that include it
+/// decide whether the object begins to flap or stops. So the stored results are the last 21 of all (`last`).
+/// The history of a book of check_book is such a history.
 pub fn flaps_by_history()
     ensures fold { (setup : Configuration) → (start : ℕ) → (history : List (Entry Call Reply))
         → (object : ℕ) → IsLegal step (opening setup start) history
@@ -87,17 +86,17 @@ pub fn flaps_by_history()
         ≡ keep_last 21 (states_told object history) }
 {}
 
-/// A saved state is complete: over the same setup it is resumed as the state that was saved, except for
+/// A saved state is complete. If it is resumed over the same setup, the state is the saved one, except for
 /// the start, which no call reads.
 pub fn resumed_over_the_same()
     ensures { (s : State) → (start : ℕ) → IsState s
         → resumed s.setup (saved_of s) start ≡ record s { start = start } }
 {}
 
-/// A scheduler that is resumed from any saved state, over any setup and from any moment, is in a state
-/// that a scheduler can be in (`resumed`). The saved state of a scheduler, in any state that it can be in,
-/// is well formed (`saved`). It can be written if the names of its objects are UTF-8, as in every setup
-/// that was read (`writable`).
+/// A scheduler that is resumed from any saved state, over any setup and from any moment, is in a state that a
+/// scheduler can be in (`resumed`). The saved state of a scheduler, in any state that it can be in, is well
+/// formed (`saved`). It can be written if the names of its objects are UTF-8, as in every setup that was read
+/// (`writable`).
 pub fn resumed_states()
     ensures resumed { (setup : Configuration) → (saved : Saved) → (start : ℕ) → IsSetup setup
         → IsSaved saved → start ≤ LAST_MOMENT → IsState (resumed setup saved start) }
@@ -106,16 +105,16 @@ pub fn resumed_states()
         → IsWritable (saved_of s) }
 {}
 
-/// The state that a scheduler opens with is one that a scheduler can be in.
+/// The state with which a scheduler opens is one that a scheduler can be in.
 pub fn opening_states()
     ensures { (setup : Configuration) → (start : ℕ) → IsSetup setup → start ≤ LAST_MOMENT
         → IsState (opening setup start) }
 {}
 
-/// If no object was saved and no run was handed out, a scheduler resumes in the state that one opens with
-/// (`nothing`). An object whose full name wasn't saved has the scheduling, the standing and the results
-/// that it has at an opening from the same moment, for every saved state of the others (`scheduling`,
-/// `standing`, `results`).
+/// If no object was saved and no run was handed out, a scheduler resumes in the state with which one opens
+/// (`nothing`). Take an object whose full name wasn't saved. For every saved state of the others, it has the
+/// same scheduling, standing and results as at an opening from the same moment (`scheduling`, `standing`,
+/// `results`).
 pub fn new_objects()
     ensures nothing { (setup : Configuration) → (before start : ℕ)
         → resumed setup (record { start = before; runs = 0; objects = [] }) start ≡ opening setup start }
@@ -133,9 +132,9 @@ pub fn new_objects()
         ≡ results_at (opening setup start).results object }
 {}
 
-/// Every call leaves a state that a scheduler can be in (`states`). So histories join: a history that is
-/// legal up to the moment of a save, followed by one that is legal after a resume over the same setup, from
-/// any moment, is legal as a whole (`joined`).
+/// Every call leaves a state that a scheduler can be in (`states`). So histories join. Take a history that is
+/// legal up to the moment of a save, and one that is legal after a resume over the same setup, from any
+/// moment. The first followed by the second is legal as a whole (`joined`).
 pub fn resumed_histories_join()
     ensures states { (s : State) → (call : Call) → IsState s → IsState (step s call).0 }
     ensures joined { (s : State) → (before later : List (Entry Call Reply)) → (start : ℕ) → IsState s
@@ -144,11 +143,11 @@ pub fn resumed_histories_join()
         → IsLegal step s (before ++ later) }
 {}
 
-/// This holds of a scheduler that is resumed over any setup, from any saved state. Each run that is handed
-/// out later has a greater number than those handed out before (`greater`), and no number of those is above
-/// the saved number of runs (`counted`). So no run number comes twice. An object whose check was out isn't
-/// taken until that run is reported or abandoned. The exception is a service if the limit ended the runs of
-/// all services (`out`).
+/// A law of a scheduler that is resumed over any setup, from any saved state. Each run that is handed out
+/// later has a greater number than those handed out before (`greater`). No run number in a history is above
+/// the number of runs that is saved at the end of the history (`counted`). So no run number comes twice. An
+/// object whose check was running isn't taken until that run is reported or abandoned. The exception is a
+/// service if the limit ended the runs of all services (`out`).
 pub fn resumed_runs()
     ensures greater { (setup : Configuration) → (saved : Saved) → (start : ℕ)
         → (front back : List (Entry Call Reply)) → (e : Entry Call Reply) → (object run : ℕ)
@@ -173,18 +172,17 @@ pub fn resumed_problems_stay_soft()
         → is_soft_problem (standing_at (resumed setup saved start).standings object) ≡ true }
 {}
 
-/// The order of the objects in a saved state has no effect: in any other order it is resumed as the same
-/// state.
+/// The order of the objects in a saved state has no effect: every order is resumed as the same state.
 pub fn resumed_in_any_order()
     ensures { (setup : Configuration) → (saved : Saved) → (others : List SavedObject) → (start : ℕ)
         → IsSaved saved → IsPermutation saved.objects others
         → resumed setup (record saved { objects = others }) start ≡ resumed setup saved start }
 {}
 
-/// The laws of a newly opened scheduler hold from every state that a scheduler can be in, for example after
-/// a resume. After every sequence of calls, no more services are being checked than the limit allows
-/// (`limit`), an object that was never checked has a pending standing (`never_checked`), and each object has
-/// a standing that it can have (`standings`).
+/// The laws of a newly opened scheduler hold from every state that a scheduler can be in, for example after a
+/// resume. After every sequence of calls, no more services are being checked than the limit allows (`limit`).
+/// An object that was never checked has a pending standing (`never_checked`). Each object has a standing that
+/// it can have (`standings`).
 pub fn from_any_state()
     ensures limit { (s : State) → (calls : List Call) → IsState s → IsWithinLimit (after s calls) }
     ensures never_checked { (s : State) → (calls : List Call) → (object : ℕ) → (standing : Standing)
@@ -195,9 +193,9 @@ pub fn from_any_state()
         → IsStandingOf s.setup object (standing_at (replay step s history).standings object) }
 {}
 
-/// In every legal history from such a state, no object is taken while it runs by the history (`once`).
+/// In every legal history from such a state, no object is taken while the history shows it running (`once`).
 /// An object that was running before isn't taken until that run has ended (`out`). The numbers of runs
-/// continue those that were handed out before (`numbers`), so that no number comes twice.
+/// continue those that were handed out before (`numbers`), so no number comes twice.
 pub fn runs_from_any_state()
     ensures once { (s : State) → (front back : List (Entry Call Reply)) → (e : Entry Call Reply)
         → (object run other : ℕ) → IsLegal step s (front ++ e ∷ back) → begins object run e ≡ true

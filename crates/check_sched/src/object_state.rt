@@ -10,12 +10,12 @@ const NO_RUN: SavedRun = SavedRun {
     start: 0,
 };
 
-/// The scheduling of one object: the time of its next check in milliseconds, the run of the check
-/// that is out, whether its active checks are enabled, and whether its next check is forced.
-/// Contracts see it as a record `Scheduling` of the same.
+/// The scheduling of one object: the time of its next check in milliseconds, and the run of its running
+/// check. It also says whether the object's active checks are enabled, and whether its next check is forced.
+/// Contracts see it as a record `Scheduling` with the same fields.
 ///
-/// It takes half a cache line, 32 bytes, instead of the 48 of two options: one byte says whether there is
-/// a next time, and another whether there is a run. If there is none, its field has no meaning.
+/// It takes half a cache line, 32 bytes, instead of the 48 of two options. One byte says whether there is a
+/// next time, and another whether there is a run. Without a next time or a run, its field has no meaning.
 #[derive(Drop)]
 pub(crate) struct ObjectState {
     time: u64,
@@ -36,14 +36,14 @@ impl Model for ObjectState {
     ghost view = { scheduling_of };
 }
 
-/// A change of one object. All but `Begin` leave the number of runs as it was, or end one.
+/// A change of one object. All changes except `Begin` leave the number of runs as it was, or end one.
 #[derive(Clone, Copy)]
 pub(crate) enum Change {
     /// Begin this run: the object loses its next time and its forced mark.
     Begin(SavedRun),
-    /// End the run: the object has its next check at this time, if at all.
+    /// End the run: the object has its next check at this time, if one is given.
     End(Option<u64>),
-    /// Put the next check off to this time, if there is to be one.
+    /// Put the next check off to this time. Without a time there is no next check.
     PutOff(Option<u64>),
     /// Set the next check to this time, and whether it is forced.
     Reschedule { time: u64, forced: bool },
@@ -57,8 +57,8 @@ impl ObjectState {
     ghost use Rattle.check_sched.specs.Saved.{given_up};
     ghost use Rattle.check_sched.specs.Scheduling.{candidate_time, opening_object, put_off_to, run_under};
 
-    /// The state of an object when scheduling starts: its first check is at `first`, it doesn't
-    /// run, it is enabled as the setup says, and nothing is forced.
+    /// The state of an object when scheduling starts. Its first check is at `first`, it isn't being checked,
+    /// it is enabled as the setup says, and its next check isn't forced.
     pub(crate) fn opening(first: Option<u64>, enabled: bool) -> ObjectState
         ensures { result ≡ opening_object first enabled }
     {
@@ -72,7 +72,7 @@ impl ObjectState {
         }
     }
 
-    /// The state of an object with this next time and run, if there are any, enabled and forced or not.
+    /// The state of an object with this next time and run, if they are given, enabled and forced or not.
     pub(crate) fn saved(
         next: Option<u64>,
         run: Option<SavedRun>,
@@ -98,7 +98,7 @@ impl ObjectState {
         if self.has_time { Some(self.time) } else { None }
     }
 
-    /// The run of the check that was handed out and hasn't come back, if there is one.
+    /// The run of the running check, if there is one.
     pub(crate) fn run(&self) -> Option<SavedRun>
         ensures { result ≡ self.now.run }
     {
@@ -136,7 +136,7 @@ impl ObjectState {
         self.forced
     }
 
-    /// The time for which the object waits: its next time, if it doesn't run and is enabled or
+    /// The time for which the object waits: its next time, if it isn't being checked and is enabled or
     /// forced.
     pub(crate) fn candidate_time(&self) -> Option<u64>
         ensures { result ≡ candidate_time self.now }
@@ -172,7 +172,7 @@ impl ObjectState {
         }
     }
 
-    /// Abandons the run of the check that is out, if there is one, at this moment.
+    /// Abandons the run of the running check, if there is one, at this moment.
     pub(crate) fn give_up(&mut self, now: u64)
         ensures { self.new ≡ given_up now self.old }
     {
@@ -182,7 +182,7 @@ impl ObjectState {
         }
     }
 
-    /// Sets the next time, or none.
+    /// Sets the next time. None clears it.
     fn set_next(&mut self, next: Option<u64>)
         ensures { self.new ≡ put_off_to next self.old }
     {

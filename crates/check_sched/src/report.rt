@@ -26,8 +26,8 @@ pub(crate) fn state_found(setup: &Setup, standings: &[Standing], number: u32, co
     }
 }
 
-/// The low and the high threshold of the object with this number, in percents: those of hosts for a
-/// host, those of services for a service. (Manual: "Detection and Handling of State Flapping".)
+/// The low and the high threshold of the object with this number, in percents: those of hosts for a host, and
+/// those of services for a service. (Manual: "Detection and Handling of State Flapping".)
 pub(crate) fn flap_thresholds(setup: &Setup, number: u32) -> (u8, u8)
     requires valid_setup { IsSetup setup.now }
     ensures { result ≡ flap_thresholds_of setup.now number }
@@ -69,8 +69,8 @@ pub(crate) fn judged(
     verdict(before, found, max, host_up, flapping)
 }
 
-/// Whether the host of the object with this number isn't down. It is true of an object without a host.
-/// Only a verdict on a problem uses it: for another state it is true, and no host's standing is read.
+/// Whether the host of the object with this number isn't down. The result is true for an object without a
+/// host. Only a verdict on a problem uses it: for another state it is true, and no host's standing is read.
 fn is_host_up(setup: &Setup, standings: &[Standing], number: u32, found: State) -> bool
     requires there { number < object_count setup.now }
     requires one_each { length standings.now ≡ object_count setup.now }

@@ -10,11 +10,11 @@ use check_rules::{LastResults, State};
 use std::alloc::{AllocError, Global};
 use std::marker::Model;
 
-/// The last results of each object, as many as flapping depends on. Contracts see them as a list of
-/// results for each object by number, the oldest first.
+/// The last results of each object, as many as flapping depends on. Contracts see them as a list of results
+/// for each object by number, the oldest first.
 #[derive(Drop)]
 pub(crate) struct Results {
-    /// Those of each object by its number.
+    /// The results of each object by its number.
     by_number: Vec<LastResults>,
 }
 
@@ -55,9 +55,9 @@ impl Results {
         self.by_number[number as usize].to_vec(alloc)
     }
 
-    /// Stores one more result of the object with this number, and returns whether the object flaps with
-    /// it. `was` says whether it did before, and `thresholds` are the low and the high one in percents.
-    /// (Manual: "Detection and Handling of State Flapping".)
+    /// Stores one more result of the object with this number, and returns whether the object flaps with it.
+    /// `was` says whether the object flapped before. `thresholds` are the low and the high threshold in
+    /// percents. (Manual: "Detection and Handling of State Flapping".)
     pub(crate) fn add(&mut self, number: u32, found: State, was: bool, thresholds: (u8, u8)) -> bool
         requires { number < length self.old }
         ensures kept { self.new ≡ update_at number (λ results. kept_after results found) self.old }
@@ -67,8 +67,8 @@ impl Results {
         self.by_number[number as usize].push(found, was, low, high)
     }
 
-    /// Whether the object with this number has as many results as are stored, and all are this state, so
-    /// that one more of it leaves them as they are.
+    /// Whether the object with this number has as many results as are stored, and all are this state. Then
+    /// one more result of this state leaves them as they are.
     pub(crate) fn are_all(&self, number: u32, state: State) -> bool
         requires { number < length self.now }
         ensures { result ≡ true → kept_after (results_at self.now number) state ≡ results_at self.now number }

@@ -1,4 +1,4 @@
-//! Each object of a setup after a resume: it is kept if its name was saved, and new otherwise.
+//! Each object of a setup after a resume: it is kept if its name was saved, and otherwise new.
 
 ghost use Rattle.std.specs.Prelude.{◌≡◌, ◌≤◌, option_map};
 ghost use Rattle.check_objects.specs.Configuration.{IsSetup};
@@ -28,8 +28,8 @@ pub(crate) fn scheduling(
     }
 }
 
-/// The scheduling of an object that is kept. Its switch stays as an operator set it if both setups have
-/// the same switch for the object. If they differ, this setup's switch applies.
+/// The scheduling of an object that is kept. If both setups have the same switch for the object, its switch
+/// stays as an operator set it. If they differ, this setup's switch applies.
 fn scheduling_kept(
     setup: &Setup,
     object: &Object,
@@ -53,8 +53,8 @@ fn scheduling_kept(
     ObjectState::saved(next, saved.run, enabled, saved.forced)
 }
 
-/// Whether the saved next time stays. It does if the check interval and the setup's switch are unchanged,
-/// or a check is out, or the next check is forced.
+/// Whether the saved next time stays. It does if the check interval and the setup's switch are unchanged, if
+/// a check is running, or if the next check is forced.
 fn keeps_time(setup: &Setup, object: &Object, saved: &SavedObject) -> bool
     requires valid_setup { IsSetup setup.now }
     requires interval { object.now.check_interval ≤ MAX_INTERVAL }

@@ -1,4 +1,5 @@
-//! The scheduling of all objects: those that wait, in two queues, and the number of services that run.
+//! The scheduling of all objects: those that wait, in two queues, and the number of services that are being
+//! checked.
 
 ghost use Rattle.std.specs.Prelude.{◌≡◌, ◌<◌, ◌≤◌, ◌&&◌, IfOk, Some, drop, length, nat_le, nat_lt, option_map, slice_get, slice_set, take};
 ghost use Rattle.check_queue.specs.Order.{least};
@@ -14,14 +15,14 @@ use check_queue::Queue;
 use std::alloc::{AllocError, Global};
 use std::marker::Model;
 
-/// The scheduling of each object, a queue of the hosts and one of the services that wait for a check,
-/// and the number of services that run. Only [`Roster::change`] changes an object, so that its place in
-/// its queue always agrees with its state. Contracts see the number of hosts, and the state of each
-/// object by number.
+/// The scheduling of each object, and two queues of objects that wait for a check, one of hosts and one of
+/// services. It also counts the services that are being checked. Only [`Roster::change`] changes an object,
+/// so that its place in its queue always agrees with its state. Contracts see the number of hosts, and the
+/// state of each object by number.
 #[derive(Drop)]
 pub(crate) struct Roster {
     waiting_hosts: Queue,
-    // A call for a service reads and writes the fields from here on, which are adjacent.
+    // A call for a service reads and writes the fields from here on, which are next to each other.
     hosts: usize,
     objects: Vec<ObjectState>,
     waiting_services: Queue,
@@ -103,15 +104,15 @@ impl Roster {
         }
     }
 
-    /// How many services are being checked.
+    /// The number of services that are being checked.
     pub(crate) fn running_services(&self) -> usize
         ensures { result ≡ running_among (drop self.now.hosts self.now.objects) }
     {
         self.running_services
     }
 
-    /// The object whose check comes first: the one with the least time, and of those with equal
-    /// times the one with the least number. None if no object waits for a check.
+    /// The object whose check comes first: the one with the least time. At equal times it is the one with the
+    /// least number. None if no object waits for a check.
     #[inline(always)]
     pub(crate) fn first(&self) -> Option<Candidate>
         ensures { result ≡ least (candidates_among self.now.objects) }
@@ -142,7 +143,7 @@ fn place(queue: &mut Queue, number: u32, time: Option<u64>)
     }
 }
 
-/// A queue of the objects that wait, of those with the numbers from `from` on and below `to`.
+/// A queue of the objects that wait, among those with the numbers from `from` on and below `to`.
 fn waiting(
     alloc: Global,
     objects: &[ObjectState],
@@ -161,7 +162,7 @@ fn waiting(
     Ok(queue)
 }
 
-/// How many of the objects with the numbers from `from` on are being checked.
+/// The number of objects with the numbers from `from` on that are being checked.
 pub(crate) fn running_from(objects: &[ObjectState], from: usize) -> usize
     requires { from ≤ length objects.now }
     ensures { result ≡ running_among (drop from objects.now) }

@@ -29,12 +29,13 @@ mod operators;
 mod resuming;
 mod saving;
 
-/// A scheduler over a setup. Contracts see it as a record `State`: the setup, the start, the scheduling,
-/// the standing and the last results of each object by number, and the number of runs handed out.
+/// A scheduler over a setup. Contracts see it as a record `State`. The record has the setup, the start, and
+/// the scheduling, the standing and the last results of each object by number. It also has the number of runs
+/// handed out.
 #[derive(Drop)]
 pub struct Sched {
     start: u64,
-    /// Scratch of the search through dependencies: a mark for each object.
+    /// Scratch space for the search through dependencies: a mark for each object.
     marks: Vec<bool>,
     // The fields that only a report reads are next to the number of hosts, the first field of a setup.
     // The fields that each call reads and writes follow the setup's services, its last field.
@@ -72,13 +73,13 @@ struct Parts {
 }
 
 impl Sched {
-    /// A scheduler for the objects of `setup`, with `start`, in milliseconds, as the moment at
-    /// which scheduling starts. The first checks are spread over time from `start` on, as the
-    /// setup's options say; an object that is disabled or whose check interval is 0 begins without
-    /// a next time. (Manual: "Service and Host Check Scheduling".)
+    /// A scheduler for the objects of `setup`. Scheduling starts at the moment `start`, in milliseconds. The
+    /// first checks are spread over time from `start` on, as the setup's options say. An object that is
+    /// disabled or whose check interval is 0 begins without a next time. (Manual: "Service and Host Check
+    /// Scheduling".)
     ///
-    /// An Err means out of memory, and hands the setup back as it was. No call that is made later
-    /// needs memory, except [`Sched::save`].
+    /// An Err means out of memory, and returns the setup as it was. No call that is made later needs memory,
+    /// except [`Sched::save`].
     pub fn new(alloc: Global, setup: Setup, start: u64) -> Result<Sched, Setup>
         requires { start ≤ LAST_MOMENT }
         ensures ok { IfOk result (λ scheduler. scheduler ≡ opening setup start) }
@@ -119,20 +120,20 @@ impl Sched {
         }
     }
 
-    /// Answers one call and moves the scheduler on, as `step` says. It needs no memory.
+    /// Answers one call and changes the scheduler's state, as `step` says. It needs no memory.
     ///
-    /// A refused call leaves the scheduler as it was. No call changes the setup or the start. The
-    /// objects that a reply names are those of the setup, and each time in it is at most
-    /// 2^61 milliseconds. No more services are being checked than the option
-    /// `max_concurrent_checks` allows, if it isn't 0 ([`limit`](crate::laws::limit)).
+    /// A refused call leaves the scheduler as it was. No call changes the setup or the start. The objects
+    /// that a reply names are those of the setup, and each time in it is at most 2^61 milliseconds. No more
+    /// services are being checked than the option `max_concurrent_checks` allows, if it isn't 0
+    /// ([`limit`](crate::laws::limit)).
     // If a caller makes a known call, the compiler keeps only that part.
     #[inline(always)]
     pub fn apply(&mut self, call: Call) -> Reply
         ensures state { self.new ≡ (step self.old call).0 }
         ensures reply { result ≡ (step self.old call).1 }
 
-        // Other facts for callers. All follow from the two clauses above and from the facts that hold of
-        // every scheduler.
+        // Other facts for callers. All follow from the two clauses above and from the facts of every
+        // scheduler.
         ensures refused { OnRefused result (self.new ≡ self.old) }
         ensures setup { self.new.setup ≡ self.old.setup }
         ensures start { self.new.start ≡ self.old.start }
@@ -179,8 +180,8 @@ impl Sched {
         }
     }
 
-    /// The number of words of its board: one for each object, and so at most 4,096. A lock shows the board
-    /// to callers that don't hold it.
+    /// The number of words of its board. It has one word for each object, and so at most 4,096. A lock shows
+    /// the board to callers that don't hold it.
     pub fn words(&self) -> u32
         ensures { result ≡ length (board_of self.now) }
     {
@@ -196,8 +197,8 @@ impl Sched {
         code(self.standings[number as usize])
     }
 
-    /// The place of the board at which the call is posted, if it is made now. A report that will be
-    /// answered by a standing is posted at its object's number, and no other call is posted.
+    /// The place of the board at which the call is posted, if it is made now. If a report will be answered by
+    /// a standing, it is posted at its object's number. No other call is posted.
     pub fn place_of(&self, call: Call) -> Option<u32>
         ensures { result ≡ place_of self.now call }
     {
@@ -217,7 +218,7 @@ impl Sched {
         &self.setup
     }
 
-    /// Gives the setup back, as it was handed in, and ends the scheduler.
+    /// Returns the setup, as it was handed in, and ends the scheduler.
     pub fn into_setup(self) -> Setup
         ensures { result ≡ self.setup }
     {
@@ -329,7 +330,7 @@ fn objects_at(
     Ok(objects)
 }
 
-/// The standing of each object when scheduling starts, by number: no object was ever checked.
+/// The standing of each object when scheduling starts, by number. No object was ever checked.
 fn opening_standings(alloc: Global, setup: &Setup) -> Result<Vec<Standing>, AllocError>
     ensures { IfOk result (λ standings. standings.items ≡ opening_standings setup.now) }
 {

@@ -34,31 +34,29 @@ scheduled_among interval_length objects =
 
 -- ---- the order
 
--- Services are visited by steps of the interleave factor: at positions 0, factor, twice the factor
--- and so on, then again from the first not yet visited. So one position is visited before another
--- if its remainder by the factor is smaller, or the remainders are equal and it is smaller.
+-- Services are visited by steps of the interleave factor: at positions 0, factor, twice the factor and so on, then again from the first position that
+-- isn't visited yet. So one position is visited before another if its remainder by the factor is smaller. If the remainders are equal, the smaller
+-- position is visited first.
 abbrev pub is_visited_before : ℕ → ℕ → ℕ → ℕ → Bool
 is_visited_before factor remainder position other =
     nat_lt (other % factor) remainder || (other % factor == remainder && nat_lt other position)
 
--- The rank of the object at this position: the number of scheduled objects that are visited before it.
--- The others leave no gap.
+-- The rank of the object at this position: the number of scheduled objects that are visited before it. Other objects leave no gap.
 abbrev pub rank : ℕ → List Object → ℕ → ℕ
 rank factor objects position =
     count_by (λ p. is_scheduled p.1 && is_visited_before factor (position % factor) position p.0) (enumerate_from 0 objects)
 
 -- ---- the delay
 
--- The smart delay is the average check interval divided by the number of objects; the maximum
--- spread shortens it. It is multiplied by the rank first and rounded down then. (The rounding is
--- our own profile.)
+-- The smart delay is the average check interval divided by the number of objects. The maximum spread shortens it. It is multiplied by the rank first
+-- and then rounded down. (The rounding is our own profile.)
 abbrev pub smart_delay : ℕ → Scheduled → ℕ → ℕ
 smart_delay max_spread scheduled k =
     if nat_le scheduled.total_interval (max_spread * scheduled.count) then k * scheduled.total_interval / (scheduled.count * scheduled.count)
     else k * max_spread / scheduled.count
 
--- How long after the start the check of rank k is due: with a delay the ranks follow one another by
--- it. The maximum spread acts only on the smart delay. (Our own profile.)
+-- The time from the start to the check of rank k. With a delay, each rank is due that delay after the rank before it. The maximum spread acts only on
+-- the smart delay. (Our own profile.)
 abbrev pub delay_by : DelayMethod → ℕ → Scheduled → ℕ → ℕ
 delay_by method.NoDelay max_spread scheduled k = 0
 delay_by method.Dumb max_spread scheduled k = 1000 * k
@@ -81,13 +79,13 @@ first_time spread objects position object =
 abbrev pub first_times : Spread → List Object → List (Option ℕ)
 first_times spread objects = map (λ p. first_time spread objects p.0 p.1) (enumerate_from 0 objects)
 
--- The time that pick chooses of two. If only one is given, it is that one.
+-- The time that pick chooses of two, or the only one.
 abbrev pub picked : (ℕ → ℕ → ℕ) → Option ℕ → Option ℕ → Option ℕ
 picked pick None other = other
 picked pick (Some one) None = Some one
 picked pick (Some one) (Some other) = Some (pick one other)
 
--- the earlier of two times; if only one is given, it is that one
+-- the earlier of two times, or the only one
 abbrev pub earlier : Option ℕ → Option ℕ → Option ℕ
 earlier one other = picked min one other
 
@@ -109,11 +107,11 @@ service_objects c = map (λ s. s.object) c.services
 abbrev pub all_objects : Configuration → List Object
 all_objects c = host_objects c ++ service_objects c
 
--- minutes in milliseconds: one has 60,000
+-- minutes in milliseconds: a minute has 60,000
 abbrev pub minutes : ℕ → ℕ
 minutes n = n * 60000
 
--- by this method, with this maximum spread in minutes, and this interleave factor
+-- the spread by this method, with this maximum spread in minutes, and this interleave factor
 abbrev pub spread_by : Configuration → ℕ → DelayMethod → ℕ → ℕ → Spread
 spread_by c start method max_minutes factor = record {
   start = start;
@@ -123,7 +121,7 @@ spread_by c start method max_minutes factor = record {
   factor = factor;
 }
 
--- Hosts are visited in the order of their numbers: with the factor 1. (Our own profile.)
+-- Hosts are visited in the order of their numbers, with the factor 1. (Our own profile.)
 abbrev pub host_spread : Configuration → ℕ → Spread
 host_spread c start = spread_by c start c.options.host_inter_check_delay_method c.options.max_host_check_spread 1
 
@@ -132,6 +130,6 @@ service_spread c start =
     spread_by c start c.options.service_inter_check_delay_method c.options.max_service_check_spread
     (factor_by c.options.service_interleave_factor (length c.services) (length c.hosts))
 
--- The time of the first check of each object, by number; none for those that aren't scheduled.
+-- The time of the first check of each object, by number; None for an object that isn't scheduled.
 unfoldable pub initial_times : Configuration → ℕ → List (Option ℕ)
 initial_times c start = first_times (host_spread c start) (host_objects c) ++ first_times (service_spread c start) (service_objects c)

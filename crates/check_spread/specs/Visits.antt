@@ -12,7 +12,7 @@ visits test first objects = count_by (λ p. is_scheduled p.1 && test p.0) (enume
 abbrev pub count_at : List ℕ → ℕ → ℕ
 count_at counts place = slice_index_or counts place 0
 
--- for each remainder by the factor the number of scheduled objects at positions that pass its test
+-- for each remainder by the factor, the number of scheduled objects at positions that pass its test
 pub record HasCounts (test : ℕ → ℕ → Bool) (factor : ℕ) (objects : List Object) (counts : List ℕ) : Type 0 where
   pub size : length counts ≡ factor
   pub at : (remainder : ℕ) → remainder < factor → count_at counts remainder ≡ visits (test remainder) 0 objects
@@ -33,7 +33,7 @@ has_less_remainder factor remainder position = nat_lt (position % factor) remain
 abbrev pub is_visited_earlier : ℕ → ℕ → ℕ → ℕ → Bool
 is_visited_earlier factor end remainder position = is_visited_before factor remainder end position
 
--- for each count the sum of this start and of the counts before it
+-- for each count, the sum of this start and of the counts before it
 abbrev pub sums_before : ℕ → List ℕ → List ℕ
 sums_before start [] = []
 sums_before start (count ∷ counts) = start ∷ sums_before (start + count) counts

@@ -1,4 +1,4 @@
-//! Laws of the constants, each the contract of a function without parameters and code.
+//! Laws of the constants. Each is the contract of a function without parameters and code.
 
 ghost use Rattle.std.specs.Prelude.{◌≡◌, ◌^◌};
 ghost use Rattle.check_spread.specs.declared.limits.TheConstants.{LAST_MOMENT, LAST_TIME};

@@ -6,9 +6,12 @@
 //! (inter-check delay, service interleaving, maximum check spread). If the manual leaves a choice, the
 //! profile of this project makes it, and the item says so.
 //!
-//! The modules: `times` has the times of all objects of a setup, and functions of intervals and times
-//! that other crates share. `spread` has the time of one rank, and `visits` the order in which objects are
-//! visited. `limits` has the limits of moments and times, and `laws` gives them as numbers.
+//! The modules:
+//! - `times`: the times of all objects of a setup, and functions of intervals and times that other crates
+//!   share;
+//! - `spread`: the time of one rank;
+//! - `visits`: the order in which objects are visited;
+//! - `limits`: the limits of moments and times, which `laws` gives as numbers.
 
 pub mod laws;
 mod limits;

@@ -1,6 +1,6 @@
 //! The limits of moments and times.
 
-/// The greatest moment that a clock may show, in milliseconds.
+/// The greatest moment that a clock can show, in milliseconds.
 pub const LAST_MOMENT: u64 = 1 << 60;
 
 /// The time up to which checks are set, in milliseconds.

@@ -24,8 +24,7 @@ pub(crate) struct Spread {
     pub(crate) factor: usize,
 }
 
-/// The objects of one sort that are scheduled: how many they are, and the sum of their check
-/// intervals in milliseconds.
+/// The scheduled objects of one sort: their number, and the sum of their check intervals in milliseconds.
 #[derive(Clone, Copy)]
 pub(crate) struct Scheduled {
     pub(crate) count: u64,
@@ -54,14 +53,14 @@ impl Scheduled {
     }
 }
 
-/// How many of the objects are scheduled.
+/// The number of scheduled objects among these.
 fn count_scheduled(objects: &[Object]) -> usize
     ensures { result ≡ count_by is_scheduled objects.now }
 {
     objects.iter().filter(|object| is_scheduled(object)).count()
 }
 
-/// The sum of the check intervals of those that are scheduled, in milliseconds.
+/// The sum of the check intervals of the scheduled objects, in milliseconds.
 fn sum_intervals(objects: &[Object], interval_length: u64) -> u64
     requires few { length objects.now ≤ MAX_OBJECTS }
     requires unit { interval_length ≤ MAX_INTERVAL_LENGTH }
@@ -96,8 +95,8 @@ impl Spread {
     }
 }
 
-/// The smart delay: the average check interval divided by the number of objects, shortened so that
-/// no more than the maximum spread passes from the first check to the last.
+/// The smart delay: the average check interval divided by the number of objects. It is shortened so that no
+/// more than the maximum spread passes from the first check to the last.
 fn smart_delay(max_spread: u64, scheduled: Scheduled, rank: u64) -> u64
     requires spread { max_spread ≤ MAX_SPREAD * MINUTE }
     requires among { rank < scheduled.count }

@@ -14,14 +14,14 @@ use check_objects::{
 };
 use std::alloc::{AllocError, Global};
 
-/// The time of the first check of each object of the setup, by number, in milliseconds. Scheduling
-/// starts at the moment `start`, in milliseconds. The time is None for an object that isn't scheduled
-/// at first: it is disabled, or its check interval is 0.
+/// The time of the first check of each object of the setup, by number, in milliseconds. Scheduling starts at
+/// the moment `start`, in milliseconds. An object that isn't scheduled at first gets None: it is disabled, or
+/// its check interval is 0.
 ///
-/// Hosts and services are spread each by their own inter-check delay method and maximum spread, and
-/// services are interleaved. (Manual: "Service and Host Check Scheduling"; our own profile defines the
-/// rounding of the smart delay, and applies the maximum spread to the smart delay only.) It takes time
-/// linear in the objects. An Err means out of memory.
+/// Hosts and services each have their own inter-check delay method and maximum spread, and services are
+/// interleaved. (Manual: "Service and Host Check Scheduling". Our own profile defines the rounding of the
+/// smart delay, and applies the maximum spread to the smart delay only.) The call takes time linear in the
+/// objects. An Err means out of memory.
 #[tactic(auto, unfolding(crate::specs::Spread::initial_times))]
 pub fn initial_times(
     alloc: Global,
@@ -98,9 +98,9 @@ fn find_spreads(setup: &Setup, start: u64) -> (Spread, Spread)
     (hosts, services)
 }
 
-/// The interleave factor of services: the one that the setup names, or the number of services for
-/// each host, rounded up. The factor is 1 if there is no service. All services and hosts count, also
-/// those that aren't scheduled. (Manual: "Service and Host Check Scheduling", service interleaving.)
+/// The interleave factor of services: the one that the setup names, or the number of services for each host,
+/// rounded up. The factor is 1 if there is no service. All services and hosts count, including those that
+/// aren't scheduled. (Manual: "Service and Host Check Scheduling", service interleaving.)
 pub fn interleave_factor(setup: &Setup) -> usize
     ensures factor { result ≡ factor_by setup.now.options.service_interleave_factor
         (length setup.now.services) (length setup.now.hosts) }
@@ -125,7 +125,7 @@ pub fn milliseconds(setup: &Setup, interval: u64) -> u64
     interval * setup.options().interval_length * 1000
 }
 
-/// The earlier of two times. If only one is given, it is that one; without a time it is None.
+/// The earlier of two times, or the only one. None if neither is given.
 pub fn earlier(one: Option<u64>, other: Option<u64>) -> Option<u64>
     ensures { result ≡ earlier one other }
 {

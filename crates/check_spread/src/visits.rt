@@ -11,7 +11,7 @@ use crate::spread::is_scheduled;
 use check_objects::{MAX_OBJECTS, Object};
 use std::alloc::{AllocError, Global};
 
-/// For each remainder by the factor the rank of the first scheduled object that has it.
+/// For each remainder by the factor, the rank of the first scheduled object that has it.
 pub(crate) fn first_ranks(
     alloc: Global,
     objects: &[Object],
@@ -32,7 +32,7 @@ pub(crate) fn first_ranks(
     sums_before(alloc, &counts)
 }
 
-/// For each place the sum of the counts before it.
+/// For each place, the sum of the counts before it.
 fn sums_before(alloc: Global, counts: &[u64]) -> Result<Vec<u64>, AllocError>
     requires { sum counts.now ≤ MAX_OBJECTS }
     ensures { IfOk result (λ sums. sums.items ≡ sums_before 0 counts.now) }

@@ -1,4 +1,4 @@
--- What the workers of a crew add to the book.
+-- The entries that the workers of a crew add to the book.
 use Rattle.std.specs.Prelude.{◌≡◌, ℕ, ◌+◌, ◌≤◌, ◌<◌, ⊤, List, [], ◌∷◌, ◌++◌, length, flat_map, Option, Some, None, slice_index_or, sum_by}
 use Rattle.ticket_steps.specs.declared.kept.Entry.{Entry}
 use Rattle.ticket_steps.specs.History.{of}
@@ -63,7 +63,7 @@ HaveLeft least (pass ∷ passes) = (least < (pass_of pass).left) × HaveLeft lea
 abbrev pub calls_counted : Tally → ℕ
 calls_counted tally = tally.takes + tally.reports + tally.unanswered
 
--- the three ways in which a crew gives no book
+-- the three ways in which a crew returns no book
 abbrev pub MatchCrewError : CrewError → (Desk → Type 0) → (Desk → Pass → Type 0) → (Desk → Type 0) → Type 0
 MatchCrewError (error.NoPass desk) P Q R = P desk
 MatchCrewError (error.Missing desk pass) P Q R = Q desk pass
@@ -79,7 +79,7 @@ pub record IsWorked (allows : ℕ → ℕ → ℕ → Code → Type 0) (moments 
   pub counted : tally ≡ tally_of (shift_entries shift) (stops_of shift.stopped)
   pub sums : IsSum tally
 
--- the workers of these passes have, in order
+-- the workers of these passes have come back, in order
 pub record AreWorked (allows : ℕ → ℕ → ℕ → Code → Type 0) (moments : List ℕ) (desk : Desk) (passes : List Pass) (worked : List (Pass × Tally)) : Type 0 where
   pub count : length worked ≡ length passes
   pub each : (i : ℕ) (p : Pass) (w : Pass × Tally) → i < length passes
@@ -87,7 +87,7 @@ pub record AreWorked (allows : ℕ → ℕ → ℕ → Code → Type 0) (moments
 
 -- ---- passes that are gathered
 
--- the counts are at most these: calls for each but the stops, and numbers for the stops
+-- the counts are at most these: calls for each count except the stops, and numbers for the stops
 pub record IsWithin (calls numbers : ℕ) (t : Tally) : Type 0 where
   pub takes : t.takes ≤ calls
   pub taken : t.taken ≤ calls

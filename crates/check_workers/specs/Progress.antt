@@ -1,4 +1,4 @@
--- How far a worker came with one moment.
+-- The progress of a worker with one moment.
 use Rattle.std.specs.Prelude.{◌≡◌, ℕ, ⊤, List, [], ◌∷◌, ◌++◌, length, Option, Some, None}
 use Rattle.ticket_steps.specs.declared.kept.Entry.{Entry}
 use Rattle.ticket_steps.specs.History.{entry}
@@ -41,7 +41,7 @@ abbrev pub HasCome : (ℕ → ℕ → ℕ → Code → Type 0) → ℕ → ℕ �
 HasCome allows now room before after tally progress.Done = IsDone allows now before after tally
 HasCome allows now room before after tally (progress.Stopped stop given) = IsStopped now room stop given before after tally
 
--- ---- the same for the report only, of a check that was taken at this moment
+-- ---- the same for the report alone, of a check that was taken at this moment
 
 pub record IsReported (allows : ℕ → ℕ → ℕ → Code → Type 0) (now object run : ℕ) (before after : Caller Call Reply) (tally : Tally) : Type 0 where
   pub code : Code

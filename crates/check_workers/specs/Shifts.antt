@@ -1,4 +1,4 @@
--- What a worker does at its moments, as its entries in the history show: rounds, and how its shift ended.
+-- The work of a worker at its moments, as its entries in the history show it: rounds, and how its shift ended.
 use Rattle.std.specs.Prelude.{◌≡◌, ℕ, ◌+◌, ◌≤◌, ◌<◌, ⊤, List, [], ◌∷◌, ◌++◌, length, map, flat_map, Option, Some, None}
 use Rattle.std.specs.List.{All}
 use mathlib.Core.List.{IsPrefix}
@@ -72,7 +72,7 @@ shift_entries s = flat_map (round_entries s.number) s.rounds ++ open_entries s.n
 abbrev pub shift_moments : Shift → List ℕ
 shift_moments s = map (λ r. r.now) s.rounds ++ open_moments s.left_open
 
--- a list of no stop or one
+-- a list of at most one stop
 abbrev pub stops_of : Option Stop → List Stop
 stops_of None = []
 stops_of (Some why) = why ∷ []
@@ -82,14 +82,14 @@ abbrev pub open_run : Option Open → Option (ℕ × ℕ)
 open_run None = None
 open_run (Some o) = Some (o.object, o.run)
 
--- A shift over these moments, with a plugin that allows these codes. Its rounds are those of the first moments in order, and of all moments if it didn't stop
--- early. A check is left open only if it did.
+-- A shift over these moments, with a plugin that allows these codes. Its rounds are those of the first moments in order. If it didn't stop early,
+-- they are those of all moments. A check is left open only if the shift stopped early.
 pub record IsShift (allows : ℕ → ℕ → ℕ → Code → Type 0) (moments : List ℕ) (s : Shift) : Type 0 where
   pub rounds : All (IsRound allows) s.rounds
   pub in_order : IsPrefix (shift_moments s) moments
   pub all : s.stopped ≡ None → shift_moments s ≡ moments
   pub none_open : s.stopped ≡ None → s.left_open ≡ None
-  -- a worker that stopped early still has some moment's work to do
+  -- a worker that stopped early has some moment's work left
   pub early : (why : Stop) → s.stopped ≡ Some why → length s.rounds < length moments
 
 -- the number of calls that got no answer if the shift ended like this
@@ -103,7 +103,7 @@ IsReason room recorded left (Some stop.NoMemory) = room ≤ recorded
 IsReason room recorded left (Some stop.Spent) = left ≡ 0
 IsReason room recorded left None = ⊤
 
--- ---- what callers have done
+-- ---- the calls of callers
 
 -- A caller has made this many more calls, and these entries of its own are the new entries of the numbers for which it answers.
 pub record HasMade (entries : List (Entry Call Reply)) (unanswered : ℕ) (before after : Caller Call Reply) : Type 0 where

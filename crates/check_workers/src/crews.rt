@@ -24,27 +24,28 @@ use std::sync::Wait;
 use std::thread;
 use std::thread::Threads;
 
-/// Why a crew gives no book. The desk comes back as it was.
+/// Why a crew returns no book. The desk comes back as it was.
 #[derive(Drop)]
 pub enum CrewError {
-    /// There was no pass in the list, and so no worker.
+    /// The list had no pass, and so there was no worker.
     NoPass(Desk),
     /// All workers have done their work and returned, but the list didn't have all passes of the desk. The
-    /// desk can't be closed before the other passes are gathered too. All passes of the list are gathered
-    /// in this one.
+    /// desk can't be closed until the other passes are gathered too. All passes of the list are gathered in
+    /// this one.
     Missing(Desk, Pass),
-    /// Out of memory for the threads. Some workers may have worked and others not, and all that started
-    /// have returned. Their passes are lost, so the desk can't be closed any more.
+    /// Out of memory for the threads. Some workers may have worked and others not. All that started have
+    /// returned. Their passes are lost, so the desk can never be closed.
     NoThread(Desk),
 }
 
-/// One worker for each pass of the list works at each moment of the whole list ([`work`]): one in the
-/// caller's thread, and each other in a thread of its own. When all have returned, the passes are gathered,
-/// the desk is closed, and the tallies are added up. If a thread can't be made, its worker works in the
-/// caller's thread.
+/// One worker for each pass of the list works at each moment of the whole list ([`work`]). One worker runs in
+/// the caller's thread, and each other in a thread of its own. When all have returned, the passes are
+/// gathered, the desk is closed, and the tallies are added up. If a thread can't be made, its worker works in
+/// the caller's thread.
 ///
-/// The book begins with what each pass had seen. Each pass's entries in it are those that it brought and
-/// then those of its worker's shift. The contract holds when the call returns: it waits for all workers.
+/// The book begins with the history that each pass had seen. Each pass's entries in it are those that it
+/// brought, followed by those of its worker's shift. The contract holds when the call returns: it waits for
+/// all workers.
 pub fn crew<R: Threads + Wait + Sync, P: Plugin + Sync>(
     rt: &R,
     _alloc: Global,

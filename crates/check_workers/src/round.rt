@@ -11,7 +11,7 @@ use check_desk::{Answer, Desk, Pass};
 use check_sched::{Call, Reply};
 use std::sync::Wait;
 
-/// How far a worker came with a moment.
+/// The progress of a worker with a moment.
 #[derive(Clone, Copy, Debug, PartialEq, Eq)]
 pub enum Progress {
     /// Its work is done.

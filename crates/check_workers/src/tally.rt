@@ -7,9 +7,9 @@ ghost use Rattle.check_workers.specs.Tallies.{IsFew, plus, tally_of};
 
 use check_sched::{Refusal, Reply};
 
-/// How often each answer came.
+/// The number of answers of each kind.
 ///
-/// `takes` is the sum of `taken`, `put_off`, `idle`, `at_limit` and `refused`, and `reports` that of
+/// `takes` is the sum of `taken`, `put_off`, `idle`, `at_limit` and `refused`. `reports` is the sum of
 /// `reported` and `late`.
 #[derive(Clone, Copy, Debug, Default, PartialEq, Eq)]
 pub struct Tally {

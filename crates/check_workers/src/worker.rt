@@ -13,12 +13,13 @@ use check_desk::{Desk, Pass};
 use std::sync::Wait;
 
 /// Works at each moment of the list in order, in milliseconds. It takes the next check by one call of the
-/// pass. If a check was taken, it runs the check by the plugin, once, and reports the return code by one
-/// more call. Any other reply ends the work of that moment.
+/// pass. If a check was taken, it runs the check by the plugin, once, and reports the return code by one more
+/// call. Any other reply ends the work of that moment.
 ///
-/// It stops early if there is no memory to record a call, which happens only if the history has reached the
-/// book's room, or if the pass has no call left. The last part of the result is then the object and the run
-/// that it took and couldn't report, if any. That check stays open, and an operator can abandon it.
+/// The worker stops early if there is no memory to record a call, which happens only if the history has
+/// reached the book's room. It also stops early if the pass has no call left. The last part of the result is
+/// then the object and the run that it took and couldn't report, if any. This check stays open, and an
+/// operator can abandon it.
 ///
 /// The contract holds when the call returns: it waits for its turns, and for the plugin.
 pub fn work<P: Plugin>(

@@ -1,4 +1,4 @@
--- Links between numbered objects, their chains and cycles. The links of each object are given by its number.
+-- Links between numbered objects, their chains and cycles. The links of each object are at its number.
 use Rattle.std.specs.Prelude.{◌≡◌, ℕ, zero, suc, ◌<◌, ◌==◌, ◌||◌, Bool, true, false, List, [], length, nat_lt}
 use Rattle.std.specs.List.{list_any, list_all, slice_index_or}
 
@@ -10,7 +10,7 @@ links_of links object = slice_index_or links object []
 abbrev pub are_within : ℕ → List (List ℕ) → Bool
 are_within n links = list_all (λ ls. list_all (λ link. nat_lt link n) ls) links
 
--- a chain of so many links begins at the object
+-- a chain of this many links begins at the object
 abbrev pub deep : List (List ℕ) → ℕ → ℕ → Bool
 deep links object zero = true
 deep links object (suc k) = list_any (λ link. deep links link k) (links_of links object)
@@ -20,12 +20,11 @@ abbrev pub any_below : (ℕ → Bool) → ℕ → Bool
 any_below p zero = false
 any_below p (suc n) = any_below p n || p n
 
--- Some object is linked to itself through one link or more: with n objects, a chain of n links passes n + 1 objects,
--- so that one comes twice.
+-- Some object is linked to itself through one link or more. With n objects, a chain of n links passes n + 1 objects, so one of them occurs twice.
 unfoldable pub has_cycle : List (List ℕ) → Bool
 has_cycle links = any_below (λ object. deep links object (length links)) (length links)
 
--- so many links lead from the one object to the other
+-- this many links lead from the first object to the second
 abbrev pub leads : List (List ℕ) → ℕ → ℕ → ℕ → Bool
 leads links zero object other = object == other
 leads links (suc k) object other = list_any (λ link. leads links k link other) (links_of links object)

@@ -1,4 +1,4 @@
-//! A cycle among the objects that no order can place. Its definitions are in `specs/Search.antt`.
+//! Finds a cycle among the objects that no order can place. Its definitions are in `specs/Search.antt`.
 ghost use Rattle.std.specs.Prelude.{◌≡◌, ◌==◌, ◌≤◌, ◌^◌, IfOk, MatchOption, false, get_or, length, map, true};
 ghost use Rattle.std.specs.List.{list_all, list_any};
 ghost use Rattle.link_order.specs.Orders.{is_among};
@@ -8,11 +8,11 @@ ghost use Rattle.link_order.specs.Search.{step, steps, waits, GoesBack, IsNext, 
 use smallvec::SmallVec;
 use std::alloc::{AllocError, Global};
 
-/// Different objects, each linked to the next one, and the last to the first. The search begins at the
-/// last object that waits.
+/// Different objects, each linked to the next one, and the last to the first. The search begins at the last
+/// object that waits.
 ///
-/// `left` says of each object how many of its links lead to objects that wait, that is, that no
-/// order can place.
+/// `left` has for each object the number of its links to objects that wait. An object waits if no order can
+/// place it.
 pub(crate) fn find_cycle(
     alloc: Global,
     links: &[SmallVec<u32, 4>],
@@ -28,7 +28,7 @@ pub(crate) fn find_cycle(
     round(alloc, &next, walk(&next, start))
 }
 
-/// For each object that waits, an object that it is linked to and that waits too.
+/// For each object that waits, an object to which it is linked and that also waits.
 fn next_objects(
     alloc: Global,
     links: &[SmallVec<u32, 4>],
@@ -44,7 +44,7 @@ fn next_objects(
     Ok(next)
 }
 
-/// The last of these objects that waits, if one does.
+/// The last of these objects that waits, if one of them does.
 fn last_waiting(objects: &[u32], left: &[usize]) -> Option<u32>
     ensures { MatchOption result (list_any (waits left.now) objects.now ≡ false) (λ object.
         (is_among objects.now object ≡ true) × (waits left.now object ≡ true)) }
@@ -83,7 +83,7 @@ fn last_object(left: &[usize]) -> u32
     last
 }
 
-/// The object that comes next after this one.
+/// The next object after this one.
 fn step(next: &[u32], object: u32) -> u32
     ensures { result ≡ step next.now object }
 {
@@ -93,7 +93,7 @@ fn step(next: &[u32], object: u32) -> u32
     }
 }
 
-/// Where a walk from an object is after as many steps as there are objects: on a cycle.
+/// The object that a walk reaches after as many steps as there are objects. It is on a cycle.
 fn walk(next: &[u32], object: u32) -> u32
     ensures { result ≡ steps next.now object (length next.now) }
 {
@@ -104,7 +104,7 @@ fn walk(next: &[u32], object: u32) -> u32
     at
 }
 
-/// The objects that a walk from this one passes until it is back.
+/// The objects that a walk from this one passes until it returns.
 fn round(alloc: Global, next: &[u32], object: u32) -> Result<Vec<u32>, AllocError>
     requires { GoesBack next.now object }
     ensures { IfOk result (λ cycle. IsRound next.now object cycle.items) }

@@ -1,14 +1,14 @@
-//! An order of numbered objects that are linked, in which each object comes after all that it
-//! links to, or a cycle among them.
+//! An order of linked objects, in which each object comes after all that it links to, or a cycle among the
+//! objects.
 //!
-//! The objects are numbers from 0 on, and all that is known of one is which others it links to. What
-//! an object is, and what a link means, its callers say.
+//! The objects are numbers from 0 on. For each object the crate knows only which others it links to. The
+//! callers give objects and links their meaning.
 //!
 //! The modules:
-//! - `order` makes the order;
-//! - `cycle` finds a cycle if there is no order;
-//! - `lists` has the lists by number that the crate and its callers fill;
-//! - `laws` says what a cycle is.
+//! - `order`: makes the order;
+//! - `cycle`: finds a cycle if there is no order;
+//! - `lists`: lists by number, which the crate and its callers fill;
+//! - `laws`: the meaning of a cycle.
 #![tactic(auto)]
 
 mod cycle;

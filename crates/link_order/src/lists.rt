@@ -1,13 +1,13 @@
-//! Lists by number: so many empty ones, and one more item in one of them.
+//! Lists by number: makes empty lists, and adds an item to one of them.
 ghost use Rattle.std.specs.Prelude.{◌≡◌, ◌<◌, ◌++◌, ◌∷◌, [], IfOk, OnOk, map, vec_len, slice_set, replicate};
 ghost use Rattle.std.specs.List.{slice_index_or};
 
 use smallvec::SmallVec;
 use std::alloc::{AllocError, Global};
 
-/// So many empty lists, one for each number below `count`.
+/// Makes `count` empty lists, one for each number below `count`.
 ///
-/// The error comes where a request for memory is refused; then nothing is made. (Our own profile.)
+/// The error means that a request for memory was refused. Nothing is made then. (Our own profile.)
 pub fn empty_lists<T: Copy + Default, const N: usize>(
     alloc: Global,
     count: usize,
@@ -21,10 +21,10 @@ pub fn empty_lists<T: Copy + Default, const N: usize>(
     Ok(lists)
 }
 
-/// Adds an item to the list of the number `place`, behind those that it has; the others stay.
+/// Adds an item at the end of the list with the number `place`. The other lists stay as they are.
 ///
-/// The error comes where a request for memory is refused. How many lists there are stays the same;
-/// what they hold then no clause says, and callers give them up. (Our own profile.)
+/// The error means that a request for memory was refused. The number of lists is then the same, but no clause
+/// states their contents, so callers abandon them. (Our own profile.)
 pub fn push_at<T: Copy + Default, const N: usize>(
     lists: &mut Vec<SmallVec<T, N>>,
     place: u32,

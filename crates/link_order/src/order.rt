@@ -1,6 +1,5 @@
-//! The order, made object by object: an object is placed after the last object that it links to. If
-//! some objects can't be placed, there is a cycle among them. What is found is defined in
-//! `specs/Ordering.antt`.
+//! Makes the order object by object: an object is placed after the last object that it links to. If some
+//! objects can't be placed, there is a cycle among them. `specs/Ordering.antt` defines the result.
 ghost use Rattle.std.specs.Prelude.{◌≡◌, ℕ, ◌<◌, ◌≤◌, ◌==◌, ◌-◌, ◌^◌, ◌++◌, ◌∷◌, [], IfOk, OnOk, length, map, true, vec_len, slice_set, nat_lt, if◌then◌else◌};
 ghost use Rattle.std.specs.List.{list_all};
 ghost use Rattle.link_order.specs.Cycles.{are_within};
@@ -13,7 +12,7 @@ use crate::lists::{empty_lists, push_at};
 use smallvec::SmallVec;
 use std::alloc::{AllocError, Global};
 
-/// What linked objects have: an order, or a cycle.
+/// The result for linked objects: an order, or a cycle.
 #[derive(Drop)]
 pub enum OrderOrCycle {
     /// The numbers of all objects, each once and after all that it links to.
@@ -25,11 +24,11 @@ pub enum OrderOrCycle {
 /// A topological order of linked objects, or a cycle if there is no order. Use it for work in which
 /// everything that an object links to comes before the object.
 ///
-/// `links` has for each object the numbers of the objects that it links to, in any order, repeats
-/// included. There are at most 2^32 objects.
+/// `links` has for each object the numbers of the objects that it links to, in any order, including repeats.
+/// There are at most 2^32 objects.
 ///
-/// The call takes time and memory linear in the objects and their links. The only error is out of
-/// memory; nothing is made then.
+/// The call takes time and memory linear in the objects and their links. The only error is out of memory.
+/// Nothing is made then.
 pub fn order_by_links(alloc: Global, links: &[SmallVec<u32, 4>]) -> Result<OrderOrCycle, AllocError>
     requires few { length links.now ≤ 2 ^ 32 }
     requires within { are_within (length links.now) (map (λ list. list.items) links.now) ≡ true }
@@ -55,7 +54,7 @@ pub fn order_by_links(alloc: Global, links: &[SmallVec<u32, 4>]) -> Result<Order
     }
 }
 
-/// How many links each object has.
+/// The number of links of each object.
 fn link_counts(alloc: Global, links: &[SmallVec<u32, 4>]) -> Result<Vec<usize>, AllocError>
     ensures { IfOk result (λ counts.
         counts.items ≡ map length (map (λ list. list.items) links.now)) }
@@ -88,7 +87,7 @@ fn are_closed(left: &[usize]) -> bool
     left.iter().all(|count| *count == 0)
 }
 
-/// For each object those that link to it, once for each link.
+/// For each object the objects that link to it, once for each link.
 fn dependents_of(
     alloc: Global,
     links: &[SmallVec<u32, 4>],
@@ -105,7 +104,7 @@ fn dependents_of(
     Ok(dependents)
 }
 
-/// Adds an object to the list of each that it links to.
+/// Adds an object to the list of each object that it links to.
 fn add_dependent(
     dependents: &mut Vec<SmallVec<u32, 4>>,
     object: u32,
@@ -122,7 +121,7 @@ fn add_dependent(
     Ok(())
 }
 
-/// Closes a link of each of the dependents, and places those whose last link it was.
+/// Closes a link of each of the dependents, and places each dependent whose last link it was.
 fn close_links(
     dependents: &[u32],
     left: &mut [usize],
@@ -140,7 +139,7 @@ fn close_links(
     Ok(())
 }
 
-/// Closes a link of an object, and places the object where it was the last.
+/// Closes a link of an object, and places the object if the link was the last.
 fn close_link(object: u32, left: &mut [usize], order: &mut Vec<u32>) -> Result<(), AllocError>
     requires within { object < length left.old }
     requires open { 0 < open_at left.old object }

@@ -5,13 +5,13 @@ use Rattle.check_sched.specs.declared.call.Reply.{Reply}
 use Rattle.machine_room.specs.declared.outside.News.{News}
 
 pub data Deed : Type 0 where
-  -- it reads the clock, which gives this moment
+  -- it reads the clock, which returns this moment
   reads : ℕ → Deed
   -- it asks for the next event, and gets this
   asks : Option News → Deed
   -- it hands over the reply to a call that came in
   answers : Call → Reply → Deed
-  -- it starts the plugin of an object, under a run and at a moment, and learns whether that was possible
+  -- it starts the plugin of an object, under a run and at a moment, and sees whether this was possible
   begins : ℕ → ℕ → ℕ → Bool → Deed
   -- it sleeps until this moment at most
   sleeps : ℕ → Deed

@@ -41,7 +41,7 @@ names (call.Report object number code) run = (object == run.object) && (number =
 names (call.Abandon object number now) run = (object == run.object) && (number == run.number)
 names other run = false
 
--- whether one of the entries' calls does
+-- whether the call of one of the entries reports or abandons this run
 abbrev pub is_named : List (Entry Call Reply) → Run → Bool
 is_named entries run = list_any (λ e. names e.call run) entries
 
@@ -52,7 +52,7 @@ left_by asked runs = filter (λ run. not (names asked run)) runs
 abbrev pub left_of : List (Entry Call Reply) → List Run → List Run
 left_of entries runs = filter (λ run. not (is_named entries run)) runs
 
--- each run before that no call of these entries names is there after
+-- if no call of these entries names a run of the first list, the second list contains the run
 abbrev pub IsKept : List (Entry Call Reply) → List Run → List Run → Type 0
 IsKept entries before after = All (λ run. is_named entries run ≡ false → Contains after run) before
 
@@ -66,7 +66,7 @@ KeepsRuns before after runs left = (new : List (Entry Call Reply)) × (before ++
 abbrev pub IsReturned : Desk → Caller Call Reply → List Run → List Run → Pass → Type 0
 IsReturned desk before runs left pass = IsPassOf desk pass × KeepsRuns before.seen (pass_of pass).seen runs left
 
--- the same of the pass that comes back, at the end of a generation too
+-- the same for the pass that comes back, at the end of a generation too
 abbrev pub IsBack : Desk → Caller Call Reply → List Run → List Run → Result Pass Ended → Type 0
 IsBack desk before runs left (Ok pass) = IsReturned desk before runs left pass
 IsBack desk before runs left (Err ended) = IsReturned desk before runs left ended.pass

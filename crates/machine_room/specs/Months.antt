@@ -1,4 +1,4 @@
--- The facts about generations, restarts and other setups that clauses state.
+-- The facts about generations, restarts and changes of setups that clauses state.
 use Rattle.std.specs.Prelude.{◌≡◌, ℕ, List, [], ◌∷◌, Ok, Option, Some, None}
 use Rattle.ticket_steps.specs.declared.kept.Entry.{Entry}
 use Rattle.ticket_steps.specs.History.{IsLegal, replay}
@@ -23,7 +23,7 @@ pub record IsResumed (setup : Configuration) (text : List ℕ) (start : ℕ) (st
   pub read : saved_of_text text ≡ Ok saved
   pub goes_on : state ≡ resumed setup saved start
 
--- the state is resumed from the stored text, or is the opening if there is none
+-- the state is resumed from the stored text, or is the opening if there is no text
 abbrev pub IsFirst : Configuration → Option (List ℕ) → ℕ → State → Type 0
 IsFirst setup (Some text) start state = IsResumed setup text start state
 IsFirst setup None start state = state ≡ opening setup start
@@ -41,8 +41,8 @@ AreGenerations past [] from to = from ≡ to
 AreGenerations past (history ∷ histories) from to =
     (next : State) × IsGeneration past history from next × AreGenerations past histories next to
 
--- A setup was monitored: it is one that the files gave. The first state was resumed from the stored text, at the first moment of the clock,
--- and generations led from it to the last state.
+-- A setup was monitored. It is one that the files gave. The first state was resumed from the stored text, at the first moment of the clock, and
+-- generations led from it to the last state.
 pub record IsWatched {S : Type 0} (does : S → Deed → S → Type 0) (gives : Configuration → Type 0)
     (past : Configuration → List (Entry Call Reply) → Type 0) (kept : Option (List ℕ)) (outside : S) (to : State) : Type 0 where
   pub start : ℕ

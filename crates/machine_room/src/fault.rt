@@ -7,7 +7,7 @@ use std::alloc::AllocError;
 /// Why the program ends early.
 #[derive(Clone, Copy)]
 pub(crate) enum Fault {
-    /// Its words are wrong.
+    /// The arguments are wrong.
     Words,
     /// The output can't be written.
     Output,
@@ -15,7 +15,7 @@ pub(crate) enum Fault {
     Memory,
     /// A pass of the desk is missing at the day's end.
     Pass,
-    /// A setup or a kept state is refused.
+    /// A setup or a stored state is refused.
     Refused,
 }
 

@@ -1,21 +1,28 @@
 #![tactic(auto)]
-//! The program `machine_room` monitors a simulated machine room for some days. It shows embedders how a
-//! desk runs for months. It runs the loop of `months`, which a program that embeds the scheduler can
-//! use unchanged. The clock, the machines and the operator are simulated: some machines answer late or
-//! never, and the setup changes after half of the days.
+//! The program `machine_room` monitors a simulated machine room for some days. It shows embedders how a desk
+//! runs for months. It runs the loop of `months`, which a program that embeds the scheduler can use
+//! unchanged. The clock, the machines and the operator are simulated: some machines answer late or never, and
+//! the setup changes after half of the days.
 //!
-//! Its argument is the number of days, 1 to 10,000. It writes each setup that it takes up, as one
-//! line. For each generation it writes the state that it keeps, as one line, and then a line for
-//! each entry: the call as `nagsched run` reads it, a tab, the number of the pass that made it, and
-//! its reply as `nagsched run` writes it.
+//! The argument is the number of days, 1 to 10,000. The program writes each setup that it uses, as one line.
+//! For each generation it writes the stored state, as one line. Then it writes a line for each entry. The
+//! line has the call as `nagsched run` reads it, a tab, the number of the pass that made the call, and the
+//! reply as `nagsched run` writes it.
 //!
-//! The exit status is 0, or 1 if a pass of the desk is missing when a generation ends, 2 if the
-//! argument is wrong, 3 if the output can't be written, 4 if memory runs out, and 5 if a setup or a
-//! stored state is refused.
+//! The exit statuses:
+//! - 0: success;
+//! - 1: a pass of the desk is missing when a generation ends;
+//! - 2: the argument is wrong;
+//! - 3: the output can't be written;
+//! - 4: memory runs out;
+//! - 5: a setup or a stored state is refused.
 //!
-//! `months` has the loop, `round` a round of it, `outside` the traits for its environment, `runs` the
-//! checks that are out, and `restart` the saved text. `room` has the setups and the machines,
-//! `simulated` the simulated environment, `told` the lines of output, and `fault` the errors.
+//! The modules:
+//! - `months`: the loop; `round`: a round of it;
+//! - `outside`: the traits for the loop's environment; `simulated`: the simulated environment;
+//! - `runs`: the running checks; `restart`: the saved text;
+//! - `room`: the setups and the machines;
+//! - `told`: the lines of output; `fault`: the errors.
 
 mod fault;
 mod months;
@@ -50,7 +57,7 @@ fn main(rt: HostRuntime) -> ExitCode {
     }
 }
 
-/// Monitors the room for the number of days in the argument, and writes all to standard output.
+/// Monitors the room for the number of days in the argument, and writes everything to standard output.
 fn watch<R: Env + Print + AllocGlobal + Wait>(rt: &R) -> Result<(), Fault> {
     let alloc = rt.alloc();
     let mut outside = Days::of(asked(rt, alloc)?);

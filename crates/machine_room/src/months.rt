@@ -1,8 +1,11 @@
-//! The whole loop of a program that monitors for months. It resumes the stored state, works at a desk
-//! round by round, stores the state from time to time and at the end, and takes over other setups.
+//! The whole loop of a program that monitors for months. It resumes the stored state, and works at a desk
+//! round by round. It stores the state from time to time and at the end, and changes to other setups.
 //!
-//! `outside` has the traits that the program implements, `round` a round, `runs` the list of the checks
-//! that are out and the time limits, and `restart` the text of a state.
+//! Other modules:
+//! - `outside`: the traits that the program implements;
+//! - `round`: a round;
+//! - `runs`: the list of the running checks, and the time limits;
+//! - `restart`: the text of a state.
 
 ghost use Rattle.std.specs.Prelude.{◌≡◌, List, [], Some, IfOk};
 ghost use Rattle.ticket_steps.specs.declared.kept.Entry.{Entry};
@@ -24,12 +27,12 @@ use check_desk::{Desk, Pass};
 use std::alloc::Global;
 use std::sync::Wait;
 
-/// Monitors until the program is to end, and returns the book. The text that was stored last is that of
-/// the book's state. To take over another setup, the loop begins again as after a restart: from the stored
-/// state, over the new setup.
+/// Monitors until the program is to end, and returns the book. The text that was stored last is that of the
+/// book's state. To change to another setup, the loop begins again as after a restart: from the stored state,
+/// over the new setup.
 ///
-/// The number of rounds of a generation is half the room of its book. With a room of 0 or 1 a generation
-/// has no rounds, and nothing is ever taken.
+/// The number of rounds of a generation is half the room of its book. With a room of 0 or 1 a generation has
+/// no rounds, and no check is ever taken.
 pub(crate) fn watch_months<O: Outside, F: Files>(
     rt: &impl Wait,
     alloc: Global,
@@ -49,7 +52,7 @@ pub(crate) fn watch_months<O: Outside, F: Files>(
     unreachable!()
 }
 
-/// Monitors over one setup, one generation after another. The checks that were out when the state was
+/// Monitors over one setup, one generation after another. The checks that were running when the state was
 /// stored are past their limit at once, because their plugins no longer run.
 fn watch_setup<O: Outside, F: Files>(
     rt: &impl Wait,
@@ -78,8 +81,8 @@ fn watch_setup<O: Outside, F: Files>(
     unreachable!()
 }
 
-/// One generation: opens a desk on the book, works there, closes it, keeps the state, and renews
-/// the book. The plugins go on meanwhile.
+/// One generation: opens a desk on the book, works there, closes the desk, stores the state, and renews the
+/// book. The plugins continue meanwhile.
 fn generation<O: Outside, F: Files>(
     rt: &impl Wait,
     alloc: Global,

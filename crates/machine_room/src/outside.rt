@@ -23,18 +23,18 @@ pub(crate) enum News {
 pub(crate) enum End {
     /// Its rounds are used up, or a call couldn't be made.
     Renewal,
-    /// Another setup is to be taken over. The checks that are out are abandoned, and the results of
-    /// plugins that still run are no longer used.
+    /// Another setup is to be used. The running checks are abandoned, and the results of plugins that still
+    /// run are no longer used.
     Setup,
     /// The program is to end.
     Program,
 }
 
-/// The clock, the plugins and the operators. A program runs the plugins in threads or processes
-/// of its own, which no call of this waits for.
+/// The clock, the plugins and the operators. A program runs the plugins in threads or processes of its own,
+/// and no call of this trait waits for them.
 ///
-/// `does` is for contracts only: it relates a state of the outside, a deed, and the state after it. A
-/// program without proofs of its own allows all: `ghost does = { λ before deed after. ⊤ };`.
+/// `does` is for contracts only: it relates a state of the outside, a deed, and the state after it. A program
+/// without proofs of its own allows all: `ghost does = { λ before deed after. ⊤ };`.
 pub(crate) trait Outside {
     ghost use Rattle.std.specs.Prelude.{◌≤◌};
     ghost use Rattle.machine_room.specs.Deeds.{Deed, answers, asks, begins, reads, sleeps};
@@ -50,13 +50,13 @@ pub(crate) trait Outside {
     fn begin(&mut self, object: u32, run: u64, now: u64) -> bool
         ensures { does self.old (begins object run now result) self.new };
 
-    /// The next event. A call stays until it is answered: it is returned again if there was no memory
-    /// for it.
+    /// The next event. A call stays until it is answered: if there was no memory for it, it is returned
+    /// again.
     fn came_in(&mut self) -> Option<News>
         ensures { does self.old (asks result) self.new };
 
-    /// Takes the reply to the last call that `came_in` returned, for example the standing of an object
-    /// after a report, or why the call was refused. The call is done.
+    /// Takes the reply to the last call that `came_in` returned, for example the standing of an object after
+    /// a report, or why the call was refused. The call is then finished.
     fn answered(&mut self, call: Call, reply: Reply)
         ensures { does self.old (answers call reply) self.new };
 
@@ -67,9 +67,9 @@ pub(crate) trait Outside {
 
 /// The setup file, the file with the stored state, and the destination of the history.
 ///
-/// For contracts only: `kept` is the text that was stored last, `gives` the set of setups that the file may
-/// have, and `past` the set of histories that it may get. A program without proofs about these two allows
-/// all, by `⊤`.
+/// For contracts only: `kept` is the text that was stored last. `gives` is the set of setups that the file
+/// can contain, and `past` the set of histories that it can get. A program without proofs about these two
+/// allows all, by `⊤`.
 pub(crate) trait Files {
     ghost use Rattle.std.specs.Prelude.{ℕ, List, Option};
     ghost use Rattle.ticket_steps.specs.declared.kept.Entry.{Entry as EntryOf};
@@ -92,7 +92,7 @@ pub(crate) trait Files {
     fn state(&self, alloc: Global) -> Result<Option<Vec<u8>>, Fault>
         ensures { IfOk result (λ text. option_map (λ bytes. bytes.items) text ≡ kept self.now) };
 
-    /// Stores a text in place of the one before, so that one of the two is always whole.
+    /// Stores a text in place of the one before, so that one of the two is always complete.
     fn keep(&mut self, text: &[u8]) -> Result<(), Fault>
         ensures { OnOk result (kept self.new ≡ Some text.now) };
 

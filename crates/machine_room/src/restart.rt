@@ -19,8 +19,8 @@ pub(crate) fn saved_text(alloc: Global, book: &Book) -> Result<Vec<u8>, AllocErr
     book.save(alloc)?.write(alloc)
 }
 
-/// The book that is resumed from a saved text over this setup, which may be another one, from this
-/// moment on.
+/// The book that is resumed from a saved text from this moment on. It is over this setup, which can differ
+/// from the saved one.
 pub(crate) fn take_up(
     alloc: Global,
     setup: Setup,
@@ -40,7 +40,7 @@ pub(crate) fn take_up(
     }
 }
 
-/// The first book: it is resumed from the stored text, or opened if there is none.
+/// The first book. It is resumed from the stored text, or opened if there is no text.
 pub(crate) fn begin(
     alloc: Global,
     setup: Setup,

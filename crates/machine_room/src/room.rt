@@ -19,7 +19,7 @@ pub(crate) const OBJECTS: usize = 6;
 /// The number of the gateway: hosts by name, then services by host and description.
 pub(crate) const GATEWAY: u32 = 0;
 
-/// In milliseconds: how long the fastest machine takes to answer, an hour and a day.
+/// In milliseconds: the time that the fastest machine takes to answer, an hour and a day.
 pub(crate) const ANSWER: u64 = 5_000;
 
 pub(crate) const HOUR: u64 = 3_600_000;
@@ -39,8 +39,8 @@ pub(crate) fn next_noon(now: u64) -> u64 {
 }
 
 /// The report of a machine at a moment. Each machine repeats a cycle of 31 hours: 5 hours critical, 2 hours
-/// with a warning, an hour with unknown state, and then 23 hours in order. The cycle of each machine begins
-/// 7 hours before that of the machine with the number below.
+/// with a warning, an hour with unknown state, and 23 hours in order. The cycle of each machine begins 7
+/// hours before that of the machine with the number below.
 pub(crate) fn code_at(object: u32, now: u64) -> Code {
     let ahead = u64::from(object) * 7;
     match (now / HOUR).wrapping_add(ahead) % 31 {

@@ -1,4 +1,4 @@
-//! A round of the loop: it makes the calls that have come in, abandons the runs that are past their limit,
+//! A round of the loop. It makes the calls that have come in, abandons the runs that are past their limit,
 //! takes a check that is due, and sleeps.
 
 ghost use Rattle.std.specs.Prelude.{◌≡◌, ℕ, Bool, ◌<◌, ◌≤◌, ◌∷◌, ◌++◌, []};
@@ -21,15 +21,15 @@ use std::sync::Wait;
 /// The greatest number of incoming calls that a round makes.
 const CALLS_AT_ONCE: u32 = 1_000;
 
-/// A pass whose generation has ended, and why.
+/// A pass whose generation has ended, and the reason.
 #[derive(Drop)]
 pub(crate) struct Ended {
     pub(crate) pass: Pass,
     pub(crate) end: End,
 }
 
-/// One round, at this moment. Where a check was taken or put off the next round comes at once;
-/// else it sleeps.
+/// One round, at this moment. If a check was taken or put off, the next round comes at once. Otherwise the
+/// round sleeps.
 pub(crate) fn round<O: Outside>(
     rt: &impl Wait,
     desk: &Desk,
@@ -206,7 +206,7 @@ fn rest<O: Outside>(outside: &mut O, now: u64, reply: Reply, runs: &[Run])
     }
 }
 
-/// Makes a call. If the call can't be made, the generation ends: the next one has room and calls again.
+/// Makes a call. If the call can't be made, the generation ends. The next one has room and makes the call.
 fn ask(rt: &impl Wait, desk: &Desk, pass: Pass, call: Call) -> Result<(Pass, Reply), Ended>
     requires { IsPassOf desk.now pass }
     ensures back { IsBackWith desk.now (pass_of pass) result }

@@ -1,4 +1,4 @@
-//! The checks that are out, and the time until which the loop may sleep.
+//! The running checks, and the time until which the loop may sleep.
 
 ghost use Rattle.std.specs.Prelude.{◌≡◌, ℕ, ◌≤◌, ◌<◌, ◌⊎◌, Some, None};
 ghost use Rattle.std.specs.Prelude.{Any, Contains, IfOk, IfSome};
@@ -14,13 +14,12 @@ use std::alloc::{AllocError, Global};
 /// The time limit of a plugin, in milliseconds.
 const PLUGIN_LIMIT: u64 = 300_000;
 
-/// The longest sleep of a loop in milliseconds: at the limit of checks that run at once, and if no check is
-/// due.
+/// The longest sleep of a loop in milliseconds: at the limit of running checks, and if no check is due.
 const AT_LIMIT: u64 = 1_000;
 
 const WITHOUT_WORK: u64 = 3_600_000;
 
-/// A check that is out, and the moment at which it is abandoned.
+/// A running check, and the moment at which it is abandoned.
 #[derive(Clone, Copy)]
 pub(crate) struct Run {
     pub(crate) object: u32,
@@ -28,7 +27,7 @@ pub(crate) struct Run {
     pub(crate) limit: u64,
 }
 
-/// Lists the runs of all checks of a book's scheduler that are out, each with this limit.
+/// Lists the runs of all running checks of a book's scheduler, each with this limit.
 pub(crate) fn out_at(alloc: Global, book: &Book, limit: u64) -> Result<Vec<Run>, AllocError>
     ensures out { IfOk result (λ runs.
         All (λ run. IsOut (sched_of book.now) run × (run.limit ≡ limit)) runs.items) }
@@ -91,7 +90,7 @@ fn is_named(call: Call, run: Run) -> bool
     }
 }
 
-/// The limit of a check that was taken at this moment, and whose plugin was started or couldn't be.
+/// The limit of a check that was taken at this moment. It depends on whether its plugin could be started.
 pub(crate) fn limit_of(is_begun: bool, now: u64) -> u64
     requires { now ≤ LAST_MOMENT }
     ensures { result ≡ limit_at is_begun now }
@@ -99,8 +98,8 @@ pub(crate) fn limit_of(is_begun: bool, now: u64) -> u64
     if is_begun { now + PLUGIN_LIMIT } else { now }
 }
 
-/// The time until which to sleep if no check was taken: until the next check is due, a second at the limit
-/// of checks that run at once, an hour if no check is due, and never past the limit of a run.
+/// The time until which to sleep if no check was taken. It is the time of the next check, a second later at
+/// the limit of running checks, or an hour later if no check is due. It is never past the limit of a run.
 pub(crate) fn wake(now: u64, reply: Reply, runs: &[Run]) -> u64
     requires { now ≤ LAST_MOMENT }
     ensures { IsWake now reply runs.now result }
@@ -108,7 +107,7 @@ pub(crate) fn wake(now: u64, reply: Reply, runs: &[Run]) -> u64
     earliest(due(now, reply), runs)
 }
 
-/// This moment, or the least limit of the runs, if that is earlier.
+/// The time `until`, or the least limit of the runs if that is earlier.
 fn earliest(until: u64, runs: &[Run]) -> u64
     ensures until { result ≤ until }
     ensures limits { All (λ run. result ≤ run.limit) runs.now }

@@ -1,5 +1,5 @@
-//! The simulated environment of the loop: a clock that advances only while the loop sleeps, machines that
-//! answer after seconds or never, an operator, a setup that changes, and files in memory.
+//! The simulated environment of the loop. Its clock advances only while the loop sleeps, and its machines
+//! answer after seconds or never. It also has an operator, a setup that changes, and files in memory.
 
 ghost use Rattle.std.specs.Prelude.{⊤, option_map};
 
@@ -22,8 +22,7 @@ struct Pending {
     call: Call,
 }
 
-/// The clock, the machines and the operator of some days. At half of them another setup is taken
-/// over.
+/// The clock, the machines and the operator of some days. After half of the days another setup is used.
 #[derive(Drop)]
 pub(crate) struct Days {
     now: u64,
@@ -78,8 +77,7 @@ impl Outside for Days {
         self.now.min(LAST_MOMENT)
     }
 
-    /// A check takes some seconds. Now and then a machine doesn't answer, or its plugin can't be
-    /// started.
+    /// A check takes some seconds. Sometimes a machine doesn't answer, or its plugin can't be started.
     fn begin(&mut self, object: u32, run: u64, now: u64) -> bool {
         if run % 31 == 0 {
             return false;

@@ -1,4 +1,4 @@
--- The fact that a seat or a turn is of a lock has no parts: a struct that keeps the two together can carry it as a ghost field.
+-- The fact that a seat or a turn belongs to a lock has no parts. So a struct that stores both can carry the fact as a ghost field.
 use Rattle.std.specs.Prelude.{ℕ, Some, refl}
 use Rattle.std.specs.Coded.{Coded, Coded-set, code_by, coded×, coded_option, coded_ℕ, ×_prop}
 use Rattle.atomic_table.specs.Seated.{table_id_coded}

@@ -1,4 +1,4 @@
--- What contracts see of a seat, a turn or a hold: its caller.
+-- The part of a seat, a turn or a hold that contracts see: its caller.
 use Rattle.std.specs.Prelude.{◌≡◌, ℕ, ◌+◌, ◌-◌, ◌*◌, ◌<◌, ◌^◌, List, [], ◌++◌, length, take, drop, Bool, true, false, slice_index}
 use Rattle.ticket_steps.specs.declared.kept.Entry.{Entry}
 use Rattle.ticket_steps.specs.declared.kept.Kept.{Ghosts}
@@ -31,11 +31,11 @@ module _ {C R : Type 0} where
   abbrev pub first_caller : ℕ → ℕ → Caller C R
   first_caller numbers draws = caller 0 (counted 0 numbers) (numbers * draws) 0 true []
 
-  -- a fresh caller without its last numbers and their draws
+  -- a fresh caller without its last numbers and the draws of these numbers
   abbrev pub keeping : ℕ → ℕ → Caller C R → Caller C R
   keeping draws count c = caller c.own (take (length c.numbers - count) c.numbers) ((length c.numbers - count) * draws) c.calls true c.seen
 
-  -- the caller that gets them
+  -- the caller that gets these numbers
   abbrev pub given : ℕ → ℕ → Caller C R → Caller C R
   given draws count c = caller (c.own + (length c.numbers - count)) (drop (length c.numbers - count) c.numbers) (count * draws) 0 true c.seen
 
@@ -60,15 +60,15 @@ module _ {K C R : Type 0} (k : Ghosts K C R) where
   pub record IsHanded (start : Start K) (numbers : List ℕ) (seen : List (Entry C R)) (ticket : ℕ) (book : K) : Type 0 where
     -- it is the book with which the lock was opened
     pub opening : k.opening book ≡ k.opening start.book
-    -- its entries begin with all that the caller has seen, and have nothing new of the caller's numbers
+    -- its entries begin with all that the caller has seen, and the rest has no entries of the caller's numbers
     pub follows : Follows numbers seen (k.history book)
     -- the number of its entries and refusals is the ticket: calls end in the order of their draws
     pub counted : length (k.history book) + k.refusals book ≡ ticket
     pub few : ticket < 2 ^ 42
 
-  -- what a caller with these numbers sees at a glance, after which it has seen these entries: this number in this word of the table
+  -- the glance of a caller with these numbers, after which it has seen these entries: it found this number in this word of the table
   pub record IsGlanced (start : Start K) (numbers : List ℕ) (seen entries : List (Entry C R)) (word found : ℕ) : Type 0 where
-    -- the entries begin with all that the caller has seen, and have nothing new of the caller's numbers
+    -- the entries begin with all that the caller has seen, and the rest has no entries of the caller's numbers
     pub follows : Follows numbers seen entries
     -- they are a legal history from the book with which the lock was opened
     pub legal : IsLegal k.step (k.opening start.book) entries

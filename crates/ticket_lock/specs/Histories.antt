@@ -1,4 +1,4 @@
--- The rule, third pass: the history that each seat has seen is a first part of the one history, and its calls are in it.
+-- The rule, third part: the history that each seat has seen is a first part of the one history, and the seat's calls are in it.
 use Rattle.std.specs.Prelude.{◌≡◌, ℕ, ◌+◌, ◌≤◌, Option, Some}
 use mathlib.Core.Option.{some}
 use lib.ListN.{get_elem?}
@@ -12,7 +12,7 @@ use Rattle.ticket_lock.specs.declared.views.View.{View}
 use Rattle.ticket_lock.specs.Views.{Follows}
 
 module _ {K S C R : Type 0} (start : Start K) where
-  -- what a seat knows, if this is the book at home or with its holder
+  -- the knowledge of a seat, if this is the book at home or with its holder
   pub record IsKnown (b : BookState S C R) (v : View K C R) : Type 0 where
     -- it knows how the lock was opened
     pub start_is : (o : Start K) → v.start ≡ Some o → o ≡ start
@@ -25,6 +25,6 @@ module _ {K S C R : Type 0} (start : Start K) where
     -- a holder has seen the whole history, and knows how many calls were refused when it took the book out, or when it posted
     pub out : (ticket : ℕ) → Holds ticket v.seat.phase → (v.seen ≡ b.entries) × (v.refused ≡ b.refused)
 
-  -- this holds of every seat, however many there are
+  -- this holds of all seats
   pub record IsKnownToAll (c : CoreState S C R) (s : State (Option K) (View K C R)) : Type 0 where
     pub each : (i : ℕ) (v : View K C R) → get_elem? s.views i ≡ some v → IsKnown c.book v

@@ -1,4 +1,4 @@
--- The layout of the table: the place of each of its words, and the list of them all. Only this file has it.
+-- The layout of the table: the place of each of its words, and the list of them all. Only this file defines it.
 use Rattle.std.specs.Prelude.{ℕ, ◌+◌, List, [], ◌∷◌, ◌++◌}
 use Rattle.ticket_steps.specs.Grants.{watched}
 
@@ -6,7 +6,7 @@ use Rattle.ticket_steps.specs.Grants.{watched}
 abbrev pub next_word : ℕ
 next_word = 0
 
--- the place of the grant word that a ticket watches: the seat that waits with the ticket looks at it, and the holder before it writes it
+-- the place of the grant word that a ticket watches; the seat that waits with the ticket reads it, and the holder before it writes it
 abbrev pub grant_word : ℕ → ℕ
 grant_word ticket = watched ticket + 1
 

@@ -1,4 +1,4 @@
--- A history that is legal from how the lock was opened.
+-- A history that is legal from the opening of the lock.
 use Rattle.std.specs.Prelude.{◌≡◌, List, Option, Some, None}
 use Rattle.std.specs.Coded.{Unit-prop}
 use Rattle.ticket_steps.specs.declared.kept.Entry.{Entry}

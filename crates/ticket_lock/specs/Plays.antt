@@ -1,4 +1,4 @@
--- What each step tells the seat that makes it.
+-- The facts that the seat learns from each of its steps.
 use Rattle.std.specs.Prelude.{◌≡◌, ◌≢◌, ℕ, ◌<◌, ◌≤◌, List, [], ◌∷◌, length, Option, Some}
 use Rattle.atomic_table.specs.Table.{Me, Step}
 use Rattle.ticket_steps.specs.declared.kept.Entry.{Entry}
@@ -21,7 +21,7 @@ module _ {K C R : Type 0} where
       × Follows before.0.two.numbers before.0.two.seen before.0.seen
       × (length before.0.seat.numbers ≤ 1024) × (before.0.seat.calls ≤ 4398046510080)
 
-  -- a post: the holder still holds, and knows the history and the refusals of the book after its call
+  -- a post: the holder continues to hold, and knows the history and the refusals of the book after its call
   abbrev pub PostTells : List (Entry C R) → ℕ → Step (Option K) → Me (Option K) (View K C R) → ℕ → Me (Option K) (View K C R) → Type 0
   PostTells entries refused step before found after =
       (ticket : ℕ) → before.0.seat.phase ≡ Holding ticket → after ≡ (posted_view ticket entries refused before.0, before.1)

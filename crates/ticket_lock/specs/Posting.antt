@@ -1,4 +1,4 @@
--- What a post needs of the hold and its book, and what becomes of the hold.
+-- The hold and the book before a post, and the hold after it.
 use Rattle.std.specs.Prelude.{◌≡◌, ℕ, ◌<◌, Some, true, false}
 use Rattle.ticket_steps.specs.declared.kept.Kept.{Ghosts}
 use Rattle.ticket_lock.specs.declared.lock.TicketLock.{TicketLock}

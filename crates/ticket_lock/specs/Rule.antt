@@ -1,4 +1,4 @@
--- The rule of the lock's table: what holds of the words, the slot and all views between any two steps.
+-- The rule of the lock's table: the facts of the words, the slot and all views between any two steps.
 use Rattle.std.specs.Prelude.{◌<◌, ◌≤◌, List, Option}
 use Rattle.atomic_table.specs.Table.{State}
 use Rattle.ticket_steps.specs.declared.kept.Kept.{Ghosts}

@@ -1,5 +1,5 @@
--- The rule, second pass: if no seat holds, the book is in its slot, and while a seat holds, the slot is empty. Only the opening state, the entries and the
--- refusals of a book count.
+-- The rule, second part: if no seat holds, the book is in its slot, and while a seat holds, the slot is empty. Only the opening state, the entries
+-- and the refusals of a book count.
 use Rattle.std.specs.Prelude.{◌≡◌, ◌<◌, Option, Some, length}
 use mathlib.Core.Option.{none, some}
 use lib.ListN.{get_elem?}

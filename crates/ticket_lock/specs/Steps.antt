@@ -1,4 +1,4 @@
--- The steps of the lock: the table after each kind of step, and what it means that a step is one event.
+-- The steps of the lock: the table after each kind of step, and the meaning of "a step is one event".
 use Rattle.std.specs.Prelude.{◌≡◌, ℕ, ◌+◌, ◌%◌, List, [], ◌∷◌, ◌++◌, slice_index, slice_set, Option, Some, ◌⊎◌}
 use mathlib.Core.Option.{some}
 use lib.ListN.{get_elem?}
@@ -15,7 +15,7 @@ use Rattle.ticket_lock.specs.Rule.{IsTableOf}
 use Rattle.ticket_lock.specs.Views.{first_view, spent_view, keeping_view, given_view, drawn_view, joined_view, reloaded_view, glanced_view, held_view}
 use Rattle.ticket_lock.specs.Views.{posted_view, left_view}
 
--- what an operation does to the number that it finds: an add of one, a load, and a store of a number
+-- the effect of an operation on the number that it finds: an add of one, a load, and a store of a number
 abbrev pub one_more : ℕ → ℕ
 one_more n = (n + 1) % 18446744073709551616
 
@@ -48,13 +48,13 @@ module _ {K C R : Type 0} where
   after_glance s id place entries me =
       stepped s (board_word place) (slice_index s.words (board_word place)) id me.1 (glanced_view entries me.0) keeps
 
-  -- the second load of a gather, at which the seat learns what the rule says of it
+  -- the second load of a gather, at which the seat learns the rule's facts about it
   abbrev pub after_second_load : State (Option K) (View K C R) → ℕ → Me (Option K) (View K C R) → State (Option K) (View K C R)
   after_second_load s id me = stepped s next_word (slice_index s.words next_word) id me.1 (reloaded_view me.0) keeps
 
 module _ {K C R : Type 0} (k : Ghosts K C R) where
-  -- the new table: no ticket is drawn, ticket 0 is served, the board shows the state in which the book was opened, the book is in its slot, and one seat has
-  -- all numbers
+  -- The new table: no ticket is drawn, and ticket 0 is served. The board shows the state in which the book was opened, the book is in its slot, and
+  -- one seat has all numbers.
   abbrev pub first_table : Start K → State (Option K) (View K C R)
   first_table start = opening (first_words (k.board (k.opening start.book))) (Some start.book ∷ []) (first_view start)
 
@@ -67,7 +67,7 @@ module _ {K C R : Type 0} (k : Ghosts K C R) where
   abbrev pub word_in : K → ℕ → ℕ
   word_in book place = slice_index (k.board (k.state book)) place
 
-  -- post, a store of the word at the place of the call, by the holder that has recorded its call in the book that it has, and that still holds
+  -- post, a store of the word at the place of the call, by the holder that has recorded its call in its book, and that continues to hold
   abbrev pub after_posting : State (Option K) (View K C R) → ℕ → ℕ → ℕ → Me (Option K) (View K C R) → K → State (Option K) (View K C R)
   after_posting s id ticket place me book =
       stepped s (board_word place) (word_in book place) id me.1 (posted_view ticket (k.history book) (k.refusals book) me.0) keeps
@@ -80,8 +80,8 @@ module _ {K C R : Type 0} (k : Ghosts K C R) where
   abbrev pub place_after : Start K → List (Entry C R) → C → Option ℕ
   place_after start entries call = k.posts_at (replay k.step (k.opening start.book) entries) call
 
-  -- the book is the one that was taken out with these entries and refusals, with one more entry of this number or one more refusal;
-  -- the call of that entry is posted at this place
+  -- The book is the one that was taken out with these entries and refusals, with one more entry of this number or one more refusal. The call of that
+  -- entry is posted at this place.
   pub record Returns (start : Start K) (own : ℕ) (seen : List (Entry C R)) (refused : ℕ) (place : Option ℕ) (book : K) : Type 0 where
     pub opening : k.opening book ≡ k.opening start.book
     pub more : ((e : Entry C R) × (e.pass ≡ own) × (k.history book ≡ seen ++ e ∷ []) × (k.refusals book ≡ refused)
@@ -98,8 +98,8 @@ module _ {K C R : Type 0} (k : Ghosts K C R) where
   abbrev pub IsEvent : Start K → List (Happening C R) → CoreState k.State C R → Happening C R → State (Option K) (View K C R) → Type 0
   IsEvent start happened c h s = (d : CoreState k.State C R) × Moves k start.draws c h d × IsTableOf k start (happened ++ h ∷ []) d s
 
--- a moment of the table, for one of its seats: how the lock was opened, the events so far, the core state to which they led, the table, and the seat that
--- makes the next step
+-- A moment of the table, for one of its seats. It has the start of the lock, the events so far, the core state to which they led, the table, and the
+-- seat that makes the next step.
 pub record TableMoment (K S C R : Type 0) : Type 0 where
   pub start : Start K
   pub happened : List (Happening C R)
@@ -122,15 +122,15 @@ module _ {K C R : Type 0} (k : Ghosts K C R) where
   abbrev pub IsNoEvent : TableMoment K k.State C R → State (Option K) (View K C R) → Type 0
   IsNoEvent m s = IsTableOf k m.start m.happened m.core s
 
-  -- In the table after a step this is the seat that made it, and this holds of the number that was found in the word, and of the seat. A store finds no
-  -- number, so its statement names none.
+  -- In the table after a step, this is the seat that made the step. This holds of the number that was found in the word, and of the seat. A store
+  -- finds no number, so its statement names none.
   pub record IsTold (m : TableMoment K k.State C R) (word : ℕ) (tells : ℕ → Me (Option K) (View K C R) → Type 0)
       (after : Me (Option K) (View K C R)) (s : State (Option K) (View K C R)) : Type 0 where
     pub stands : get_elem? s.views m.id ≡ some after.0
     pub told : tells (slice_index m.table.words word) after
 
-  -- A table that an operation by this seat can leave: an operation on this word, with this function, that meets the play. The seat has some view after it and
-  -- took or gave back what it could, and the play speaks of the number found and of the seat.
+  -- A table that an operation by this seat can leave: an operation on this word, with this function, that meets the play. The seat has some view
+  -- after the operation, and took or gave back what it could. The play is about the number found and the seat.
   pub record MayLeave (m : TableMoment K k.State C R) (word : ℕ) (makes : ℕ → ℕ)
       (tells : ℕ → Me (Option K) (View K C R) → Type 0) (s : State (Option K) (View K C R)) : Type 0 where
     pub view : View K C R

@@ -1,4 +1,4 @@
--- What clauses see of the lock, and of its seats, turns and holds.
+-- The parts of the lock that clauses see, and those of its seats, turns and holds.
 use Rattle.std.specs.Prelude.{◌≡◌, ℕ, Some, Bool}
 use Rattle.ticket_steps.specs.declared.kept.Kept.{Ghosts}
 use Rattle.ticket_lock.specs.declared.lock.Look.{Look}
@@ -25,7 +25,7 @@ module _ {K C R : Type 0} {G : Ghosts K C R} where
   abbrev pub words_of : TicketLock K C R G → ℕ
   words_of lock = board_length G (start_of lock).book
 
-  -- the caller of a seat, a turn, a hold
+  -- the caller of a seat; the same for a turn and a hold
   abbrev pub seat_of : Seat K C R G → Caller C R
   seat_of seat = caller_in seat.table_seat.me.0
 
@@ -35,7 +35,7 @@ module _ {K C R : Type 0} {G : Ghosts K C R} where
   abbrev pub hold_of : Hold K C R G → Caller C R
   hold_of hold = caller_in hold.table_seat.me.0
 
-  -- the ticket of a turn, of a hold
+  -- the ticket of a turn; the same for a hold
   abbrev pub ticket_of : Turn K C R G → ℕ
   ticket_of turn = turn.ticket
 
@@ -50,7 +50,7 @@ module _ {K C R : Type 0} {G : Ghosts K C R} where
   abbrev pub refused_before : Hold K C R G → ℕ
   refused_before hold = hold.table_seat.me.0.refused
 
-  -- it is of this lock
+  -- the seat is of this lock; the same for a turn and a hold
   abbrev pub IsSeatOf : TicketLock K C R G → Seat K C R G → Type 0
   IsSeatOf lock seat = (seat.table_seat.table_id ≡ lock.table.shared.table_id) × (seat.table_seat.me.0.start ≡ Some (start_of lock))
 
@@ -60,7 +60,7 @@ module _ {K C R : Type 0} {G : Ghosts K C R} where
   abbrev pub IsHoldOf : TicketLock K C R G → Hold K C R G → Type 0
   IsHoldOf lock hold = (hold.table_seat.table_id ≡ lock.table.shared.table_id) × (hold.table_seat.me.0.start ≡ Some (start_of lock))
 
-  -- the two answers of a look
+  -- the two outcomes of a look
   abbrev pub MatchLook : Look K C R G → (Hold K C R G → K → Type 0) → (Turn K C R G → Type 0) → Type 0
   MatchLook (Held hold book) P Q = P hold book
   MatchLook (Waiting turn) P Q = Q turn

@@ -1,4 +1,4 @@
--- What a seat of the table knows: its place in the core, the history that it has seen, and how the lock was opened.
+-- The knowledge of a seat of the table: its place in the core, the history that it has seen, and how the lock was opened.
 use Rattle.std.specs.Prelude.{◌≡◌, ℕ, ◌<◌, List, [], length, Option, Some, None, cond, nat_lt}
 use mathlib.Core.List.{IsPrefix}
 use Rattle.ticket_steps.specs.declared.kept.Entry.{Entry}
@@ -42,7 +42,7 @@ module _ {K C R : Type 0} where
   abbrev pub first_view : Start K → View K C R
   first_view start = view (Some start) (fresh_seat start.draws 0 (counted 0 start.numbers) 0) [] 0
 
-  -- a fresh seat's view without its last numbers, and that of the seat that gets them
+  -- a fresh seat's view without its last numbers, and the view of the seat that gets these numbers
   abbrev pub keeping_view : ℕ → View K C R → View K C R
   keeping_view count v = view v.start (keeping (draws_in v.start) count v.seat) v.seen 0
 
@@ -52,7 +52,7 @@ module _ {K C R : Type 0} where
   abbrev pub drawn_view : ℕ → View K C R → View K C R
   drawn_view ticket v = view v.start (waiting ticket v.seat) v.seen 0
 
-  -- the view of a seat made from two seats, until it has looked at the table; it remembers the two
+  -- the view of a seat made from two seats, until the seat has looked at the table; it remembers the two
   abbrev pub joined_view : View K C R → View K C R → View K C R
   joined_view v w = record {
     start = v.start;

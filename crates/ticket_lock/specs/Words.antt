@@ -1,4 +1,4 @@
--- The rule, first pass: the words and the phases of the seats are a core state to which a schedule leads.
+-- The rule, first part: the words and the phases of the seats are a core state to which a schedule leads.
 use Rattle.std.specs.Prelude.{◌≡◌, ℕ, List, map, Option}
 use Rattle.atomic_table.specs.Table.{State}
 use Rattle.ticket_steps.specs.declared.kept.Kept.{Ghosts}
@@ -14,8 +14,8 @@ use Rattle.ticket_lock.specs.Views.{seat_in}
 pub record AreWordsOf (next served : ℕ) (board ws : List ℕ) : Type 0 where
   pub grants : List ℕ
   pub words : ws ≡ table_words next grants board
-  -- the greatest of the grant words is the number served; for a ticket that isn't left yet, the word that it watches equals it exactly if the ticket is
-  -- served
+  -- The greatest of the grant words is the number served. For a ticket that isn't left yet, the word that it watches equals the ticket exactly if the
+  -- ticket is served.
   pub keep : AreGrantsOf served grants
 
 module _ {K C R : Type 0} (k : Ghosts K C R) (start : Start K) where

@@ -1,4 +1,4 @@
-//! What holds of every seat.
+//! The law of every seat.
 ghost use Rattle.std.specs.Prelude.{◌<◌, ◌≤◌, ◌^◌, length};
 ghost use Rattle.ticket_steps.specs.History.{IsLegal};
 ghost use Rattle.ticket_steps.specs.Sums.{times};
@@ -8,10 +8,11 @@ ghost use Rattle.ticket_lock.specs.Tokens.{seat_of, start_of, IsSeatOf};
 
 use ticket_steps::Kept;
 
-/// A law without code: what holds of every seat, at any time.
+/// A law without code. It holds of every seat, at any time.
 ///
-/// It answers for its own number (`own`), and for at most 1,024 (`few`). It has ended fewer than 2^42 calls
-/// (`few_calls`). It has seen a legal history from the book with which its lock was opened (`legal`).
+/// A seat answers for its own number (`own`), and for at most 1,024 numbers (`few`). It has ended fewer than
+/// 2^42 calls (`few_calls`). It has seen a legal history from the book with which its lock was opened
+/// (`legal`).
 pub fn every_seat<K: Kept>()
     ensures own { (seat : SeatOf K K.Call K.Reply K.Kept)
         → 0 < times (seat_of seat).own (seat_of seat).numbers }

@@ -1,8 +1,8 @@
 //! The layout of the table: the place of each of its words, and the list of them all.
 //!
-//! Only this file has it. The words are next to each other: the next ticket, the four grant words, and the
-//! words of the board. A machine with many cores may want each grant word in a cache line of its own: that
-//! needs another list, and another place for each word.
+//! Only this file defines it. The words are next to each other: the next ticket, the four grant words, and
+//! the words of the board. A machine with many cores might need each grant word in a cache line of its own.
+//! Such a layout requires another list, and another place for each word.
 ghost use Rattle.std.specs.Prelude.{◌≡◌, ◌<◌, IfOk};
 ghost use Rattle.ticket_lock.specs.Layout.{grant_word, board_word, first_words};
 

@@ -1,18 +1,19 @@
 #![tactic(auto)]
 //! The running ticket lock: the core of `ticket_steps` over atomic words, for threads.
 //!
-//! An `atomic_table` has the words and one slot: the next ticket, the four grant words that store the
-//! number served, the book's board, and the book.
+//! An `atomic_table` has the words and one slot: the next ticket, the four grant words that store the number
+//! served, the book's board, and the book.
+//!
 //! Callers take part by tokens: a `Seat` draws, a `Turn` looks, a `Hold` posts and leaves. A `Seat` also
-//! reads a word of the board, by one load and without a ticket. Between any two steps words and tokens
-//! are a state of the core of `ticket_steps`. So `every_schedule` holds of the lock as of the core,
-//! whatever threads do, and the board shows the state after the one history.
+//! reads a word of the board, by one load and without a ticket. Between any two steps the words and the
+//! tokens are a state of the core of `ticket_steps`. So `every_schedule` holds of the lock as it does of the
+//! core, for all orders of the threads' steps. The board shows the state after the one history.
 //!
 //! - `lock`: the lock and its calls; `layout`: the place of each word in the table.
 //! - `tokens`: seats, turns and holds; `counts`: their numbers at run time.
-//! - `views`: what seats know in proofs, and the rule; `plays`: the seven kinds of step (split, draw,
+//! - `views`: the knowledge of seats in proofs, and the rule; `plays`: the seven kinds of step (split, draw,
 //!   look, post, leave, gather, glance).
-//! - `steps`: the law that each kind of step is one event of the core; `laws`: what holds of every seat.
+//! - `steps`: the law that each kind of step is one event of the core; `laws`: the law of every seat.
 
 mod counts;
 mod laws;

@@ -29,19 +29,19 @@ type LockTable<K> = Table<
     Global,
 >;
 
-/// A ticket lock round a book, for threads that have seats of it.
+/// A ticket lock around a book, for threads that have seats of it.
 ///
 /// A caller makes a call in these steps. It takes a ticket (`draw`) and looks until its ticket is served
 /// (`look`). It records the call in the book that it gets. It posts the call if the book's board is to show
-/// it (`post`), and leaves (`leave`). Calls end in the order of their draws. No step waits: a caller that
-/// isn't served yet gets that answer, and can look again later. Each step needs a seat, turn or hold of
+/// the call (`post`), and leaves (`leave`). Calls end in the order of their draws. No step waits: a caller
+/// that isn't served yet gets that result, and can look again later. Each step needs a seat, turn or hold of
 /// this lock.
 ///
 /// The lock shows the book's board: a caller reads one of its words, without a ticket, by one load
 /// (`glance`).
 ///
-/// Whatever the threads do, the history of the book is that of one thread: each reply is that of the book's
-/// sequential step at its place.
+/// For all orders of the threads' steps, the history of the book is that of one thread. Each reply is that of
+/// the book's sequential step at its place.
 #[derive(Drop)]
 pub struct TicketLock<K: Kept> {
     pub(crate) table: LockTable<K>,
@@ -51,7 +51,7 @@ pub struct TicketLock<K: Kept> {
     ghost told: { (table.shared.key.numbers ≡ numbers) × (table.shared.key.draws ≡ draws) },
 }
 
-/// What a look finds.
+/// The outcome of a look.
 pub enum Look<K: Kept> {
     /// The ticket is served: the caller has the book.
     Held(Hold<K>, K),
@@ -65,8 +65,8 @@ impl<K: Kept> TicketLock<K> {
     ghost use Rattle.ticket_lock.specs.Posting.{MayPost, HasPosted};
 
     /// A lock with the book in it, and a seat for all of `numbers`. Each number brings 2^32 - 1 draws, the
-    /// most that [`TicketLock::open_with`] gives. The lock's board shows the book's, which has at most
-    /// 4,096 words. If there is no memory for the lock, the book comes back as it was.
+    /// most that [`TicketLock::open_with`] gives. The lock's board shows the book's board, which has at most
+    /// 4,096 words. If there is no memory for the lock, the call returns the book as it was.
     pub fn open(alloc: Global, book: K, numbers: u32) -> Result<(TicketLock<K>, Seat<K>), K>
         requires numbers { (0 < numbers) × (numbers ≤ 1024) }
         requires empty { (K.history book ≡ []) × (K.refusals book ≡ 0) }
@@ -80,8 +80,8 @@ impl<K: Kept> TicketLock<K> {
         TicketLock::open_with(alloc, book, numbers, DRAWS)
     }
 
-    /// A lock as `open` makes it, whose numbers bring `draws` draws each: for callers that make few calls.
-    /// If there is no memory for the lock, the book comes back as it was.
+    /// A lock as `open` makes it, except that each number brings `draws` draws. Use it for callers that make
+    /// few calls. If there is no memory for the lock, the call returns the book as it was.
     pub fn open_with(
         alloc: Global,
         book: K,
@@ -140,7 +140,8 @@ impl<K: Kept> TicketLock<K> {
         }
     }
 
-    /// Gives the last `count` numbers of a fresh seat, with their draws, to a new seat, the second.
+    /// Gives the last `count` numbers of a fresh seat, with their draws, to a new seat. The new seat is the
+    /// second.
     pub fn split(&self, seat: Seat<K>, count: u32) -> (Seat<K>, Seat<K>)
         requires lock { IsSeatOf self.now seat }
         requires count { (0 < count) × (count < length (seat_of seat).numbers) }
@@ -191,8 +192,8 @@ impl<K: Kept> TicketLock<K> {
         (seat, given)
     }
 
-    /// Takes the next ticket, by one of the seat's draws. The seat comes back as it was exactly if it has
-    /// no draw left.
+    /// Takes the next ticket, by one of the seat's draws. The call returns the seat as it was exactly if the
+    /// seat has no draw left.
     pub fn draw(&self, seat: Seat<K>) -> Result<Turn<K>, Seat<K>>
         requires { IsSeatOf self.now seat }
         ensures spent { IsErr result ↔ ((seat_of seat).left ≡ 0) }
@@ -226,7 +227,7 @@ impl<K: Kept> TicketLock<K> {
     }
 
     /// Looks whether the turn's ticket is served. If it is, the caller gets the book. The book's entries
-    /// begin with all that the caller has seen, and nothing in them is new of the caller's numbers. The
+    /// begin with all that the caller has seen, and the rest has no entries of the caller's numbers. The
     /// number of entries and refusals is the ticket. A turn whose seat has all numbers is always served.
     pub fn look(&self, turn: Turn<K>) -> Look<K>
         requires { IsTurnOf self.now turn }
@@ -272,10 +273,10 @@ impl<K: Kept> TicketLock<K> {
         })
     }
 
-    /// Posts the hold's call: stores the book's word at the place of the call on the board, so that
-    /// everyone who glances there from now on has seen it. The book must be the one that was handed out,
-    /// with one more entry of the hold's own number, whose call is posted at this place, or with one more
-    /// refusal. With a refusal the word stays as it was. The hold still holds, and has seen the book's
+    /// Posts the hold's call: stores the book's word at the place of the call on the board. From now on
+    /// everyone who glances there has seen the call. The book must be the one that was handed out, with one
+    /// more entry or one more refusal. The entry is of the hold's own number, and its call is posted at this
+    /// place. With a refusal the word stays as it was. The hold continues to hold, and has seen the book's
     /// history.
     pub fn post(&self, hold: Hold<K>, book: &K, place: u32) -> Hold<K>
         requires lock { IsHoldOf self.now hold }
@@ -307,9 +308,9 @@ impl<K: Kept> TicketLock<K> {
         hold
     }
 
-    /// Puts the book back and ends the turn. If the hold has posted, the book must be the one that it
-    /// posted. Otherwise it must be the one that was handed out, with one more entry of the hold's own
-    /// number, whose call is not posted, or with one more refusal.
+    /// Puts the book back and ends the turn. If the hold has posted, the book must be the one that it posted.
+    /// Otherwise it must be the one that was handed out, with one more entry or one more refusal. The entry
+    /// is of the hold's own number, and its call is not posted.
     pub fn leave(&self, hold: Hold<K>, book: K) -> Seat<K>
         requires lock { IsHoldOf self.now hold }
         requires recorded { has_posted hold ≡ false → Returns K.Kept (start_of self.now)
@@ -343,9 +344,9 @@ impl<K: Kept> TicketLock<K> {
         }
     }
 
-    /// Joins two seats. The first seat stays, answers for the numbers of both, and has ended the calls of
-    /// both. It has seen the longer history, to which neither's numbers added anything. The draws of the
-    /// second are lost.
+    /// Joins two seats. The first seat remains, answers for the numbers of both, and has ended the calls of
+    /// both. It has seen the longer history, to which neither seat's numbers added anything. The draws of the
+    /// second seat are lost.
     pub fn gather(&self, seat: Seat<K>, other: Seat<K>) -> Seat<K>
         requires lock { IsSeatOf self.now seat × IsSeatOf self.now other }
         ensures lock { IsSeatOf self.now result }
@@ -403,9 +404,9 @@ impl<K: Kept> TicketLock<K> {
         (seat, word)
     }
 
-    /// Takes the book out for good, if the seat has all numbers. The seat has seen the whole history, and
-    /// its calls are all that were made. Lock and seat come back as they were exactly if numbers are
-    /// missing.
+    /// Takes the book out for good, if the seat has all numbers. The seat has seen the whole history, and its
+    /// calls are all that were made. The call returns the lock and the seat as they were exactly if numbers
+    /// are missing.
     pub fn close(self, seat: Seat<K>) -> Result<K, (TicketLock<K>, Seat<K>)>
         requires { IsSeatOf self seat }
         ensures missing { IsErr result ↔ (length (seat_of seat).numbers < (start_of self).numbers) }

@@ -1,5 +1,5 @@
-//! The seven kinds of step (split, draw, look, post, leave, gather, glance), and what each tells the seat
-//! that makes it.
+//! The seven kinds of step (split, draw, look, post, leave, gather, glance), and the facts that the seat
+//! learns from each of them.
 ghost use Rattle.std.specs.Prelude.{ℕ, List, []};
 ghost use Rattle.ticket_steps.specs.declared.kept.Entry.{Entry as EntryOf};
 ghost use Rattle.ticket_lock.specs.Plays.{DrawTells, LookTells, PostTells, LeaveTells, SecondLoadTells, GlanceTells};
@@ -28,8 +28,8 @@ impl<K: Kept> Play<Option<K>, View<K, K::Call, K::Reply>> for Looks<K> {
     ghost then = { LookTells K.Kept };
 }
 
-/// The entries and the refusals of the book after a call that is posted. While the book is out no step sees
-/// it, so each call chooses them.
+/// The entries and the refusals of the book after a call that is posted. No step sees the book while a holder
+/// has it, so each call chooses them.
 pub trait After<C, R> {
     ghost entries: { List (EntryOf C R) };
 
@@ -90,7 +90,7 @@ impl<K, C, R> Join<View<K, C, R>> for Gathers {
     ghost spent = { spent_view };
 }
 
-/// The second step of a gather. Joining two seats says nothing of the rule. So the joined seat loads once
+/// The second step of a gather. Joining two seats gives no facts from the rule. So the joined seat loads once
 /// more, and learns that the two histories are first parts of one history.
 pub(crate) struct SecondLoad<K> {
     marker: PhantomData<K>,

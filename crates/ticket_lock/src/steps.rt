@@ -22,28 +22,28 @@ use ticket_steps::Kept;
 /// A law without code: each kind of step of the lock is one event of the core.
 ///
 /// The new table is that of the core's opening (`opening`). At any moment that meets the rule, each kind of
-/// step leads to a table that meets it again. The core state of that table is the state after one event: a
-/// split, a draw, a look that holds or waits, a post, a leave, a gather or a glance. The second load of a
-/// gather is no event. The joined seat learns from it that its two histories are first parts of one
-/// history, and the core state stays as it was (`second_load`).
+/// step leads to a table that meets the rule again. The core state of that table is the state after one
+/// event. The event is a split, a draw, a look that holds or waits, a post, a leave, a gather or a glance.
+/// The second load of a gather is not an event. The joined seat learns from it that its two histories are
+/// first parts of one history, and the core state stays as it was (`second_load`).
 ///
-/// A holder that has recorded a call with a place on the board posts it (`post`), and its leave is the
-/// event Leave that brings no call (`leave_posted`). A holder whose call has no place leaves with it
-/// (`leave`). What a leave says, and that it leaves only one table, is stated for a holder whether it has
-/// posted or not.
+/// A holder that has recorded a call with a place on the board posts it (`post`). Its leave is then the event
+/// Leave that brings no call (`leave_posted`). A holder whose call has no place leaves with the call
+/// (`leave`). A leave has the same statement for a holder that has posted and for one that hasn't. The same
+/// holds of the clause that it leaves only one table.
 ///
 /// A look loads the word that its ticket watches. A post stores the book's word at the place of the call. A
-/// leave stores the next number in the word that this number watches. A glance loads a word of the board.
-/// The lock's code relies on what the seat learns from its step. That holds of the very step: of the number
-/// found in the word, and of the seat in the table after it (`draw_tells`, `look_held_tells`,
-/// `look_waits_tells`, `post_tells`, `leave_tells`, `glance_tells`, `second_load_tells`).
+/// leave stores the next number in the word that this number watches. A glance loads a word of the board. The
+/// lock's code relies on the facts that the seat learns from its step. These facts hold of that very step.
+/// They are about the number found in the word, and the seat in the table after the step (`draw_tells`,
+/// `look_held_tells`, `look_waits_tells`, `post_tells`, `leave_tells`, `glance_tells`, `second_load_tells`).
 ///
-/// The step could not be another one either. Take an operation on that word, an add of one, a load or a
-/// store of that number, by a seat that carries what its phase says, with the same statement. It leaves
-/// that table and no other, whatever the seat took or gave back (`draw_only`, `look_held_only`,
-/// `look_waits_only`, `post_only`, `leave_only`, `second_load_only`). Glances have no such clause. Their
-/// statement holds of any legal history that continues the one that the seat had seen and shows that word,
-/// and the seat's view afterwards is one of these.
+/// The step couldn't be another one either. Take an operation on that word: an add of one, a load or a store
+/// of that number. The seat that makes it carries what its phase says, and its statement is the same. The
+/// operation leaves that table and no other, for anything that the seat took or gave back (`draw_only`,
+/// `look_held_only`, `look_waits_only`, `post_only`, `leave_only`, `second_load_only`). Glances have no such
+/// clause. Their statement holds of any legal history that continues the one that the seat had seen and shows
+/// that word. The seat's view after the glance is one of these.
 pub fn every_step<K: Kept>()
     ensures opening { (start : Start K) → K.history start.book ≡ [] → K.refusals start.book ≡ 0
         → 0 < start.numbers → start.numbers ≤ 1024 → start.draws ≤ 4294967295

@@ -1,7 +1,7 @@
 //! Seats, turns and holds: the tokens by which callers take part in the lock.
 //!
-//! A token has no bytes that threads share. Only in proofs it carries what its caller knows: the history
-//! that it has seen, which is always a first part of the one history of the book.
+//! Threads share no bytes of a token. Only in proofs, a token carries the knowledge of its caller: the
+//! history that the caller has seen. It is always a first part of the one history of the book.
 ghost use Rattle.std.specs.Prelude.{◌≡◌, ◌+◌, ◌^◌, ◌<◌, ◌≤◌, nat_lt, false, cond, [], ◌∷◌, length, None};
 ghost use Rattle.std.specs.Coded.{Coded-set};
 ghost use Rattle.ticket_steps.specs.declared.seats.Phase.TheVariants.{Idle, Waiting, Holding, Posted};
@@ -26,9 +26,9 @@ pub(crate) type TableSeat<K> = atomic_table::Seat<
 pub struct Seat<K: Kept> {
     pub(crate) table_seat: TableSeat<K>,
     pub(crate) counts: SeatCounts,
-    /// How many numbers can be divided: all those for which it answers, until it draws or another seat is
-    /// gathered into it, and then 0. The field is as wide as the fields before it: bytes between fields
-    /// would be copied with each seat.
+    /// The number of numbers that can be divided. These are all numbers for which the seat answers, until it
+    /// draws or another seat is gathered into it. From then on the field is 0. The field is as wide as the
+    /// fields before it: bytes between fields would be copied with each seat.
     pub(crate) parts: u64,
     ghost bare: { table_seat.me.1 ≡ [] },
     ghost legal: { IsLegalFrom K.Kept table_seat.me.0.start table_seat.me.0.seen } by { IsLegalFrom-prop K.Kept (Coded-set K.Reply.code) _ _ },
@@ -41,7 +41,7 @@ pub struct Seat<K: Kept> {
 
 /// A caller that has drawn a ticket and waits for its turn.
 ///
-/// It is not `Drop`, so one that isn't spent by `TicketLock::look` doesn't compile: a ticket that
+/// It is not `Drop`, so code that doesn't pass a turn to `TicketLock::look` doesn't compile. A ticket that
 /// nobody uses would stop all that come after it.
 pub struct Turn<K: Kept> {
     pub(crate) table_seat: TableSeat<K>,
@@ -57,8 +57,8 @@ pub struct Turn<K: Kept> {
 /// A caller whose turn it is: it holds the book. It posts its call (`TicketLock::post`), if the board is to
 /// show it, and leaves.
 ///
-/// It is not `Drop`, so one that isn't spent by `TicketLock::leave` doesn't compile: the book has to come
-/// back.
+/// It is not `Drop`, so code that doesn't pass a hold to `TicketLock::leave` doesn't compile. The lock needs
+/// the book back.
 pub struct Hold<K: Kept> {
     pub(crate) table_seat: TableSeat<K>,
     pub(crate) counts: SeatCounts,

@@ -1,6 +1,6 @@
-//! What the seats of the table know, and the rule of the table.
+//! The knowledge of the table's seats, and the rule of the table.
 //!
-//! Only `TableStart` has values at run time: views are the data of which the rule speaks.
+//! Only `TableStart` has values at run time. Views are the data that the rule describes.
 ghost use Rattle.std.specs.Prelude.{◌≡◌};
 ghost use Rattle.ticket_lock.specs.Boards.{board_length};
 ghost use Rattle.ticket_lock.specs.Rule.{IsRuled};
@@ -25,7 +25,7 @@ pub struct Part<C, R> {
     pub seen: LinkedList<Entry<C, R>>,
 }
 
-/// What a seat of the table knows.
+/// The knowledge of a seat of the table.
 pub struct View<K, C, R> {
     /// How the lock was opened; nothing if the seat was gathered into another.
     pub start: Option<Start<K>>,

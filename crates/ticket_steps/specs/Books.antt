@@ -1,4 +1,4 @@
--- What holds of every kind of book: its state, its entries and its refusals.
+-- The facts of every kind of book: its state, its entries and its refusals.
 use Rattle.std.specs.Prelude.{◌≡◌, ℕ, ◌+◌, List, [], ◌∷◌, ◌++◌, length}
 use Rattle.ticket_steps.specs.declared.kept.Entry.{Entry}
 use Rattle.ticket_steps.specs.History.{entry, replay, IsLegal}
@@ -20,12 +20,12 @@ module _ {S C R : Type 0} where
   abbrev pub calls_taken : BookState S C R → ℕ
   calls_taken book = length book.entries + book.refused
 
-  -- one refusal more, and nothing else changed
+  -- one more refusal, and nothing else changed
   abbrev pub with_refusal : BookState S C R → BookState S C R
   with_refusal book = book_state book.state book.entries (book.refused + 1)
 
   module _ (step : S → C → S × R) where
-    -- one entry more, with the sequential step's reply and the state that the step leaves
+    -- one more entry, with the sequential step's reply and the state that the step leaves
     abbrev pub with_entry : ℕ → C → BookState S C R → BookState S C R
     with_entry number call book = book_state (step book.state call).0 (book.entries ++ entry number call (step book.state call).1 ∷ []) book.refused
 

@@ -25,7 +25,7 @@ pub sum_unposted : (sum call : ℕ) → sum_place sum call ≡ None → sum_boar
 sum_unposted sum zero is = let same : ((sum + 0) % 2 ^ 64) % 2 ^ 64 ≡ sum % 2 ^ 64 = omega arith in ap (λ (n : ℕ). n ∷ []) same
 sum_unposted sum (suc n) is = let no : Some zero ≡ None = is in absurd (cc)
 
--- and any other call changes no other word
+-- every other call changes no other word
 pub sum_posted : (sum call place : ℕ) → sum_place sum call ≡ Some place
     → sum_board (counts sum call).0 ≡ slice_set (sum_board sum) place (slice_index (sum_board (counts sum call).0) place)
 sum_posted sum zero place is = let no : None ≡ Some place = is in absurd (cc)

@@ -1,4 +1,4 @@
--- The faults of an event in a core state, and what one step of the core does.
+-- The faults of an event in a core state, and the effect of one step of the core.
 use Rattle.std.specs.Prelude.{◌≡◌, ◌≢◌, ◌↔◌, ℕ, ◌<◌, List, [], ◌∷◌, length, true, IfOk, OnErr, Result, Err, Some, None}
 use Rattle.ticket_steps.specs.declared.kept.Kept.{Ghosts}
 use Rattle.ticket_steps.specs.declared.seats.CoreSeat.{CoreSeat}
@@ -45,7 +45,7 @@ module _ {C : Type 0} where
   HasDraw seats (Gather own other) = Unit {0}
 
 module _ {K C R : Type 0} (k : Ghosts K C R) where
-  -- a posted call has a place on the board, a call that a leave brings has none, and a glance is at the place of a word
+  -- a posted call has a place on the board, a call that a leave brings has no place, and a glance is at the place of a word
   abbrev pub IsPlaced : k.State → Event C → Type 0
   IsPlaced state (Split own count) = Unit {0}
   IsPlaced state (Draw own) = Unit {0}
@@ -71,7 +71,7 @@ module _ {K C R : Type 0} (k : Ghosts K C R) where
     abbrev pub Shows : CoreState k.State C R → Event C → Seen R → CoreState k.State C R → Type 0
     Shows b event seen c = (h : Happening C R) × IsOf event h × (seen ≡ shown h) × Moves k draws b h c × IsPlaced b.book.state event
 
-    -- events lead from one core state to another: each fits the board at its point, whatever it shows
+    -- events lead from one core state to another: each fits the board at its point, for any results that are shown
     abbrev pub LeadsBy : CoreState k.State C R → List (Event C) → CoreState k.State C R → Type 0
     LeadsBy b [] c = c ≡ b
     LeadsBy b (event ∷ events) c = (seen : Seen R) × (d : CoreState k.State C R) × Shows b event seen d × LeadsBy d events c

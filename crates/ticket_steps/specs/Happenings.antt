@@ -1,4 +1,4 @@
--- What happens in the core: each event with its outcome, and the states to which it leads.
+-- The happenings of the core: each event with its outcome, and the states to which it leads.
 use Rattle.std.specs.Prelude.{◌≡◌, ◌≢◌, ℕ, ◌+◌, ◌<◌, List, [], ◌∷◌, ◌++◌, length, slice_index, slice_set, true, cond, ◌==◌, Ok, Err, Some, None}
 use Rattle.ticket_steps.specs.declared.kept.Entry.{Entry}
 use Rattle.ticket_steps.specs.declared.kept.Kept.{Ghosts}
@@ -39,7 +39,7 @@ pub data Happening (C R : Type 0) : Type 0 where
   gathered : ℕ → ℕ → Happening C R
 
 module _ {C R : Type 0} where
-  -- what the caller of an event sees
+  -- the result that the caller of an event sees
   abbrev pub shown : Happening C R → Seen R
   shown (split own count) = shows.Split
   shown (drew own ticket) = shows.Drew ticket
@@ -53,7 +53,7 @@ module _ {C R : Type 0} where
   shown (glanced own place word) = shows.Glanced word
   shown (gathered own other) = shows.Gathered
 
-  -- what happened is this event
+  -- the happening is this event
   abbrev pub IsOf : Event C → Happening C R → Type 0
   IsOf event (split own count) = event ≡ Split own count
   IsOf event (drew own ticket) = event ≡ Draw own
@@ -92,11 +92,11 @@ module _ {C R : Type 0} where
   turns_ended (_ ∷ hs) = turns_ended hs
 
 module _ {S C R : Type 0} where
-  -- other seats, and everything else as it was
+  -- other seats; everything else stays as it was
   abbrev pub with_seats : CoreState S C R → List CoreSeat → CoreState S C R
   with_seats b seats = core_state b.next b.served seats b.book
 
-  -- the holder at the place i has posted: the book has what the post added, and the turn continues
+  -- the holder at the place i has posted: the book contains what the post added, and the turn continues
   abbrev pub after_post : CoreState S C R → ℕ → ℕ → CoreSeat → BookState S C R → CoreState S C R
   after_post b i ticket p book = core_state b.next b.served (slice_set b.seats i (posting ticket p)) book
 
@@ -117,7 +117,8 @@ module _ {K C R : Type 0} (k : Ghosts K C R) (draws : ℕ) where
   Moves b (waited own) c = (i : ℕ) × (p : CoreSeat) × (ticket : ℕ) × Stands b.seats i own (Waiting ticket) p × (ticket ≢ b.served) × (c ≡ b)
   -- a seat whose ticket is the number served becomes the holder
   Moves b (held own) c = (i : ℕ) × (p : CoreSeat) × Stands b.seats i own (Waiting b.served) p × (c ≡ with_seats b (slice_set b.seats i (holding b.served p)))
-  -- the holder posts its call, which has a place on the board: the call is recorded under the holder's own number, with the reply of the sequential step
+  -- the holder posts its call, which has a place on the board; the call is recorded under the holder's own number, with the reply of the sequential
+  -- step
   Moves b (posted own call reply) c =
       (i : ℕ) × (p : CoreSeat) × (ticket : ℕ) × Stands b.seats i own (Holding ticket) p × (reply ≡ (k.step b.book.state call).1)
       × (c ≡ after_post b i ticket p (with_entry k.step own call b.book)) × ((place : ℕ) × (k.posts_at b.book.state call ≡ Some place))
@@ -126,8 +127,8 @@ module _ {K C R : Type 0} (k : Ghosts K C R) (draws : ℕ) where
       (i : ℕ) × (p : CoreSeat) × (ticket : ℕ) × Stands b.seats i own (Holding ticket) p × (c ≡ after_post b i ticket p (with_refusal b.book))
   -- the holder leaves after it has posted its call: nothing more is recorded
   Moves b (left_posted own) c = (i : ℕ) × (p : CoreSeat) × (ticket : ℕ) × Stands b.seats i own (Posted ticket) p × (c ≡ after_leave b i p b.book)
-  -- the holder leaves with its call, which has no place on the board: the call is recorded under the holder's own number, with the reply of the sequential
-  -- step
+  -- the holder leaves with its call, which has no place on the board; the call is recorded under the holder's own number, with the reply of the
+  -- sequential step
   Moves b (recorded own call reply) c =
       (i : ℕ) × (p : CoreSeat) × (ticket : ℕ) × Stands b.seats i own (Holding ticket) p × (reply ≡ (k.step b.book.state call).1)
       × (c ≡ after_leave b i p (with_entry k.step own call b.book)) × (k.posts_at b.book.state call ≡ None)

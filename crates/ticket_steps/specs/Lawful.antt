@@ -1,4 +1,4 @@
--- What holds of every core state, whatever schedule led to it.
+-- The facts of every core state to which a schedule leads.
 use Rattle.std.specs.Prelude.{◌≡◌, ℕ, ◌+◌, ◌-◌, ◌*◌, ◌<◌, ◌≤◌, [], length, true, false, cond}
 use mathlib.Core.Option.{some}
 use lib.ListN.{get_elem?}
@@ -7,7 +7,7 @@ use Rattle.ticket_steps.specs.CoreStates.{CoreState, IsCounted}
 use Rattle.ticket_steps.specs.Seats.{Holds, is_there, tickets_at, answering}
 use Rattle.ticket_steps.specs.Sums.{total, times, once_below, counted}
 
--- what holds of each seat when this number is served
+-- the facts of each seat when this number is served
 pub record IsSeat (draws served : ℕ) (s : CoreSeat) : Type 0 where
   -- a holder's ticket is the number served
   pub holder : (ticket : ℕ) → Holds ticket s.phase → ticket ≡ served
@@ -22,7 +22,7 @@ pub record IsSeat (draws served : ℕ) (s : CoreSeat) : Type 0 where
 abbrev pub spare : CoreSeat → ℕ
 spare s = cond s.fresh (length s.numbers - 1) 0
 
--- what holds of every core state, in numbers
+-- the facts of every core state, in numbers
 pub record IsLawful {S C R : Type 0} (numbers draws : ℕ) (c : CoreState S C R) : Type 0 where
   pub each : (i : ℕ) (s : CoreSeat) → get_elem? c.seats i ≡ some s → IsSeat draws c.served s
   -- each ticket below the next one was left, or is held by one seat; no seat has any other ticket

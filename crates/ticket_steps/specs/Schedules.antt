@@ -1,4 +1,4 @@
--- Schedules: what happened from an opening on, in whatever order the seats made their steps, and the core state at the end.
+-- Schedules: the events since an opening, made by the seats in any order, and the core state at the end.
 use Rattle.std.specs.Prelude.{◌≡◌, ℕ, ◌<◌, ◌≤◌, List, length, slice_index}
 use mathlib.Core.List.{IsPrefix}
 use Rattle.ticket_steps.specs.declared.kept.Entry.{Entry}
@@ -18,7 +18,7 @@ pub record Schedule (S C R : Type 0) : Type 0 where
   pub happened : List (Happening C R)
   pub end : CoreState S C R
 
--- what happened leads from the opening to the end
+-- the events lead from the opening to the end
 pub record IsSchedule {K C R : Type 0} (k : Ghosts K C R) (s : Schedule k.State C R) : Type 0 where
   pub some_number : 0 < s.numbers
   pub few_numbers : s.numbers ≤ 1024

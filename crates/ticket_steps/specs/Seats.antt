@@ -45,7 +45,7 @@ seat own numbers phase left calls fresh = record { own = own; numbers = numbers;
 abbrev pub fresh_seat : ℕ → ℕ → List ℕ → ℕ → CoreSeat
 fresh_seat draws own numbers calls = seat own numbers Idle (length numbers * draws) calls true
 
--- what is left of a seat that was gathered into another
+-- the remains of a seat that was gathered into another
 abbrev pub gone : CoreSeat
 gone = seat 0 [] Gone 0 0 false
 

@@ -41,9 +41,9 @@ impl<K: Kept> Core<K> {
     ghost use Rattle.ticket_steps.specs.Cores.{state_of, opening_of, numbers_of, draws_of, IsOpenedAlike};
 
     /// A core with one seat, whose own number is 0, for all of `numbers`, and with the book at home. Each
-    /// number brings 2^32 - 1 draws, the most that [`Core::open_with`] gives. It makes places for all
-    /// possible seats, and a board of the book's words, so that later only a `Post` or a `Leave` can run
-    /// out of memory. If there is no memory for these, the book comes back as it was.
+    /// number brings 2^32 - 1 draws, the most that [`Core::open_with`] gives. The call makes places for all
+    /// possible seats, and a board of the book's words. Later only a `Post` or a `Leave` can run out of
+    /// memory. If there is no memory for the places and the board, the call returns the book as it was.
     pub fn open(alloc: Global, book: K, numbers: u32) -> Result<Core<K>, K>
         requires numbers { (0 < numbers) × (numbers ≤ 1024) }
         requires empty { (K.history book ≡ []) × (K.refusals book ≡ 0) }
@@ -57,8 +57,9 @@ impl<K: Kept> Core<K> {
         Core::open_with(alloc, book, numbers, DRAWS)
     }
 
-    /// A core as `open` makes it, whose numbers bring `draws` draws each: for callers that make few calls,
-    /// and for schedules that use up their seats. If there is no memory, the book comes back as it was.
+    /// A core as `open` makes it, except that each number brings `draws` draws. Use it for callers that make
+    /// few calls, and for schedules that use up their seats. If there is no memory, the call returns the book
+    /// as it was.
     pub fn open_with(alloc: Global, book: K, numbers: u32, draws: u32) -> Result<Core<K>, K>
         requires numbers { (0 < numbers) × (numbers ≤ 1024) }
         requires draws { 0 < draws }
@@ -98,9 +99,9 @@ impl<K: Kept> Core<K> {
         })
     }
 
-    /// Makes one event, and shows its outcome. If the event has a fault, nothing changes: `NoSeat` comes
-    /// before `Phase`, and `Phase` before `Spent`. A `Post` or a `Leave` whose call was refused, out of
-    /// memory, is not a fault: the seat has posted or left, and sees the refusal.
+    /// Makes one event, and returns its outcome. If the event has a fault, nothing changes: `NoSeat` comes
+    /// before `Phase`, and `Phase` before `Spent`. It is not a fault if the call of a `Post` or a `Leave` is
+    /// refused, out of memory. The seat has posted or left then, and sees the refusal.
     pub fn step(&mut self, event: Event<K::Call>) -> Result<Seen<K::Reply>, Fault>
         ensures shown { IfOk result (λ seen.
             Shows K.Kept (draws_of self.old) (state_of self.old) event seen (state_of self.new)) }
@@ -205,7 +206,7 @@ impl<K: Kept> Core<K> {
         Ok(Seen::Held)
     }
 
-    /// Records the holder's call, and shows the outcome on the board. The seat still holds.
+    /// Records the holder's call, and shows the outcome on the board. The seat continues to hold.
     fn post(&mut self, seat: u32, call: K::Call) -> Result<Seen<K::Reply>, Fault>
         ensures step { Steps K.Kept (draws_of self.old) (state_of self.old) (Event.Post seat call)
             result (state_of self.new) }
@@ -287,7 +288,7 @@ impl<K: Kept> Core<K> {
         Ok(Seen::Gathered)
     }
 
-    /// The place in the list of the seat that events name by this number.
+    /// The place in the list of the seat with this own number.
     fn place_of(&self, own: u32) -> Result<usize, Fault>
         ensures found { IfOk result (λ i. (p : CoreSeat)
             × (get_elem? (state_of self.now).seats i ≡ some p)

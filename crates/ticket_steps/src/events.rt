@@ -1,7 +1,7 @@
-//! What a seat can do, what it sees, and the faults.
+//! The events of a seat, the results that it sees, and the faults.
 use crate::kept::NoMemory;
 
-/// One step of one seat. A seat is named by its own number.
+/// One step of one seat. The seat's own number names it.
 #[derive(Clone, Copy, PartialEq, Eq, Debug)]
 pub enum Event<C> {
     /// The fresh idle seat gives its last `count` numbers, at least one and not all, with their
@@ -11,11 +11,11 @@ pub enum Event<C> {
     Draw { seat: u32 },
     /// The waiting seat looks whether its ticket is served. If it is, the seat holds the book.
     Look { seat: u32 },
-    /// The holder records a call that has a place on the board in the book, under its own number, and shows
-    /// the outcome on the board. It holds until it leaves.
+    /// The holder records a call in the book, under its own number. The call has a place on the board, and
+    /// the board shows its outcome. The seat holds until it leaves.
     Post { seat: u32, call: C },
-    /// The holder leaves. If it hasn't posted, it brings its call, which has no place on the board and is
-    /// recorded in the book under its own number. If it has posted, it brings no call.
+    /// The holder leaves. If it hasn't posted, it brings its call, which has no place on the board. The book
+    /// records the call under the holder's own number. If the holder has posted, it brings no call.
     Leave { seat: u32, call: Option<C> },
     /// The idle seat reads a word of the board, without a ticket.
     Glance { seat: u32, place: u32 },
@@ -23,7 +23,7 @@ pub enum Event<C> {
     Gather { seat: u32, other: u32 },
 }
 
-/// What the seat that made the step sees.
+/// The result that the seat sees after its step.
 #[derive(Clone, Copy, PartialEq, Eq, Debug)]
 pub enum Seen<R> {
     Split,
@@ -32,9 +32,9 @@ pub enum Seen<R> {
     /// The ticket isn't served yet, and nothing changed.
     Waiting,
     Held,
-    /// The answer of `record`.
+    /// The result of `record`.
     Posted(Result<R, NoMemory>),
-    /// The answer of `record`, or nothing if the call was posted before.
+    /// The result of `record`, or nothing if the call was posted before.
     Left(Option<Result<R, NoMemory>>),
     /// The word that was read.
     Glanced(u64),
@@ -47,9 +47,9 @@ pub enum Fault {
     /// No seat has this own number, or it was gathered into another.
     NoSeat,
     /// The event doesn't fit the seat's phase. Or the seat to be split isn't fresh, or the count is out of
-    /// range. Or a leave brings a call though one was posted, or brings none though none was. Or a posted
-    /// call has no place on the board, or a call that a leave brings has one. Or a glance is at a place
-    /// without a word, or a seat is to be gathered into itself.
+    /// range. Or a leave brings a call although one was posted, or brings no call although no call was
+    /// posted. Or a posted call has no place on the board, or a call that a leave brings has one. Or a glance
+    /// is at a place without a word, or a seat is to be gathered into itself.
     Phase,
     /// No draw is left.
     Spent,

@@ -22,7 +22,7 @@ impl Model for Grants {
 }
 
 impl Grants {
-    /// No ticket is left yet: ticket 0 is served.
+    /// No ticket is left yet, so ticket 0 is served.
     pub fn open() -> Grants
         ensures { result ≡ 0 }
     {

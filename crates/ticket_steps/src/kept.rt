@@ -12,28 +12,28 @@ pub struct Entry<C, R> {
     pub reply: R,
 }
 
-/// A call was refused, out of memory. The book counts it, and changes in no other way.
+/// A call was refused, out of memory. The book counts it, and nothing else changes.
 #[derive(Clone, Copy, PartialEq, Eq, Debug)]
 pub struct NoMemory;
 
 /// A sequential object that stores the history of its calls, each under the number of its caller.
 ///
-/// An implementation names its states, its sequential step and, for each value, the state in which it
-/// was opened, its present state, its history and its count of refusals. It also names what a state
-/// shows on a board that is read without the lock: its words, by place, and the place at which a call
-/// is posted, if it is. Seven laws hold:
+/// An implementation names its states and its sequential step. For each value it names the state in which the
+/// value was opened, its present state, its history and its count of refusals. It also names the board, which
+/// is read without the lock. A state shows words there, by place, and gives the place at which a call is
+/// posted, if it is posted. Seven laws hold:
 ///
 /// 1. `legal`: each reply of the history is the step's at its point, from the opening state on.
 /// 2. `replayed`: the present state is the state after the calls of the history.
-/// 3. A `record` that answers a reply adds exactly that entry (`replied`). It changes neither the
-///    opening state (`same`) nor the count of refusals.
-/// 4. A `record` that answers `NoMemory` adds one to the refusals and changes nothing else.
-/// 5. The words, and the place of a call, depend on the state only, so only on the opening state and
-///    the entries (by `replayed`). Each place is the place of a word (`within`).
+/// 3. A `record` that returns a reply adds exactly that entry (`replied`). It changes neither the opening
+///    state (`same`) nor the count of refusals.
+/// 4. A `record` that returns `NoMemory` adds one to the refusals and changes nothing else.
+/// 5. The words, and the place of a call, depend on the state only. So they depend only on the opening state
+///    and the entries (by `replayed`). Each place is the place of a word (`within`).
 /// 6. A call that is not posted changes no word (`unposted`).
 /// 7. A call that is posted changes at most the word at its place (`posted`).
 ///
-/// By the last two no call changes the number of words.
+/// By the last two laws, no call changes the number of words.
 pub trait Kept {
     type Call: Copy;
 

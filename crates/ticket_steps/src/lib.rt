@@ -1,19 +1,19 @@
 #![tactic(auto)]
-//! The pure core of a ticket lock: seats draw tickets, and the seat whose ticket is served holds the
-//! book. One history has all that the seats record there.
+//! The pure core of a ticket lock: seats draw tickets, and the seat whose ticket is served holds the book.
+//! All calls that the seats record there form one history.
 //!
-//! This crate starts no threads. `Core` makes the lock's steps one after another, in the order of a
-//! schedule. So what holds of the lock after every schedule can be stated and proved once
-//! (`every_schedule`). The crate `ticket_lock` is the same lock over atomic words, and its proof cites
-//! the definitions of this crate.
+//! This crate starts no threads. `Core` makes the lock's steps one after another, in the order of a schedule.
+//! So the laws that hold of the lock after every schedule can be stated and proved once (`every_schedule`).
+//! The crate `ticket_lock` is the same lock over atomic words, and its proof uses the definitions of this
+//! crate.
 //!
 //! - `kept`: books. A `Kept` is a sequential object that stores the history of its calls.
 //! - `counter`: the smallest book, a running sum.
 //! - `seats`: the seats of the core, with their phases.
-//! - `events`: what a seat can do, what it sees, and the faults.
+//! - `events`: the events of a seat, the results that it sees, and the faults.
 //! - `grants`: the number served, stored in four words.
 //! - `core_steps`: the core as a program that makes one step or a list of steps.
-//! - `schedules`: what holds after every schedule.
+//! - `schedules`: the law of every schedule.
 
 mod core_steps;
 pub mod counter;

@@ -1,4 +1,4 @@
-//! What holds after every schedule.
+//! The law that holds after every schedule.
 ghost use Rattle.std.specs.Prelude.{◌≡◌, ℕ, ◌+◌, ◌<◌, ◌≤◌, ◌*◌, List, [], ◌∷◌, ◌++◌, length, true};
 ghost use mathlib.Core.Option.{some};
 ghost use lib.ListN.{get_elem?};
@@ -13,27 +13,27 @@ ghost use Rattle.ticket_steps.specs.Sums.{total, once_below};
 
 use crate::kept::Kept;
 
-/// A law without code: what holds of the core after every schedule, for every kind of book.
+/// A law without code. It holds of the core after every schedule, for every kind of book.
 ///
-/// A schedule is any list of events by any seats, each with its outcome, from the opening of a core
+/// A schedule is any list of events by any seats, each with its outcome. It begins at the opening of a core
 /// with an empty book and 1 to 1,024 numbers. At its end:
 ///
 /// - at most one seat holds (`one_holder`), with the number served as its ticket (`holder`);
-/// - the tickets of the waiting and holding seats are the numbers from the number served to the
-///   last one drawn, each once (`line`);
-/// - entries and refusals together are the number served, plus one while a seat has posted its
-///   call and not left (`counted`); they are the calls that were made (`made`);
-/// - the number served is the number of turns that have ended (`ended`). It is also the number of
-///   calls that all seats together have ended (`calls`), and of those that the seat for all numbers
-///   has ended, if there is such a seat (`alone`);
+/// - the tickets of the waiting and holding seats are the numbers from the number served to the last one
+///   drawn, each once (`line`);
+/// - entries and refusals together are the number served, plus one while a seat has posted its call and not
+///   left (`counted`). They are the calls that were made (`made`);
+/// - the number served is the number of turns that have ended (`ended`). It is also the number of calls that
+///   all seats together have ended (`calls`). If there is a seat for all numbers, it is the number of calls
+///   that this seat has ended (`alone`);
 /// - the book is lawful: its entries are legal, and its state is their replay (`lawful`);
-/// - the entries of each number are the calls that it recorded, by a post or by a leave, in their
-///   order (`entries`). Numbers that weren't given out have no entries (`strangers`);
-/// - each word that a seat has read is the word after some first part of the entries, from the
-///   opening on (`glanced`);
+/// - the entries of each number are the calls that it recorded, by a post or by a leave, in their order
+///   (`entries`). Numbers that weren't given to a seat have no entries (`strangers`);
+/// - each word that a seat has read is the word after some first part of the entries, from the opening on
+///   (`glanced`);
 /// - no two seats have the same own number (`named`), and exactly one seat answers for each number
 ///   (`numbered`);
-/// - the tickets drawn and the draws left are together at most what all numbers brought (`supply`).
+/// - the tickets drawn and the draws left are together at most all draws that the numbers brought (`supply`).
 pub fn every_schedule<K: Kept>()
     ensures one_holder { (s : Schedule K.State K.Call K.Reply) → IsSchedule K.Kept s
         → holders s.end.seats ≤ 1 }

@@ -29,8 +29,8 @@ pub enum Phase {
 pub struct CoreSeat {
     /// Its own number. Events name the seat by it, and its calls are recorded under it.
     pub own: u32,
-    /// The numbers for which it answers, its own first: a range if it is fresh, and later also those of the
-    /// seats that were gathered into it.
+    /// The numbers for which it answers, its own first. They are a range if the seat is fresh. Later they
+    /// include those of the seats that were gathered into it.
     pub numbers: LinkedList<u32>,
     pub phase: Phase,
     /// The draws that it has left.
@@ -122,7 +122,7 @@ impl CoreSeat {
         self.calls += 1;
     }
 
-    /// Is gathered into another seat. Returns what it was.
+    /// Is gathered into another seat. Returns its former value.
     pub(crate) fn give_up(&mut self) -> CoreSeat
         ensures was { result ≡ self.old }
         ensures gone { self.new ≡ gone }

@@ -22,8 +22,8 @@ use check_saved::{MAX_RUNS, SavedRun};
 use check_spread::{LAST_MOMENT, LAST_TIME};
 
 impl Sched {
-    /// Begins the check of the least object that is due and may be checked, or puts it off. If there is
-    /// no such object, the reply says why.
+    /// Begins the check of the least object that is due and may be checked, or puts the object off. If there
+    /// is no such object, the reply says why.
     #[inline(never)]
     pub(super) fn take(&mut self, now: u64) -> Result<Reply, Refusal>
         ensures state { self.new ≡ (step self.old (Call.Take now)).0 }
@@ -45,8 +45,8 @@ impl Sched {
         }
     }
 
-    /// The least object that is due and whose check may begin. If there is no room for one more
-    /// service, it is a host.
+    /// The least object that is due and whose check may begin. If there is no room for one more service, the
+    /// object is a host.
     fn least_eligible(&self, now: u64) -> Option<Candidate>
         ensures value { result ≡ least (eligible now self.now) }
         ensures there { IfSome result (λ c. c.1 < object_count self.now.setup) }
@@ -68,7 +68,7 @@ impl Sched {
     }
 
     /// Whether the object whose turn has come isn't to be checked: its check isn't forced, and some
-    /// dependency of it fails. Only the scratch changes.
+    /// dependency of it fails. Only the scratch space changes.
     #[tactic(auto, using(crate::proofs::TakeLaws::unblocked))]
     fn is_held_back(&mut self, object: u32) -> bool
         requires { object < object_count self.old.setup }
@@ -121,7 +121,7 @@ impl Sched {
         }
     }
 
-    /// The reply if no check may begin. An object that is due then is a service, and the limit is reached.
+    /// The reply if no check may begin. If an object is due then, it is a service, and the limit is reached.
     #[inline(never)]
     fn waiting(&self, now: u64) -> Reply
         requires { least (eligible now self.now) ≡ None }
@@ -161,8 +161,8 @@ impl Sched {
         self.steady[object as usize]
     }
 
-    /// Ends a run that began at `start` by an OK that leaves the object unchanged, except for its next
-    /// time, which may be set already.
+    /// Ends a run that began at `start` by an OK that leaves the object unchanged, except for its next time.
+    /// The next time may be set already.
     fn stay(&mut self, object: u32, start: u64, already: Option<u64>) -> Reply
         requires there { object < object_count self.old.setup }
         requires moment { start ≤ LAST_MOMENT }
@@ -184,8 +184,8 @@ impl Sched {
         }
     }
 
-    /// Ends a run that began at `start` by the rules: the standing, and the next time, which may be set
-    /// already, follow from its code.
+    /// Ends a run that began at `start` by the rules. The standing and the next time follow from its code.
+    /// The next time may be set already.
     // A separate call, so that an OK which changes nothing doesn't pay for the values that this one keeps.
     #[inline(never)]
     fn judge(&mut self, object: u32, code: Code, start: u64, already: Option<u64>) -> Reply
@@ -201,7 +201,7 @@ impl Sched {
         let thresholds = flap_thresholds(&self.setup, object);
         let was = self.standings[object as usize];
         let flapping = self.results.add(object, found, was.flapping, thresholds);
-        // The standing is read again, and stored before the queue changes, so that little of it has to be
+        // The standing is read again, and stored before the queue changes, so that few values have to be
         // saved over a call.
         let before = self.standings[object as usize];
         let standing = judged(&self.setup, &self.standings, object, found, flapping);
@@ -259,8 +259,8 @@ fn is_steady_after(
     code == Code::Ok && is_same(before, after) && results.are_all(number, found)
 }
 
-/// Stores the standing of an object. An equal standing isn't written again, so that it stays in the caches
-/// of callers on other cores.
+/// Stores the standing of an object. An equal standing isn't written again, so that it stays in the caches of
+/// callers on other cores.
 fn put_standing(standings: &mut Vec<Standing>, number: u32, standing: Standing)
     requires { number < length standings.old.items }
     ensures { standings.new.items ≡ slice_set standings.old.items number standing }
@@ -271,9 +271,9 @@ fn put_standing(standings: &mut Vec<Standing>, number: u32, standing: Standing)
     }
 }
 
-/// Whether two standings are equal. The fields are compared one by one, since the proof search knows the
-/// meaning of `==` on a field, but not of a derived `==` with two fields of the same enum. The state comes
-/// first: if it differs, no other field needs to be compared.
+/// Whether two standings are equal. The fields are compared one by one. The proof search knows the meaning of
+/// `==` on a field, but not of a derived `==` with two fields of the same enum. The state comes first: if it
+/// differs, no other field needs to be compared.
 fn is_same(one: Standing, other: Standing) -> bool
     ensures { result ≡ true → one ≡ other }
 {

@@ -11,8 +11,8 @@ use crate::object_state::Change;
 use check_rules::Standing;
 use check_spread::LAST_TIME;
 
-// Each is a separate call in `Sched::apply`, so that takes and reports, which are most calls, don't pay
-// for the values that these keep.
+// Each is a separate call in `Sched::apply`, so that takes and reports, which are most calls, don't pay for
+// the values that these functions keep.
 impl Sched {
     /// Sets the next check of an object.
     #[inline(never)]

@@ -1,4 +1,4 @@
-//! Making a scheduler from a saved state.
+//! Makes a scheduler from a saved state.
 
 ghost use Rattle.std.specs.Prelude.{◌≡◌, ◌≤◌, ◌++◌, IfErr, IfOk, IfSome, OnOk, drop, false, length, map, option_map, replicate, take};
 ghost use Rattle.check_objects.specs.Configuration.{IsSetup, host_count, object_count};
@@ -23,31 +23,31 @@ use check_spread::{LAST_MOMENT, initial_times};
 use std::alloc::{AllocError, Global};
 
 impl Sched {
-    /// Makes a scheduler from a saved state, over this setup, which may be the one that it was saved with
-    /// or another. Scheduling starts at the moment `start`, in milliseconds. An object of the setup whose
-    /// full name was saved is kept. Any other begins as at an opening from `start` on. A saved object that
+    /// Makes a scheduler from a saved state, over this setup, which can be the one with which it was saved or
+    /// another. Scheduling starts at the moment `start`, in milliseconds. An object of the setup whose full
+    /// name was saved is kept. Any other object begins as at an opening from `start` on. A saved object that
     /// the setup doesn't have is dropped. (Our own profile; Nagios uses its retention files in the same way
     /// at a restart and a reload.)
     ///
     /// For a kept object:
     ///
-    /// - As saved: the results, the check that is out, whether the next check is forced, the state, the last
-    ///   hard state, flapping, and whether it was ever checked.
+    /// - As saved: the results, the running check, whether the next check is forced, the state, the last hard
+    ///   state, flapping, and whether it was ever checked.
     /// - The attempt follows the maximum of attempts in this setup. A hard problem gets the maximum. A soft
     ///   problem stays soft with an attempt below the maximum, and becomes hard if the maximum is 1. OK and
     ///   UP keep their attempt, up to the maximum.
-    /// - It is enabled as saved if both setups have the same switch for it, else as in this setup.
-    /// - The next time is as saved if the check interval and the setup's switch are unchanged, or a check is
-    ///   out, or the next check is forced. Else it is the earlier of the saved time and the first time by
-    ///   the spread from `start` on.
+    /// - It is enabled as saved if both setups have the same switch for it, and otherwise as in this setup.
+    /// - The next time is as saved if the check interval and the setup's switch are unchanged, if a check is
+    ///   running, or if the next check is forced. Otherwise it is the earlier of the saved time and the first
+    ///   time by the spread from `start` on.
     ///
-    /// If more services are out than the option `max_concurrent_checks` allows, the runs of all services
+    /// If more services are running than the option `max_concurrent_checks` allows, the runs of all services
     /// are abandoned at `start`. The numbers of runs continue those that were handed out.
     ///
-    /// Over the same setup, the scheduler is in the state that was saved, except for the start, which no
-    /// call reads ([`resumed_over_the_same`](crate::laws::resumed_over_the_same)).
+    /// Over the same setup, the scheduler is in the saved state, except for the start, which no call reads
+    /// ([`resumed_over_the_same`](crate::laws::resumed_over_the_same)).
     ///
-    /// An Err means out of memory, and hands the setup back as it was.
+    /// An Err means out of memory, and returns the setup as it was.
     pub fn resume(alloc: Global, setup: Setup, saved: &Saved, start: u64) -> Result<Sched, Setup>
         requires { start ≤ LAST_MOMENT }
         ensures ok { IfOk result (λ scheduler. scheduler ≡ resumed setup saved.now start) }
@@ -127,7 +127,7 @@ fn kept_objects(
     Ok(objects)
 }
 
-/// Abandons the runs of all services at this moment, if more are out than the limit allows.
+/// Abandons the runs of all services at this moment, if more are running than the limit allows.
 fn keep_limit(setup: &Setup, objects: &mut Vec<ObjectState>, now: u64)
     requires { host_count setup.now ≤ length objects.old.items }
     ensures { objects.new.items ≡ within_limit setup.now now objects.old.items }

@@ -1,4 +1,4 @@
-//! Saving the state of a scheduler.
+//! Saves the state of a scheduler.
 
 ghost use Rattle.std.specs.Prelude.{◌≡◌, ◌<◌, IfOk, Some, slice_get};
 ghost use Rattle.check_objects.specs.Configuration.{Named, object_count, objects_of};
@@ -10,8 +10,9 @@ use check_spread::milliseconds;
 use std::alloc::{AllocError, Global};
 
 impl Sched {
-    /// Saves the scheduler's state: everything but its setup, object by object. The scheduler stays as it
-    /// is. [`Sched::resume`] makes a scheduler from it. (Our own profile; Nagios uses retention files.)
+    /// Saves the scheduler's state: everything except its setup, object by object. The scheduler stays as it
+    /// is. [`Sched::resume`] makes a scheduler from the saved state. (Our own profile; Nagios uses retention
+    /// files.)
     ///
     /// An Err means out of memory.
     pub fn save(&self, alloc: Global) -> Result<Saved, AllocError>
