@@ -1,6 +1,6 @@
 -- A whole check of a setup, and what its faults leave.
 use Rattle.std.proofs.Common.{◌≡◌, ◌≢◌, ℕ, ◌<◌, ◌≤◌, ◌++◌, Bool, true, false, cond, List, [], ◌∷◌, length, Option, Some, None, Ok, Err, refl, sym, ap, subst, ◌∙◌}
-use Rattle.std.proofs.Common.{arith, inl, inr, ◌⊎◌}
+use Rattle.std.proofs.Common.{append_assoc, arith, inl, inr, ◌⊎◌}
 use Rattle.std.specs.Prelude.{nat_lt, ok_or, IfErr, IfSome, Result}
 use Rattle.check_drive.specs.declared.drive.Outcome.TheVariants as outcome
 use Rattle.check_session.specs.Check.{tree_in, HasTold, IsFaultTold, IsGood, IsLineTold, IsRefusalTold, IsSummaryTold, IsTold, IsToldBy, IsTooLong, IsWritten}
@@ -246,3 +246,11 @@ summary_told start document c tree text told good h = rw good.1 h
 pub refused_told : (Good : Configuration → List ℕ → Outcome → Type 0) (document text : List ℕ) (told : Outcome)
     → (e : LoadError) × (setup_of document ≡ Err e) × IsRefusalTold document e text told → IsToldBy Good document (setup_of document) text told
 refused_told Good document text told (e, is, h) = rw is h
+
+-- ---- the lines of a refusal
+
+-- a line, then words and a line feed, appended one after another to nothing
+pub two_lines : (line words none first second third : List ℕ) → none ≡ [] → first ≡ none ++ line → second ≡ first ++ words → third ≡ second ++ (10 ∷ [])
+    → third ≡ line ++ (words ++ 10 ∷ [])
+two_lines line words none first second third e0 e1 e2 e3 =
+    e3 ∙ ap (λ (t : List ℕ). t ++ (10 ∷ [])) (e2 ∙ ap (λ (t : List ℕ). t ++ words) (e1 ∙ ap (λ (t : List ℕ). t ++ line) e0)) ∙ append_assoc line words (10 ∷ [])

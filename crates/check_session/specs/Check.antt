@@ -3,7 +3,7 @@ use Rattle.std.specs.Prelude.{ℕ, ◌≡◌, ◌<◌, ◌≤◌, ◌⊎◌, Lis
 use Rattle.std.specs.Io.KnownBytes.{Appends, Keeps}
 use Rattle.serde_json.specs.Data.{Data}
 use Rattle.serde_json.specs.Written.{compact_text}
-use Rattle.check_documents.specs.Feeds.{HasNoFeed}
+use Rattle.check_explain.specs.Feeds.{HasNoFeed}
 use Rattle.check_documents.specs.Tree.{tree_of}
 use Rattle.check_drafts.specs.declared.error.LoadError.{LoadError}
 use Rattle.check_objects.specs.Configuration.{Configuration}
