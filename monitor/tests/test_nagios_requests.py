@@ -9,7 +9,7 @@ import random
 from typing import Any, Dict, List, Mapping, Optional, Sequence, Set, Tuple
 from unittest import mock
 
-from nagsched_monitor.core import engine
+from nagsched_monitor.core import checks
 from nagsched_monitor.core.hosts import hosts_of
 from nagsched_monitor.core.object_state import Known
 from nagsched_monitor.core.running import Running
@@ -72,7 +72,7 @@ class AsNagios(SiteTest):
             mood = random.Random(f"{name} {moment // 900_000}").random()
             return chance.randint(5, 3000), chance.choice((0, 0, 0, 0, 1, 2, 3)) if mood < 0.5 else chance.choice((2, 2, 2, 3)), ""
 
-        with mock.patch.object(engine, "hosts_of", compare):
+        with mock.patch.object(checks, "hosts_of", compare):
             monitor: Any = self.monitor(plugin)
             monitor.run(24 * 3600)
         self.assertEqual(wrong, [])
