@@ -86,6 +86,9 @@ class Posting(SiteTest):
         self.assertAlmostEqual(started, now - 60, delta=0.01)
         self.assertAlmostEqual(ends, time.time() + 300, delta=60)
         self.assertEqual(found[HEARTBEAT, None, None]["labels"], {"alertname": HEARTBEAT, "site": site, "severity": "none"})
+        # Alertmanager takes the end for the beginning of an alert without one.
+        latest = max(datetime.datetime.fromisoformat(it["startsAt"]).timestamp() for it in found.values())
+        self.assertLessEqual(latest, time.time())
 
     def test_when_it_is_posted(self) -> None:
         """At once when something changes, otherwise at a fixed interval; an end is posted once."""

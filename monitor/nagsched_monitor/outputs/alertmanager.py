@@ -32,7 +32,10 @@ Alert = Dict[str, Any]
 
 
 def alerts_of(picture: Picture, site: str, groups: Mapping[str, Groups]) -> Dict[Labels, Alert]:
-    """All current alerts: one for each hard problem, one for each flapping object, and a heartbeat while the monitor works."""
+    """All current alerts: one for each hard problem, one for each flapping object, and a heartbeat while the monitor works.
+
+    If the beginning isn't known, it is now; Alertmanager keeps the earliest that it was told.
+    """
     hosts = {it.name: str(it.state) for it in picture.objects if it.is_host() and it.is_hard_problem()}
     alerts: Dict[Labels, Alert] = {}
     for it in picture.objects:
@@ -43,7 +46,8 @@ def alerts_of(picture: Picture, site: str, groups: Mapping[str, Groups]) -> Dict
             add(alerts, {**labels, "alertname": PROBLEM, "severity": SEVERITIES.get(str(it.state), "unknown")}, it, it.wrong_since() or picture.now)
     if picture.silence() is None:
         labels = {"alertname": HEARTBEAT, "site": site, "severity": "none"}
-        alerts[frozenset(labels.items())] = {"labels": labels, "annotations": {"summary": f"the monitor of {site} is at work"}}
+        notes = {"summary": f"the monitor of {site} is at work"}
+        alerts[frozenset(labels.items())] = {"labels": labels, "annotations": notes, "startsAt": stamp(picture.now)}
     return alerts
 
 
@@ -51,10 +55,7 @@ def add(alerts: Dict[Labels, Alert], labels: Dict[str, str], it: KeptStanding, s
     name = it.name.replace(";", " ")
     notes = {"state": str(it.state), "summary": f"{name} {'is flapping' if labels['alertname'] == FLAPPING else f'is {it.state}'}: {first_line(it.words)}"}
     notes["output"] = it.words
-    alert: Alert = {"labels": labels, "annotations": notes}
-    if labels["alertname"] == PROBLEM:
-        alert["startsAt"] = stamp(since)
-    alerts[frozenset(labels.items())] = alert
+    alerts[frozenset(labels.items())] = {"labels": labels, "annotations": notes, "startsAt": stamp(since)}
 
 
 def stamp(moment: float) -> str:
