@@ -1,8 +1,8 @@
+#![tactic(auto)]
 //! A setup document: reads its bytes to a tree, and the tree to drafts.
 //!
 //! [`read_tree`] refuses a document that isn't JSON, and [`read_drafts`] one without the right shape. The
 //! crate `check_faults` reports all other faults of drafts.
-#![tactic(auto)]
 
 mod criteria;
 pub mod laws;

@@ -1,3 +1,4 @@
+#![tactic(auto)]
 //! The contents of a setup document: its options, and its hosts, services and dependencies as drafts. The
 //! crate also has the document's faults and their places.
 //!
@@ -5,7 +6,6 @@
 //! - the values that a setup stores: [`Options`], [`Object`], [`Criteria`] and [`Dependency`];
 //! - `limits`: the limits of a setup, which `laws` states as numbers;
 //! - `members`: the table of the members that a document can have.
-#![tactic(auto)]
 
 mod dependency;
 mod draft;

@@ -1,3 +1,4 @@
+#![tactic(auto)]
 //! Finds the faults of the drafts of a setup document, except for cycles: [`verify`].
 //!
 //! The modules, in the order of the tests:
@@ -5,7 +6,6 @@
 //! - `names`: names, and names that occur twice;
 //! - `links`: parents, the hosts of services, and the ends of dependencies;
 //! - `ranges`: numbers and their limits.
-#![tactic(auto)]
 
 mod counts;
 mod links;

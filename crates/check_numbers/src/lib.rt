@@ -1,6 +1,6 @@
+#![tactic(auto)]
 //! The numbers of objects, and all links between them by number. Hosts come first, in the order of their
 //! names' bytes. Then come services, in the order of their hosts' names and then of their descriptions.
-#![tactic(auto)]
 
 mod dependency_lists;
 mod numbering;

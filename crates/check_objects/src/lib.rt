@@ -1,3 +1,4 @@
+#![tactic(auto)]
 //! The setup that a scheduler works on: the hosts and services that are checked, their names and numbers, and
 //! the links between them.
 //!
@@ -10,7 +11,6 @@
 //! - `setup`: makes a setup from the tree;
 //! - `cycles`: makes a fault from a cycle;
 //! - `laws`: the properties of numbers and links.
-#![tactic(auto)]
 
 mod cycles;
 mod document;

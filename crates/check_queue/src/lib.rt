@@ -1,3 +1,4 @@
+#![tactic(auto)]
 //! A queue of numbers by time: the number with the least time comes out first, and at equal times the least
 //! number.
 //!
@@ -9,7 +10,6 @@
 //! - `entry`: an entry and the order of entries;
 //! - `sift`: moves an entry up and down the heap;
 //! - `queue`: the queue.
-#![tactic(auto)]
 
 mod entry;
 mod queue;

@@ -1,3 +1,4 @@
+#![tactic(auto)]
 //! An order of linked objects, in which each object comes after all that it links to, or a cycle among the
 //! objects.
 //!
@@ -9,7 +10,6 @@
 //! - `cycle`: finds a cycle if there is no order;
 //! - `lists`: lists by number, which the crate and its callers fill;
 //! - `laws`: the meaning of a cycle.
-#![tactic(auto)]
 
 mod cycle;
 pub mod laws;
