@@ -23,7 +23,7 @@ def name_of(page: pathlib.Path) -> str:
     return str(page.relative_to(TOP))
 
 
-def anchored(kind: str) -> list[tuple[str, str, str]]:
+def anchored_blocks(kind: str) -> list[tuple[str, str, str]]:
     """The page, the name and the code block of each anchor of a kind; the block is empty if none follows at once."""
     found = []
     for page in PAGES:
@@ -35,7 +35,7 @@ def anchored(kind: str) -> list[tuple[str, str, str]]:
 
 def examples() -> dict[str, str]:
     """The code block of each example by its name."""
-    return {name: block for _, name, block in anchored("example")}
+    return {name: block for _, name, block in anchored_blocks("example")}
 
 
 def without_anchors(text: str) -> str:

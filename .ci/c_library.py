@@ -21,7 +21,7 @@ import tempfile
 from concurrent.futures import ThreadPoolExecutor
 
 import anchors
-from program import EXAMPLES, SECONDS, TOP, Held
+from program import EXAMPLES, SECONDS, TOP, Harness
 from cases import runs
 
 HEADER = TOP / "include" / "nagsched.h"
@@ -33,58 +33,59 @@ WORKERS = {"embed.c": 4, "embed.py": 2}
 PROVED = sys.argv[2:]
 COUNTED = ["-Wl,--wrap=malloc,--wrap=realloc"]
 DEFINITIONS = [
-    TOP / "crates" / "check_drafts" / "specs" / "Place.antt",
+    TOP / "crates" / "setup_model" / "specs" / "LoadError.antt",
+    TOP / "crates" / "setup_model" / "specs" / "Place.antt",
     TOP / "crates" / "check_rules" / "specs" / "Numbers.antt",
-    TOP / "crates" / "check_records" / "specs" / "Plain.antt",
-    TOP / "crates" / "check_records" / "specs" / "SavedFaults.antt",
+    TOP / "crates" / "nagsched_handles" / "specs" / "Structs.antt",
+    TOP / "crates" / "nagsched_handles" / "specs" / "SavedFaults.antt",
 ]
 STATUSES = TOP / "crates" / "nagsched_c" / "src" / "status.rt"
-KINDS = TOP / "crates" / "check_records" / "src" / "kinds.rt"
+KINDS = TOP / "crates" / "nagsched_handles" / "src" / "kinds.rt"
 # Each enumeration of the header: its name in Python, the prefix of its names in C, and the functions of the definition that number it.
 ENUMERATIONS = {
     "nagsched_result": ("Result", "NAGSCHED_"),
     "nagsched_code": ("Code", "NAGSCHED_CODE_", "code_number"),
     "nagsched_state": ("State", "NAGSCHED_STATE_", "state_number"),
     "nagsched_kind": ("Kind", "NAGSCHED_", "kind_number"),
-    "nagsched_call_kind": ("CallKind", "NAGSCHED_CALL_", "plain_call"),
-    "nagsched_reply_kind": ("ReplyKind", "NAGSCHED_REPLY_", "plain_reply"),
-    "nagsched_refusal_kind": ("RefusalKind", "NAGSCHED_REFUSAL_", "plain_refusal", "plain_fault"),
+    "nagsched_call_kind": ("CallKind", "NAGSCHED_CALL_", "c_call"),
+    "nagsched_reply_kind": ("ReplyKind", "NAGSCHED_REPLY_", "c_reply"),
+    "nagsched_refusal_kind": ("RefusalKind", "NAGSCHED_REFUSAL_", "error_number", "c_fault"),
     "nagsched_part": ("Part", "NAGSCHED_PART_", "part_number"),
 }
 # The prefix in C of the names of a function of the definition.
-PREFIXES = {"plain_fault": "SAVED_"}
+PREFIXES = {"c_fault": "SAVED_"}
 # A number without a name in the definition, and names in C without a number of their own.
 NUMBERED_APART = {"nagsched_part": {"NONE": 0}}
 UNNUMBERED = {"MEMORY"}
 
 
-def ran(*words, given=None, **how):
+def run_command(*arguments, given=None, **how):
     """A program's output, its errors and its status."""
-    return subprocess.run([str(word) for word in words], input=given, stdout=subprocess.PIPE, stderr=subprocess.PIPE, timeout=SECONDS, **how)
+    return subprocess.run([str(word) for word in arguments], input=given, stdout=subprocess.PIPE, stderr=subprocess.PIPE, timeout=SECONDS, **how)
 
 
 class Library:
     """The library as tools/build_c.sh installs it, and programs over it."""
 
-    def __init__(self, held, folder):
-        self.held, self.folder, self.prefix = held, folder, folder / "prefix"
+    def __init__(self, harness, folder):
+        self.harness, self.folder, self.prefix = harness, folder, folder / "prefix"
         built = subprocess.run([TOP / "tools" / "build_c.sh", *PROVED, self.prefix], stdout=subprocess.PIPE, stderr=subprocess.STDOUT)
-        held.compare("tools/build_c.sh", (0, b""), (built.returncode, built.stdout))
+        harness.compare("tools/build_c.sh", (0, b""), (built.returncode, built.stdout))
         if built.returncode != 0:
-            held.end()
+            harness.end()
         self.archive, self.shared = self.prefix / "lib" / "libnagsched.a", self.prefix / "lib" / "libnagsched.so"
 
-    def compiled(self, source, *more):
+    def compile_program(self, source, *more):
         """A C program over the archive, or None if it doesn't compile."""
         program = self.folder / source.stem
-        made = ran("cc", *STRICT, f"-I{self.prefix}/include", source, *(more or [self.archive]), "-lpthread", "-o", program)
-        self.held.compare(f"{source.name} compiles", (0, b""), (made.returncode, made.stderr))
+        made = run_command("cc", *STRICT, f"-I{self.prefix}/include", source, *(more or [self.archive]), "-lpthread", "-o", program)
+        self.harness.compare(f"{source.name} compiles", (0, b""), (made.returncode, made.stderr))
         return program
 
-    def in_python(self, script, *words):
+    def run_python(self, script, *arguments):
         """A run of a Python script over the shared library."""
         env = os.environ | {"NAGSCHED_LIBRARY": str(self.shared), "PYTHONPATH": str(BINDING), "PYTHONDONTWRITEBYTECODE": "1"}
-        return ran(sys.executable, script, *words, env=env)
+        return run_command(sys.executable, script, *arguments, env=env)
 
 
 def numbers_of(text, pattern):
@@ -103,54 +104,54 @@ def defined_numbers():
     text = "\n".join(definition.read_text(encoding="utf-8") for definition in DEFINITIONS)
     kinds = constants(KINDS)
     found = collections.defaultdict(dict)
-    value = r"(?:\w*(?:_struct|_nowhere|_at) |record \{\s+kind = )?(\d+|[A-Z]\w+)"
+    value = r"(?:\w*_struct |record \{\s+kind = )?(\d+|[A-Z]\w+)"
     for function, name, number in re.findall(rf"^(\w+) \(?(?:reply\.Refused )?\w+\.(\w+)\b[^=\n]*\)? = {value}", text, re.M):
         if number.isdigit() or number in kinds:
             found[function][re.sub(r"(?<!^)(?=[A-Z])", "_", name).upper()] = int(kinds.get(number, number))
     return found
 
 
-def same_numbers(held):
+def compare_numbers(harness):
     """Header, Python package and definition give each name the same number."""
     header = numbers_of(HEADER.read_text(encoding="utf-8"), r"^enum (\w+) \{(.*?)\};")
     python = numbers_of((BINDING / "nagsched" / "kinds.py").read_text(encoding="utf-8"), r"^class (\w+)\(enum.IntEnum\):(.*?)(?:\n\n\n|\Z)")
     defined = defined_numbers()
-    held.compare("enumerations in Python", sorted(python), sorted(name for name, *_ in ENUMERATIONS.values()))
-    held.compare("enumerations of the header", sorted(ENUMERATIONS), sorted(header))
+    harness.compare("enumerations in Python", sorted(python), sorted(name for name, *_ in ENUMERATIONS.values()))
+    harness.compare("enumerations of the header", sorted(ENUMERATIONS), sorted(header))
     statuses = {f"NAGSCHED_{name}": number for name, number in constants(STATUSES).items()}
-    held.compare("the numbers of nagsched_result in the library", statuses, header["nagsched_result"])
+    harness.compare("the numbers of nagsched_result in the library", statuses, header["nagsched_result"])
     for name, (in_python, prefix, *functions) in ENUMERATIONS.items():
         in_header = {member.removeprefix(prefix): number for member, number in header[name].items()}
-        held.compare(f"the numbers of {name} in Python", in_header, python[in_python])
+        harness.compare(f"the numbers of {name} in Python", in_header, python[in_python])
         if functions:
             wanted = dict(NUMBERED_APART.get(name, {}))
             for function in functions:
                 wanted |= {PREFIXES.get(function, "") + member: number for member, number in defined[function].items() if member not in UNNUMBERED}
-            held.compare(f"the numbers of {name} in the definition", in_header, wanted)
+            harness.compare(f"the numbers of {name} in the definition", in_header, wanted)
 
 
-def names(words, kind):
+def symbol_names(arguments, kind):
     """The names of this kind in a table of nm."""
-    return sorted(re.findall(rf" {kind} (\w+)$", ran("nm", "--defined-only", *words).stdout.decode(), re.M))
+    return sorted(re.findall(rf" {kind} (\w+)$", run_command("nm", "--defined-only", *arguments).stdout.decode(), re.M))
 
 
-def surface(held, library):
+def check_symbols(harness, library):
     """Both libraries show exactly the names of the header, and need only the C library. The header is C++ too."""
     wanted = sorted(re.findall(r"^uint32_t (nagsched_\w+)\(", HEADER.read_text(encoding="utf-8"), re.M))
-    held.compare("the names of the archive", wanted, names(["--extern-only", library.archive], "T"))
-    held.compare("the names of the shared library", wanted, names(["--dynamic", library.shared], "T"))
-    told = ran("readelf", "--dynamic", library.shared).stdout.decode()
-    held.compare("its soname", ["libnagsched.so.2"], re.findall(r"\(SONAME\).*\[(.*)\]", told))
-    held.compare("what it needs", [], [name for name in re.findall(r"\(NEEDED\).*\[(.*)\]", told) if not name.startswith(("libc.", "ld-linux"))])
+    harness.compare("the names of the archive", wanted, symbol_names(["--extern-only", library.archive], "T"))
+    harness.compare("the names of the shared library", wanted, symbol_names(["--dynamic", library.shared], "T"))
+    told = run_command("readelf", "--dynamic", library.shared).stdout.decode()
+    harness.compare("its soname", ["libnagsched.so.2"], re.findall(r"\(SONAME\).*\[(.*)\]", told))
+    harness.compare("what it needs", [], [name for name in re.findall(r"\(NEEDED\).*\[(.*)\]", told) if not name.startswith(("libc.", "ld-linux"))])
     installed = library.prefix / "include" / "nagsched.h"
-    held.compare("the header", HEADER.read_bytes(), installed.read_bytes())
-    plus = ran("c++", "-fsyntax-only", "-Wall", "-Wextra", "-Werror", "-x", "c++", installed)
-    held.compare("the header in C++", (0, b""), (plus.returncode, plus.stderr))
+    harness.compare("the header", HEADER.read_bytes(), installed.read_bytes())
+    plus = run_command("c++", "-fsyntax-only", "-Wall", "-Wextra", "-Werror", "-x", "c++", installed)
+    harness.compare("the header in C++", (0, b""), (plus.returncode, plus.stderr))
     package = (library.prefix / "lib" / "pkgconfig" / "nagsched.pc").read_text(encoding="utf-8")
-    held.compare("nagsched.pc", str(library.prefix), re.search(r"^prefix=(.*)$", package, re.M)[1])
+    harness.compare("nagsched.pc", str(library.prefix), re.search(r"^prefix=(.*)$", package, re.M)[1])
 
 
-def split(history):
+def split_history(history):
     """The calls and answers of a history as the examples print it, each with its pass."""
     entry = collections.namedtuple("entry", "call pass_number answer")
     for line in history:
@@ -159,7 +160,7 @@ def split(history):
         yield entry(call, int(number), answer)
 
 
-def of_worker(answers, minutes, code):
+def worker_calls(answers, minutes, code):
     """The calls that a worker has to make, by the answers to its takes."""
     for minute in range(minutes):
         yield f'["take",{minute * MINUTE}]'
@@ -169,7 +170,7 @@ def of_worker(answers, minutes, code):
             yield f'["report","{rest[1]}",{rest[0]},{code(int(rest[0]))}]'
 
 
-def of_operator(answers, minutes):
+def operator_calls(answers, minutes):
     """The calls that the operator has to make, except whether the door's checks are switched on or off."""
     for minute in range(minutes):
         yield from (f'["enable","room;door",{switch}]' for switch in [next(answers)])
@@ -181,122 +182,122 @@ def of_operator(answers, minutes):
         yield '["status","room;door"]'
 
 
-def told_by(held, what, text, minutes, code):
+def compare_history(harness, what, text, minutes, code):
     """Compares a history, as an example printed it, with what its threads have to do, and with the program."""
     setup, *history = text.decode().splitlines()
-    entries = list(split(history))
+    entries = list(split_history(history))
     script = "".join(f"{line}\n" for line in [setup, *(entry.call for entry in entries)]).encode()
     answered = "".join(f"{entry.answer}\n" for entry in entries).encode()
-    held.compare(f"{what}: the program's answers", (answered, 0), held.run(["run"], script))
+    harness.compare(f"{what}: the program's answers", (answered, 0), harness.run(["run"], script))
     runs = [int(entry.answer.split(" ")[1]) for entry in entries if entry.answer.startswith("taken ")]
-    held.compare(f"{what}: runs", list(range(1, len(runs) + 1)), runs)
+    harness.compare(f"{what}: runs", list(range(1, len(runs) + 1)), runs)
     by_pass = collections.defaultdict(list)
     for entry in entries:
         by_pass[entry.pass_number].append(entry)
     workers = WORKERS[what.split(",")[0]]
-    held.compare(f"{what}: passes", list(range(workers + (workers == 4))), sorted(by_pass))
+    harness.compare(f"{what}: passes", list(range(workers + (workers == 4))), sorted(by_pass))
     for number in range(workers):
         mine = by_pass[number]
-        wanted = list(of_worker(iter([entry.answer for entry in mine]), minutes, code))
-        held.compare(f"{what}: the calls of {number}", wanted, [entry.call for entry in mine])
+        wanted = list(worker_calls(iter([entry.answer for entry in mine]), minutes, code))
+        harness.compare(f"{what}: the calls of {number}", wanted, [entry.call for entry in mine])
     return by_pass
 
 
-def operator(held, what, mine, minutes):
+def compare_operator(harness, what, mine, minutes):
     """The operator's calls: it switches according to its glance, which saw one of two standings."""
     told = iter([re.search(r",(\w+)\]", entry.call)[1] if entry.call.startswith('["enable"') else entry.answer
                  for entry in mine if entry.call.startswith(('["enable"', '["take"'))])
-    held.compare(f"{what}: the operator's calls", list(of_operator(told, minutes)), [entry.call for entry in mine])
+    harness.compare(f"{what}: the operator's calls", list(operator_calls(told, minutes)), [entry.call for entry in mine])
 
 
-def examples(held, library):
+def check_examples(harness, library):
     """The two examples, with few calls and with many. The example in C is linked with each library."""
     for how, more in {"shared": [f"-L{library.prefix}/lib", "-lnagsched", f"-Wl,-rpath,{library.prefix}/lib"], "static": []}.items():
-        program = library.compiled(EXAMPLES / "embed.c", *more)
+        program = library.compile_program(EXAMPLES / "embed.c", *more)
         for minutes in MINUTES:
-            what, made = f"embed.c, {how}, {minutes}", ran(program, minutes)
-            held.compare(f"{what}: status", (0, b""), (made.returncode, made.stderr))
-            by_pass = told_by(held, what, made.stdout, minutes, lambda run: 0 if run % 5 < 3 else 2)
-            operator(held, what, by_pass[WORKERS["embed.c"]], minutes)
+            what, made = f"embed.c, {how}, {minutes}", run_command(program, minutes)
+            harness.compare(f"{what}: status", (0, b""), (made.returncode, made.stderr))
+            by_pass = compare_history(harness, what, made.stdout, minutes, lambda run: 0 if run % 5 < 3 else 2)
+            compare_operator(harness, what, by_pass[WORKERS["embed.c"]], minutes)
     for minutes in MINUTES:
-        what, made = f"embed.py, {minutes}", library.in_python(EXAMPLES / "embed.py", minutes)
-        held.compare(f"{what}: status", 0, made.returncode)
-        held.compare(f"{what}: what the dashboard saw", b"seen:", made.stderr[:5])
-        told_by(held, what, made.stdout, minutes, lambda run: 1 if run % 4 == 0 else 0)
+        what, made = f"embed.py, {minutes}", library.run_python(EXAMPLES / "embed.py", minutes)
+        harness.compare(f"{what}: status", 0, made.returncode)
+        harness.compare(f"{what}: what the dashboard saw", b"seen:", made.stderr[:5])
+        compare_history(harness, what, made.stdout, minutes, lambda run: 1 if run % 4 == 0 else 0)
 
 
-def counting(held, what, made):
+def check_counting(harness, what, made):
     """A program that counts: it ends without an error, and its last line counts no failure."""
     *told, last = made.stdout.decode().splitlines() or [""]
-    held.compare(what, (0, True, b""), (made.returncode, bool(re.search(r": [1-9]\d* passed, 0 failed$", last)), made.stderr))
+    harness.compare(what, (0, True, b""), (made.returncode, bool(re.search(r": [1-9]\d* passed, 0 failed$", last)), made.stderr))
     print(*told, sep="\n", end="\n" if told else "")
 
 
-def mistakes(held, library):
+def check_misuse(harness, library):
     """Mistakes in C and in Python, texts that no case reaches, desks of several passes, books, and each request for memory refused."""
     common = [f"-I{TESTS}/c", library.archive]
-    counting(held, "mistakes in C", ran(library.compiled(TESTS / "c" / "wrong.c", *common, *COUNTED)))
-    counting(held, "texts in C", ran(library.compiled(TESTS / "c" / "texts.c", *common)))
-    counting(held, "desks in C", ran(library.compiled(TESTS / "c" / "desks.c", *common)))
-    counting(held, "books in C", ran(library.compiled(TESTS / "c" / "books.c", *common)))
-    counting(held, "days in C", ran(library.compiled(TESTS / "c" / "days.c", *common)))
-    counting(held, "saved states in C", ran(library.compiled(TESTS / "c" / "saved.c", *common)))
-    counting(held, "gatherings in C", ran(library.compiled(TESTS / "c" / "gatherings.c", *common)))
-    counting(held, "numbers in C", ran(library.compiled(TESTS / "c" / "numbers.c", *common)))
-    counting(held, "refused requests", ran(library.compiled(TESTS / "c" / "refused.c", *common, *COUNTED, "-Wl,--wrap=free")))
-    readers(held, library, [*common, *COUNTED, "-Wl,--wrap=free"])
-    counting(held, "mistakes in Python", library.in_python(TESTS / "python" / "wrong.py"))
-    counting(held, "saved states in Python", library.in_python(TESTS / "python" / "saved.py"))
+    check_counting(harness, "mistakes in C", run_command(library.compile_program(TESTS / "c" / "wrong.c", *common, *COUNTED)))
+    check_counting(harness, "texts in C", run_command(library.compile_program(TESTS / "c" / "texts.c", *common)))
+    check_counting(harness, "desks in C", run_command(library.compile_program(TESTS / "c" / "desks.c", *common)))
+    check_counting(harness, "books in C", run_command(library.compile_program(TESTS / "c" / "books.c", *common)))
+    check_counting(harness, "days in C", run_command(library.compile_program(TESTS / "c" / "days.c", *common)))
+    check_counting(harness, "saved states in C", run_command(library.compile_program(TESTS / "c" / "saved.c", *common)))
+    check_counting(harness, "gatherings in C", run_command(library.compile_program(TESTS / "c" / "gatherings.c", *common)))
+    check_counting(harness, "numbers in C", run_command(library.compile_program(TESTS / "c" / "numbers.c", *common)))
+    check_counting(harness, "refused requests", run_command(library.compile_program(TESTS / "c" / "refused.c", *common, *COUNTED, "-Wl,--wrap=free")))
+    check_readers(harness, library, [*common, *COUNTED, "-Wl,--wrap=free"])
+    check_counting(harness, "mistakes in Python", library.run_python(TESTS / "python" / "wrong.py"))
+    check_counting(harness, "saved states in Python", library.run_python(TESTS / "python" / "saved.py"))
 
 
 def has_sanitizer(library):
     """Whether the compiler has ThreadSanitizer, and a program built with it runs here."""
     source = library.folder / "empty.c"
     source.write_text("int main(void) { return 0; }\n", encoding="utf-8")
-    made = ran("cc", "-fsanitize=thread", source, "-o", library.folder / "empty")
-    return made.returncode == 0 and ran(library.folder / "empty").returncode == 0
+    made = run_command("cc", "-fsanitize=thread", source, "-o", library.folder / "empty")
+    return made.returncode == 0 and run_command(library.folder / "empty").returncode == 0
 
 
-def readers(held, library, words):
+def check_readers(harness, library, arguments):
     """Two threads that read the same handles at once, and write nothing in them; also under ThreadSanitizer if it is there.
     ThreadSanitizer sees the C code and its calls of the C library. Memory that can't be written shows that the proved functions don't write."""
     source = TESTS / "c" / "readers.c"
-    counting(held, "readers in C", ran(library.compiled(source, *words)))
+    check_counting(harness, "readers in C", run_command(library.compile_program(source, *arguments)))
     if has_sanitizer(library):
-        counting(held, "readers under ThreadSanitizer", ran(library.compiled(source, "-fsanitize=thread", *words)))
+        check_counting(harness, "readers under ThreadSanitizer", run_command(library.compile_program(source, "-fsanitize=thread", *arguments)))
     else:
         print("readers under ThreadSanitizer: passed over, since the compiler has none that runs here")
 
 
-def words_of(call):
+def script_words(call):
     """A line of a script in plain words: first the command, then its numbers, and last its name."""
     word, *members = json.loads(call)
     numbers = [str(int(member)) for member in members if not isinstance(member, str)]
     return " ".join([word, *numbers, *(member for member in members if isinstance(member, str))])
 
 
-def cases():
+def input_cases():
     """The cases of a run from an opening: the name, the C program's input, and the wanted output."""
     for case in runs():
         found = re.fullmatch(r"run( --start[ =]\+?(\d+))?( --)?", " ".join(case.arguments))
         if found is None:
             continue
         setup, *calls = case.given.split(b"\n")
-        lines = [(found[2] or "0").encode(), setup, *(words_of(call).encode() for call in calls if call.strip(b" \t\r"))]
+        lines = [(found[2] or "0").encode(), setup, *(script_words(call).encode() for call in calls if call.strip(b" \t\r"))]
         yield case.name, b"".join(line + b"\n" for line in lines), case.wanted
 
 
-def conformance(held, library):
+def check_conformance(harness, library):
     """The cases of one thread, made by the library, give the same bytes."""
-    program = library.compiled(TESTS / "c" / "script.c")
-    all_cases = list(cases())
-    held.compare("more than a hundred cases", True, len(all_cases) > 100)
+    program = library.compile_program(TESTS / "c" / "script.c")
+    all_cases = list(input_cases())
+    harness.compare("more than a hundred cases", True, len(all_cases) > 100)
     with ThreadPoolExecutor(os.cpu_count()) as threads:
-        for (name, _, wanted), made in zip(all_cases, threads.map(lambda case: ran(program, given=case[1]), all_cases)):
-            held.compare(name, (wanted, 0, b""), (made.stdout, made.returncode, made.stderr))
+        for (name, _, wanted), made in zip(all_cases, threads.map(lambda case: run_command(program, given=case[1]), all_cases)):
+            harness.compare(name, (wanted, 0, b""), (made.stdout, made.returncode, made.stderr))
 
 
-def as_the_page_says(held, library, page):
+def run_page_commands(harness, library, page):
     """The commands on the page and in the examples link and run the examples, in a folder like the repository."""
     for name in ("include", "examples", "bindings"):
         (library.folder / name).symlink_to(TOP / name)
@@ -305,31 +306,31 @@ def as_the_page_says(held, library, page):
     links = [f"{command} -o embed && ./embed" for command in dict.fromkeys(re.findall(r"\bcc [^`\n]*program\.c[^`\n]*", page))]
     heads = "".join((EXAMPLES / name).read_text(encoding="utf-8") for name in ("embed.c", "embed.py"))
     builds = re.findall(r"tools/build_c\.sh && (.*examples/embed.*)", heads)
-    held.compare("the pages and examples: commands", (2, 2), (len(links), len(builds)))
+    harness.compare("the pages and examples: commands", (2, 2), (len(links), len(builds)))
     for command in [*links, *(build.replace("[MINUTES]", "1") for build in builds)]:
         said = command.replace("PREFIX", "out/c").replace("program.c", "examples/embed.c")
-        made = ran("sh", "-c", said, cwd=library.folder, env=os.environ | {"LD_LIBRARY_PATH": str(library.prefix / "lib")})
-        held.compare(command, (0, b'{"'), (made.returncode, made.stdout[:2]))
+        made = run_command("sh", "-c", said, cwd=library.folder, env=os.environ | {"LD_LIBRARY_PATH": str(library.prefix / "lib")})
+        harness.compare(command, (0, b'{"'), (made.returncode, made.stdout[:2]))
 
 
-def first_programs(held, library, pages):
+def check_first_programs(harness, library, pages):
     """The first programs print the output that the pages show after them."""
-    made = {"first.c": ran(library.compiled(EXAMPLES / "first.c")), "first.py": library.in_python(EXAMPLES / "first.py")}
+    made = {"first.c": run_command(library.compile_program(EXAMPLES / "first.c")), "first.py": library.run_python(EXAMPLES / "first.py")}
     for name, ran_once in made.items():
-        held.compare(f"{name}: its output is on a page", (0, True), (ran_once.returncode, f"```\n{ran_once.stdout.decode()}```" in pages))
+        harness.compare(f"{name}: its output is on a page", (0, True), (ran_once.returncode, f"```\n{ran_once.stdout.decode()}```" in pages))
 
 
-def page(held, library):
+def check_pages(harness, library):
     """The commands of the pages build and run the two examples, and the first programs print the output on the pages."""
     pages = "".join(anchors.text_of(page) for page in anchors.PAGES)
-    as_the_page_says(held, library, pages)
-    first_programs(held, library, pages)
+    run_page_commands(harness, library, pages)
+    check_first_programs(harness, library, pages)
 
 
-def loops(held, library):
+def check_loops(harness, library):
     """The loops for months: plugins run, the state is saved, and a restart resumes it over another setup."""
-    program = library.compiled(EXAMPLES / "loop.c")
-    runs = {"loop.c": lambda *words: ran(program, *words), "loop.py": lambda *words: library.in_python(EXAMPLES / "loop.py", *words)}
+    program = library.compile_program(EXAMPLES / "loop.c")
+    runs = {"loop.c": lambda *arguments: run_command(program, *arguments), "loop.py": lambda *arguments: library.run_python(EXAMPLES / "loop.py", *arguments)}
     for name, run in runs.items():
         state, setup = library.folder / f"{name}.state", library.folder / "loop.json"
         for attempts, interval, ends in ((2, 1, ["DOWN HARD 2", "UP HARD 1"]), (5, 100, ["DOWN HARD 5", "UP HARD 1"])):
@@ -337,38 +338,38 @@ def loops(held, library):
             setup.write_text(json.dumps({"options": {"interval_length": 1, "host_inter_check_delay_method": "n"}, "hosts": hosts}))
             made = run(setup, state, "3", 'test "$1" = up || exit 2')
             ended = [line.removeprefix("at the end standing ") for line in made.stdout.decode().splitlines() if line.startswith("at the end")]
-            held.compare(f"{name}, {attempts} attempts", (0, ends), (made.returncode, [" ".join(line.split(" ")[:3]) for line in ended]))
-            held.compare(f"{name}: the state is kept", True, state.read_bytes().startswith(b'{"format":1,'))
+            harness.compare(f"{name}, {attempts} attempts", (0, ends), (made.returncode, [" ".join(line.split(" ")[:3]) for line in ended]))
+            harness.compare(f"{name}: the state is kept", True, state.read_bytes().startswith(b'{"format":1,'))
 
 
-def installed(held, library):
+def check_installation(harness, library):
     """Both examples over what tools/install.sh installs: the header, the library and its pkg-config file, the Python module."""
     prefix, env = library.folder / "installed", os.environ | {"NAGSCHED_BUILT": str(library.prefix)}
-    ran(TOP / "monitor" / "build_runner.sh")
-    made = ran("bash", TOP / "tools" / "install.sh", prefix, env=env)
-    held.compare("tools/install.sh", 0, made.returncode)
+    run_command(TOP / "monitor" / "build_runner.sh")
+    made = run_command("bash", TOP / "tools" / "install.sh", prefix, env=env)
+    harness.compare("tools/install.sh", 0, made.returncode)
     found = env | {"PKG_CONFIG_PATH": str(prefix / "lib/pkgconfig"), "LD_LIBRARY_PATH": str(prefix / "lib")}
     program = library.folder / "from_installed"
-    built = ran("sh", "-c", f"cc {EXAMPLES / 'embed.c'} $(pkg-config --cflags --libs nagsched) -lpthread -o {program} && {program} 1", env=found)
-    held.compare("embed.c over what is installed", (0, b'{"'), (built.returncode, built.stdout[:2]))
+    built = run_command("sh", "-c", f"cc {EXAMPLES / 'embed.c'} $(pkg-config --cflags --libs nagsched) -lpthread -o {program} && {program} 1", env=found)
+    harness.compare("embed.c over what is installed", (0, b'{"'), (built.returncode, built.stdout[:2]))
     python = found | {"PYTHONPATH": str(prefix / "lib/python3/dist-packages"), "PYTHONDONTWRITEBYTECODE": "1"}
-    came = ran(sys.executable, EXAMPLES / "embed.py", "1", env=python)
-    held.compare("embed.py over what is installed", (0, b'{"'), (came.returncode, came.stdout[:2]))
+    came = run_command(sys.executable, EXAMPLES / "embed.py", "1", env=python)
+    harness.compare("embed.py over what is installed", (0, b'{"'), (came.returncode, came.stdout[:2]))
 
 
 def main():
-    held = Held("the C library")
+    harness = Harness("the C library")
     with tempfile.TemporaryDirectory() as folder:
-        library = Library(held, pathlib.Path(folder))
-        surface(held, library)
-        same_numbers(held)
-        examples(held, library)
-        loops(held, library)
-        mistakes(held, library)
-        conformance(held, library)
-        page(held, library)
-        installed(held, library)
-    held.end()
+        library = Library(harness, pathlib.Path(folder))
+        check_symbols(harness, library)
+        compare_numbers(harness)
+        check_examples(harness, library)
+        check_loops(harness, library)
+        check_misuse(harness, library)
+        check_conformance(harness, library)
+        check_pages(harness, library)
+        check_installation(harness, library)
+    harness.end()
 
 
 main()

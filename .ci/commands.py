@@ -107,7 +107,7 @@ def unknown_options(command):
     return [option for option in arguments if re.fullmatch(r"--[a-z-]+", option) and not other and not re.search(rf"{option}\b", told)]
 
 
-def named(page):
+def commands_of(page):
     """The commands that a page names."""
     text = page.read_text(encoding="utf-8")
     blocks = "\n".join(re.findall(r"^```\n(.*?)^```", text, re.M | re.S) + re.findall(r"^ {4}\S.*$", text, re.M))
@@ -115,7 +115,7 @@ def named(page):
     return [command for command in LINE.findall(blocks) + SPAN.findall(prose) if not SYNOPSIS.fullmatch(command)]
 
 
-def prepare(folder, program):
+def write_files(folder, program):
     """The files that the commands name, and the program under its own name."""
     for directory in ("examples", "tools"):
         (folder / directory).symlink_to(TOP / directory)
@@ -130,14 +130,14 @@ def prepare(folder, program):
 
 def check(program, pages, compare):
     """Runs the commands of RUN. Names each command that isn't in a table, and each command in a table that no page names."""
-    everywhere = {command: page.name for page in pages for command in named(page)}
+    everywhere = {command: page.name for page in pages for command in commands_of(page)}
     for command, page in everywhere.items():
         compare(f"{page}: `{command}`: where it is run", True, command in RUN or is_in_the_gate(command) or is_manual(command))
         compare(f"{page}: `{command}`: unknown options", [], unknown_options(command))
     compare("commands that no page names", [], [command for command in [*RUN, *IN_THE_GATE, *MANUAL] if command not in everywhere])
     with tempfile.TemporaryDirectory() as name:
         folder = pathlib.Path(name)
-        prepare(folder, pathlib.Path(program).resolve())
+        write_files(folder, pathlib.Path(program).resolve())
         for command, (file, begins) in RUN.items():
             ran = subprocess.run(["bash", "-c", f"PATH=.:$PATH; {command}"], cwd=folder, stdin=subprocess.DEVNULL, stdout=subprocess.PIPE)
             written = (folder / file).read_text(encoding="utf-8") if file else ran.stdout.decode()

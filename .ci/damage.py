@@ -11,7 +11,7 @@ import random
 import re
 from concurrent.futures import ThreadPoolExecutor
 
-from program import EXAMPLES, TOP, Held
+from program import EXAMPLES, TOP, Harness
 
 SEED, EACH = 7, 400
 CASES = TOP / "conformance"
@@ -34,12 +34,12 @@ ANSWER = re.compile(rb"(taken|putoff|idle|atlimit|standing|freed|done|refused C\
 REFUSED = re.compile(rb"refused [LS]\d+ [^\n]*\n")
 
 
-def of_run(answers, commands):
+def run_output(answers, commands):
     """The output of a run that has got only this number of its commands."""
     return b"".join(answers[: len(commands)])
 
 
-def of_drill(answers, commands):
+def drill_output(answers, commands):
     """The output of one worker that has got only this number of lines: two lines for a moment at which it took a check, otherwise one."""
     history = []
     for _ in (command for command in commands if command.startswith(b'["moment"')):
@@ -48,7 +48,7 @@ def of_drill(answers, commands):
     return b"".join([*history, b"total %d 0\n" % len(history)])
 
 
-def wanted_of_cut(given, count, answers, written):
+def expected_after_cut(given, count, answers, written):
     """The wanted output and status for an input that is cut after this number of bytes."""
     front = given[:count]
     if count and (given[count : count + 1] in (b"", b"\n") or front.endswith(b"\n")):
@@ -57,14 +57,14 @@ def wanted_of_cut(given, count, answers, written):
     return (b"refused L1 NotJson\n" if number == 1 else b"refused S2 NotJson %d\n" % number), 1
 
 
-def cuts(held, several, name, words, given, answers, written):
+def check_cuts(harness, several, name, arguments, given, answers, written):
     """An input that is cut after each of its bytes."""
-    came = several(lambda count: held.run(words, given[:count]), range(len(given) + 1))
-    otherwise = [at for at, it in enumerate(came) if it != wanted_of_cut(given, at, answers, written)]
-    held.compare(f"{name}, cut after so many bytes", [], otherwise)
+    came = several(lambda count: harness.run(arguments, given[:count]), range(len(given) + 1))
+    otherwise = [at for at, it in enumerate(came) if it != expected_after_cut(given, at, answers, written)]
+    harness.compare(f"{name}, cut after so many bytes", [], otherwise)
 
 
-def is_whole(copy, written, status):
+def is_refused_or_run(copy, written, status):
     """Whether a damaged input was refused by one line, or run: a line for each of its commands, or a history and its total."""
     if status == 1:
         return REFUSED.fullmatch(written) is not None
@@ -76,26 +76,26 @@ def is_whole(copy, written, status):
     return status == 0 and len(answers) == len(commands) and all(map(ANSWER.fullmatch, answers))
 
 
-def damages(held, several, name, words, given, chance):
+def check_damages(harness, several, name, arguments, given, chance):
     """Copies of an input with one of its bytes damaged."""
     for kind, damage in DAMAGES.items():
         places = [(chance.randrange(len(given)), chance.randrange(8)) for _ in range(EACH)]
         copies = [given[:at] + damage(given[at], bit) + given[at + 1 :] for at, bit in places]
-        came = several(lambda copy: held.run(words, copy), copies)
-        otherwise = [place for place, copy, it in zip(places, copies, came) if not is_whole(copy, *it)]
-        held.compare(f"{name}, a byte {kind}", [], otherwise)
+        came = several(lambda copy: harness.run(arguments, copy), copies)
+        otherwise = [place for place, copy, it in zip(places, copies, came) if not is_refused_or_run(copy, *it)]
+        harness.compare(f"{name}, a byte {kind}", [], otherwise)
 
 
 def main():
-    held = Held("damage")
+    harness = Harness("damage")
     chance = random.Random(SEED)
     with ThreadPoolExecutor(os.cpu_count()) as threads:
-        for rows, written in ((RUNS, of_run), (DRILLS, of_drill)):
-            for name, words, given, answers in rows:
+        for rows, written in ((RUNS, run_output), (DRILLS, drill_output)):
+            for name, arguments, given, answers in rows:
                 given, answers = given.read_bytes(), answers.read_bytes().splitlines(keepends=True)
-                cuts(held, threads.map, name, words, given, answers, written)
-                damages(held, threads.map, name, words, given, chance)
-    held.end()
+                check_cuts(harness, threads.map, name, arguments, given, answers, written)
+                check_damages(harness, threads.map, name, arguments, given, chance)
+    harness.end()
 
 
 main()

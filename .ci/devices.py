@@ -52,7 +52,7 @@ class Job(NamedTuple):
     """A run of the program: its arguments, its input, its output, and its exit status."""
 
     name: str
-    words: list[str]
+    arguments: list[str]
     given: bytes
     text: bytes
     status: int
@@ -60,7 +60,7 @@ class Job(NamedTuple):
     # The lines of a conversation, each with its answer; empty for another job, which reads its whole input first.
     answers: dict[bytes, bytes] = {}
 
-    def answered(self, count: int) -> bytes:
+    def answers_after(self, count: int) -> bytes:
         """The answers that are written after this number of bytes of the input, before its end is known."""
         answers, rest = b"", count
         for line, answer in self.answers.items():
@@ -68,12 +68,12 @@ class Job(NamedTuple):
             answers += answer if rest >= 0 and line.endswith(b"\n") else b""
         return answers
 
-    def calls(self, most: int) -> str:
+    def call_log(self, most: int) -> str:
         """The reads and writes, if a read gives at most this number of bytes, and a write takes all of them."""
         calls, written = "", b""
         for count in range(most, len(self.given) + most, most) if self.reads else ():
             calls += "r"
-            answers = self.answered(min(count, len(self.given)))
+            answers = self.answers_after(min(count, len(self.given)))
             calls += "w" if answers != written else ""
             written = answers
             if self.answers and self.status and written == self.text:
@@ -92,12 +92,12 @@ class Device(NamedTuple):
     stays: bool = False
 
 
-class Ran(NamedTuple):
+class Outcome(NamedTuple):
     """The outcome of a run: its output, its exit status, and its calls."""
 
     text: bytes
     status: int
-    calls: str
+    call_log: str
 
 
 class Shim:
@@ -108,24 +108,24 @@ class Shim:
         self.library = f"{folder}/devices.so"
         subprocess.run(["cc", "-O2", "-shared", "-fPIC", "-o", self.library, HERE / "devices.c", "-ldl"], check=True)
 
-    def run(self, job: Job, device: Device) -> Ran:
+    def run(self, job: Job, device: Device) -> Outcome:
         """Runs a job over a device."""
         with tempfile.TemporaryFile(dir=self.folder) as given, tempfile.NamedTemporaryFile(dir=self.folder) as calls:
             given.write(job.given)
             given.seek(0)
             own = {name.upper(): str(int(value)) for name, value in device._asdict().items()}
             own |= {"LD_PRELOAD": self.library, "CALLS": calls.name}
-            ran = subprocess.run([self.program, *job.words], stdin=given, stdout=subprocess.PIPE, env=os.environ | own, timeout=SECONDS, check=False)
-            return Ran(ran.stdout, ran.returncode, calls.read().decode())
+            ran = subprocess.run([self.program, *job.arguments], stdin=given, stdout=subprocess.PIPE, env=os.environ | own, timeout=SECONDS, check=False)
+            return Outcome(ran.stdout, ran.returncode, calls.read().decode())
 
 
-def case(name: str, reads: bool = True) -> Job:
+def case_job(name: str, reads: bool = True) -> Job:
     """A case of conformance/."""
     found = next(each for each in cases() if each.name == name)
     return Job(name, found.arguments, found.given, found.wanted, found.status, reads)
 
 
-def conversation(name: str, setup: bytes, answers: dict[bytes, bytes], status: int) -> Job:
+def conversation_job(name: str, setup: bytes, answers: dict[bytes, bytes], status: int) -> Job:
     """A conversation over a setup."""
     answers = {setup: b"", **answers} if status == 0 else answers
     return Job(name, ["live"], b"".join(answers), b"".join(answers.values()), status, answers=answers)
@@ -133,18 +133,18 @@ def conversation(name: str, setup: bytes, answers: dict[bytes, bytes], status: i
 
 def jobs() -> Iterator[Job]:
     """Each kind of run, good ones and refused ones."""
-    yield case("rows/results/eleven-results-of-a-service")
-    yield case("rows/results/code-four")
-    yield case("rows/first-path/duplicate-host")
-    yield case("rows/drill/one-worker")
-    yield case("rows/drill/plugin-without-codes")
-    yield case("checks/a-line")
-    yield case("checks/a-refused-setup")
-    yield case("changes/the-same-setup")
-    yield case("words/help-of-live", reads=False)
-    yield case("words/another-subcommand", reads=False)
-    yield conversation("a conversation", HOST, CONVERSATION, 0)
-    yield conversation("a conversation that is refused", b"", {b"{\n": b"refused L1 NotJson\n", b'["take",0]\n': b""}, 1)
+    yield case_job("rows/results/eleven-results-of-a-service")
+    yield case_job("rows/results/code-four")
+    yield case_job("rows/first-path/duplicate-host")
+    yield case_job("rows/drill/one-worker")
+    yield case_job("rows/drill/plugin-without-codes")
+    yield case_job("checks/a-line")
+    yield case_job("checks/a-refused-setup")
+    yield case_job("changes/the-same-setup")
+    yield case_job("words/help-of-live", reads=False)
+    yield case_job("words/another-subcommand", reads=False)
+    yield conversation_job("a conversation", HOST, CONVERSATION, 0)
+    yield conversation_job("a conversation that is refused", b"", {b"{\n": b"refused L1 NotJson\n", b'["take",0]\n': b""}, 1)
 
 
 def long_run() -> Job:
@@ -152,12 +152,12 @@ def long_run() -> Job:
     return Job("a long run", ["run"], HOST + b'["take",0]\n' * 1_000, b"taken 1 h\n" + b"idle none\n" * 999, 0)
 
 
-def places(count: int) -> range:
+def tried_places(count: int) -> range:
     """The numbers from 1 to this one, or as many of them as are tried."""
     return range(1, count + 1, -(-count // PLACES))
 
 
-def few(count: int) -> list[int]:
+def sample(count: int) -> list[int]:
     """The first, one in the middle and the last of the numbers from 1 to this one."""
     return [1, (count + 1) // 2, count]
 
@@ -171,50 +171,50 @@ class Trial(NamedTuple):
     text: bytes
     status: int
     # The calls, the number of reads and the number of writes, if they are fixed.
-    calls: str = ""
+    call_log: str = ""
     reads: int = 0
     writes: int = 0
     # The program may have written the rest of the text after the failure.
     more: bool = False
 
-    def differences(self, ran: Ran) -> Iterator[tuple[str, bool]]:
+    def differences(self, ran: Outcome) -> Iterator[tuple[str, bool]]:
         """Each part of the outcome, and whether it differs."""
         is_front = ran.text.startswith(self.text) and self.job.text.startswith(ran.text)
         yield "the text", not is_front if self.more else ran.text != self.text
         yield "the status", ran.status != self.status
-        yield "the calls", self.calls not in ("", ran.calls)
-        yield "the number of reads", self.reads not in (0, ran.calls.count("r"))
-        yield "the number of writes", self.writes not in (0, ran.calls.count("w"))
-        behind = ran.calls.split("w", self.device.write_at)[self.device.write_at :] if self.device.write_at else []
+        yield "the calls", self.call_log not in ("", ran.call_log)
+        yield "the number of reads", self.reads not in (0, ran.call_log.count("r"))
+        yield "the number of writes", self.writes not in (0, ran.call_log.count("w"))
+        behind = ran.call_log.split("w", self.device.write_at)[self.device.write_at :] if self.device.write_at else []
         yield "a read after the write", self.status == FAILED and "r" in "".join(behind)
 
-    def fault(self, ran: Ran) -> str:
+    def fault(self, ran: Outcome) -> str:
         """How the outcome differs, or nothing."""
         wrong = [what for what, differs in self.differences(ran) if differs]
         return f"{self.what}, {self.job.name}, {self.device}: {', '.join(wrong)}; came {ran}" if wrong else ""
 
 
-def in_pieces(job: Job) -> Iterator[Trial]:
+def piece_trials(job: Job) -> Iterator[Trial]:
     """An input in pieces, and an output that takes pieces."""
     for most in (1, PIECE, WHOLE):
-        yield Trial("an input in pieces", job, Device(read_most=most), job.text, job.status, calls=job.calls(most))
+        yield Trial("an input in pieces", job, Device(read_most=most), job.text, job.status, call_log=job.call_log(most))
         yield Trial("an output in pieces", job, Device(write_most=most), job.text, job.status)
 
 
-def failing_reads(job: Job) -> Iterator[Trial]:
+def read_failures(job: Job) -> Iterator[Trial]:
     """Each read fails."""
-    count = job.calls(PIECE).count("r")
-    for at in places(count):
-        text = job.answered((at - 1) * PIECE)
-        for error in READ_ERRORS if at in few(count) else READ_ERRORS[:1]:
+    count = job.call_log(PIECE).count("r")
+    for at in tried_places(count):
+        text = job.answers_after((at - 1) * PIECE)
+        for error in READ_ERRORS if at in sample(count) else READ_ERRORS[:1]:
             yield Trial("a read fails", job, Device(read_most=PIECE, read_at=at, fault=error), text, FAILED, reads=at)
 
 
-def failing_writes(job: Job) -> Iterator[Trial]:
+def write_failures(job: Job) -> Iterator[Trial]:
     """Each write of a byte fails: once, so that a later one would be taken, or for good; and each is interrupted."""
     count = len(job.text)
-    for at in places(count) if count < LONG else few(count):
-        for error in WRITE_ERRORS if at in few(count) else WRITE_ERRORS[:1]:
+    for at in tried_places(count) if count < LONG else sample(count):
+        for error in WRITE_ERRORS if at in sample(count) else WRITE_ERRORS[:1]:
             device = Device(write_most=1, write_at=at, fault=error)
             yield Trial("a write fails once", job, device, job.text[: at - 1], FAILED, more=True)
             yield Trial("a write fails", job, device._replace(stays=True), job.text[: at - 1], FAILED)
@@ -225,9 +225,9 @@ def failing_writes(job: Job) -> Iterator[Trial]:
 def trials() -> Iterator[Trial]:
     """Every run."""
     for job in jobs():
-        for sweep in (in_pieces, failing_reads, failing_writes) if job.reads else (in_pieces, failing_writes):
+        for sweep in (piece_trials, read_failures, write_failures) if job.reads else (piece_trials, write_failures):
             yield from sweep(job)
-    yield from failing_writes(long_run())
+    yield from write_failures(long_run())
 
 
 def main() -> int:

@@ -25,7 +25,7 @@ FLAGS = ["--jobs", "1"]
 SHOWS_NOTHING = "(only because a proof file names"
 
 
-def judge():
+def load_rt():
     """The kit's command `rt` as a module, for its judgement of must-fail edits."""
     kit = pathlib.Path(subprocess.run(["rt", "doc"], check=True, capture_output=True, text=True).stdout.strip()).parent / "bin"
     sys.path.insert(0, str(kit))
@@ -42,7 +42,7 @@ def edits_of(crate):
     return sorted(TOP.glob(f"crates/{crate.name}/edits/*.edit"))
 
 
-def file_tried(crate):
+def result_file(crate):
     return TOP / "crates" / crate.name / "edits" / "TRIED"
 
 
@@ -59,7 +59,7 @@ def checksum(crate):
     return total.hexdigest() + "\n"
 
 
-def results_of(rt, crate):
+def edit_results(rt, crate):
     """For each edit of a crate, whether the prover refused it, and a line. It starts from the crate's stored proofs, if there are any."""
     edits = [str(edit) for edit in edits_of(crate)]
     kept = pathlib.Path(crate.folder) / "out" / "incremental"
@@ -81,21 +81,21 @@ def prepare(rt, crates):
     return all(library.build_rlib(FLAGS, anew=False) == 0 for library in in_order)
 
 
-def main(words):
-    is_by_hand, names = "--write" in words, [word for word in words if not word.startswith("--")]
+def main(arguments):
+    is_by_hand, names = "--write" in arguments, [word for word in arguments if not word.startswith("--")]
     os.chdir(TOP)
-    rt = judge()
+    rt = load_rt()
     crates = [crate for crate in rt.rtlib.crates_below(str(TOP)) if edits_of(crate) and (not names or crate.name in names)]
     passed = failed = 0
     if not names or len(crates) == len(set(names)):
-        is_ready = "--proved" in words or prepare(rt, crates)
-        stale = [crate for crate in crates if is_by_hand or not file_tried(crate).is_file() or file_tried(crate).read_text() != checksum(crate)]
+        is_ready = "--proved" in arguments or prepare(rt, crates)
+        stale = [crate for crate in crates if is_by_hand or not result_file(crate).is_file() or result_file(crate).read_text() != checksum(crate)]
         with ThreadPoolExecutor(int(os.environ.get("RT_JOBS") or os.cpu_count() or 1)) as lanes:
-            for crate, results in zip(stale, lanes.map(lambda crate: results_of(rt, crate) if is_ready else [(False, "a library isn't proved")], stale)):
+            for crate, results in zip(stale, lanes.map(lambda crate: edit_results(rt, crate) if is_ready else [(False, "a library isn't proved")], stale)):
                 print("\n".join(f"edits: {crate.name}: {line}" for _, line in results), flush=True)
                 failed += sum(not refused for refused, _ in results)
                 if is_by_hand and all(refused for refused, _ in results):
-                    file_tried(crate).write_text(checksum(crate))
+                    result_file(crate).write_text(checksum(crate))
         passed = sum(len(edits_of(crate)) for crate in crates) - failed
     else:
         print("edits: a crate that was named has no edits")

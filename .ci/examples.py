@@ -5,12 +5,12 @@
 
 The expected output in office.out, sequence.out and drill.out was worked out manually from the rules.
 """
-from program import EXAMPLES, Held
+from program import EXAMPLES, Harness
 
 RUNS = {"office": ["run"], "sequence": ["run"], "drill": ["drill", "--workers", "1"]}
 
-held = Held("examples")
+harness = Harness("examples")
 for name, arguments in RUNS.items():
     wanted = (EXAMPLES / f"{name}.out").read_bytes()
-    held.compare(name, (wanted, 0), held.run(arguments, (EXAMPLES / f"{name}.txt").read_bytes()))
-held.end()
+    harness.compare(name, (wanted, 0), harness.run(arguments, (EXAMPLES / f"{name}.txt").read_bytes()))
+harness.end()

@@ -70,7 +70,7 @@ def value_of(part: dict[str, object]) -> str:
     return {"boolean": "`true` or `false`", "string": "text"}[part["type"]]
 
 
-def members(what: str) -> str:
+def member_table(what: str) -> str:
     """The table of the members of an object of the setup. Members that a service shares with a host are left out."""
     rows = ["| Member | Value | Default | Meaning |", "|---|---|---|---|"]
     of_hosts = OBJECTS["hosts"]["properties"] if what == "services" else {}
@@ -82,31 +82,31 @@ def members(what: str) -> str:
     return "\n" + "\n".join(rows) + "\n"
 
 
-def counts() -> collections.Counter[str]:
+def case_counts() -> collections.Counter[str]:
     """The number of cases in each folder."""
     found = collections.Counter(str(case.file.parent.relative_to(FOLDER)) for case in cases())
     found["resumed"] = sum(1 for folder in (FOLDER / "resumed").iterdir() if folder.is_dir())
     return found
 
 
-def text(name: str) -> str:
+def generated_text(name: str) -> str:
     """The generated text of a name."""
     kind, _, of = name.partition(" of ")
     if kind == "members":
-        return members(of)
+        return member_table(of)
     if kind == "cases":
-        return f"{counts()[of] if of else sum(counts().values()):,}"
+        return f"{case_counts()[of] if of else sum(case_counts().values()):,}"
     raise KeyError(name)
 
 
-def generated(page: str) -> str:
+def page_with_generated_text(page: str) -> str:
     """A page with its generated text."""
-    return GENERATED.sub(lambda match: match[1] + text(match[2]) + match[4], page)
+    return GENERATED.sub(lambda match: match[1] + generated_text(match[2]) + match[4], page)
 
 
 def main() -> None:
     for page in PAGES:
-        page.write_text(generated(text_of(page)), encoding="utf-8")
+        page.write_text(page_with_generated_text(text_of(page)), encoding="utf-8")
 
 
 if __name__ == "__main__":

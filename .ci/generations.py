@@ -1,7 +1,7 @@
 #!/usr/bin/env python3
-"""Runs `machine_room`, whose loop watches a room for months, and replays its generations with the built program.
+"""Runs `nagsched_loop`, whose loop watches a room for months, and replays its generations with the built program.
 
-    .ci/generations.py [PROGRAM [ROOM]]     crates/nagsched/out/nagsched and crates/machine_room/out/machine_room if they aren't named
+    .ci/generations.py [PROGRAM [ROOM]]     crates/nagsched/out/nagsched and crates/nagsched_loop/out/nagsched_loop if they aren't named
 
 The loop runs for four days, and takes over another setup on the way. Each generation is resumed from the state that was saved before it. `nagsched run`
 answers it in the same way, and leaves the state that was saved after it. Each check ends as it has to. It is reported, or abandoned after five minutes.
@@ -14,9 +14,9 @@ import re
 import subprocess
 import sys
 
-from program import SECONDS, TOP, Held, lines
+from program import SECONDS, TOP, Harness, input_lines
 
-ROOM = pathlib.Path(sys.argv[2] if len(sys.argv) > 2 else TOP / "crates/machine_room/out/machine_room").resolve()
+ROOM = pathlib.Path(sys.argv[2] if len(sys.argv) > 2 else TOP / "crates/nagsched_loop/out/nagsched_loop").resolve()
 DAYS, DAY = 4, 86_400_000
 ENTRY = re.compile(r"(\[.*\])\t0 (.*)")
 # In milliseconds: how long a plugin may run, and how long the loop sleeps at the limit of checks and when none is due.
@@ -29,13 +29,13 @@ Entry = tuple[str, str]
 Generation = tuple[str, str, list[Entry]]
 
 
-def watched(*words: str | bytes) -> tuple[bytes, int]:
+def watched_run(*arguments: str | bytes) -> tuple[bytes, int]:
     """The output and the status of the room's program with these arguments."""
-    ran = subprocess.run([ROOM, *words], stdin=subprocess.DEVNULL, stdout=subprocess.PIPE, timeout=SECONDS)
+    ran = subprocess.run([ROOM, *arguments], stdin=subprocess.DEVNULL, stdout=subprocess.PIPE, timeout=SECONDS)
     return ran.stdout, ran.returncode
 
 
-def kept_generations(text: bytes) -> list[Generation]:
+def read_generations(text: bytes) -> list[Generation]:
     """The generations of the loop: each with its setup, the state that was saved after it, and its commands with their replies."""
     setup, generations = "", list[Generation]()
     for line in text.decode().splitlines():
@@ -49,19 +49,19 @@ def kept_generations(text: bytes) -> list[Generation]:
     return generations
 
 
-def replayed(held: Held, generations: list[Generation]) -> None:
+def check_replay(harness: Harness, generations: list[Generation]) -> None:
     """The built program answers and saves each generation in the same way."""
     before: tuple[str, str] | None = None
     for number, (setup, state, entries) in enumerate(generations):
         commands = [command for command, _ in entries]
-        words, head = ["run"], [setup]
+        arguments, head = ["run"], [setup]
         if before is not None:
-            words, head = ["run", "--resume"], [setup, before[1]]
+            arguments, head = ["run", "--resume"], [setup, before[1]]
             if setup != before[0]:
-                words += ["--start", str(json.loads(commands[0])[-1])]
-        came, status = held.run(words, lines(*head, *commands, '["save"]'))
-        wanted = lines(*(reply for _, reply in entries), f"saved {state}")
-        held.compare(f"generation {number}", (wanted, 0), (came, status))
+                arguments += ["--start", str(json.loads(commands[0])[-1])]
+        came, status = harness.run(arguments, input_lines(*head, *commands, '["save"]'))
+        wanted = input_lines(*(reply for _, reply in entries), f"saved {state}")
+        harness.compare(f"generation {number}", (wanted, 0), (came, status))
         before = setup, state
 
 
@@ -72,7 +72,7 @@ def limit_of(run: int, start: int) -> int | None:
     return start + PLUGIN_LIMIT if run % HANGS == 0 else None
 
 
-def ended(held: Held, entries: list[Entry], change: int) -> None:
+def check_ends(harness: Harness, entries: list[Entry], change: int) -> None:
     """Each check that was taken ends as its number requires, or at the change of the setup."""
     taken, wrong = dict[int, int](), list[tuple[str, int]]()
     given_up = 0
@@ -86,12 +86,12 @@ def ended(held: Held, entries: list[Entry], change: int) -> None:
             given_up += word == "abandon" and members[2] == limit
             if start < 0 or word == "report" and limit is not None or word == "abandon" and members[2] not in (limit, change):
                 wrong.append((command, start))
-    held.compare("checks that ended otherwise", [], wrong)
-    held.compare("some checks were given up", True, given_up > 5)
-    held.compare("checks that are out at the end", [], [run for run, start in taken.items() if start + PLUGIN_LIMIT < DAYS * DAY])
+    harness.compare("checks that ended otherwise", [], wrong)
+    harness.compare("some checks were given up", True, given_up > 5)
+    harness.compare("checks that are out at the end", [], [run for run, start in taken.items() if start + PLUGIN_LIMIT < DAYS * DAY])
 
 
-def slept(held: Held, entries: list[Entry]) -> None:
+def check_sleeps(harness: Harness, entries: list[Entry]) -> None:
     """After each take that found nothing, the next take comes no later than necessary."""
     takes = [(json.loads(command)[1], reply) for command, reply in entries if command.startswith('["take"')]
     late = []
@@ -101,36 +101,36 @@ def slept(held: Held, entries: list[Entry]) -> None:
             until = now + WITHOUT_WORK if reply == "idle none" else int(reply.split(" ")[1])
         if then > until:
             late.append((now, reply, then))
-    held.compare("takes that come too late", [], late)
+    harness.compare("takes that come too late", [], late)
 
 
-def months(held: Held) -> None:
+def check_months(harness: Harness) -> None:
     """Four days of the loop."""
-    written, status = watched(f"{DAYS}")
-    held.compare("status", 0, status)
-    generations = kept_generations(written)
-    held.compare("its setups", 2, len({setup for setup, _, _ in generations}))
-    replayed(held, generations)
+    written, status = watched_run(f"{DAYS}")
+    harness.compare("status", 0, status)
+    generations = read_generations(written)
+    harness.compare("its setups", 2, len({setup for setup, _, _ in generations}))
+    check_replay(harness, generations)
     entries = [entry for _, _, generation in generations for entry in generation]
-    ended(held, entries, DAYS * DAY // 2)
-    slept(held, entries)
+    check_ends(harness, entries, DAYS * DAY // 2)
+    check_sleeps(harness, entries)
 
 
-def faults(held: Held) -> None:
+def check_faults(harness: Harness) -> None:
     """Wrong arguments, and an output that nobody reads."""
     wrong: list[list[str | bytes]] = [[], ["0"], ["10001"], ["x"], ["1", "1"], [b"\xff"]]
-    for words in wrong:
-        held.compare(f"{words}", (b"", 2), watched(*words))
+    for arguments in wrong:
+        harness.compare(f"{arguments}", (b"", 2), watched_run(*arguments))
     with subprocess.Popen([ROOM, "100"], stdin=subprocess.DEVNULL, stdout=subprocess.PIPE) as torn:
         if torn.stdout:
             torn.stdout.close()
-    held.compare("a torn pipe", 3, torn.returncode)
+    harness.compare("a torn pipe", 3, torn.returncode)
 
 
-held = Held("generations")
+harness = Harness("generations")
 if not ROOM.is_file():
-    held.compare("the room's program", "there", "not there")
-    held.end()
-months(held)
-faults(held)
-held.end()
+    harness.compare("the room's program", "there", "not there")
+    harness.end()
+check_months(harness)
+check_faults(harness)
+harness.end()

@@ -19,55 +19,55 @@ SETUP = {"hosts": [{"name": "gateway", "max_check_attempts": 3}]}
 SHOWN = {"mandoc": ["mandoc", "-Tlint", "-Wwarning"], "groff": ["groff", "-ww", "-man", "-Tutf8", "-z"]}
 
 
-def output(*words, **how):
+def command_output(*words, **how):
     ran = subprocess.run([str(word) for word in words], stdout=subprocess.PIPE, stderr=subprocess.STDOUT, text=True, check=False, **how)
     return ran.stdout, ran.returncode
 
 
 def warnings_of(page):
     """The complaints of each program that shows manual pages."""
-    return "".join(output(*words, page)[0] for name, words in SHOWN.items() if shutil.which(name))
+    return "".join(command_output(*words, page)[0] for name, words in SHOWN.items() if shutil.which(name))
 
 
-def words_of_help(program):
+def help_words(program):
     """Subcommands and options, from the help of the program and of its subcommands."""
-    told = output(program, "--help")[0]
+    told = command_output(program, "--help")[0]
     commands = re.findall(r"^  ([a-z]+)  ", told[told.index("Commands:"):], re.MULTILINE) if "Commands:" in told else []
-    helps = [output(program, command, "--help")[0].split("Options:")[-1] for command in commands if command != "help"]
+    helps = [command_output(program, command, "--help")[0].split("Options:")[-1] for command in commands if command != "help"]
     return sorted({*commands, *(option for text in helps for option in re.findall(r"--[a-z]+", text))})
 
 
-def installed(program, prefix, work):
+def check_installed(program, prefix, work):
     manual = {page.name: page for page in (prefix / "share/man").rglob("nagsched*")}
-    yield "the program", output(prefix / "bin/nagsched", "run", input=json.dumps(SETUP) + '\n["take",0]\n'), ("taken 1 gateway\n", 0)
+    yield "the program", command_output(prefix / "bin/nagsched", "run", input=json.dumps(SETUP) + '\n["take",0]\n'), ("taken 1 gateway\n", 0)
     (work / "site").mkdir()
     (work / "site/setup.json").write_text(json.dumps(SETUP))
     (work / "site/commands.json").write_text(json.dumps({"gateway": {"line": "true"}}))
-    tested = output(prefix / "bin/nagsched-monitor", "--program", prefix / "bin/nagsched", work / "site", "test")
+    tested = command_output(prefix / "bin/nagsched-monitor", "--program", prefix / "bin/nagsched", work / "site", "test")
     yield "the monitor", tested, ("1 objects, 1 parts\n", 0)
     job = '{"job":1,"words":["echo","fine"],"limit":9}'
-    ran = output("sh", "-c", f"(echo '{job}'; sleep 1) | {prefix}/bin/nagsched-runner")
+    ran = command_output("sh", "-c", f"(echo '{job}'; sleep 1) | {prefix}/bin/nagsched-runner")
     yield "the runner", ran, ('{"job":1,"code":0,"end":"exited","output":"fine\\u000a"}\n', 0)
-    yield "the worker", output(prefix / "bin/nagsched-gearman-worker", "--help")[1], 0
-    yield "from Nagios", output(prefix / "bin/nagsched-from-nagios", "--help")[1], 0
+    yield "the worker", command_output(prefix / "bin/nagsched-gearman-worker", "--help")[1], 0
+    yield "from Nagios", command_output(prefix / "bin/nagsched-from-nagios", "--help")[1], 0
     yield "the manual pages", sorted(manual), ["nagsched-from-nagios.1", "nagsched-monitor.1", "nagsched.1", "nagsched.5"]
     for name, page in sorted(manual.items()):
         yield f"warnings of {name}", warnings_of(page), ""
         yield f"lines of {name}, at most 400", len(page.read_text().splitlines()) <= 400, True
     page = manual["nagsched.1"].read_text().replace("\\-", "-")
-    yield "words of the help that nagsched.1 lacks", [word for word in words_of_help(program) if not re.search(rf"{word}\b", page)], []
+    yield "words of the help that nagsched.1 lacks", [word for word in help_words(program) if not re.search(rf"{word}\b", page)], []
     first_page = (prefix / "share/doc/nagsched/README.md").read_text()
     yield "the installed first page", ("nagsched < examples/office.txt" in first_page, bool(re.search(r"\brt\b|<!--", first_page))), (True, False)
-    yield "the completion for bash", output("bash", "-n", prefix / "share/bash-completion/completions/nagsched"), ("", 0)
+    yield "the completion for bash", command_output("bash", "-n", prefix / "share/bash-completion/completions/nagsched"), ("", 0)
     unit = prefix / "lib/systemd/system/nagsched-monitor@.service"
     yield "the unit", f"ExecStart={prefix}/bin/nagsched-monitor" in unit.read_text(), True
     if shutil.which("systemd-analyze"):
         site = unit.with_name("nagsched-monitor@office.service")
         site.write_text(re.sub("^(User|Group|Documentation)=.*\n", "", unit.read_text(), flags=re.MULTILINE))
-        yield "what systemd says of the unit", output("systemd-analyze", "verify", site), ("", 0)
-        yield "its exposure", output("systemd-analyze", "security", "--offline=true", "--threshold=40", unit)[1], 0
+        yield "what systemd says of the unit", command_output("systemd-analyze", "verify", site), ("", 0)
+        yield "its exposure", command_output("systemd-analyze", "security", "--offline=true", "--threshold=40", unit)[1], 0
     if shutil.which("systemd-sysusers"):
-        made = output("systemd-sysusers", f"--root={work}", "--dry-run", prefix / "lib/sysusers.d/nagsched-monitor.conf")[0]
+        made = command_output("systemd-sysusers", f"--root={work}", "--dry-run", prefix / "lib/sysusers.d/nagsched-monitor.conf")[0]
         yield "the user", "Creating user 'nagsched'" in made, True
 
 
@@ -75,9 +75,9 @@ def main():
     passed, wrong = 0, 0
     with tempfile.TemporaryDirectory() as folder:
         work = pathlib.Path(folder)
-        output(TOP / "monitor/build_runner.sh")
-        told, status = output("bash", TOP / "tools/install.sh", "--without-library", work / "prefix")
-        rows = [("installing", (told, status), ("", 0))] if status else installed(sys.argv[1], work / "prefix", work)
+        command_output(TOP / "monitor/build_runner.sh")
+        told, status = command_output("bash", TOP / "tools/install.sh", "--without-library", work / "prefix")
+        rows = [("installing", (told, status), ("", 0))] if status else check_installed(sys.argv[1], work / "prefix", work)
         for what, came, wanted in rows:
             if came == wanted:
                 passed += 1

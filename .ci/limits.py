@@ -11,7 +11,7 @@ import random
 import subprocess
 import tempfile
 
-from program import Held, lines
+from program import Harness, input_lines
 
 OPTIONS = {"host_inter_check_delay_method": "n", "service_inter_check_delay_method": "n"}
 SERVICES, HOSTS = 4_000, 90
@@ -27,7 +27,7 @@ def service(at, description, **members):
     return {"host": at, "description": description, "max_check_attempts": 1, **members}
 
 
-def depends(dependent, master, **members):
+def dependency(dependent, master, **members):
     return {"dependent": dependent, "master": master, "criteria": "c", **members}
 
 
@@ -36,48 +36,48 @@ def setup(**members):
     return json.dumps({"options": OPTIONS, **members})
 
 
-def many(**last):
+def many_services(**last):
     """The members of 4,000 services on 90 hosts; the last service also has these members."""
     services = [service(f"host{n % HOSTS:02}", f"service{n:04}") for n in range(SERVICES)]
     services[-1] |= last
     return {"hosts": [host(f"host{n:02}") for n in range(HOSTS)], "services": services}
 
 
-def refused(held, what, line, explanation=None, **members):
+def check_refused(harness, what, line, explanation=None, **members):
     """A document is refused by this line, and a check explains it so."""
-    document = lines(setup(**members))
-    held.compare(what, (lines(f"refused {line}"), 1), held.run([], document))
+    document = input_lines(setup(**members))
+    harness.compare(what, (input_lines(f"refused {line}"), 1), harness.run([], document))
     if explanation:
-        held.compare(f"{what}, explained", (lines(f"refused {line}", explanation), 1), held.run(["check"], document))
+        harness.compare(f"{what}, explained", (input_lines(f"refused {line}", explanation), 1), harness.run(["check"], document))
 
 
-def many_objects(held):
+def many_objects(harness):
     """All objects are due at once, and are taken in the order of their numbers, in any order of the document."""
-    members = many()
+    members = many_services()
     names = [h["name"] for h in members["hosts"]]
     names += [f"{s['host']};{s['description']}" for s in sorted(members["services"], key=lambda s: (s["host"], s["description"]))]
     for kind in members.values():
         random.Random(4000).shuffle(kind)
     takes = ['["take",0]'] * (len(names) + 1)
     wanted = [*(f"taken {run} {name}" for run, name in enumerate(names, 1)), "idle none"]
-    held.compare("4,000 services on 90 hosts", (lines(*wanted), 0), held.run([], lines(setup(**members), *takes)))
+    harness.compare("4,000 services on 90 hosts", (input_lines(*wanted), 0), harness.run([], input_lines(setup(**members), *takes)))
 
 
-def many_calls(held):
+def many_calls(harness):
     """A run of more than 100,000 calls."""
     count = 120_000
-    script = lines(setup(hosts=[host("h")])) + b'["take",0]\n' * count
-    held.compare(f"{count} calls", (lines("taken 1 h") + lines("idle none") * (count - 1), 0), held.run([], script))
+    script = input_lines(setup(hosts=[host("h")])) + b'["take",0]\n' * count
+    harness.compare(f"{count} calls", (input_lines("taken 1 h") + input_lines("idle none") * (count - 1), 0), harness.run([], script))
 
 
-def long_names(held):
+def long_names(harness):
     """The largest number of hosts, under long names: a document of more than a million bytes of content."""
     names = [f"{'h' * 240}{n}" for n in range(4_096)]
-    document = lines(setup(hosts=[host(name) for name in names]), '["take",0]')
-    held.compare("4,096 hosts under long names", (lines(f"taken 1 {names[0]}"), 0), held.run([], document))
+    document = input_lines(setup(hosts=[host(name) for name in names]), '["take",0]')
+    harness.compare("4,096 hosts under long names", (input_lines(f"taken 1 {names[0]}"), 0), harness.run([], document))
 
 
-def many_parents(held):
+def many_parents(harness):
     """A host with 16,384 parents, 4,000 different ones, is UNREACHABLE when the last of them is down."""
     names = [f"parent{n:04}" for n in range(4_000)]
     parents = [names[n % len(names)] for n in range(PARENTS)]
@@ -95,20 +95,20 @@ def many_parents(held):
     }.items():
         commands.append(command)
         wanted.append(reply)
-    held.compare("16,384 parents", (lines(*wanted), 0), held.run([], lines(setup(hosts=hosts), *commands)))
+    harness.compare("16,384 parents", (input_lines(*wanted), 0), harness.run([], input_lines(setup(hosts=hosts), *commands)))
     explanation = "there are 16385 parents of all hosts; there can be 16384"
-    refused(held, "16,385 parents", "L3 TooMany", explanation, hosts=[host("router", parents=[*parents, names[0]]), *map(host, names)])
+    check_refused(harness, "16,385 parents", "L3 TooMany", explanation, hosts=[host("router", parents=[*parents, names[0]]), *map(host, names)])
 
 
-def too_many(held):
+def too_many(harness):
     """One object and one dependency too many."""
     explanation = "there are 4097 hosts and services; there can be 4096"
-    refused(held, "4,097 objects", "L3 TooMany", explanation, hosts=[host("h")], services=[service("h", f"s{n}") for n in range(4_096)])
+    check_refused(harness, "4,097 objects", "L3 TooMany", explanation, hosts=[host("h")], services=[service("h", f"s{n}") for n in range(4_096)])
     explanation = "there are 16385 dependencies of both sorts; there can be 16384"
-    refused(held, "16,385 dependencies", "L3 TooMany", explanation, host_dependencies=[depends("a", "b", criteria="d")] * (PARENTS + 1))
+    check_refused(harness, "16,385 dependencies", "L3 TooMany", explanation, host_dependencies=[dependency("a", "b", criteria="d")] * (PARENTS + 1))
 
 
-def explained_at_limits(held):
+def explained_at_limits(harness):
     """Lists at their limits aren't reported as too long next to a list past its limit, and a count is reported before any other fault."""
     full = {"hosts": [host(f"h{n}", parents=["h0"] * 4) for n in range(4_096)]}
     at_limits = [f"{word} {count}" for word, count in {
@@ -116,72 +116,72 @@ def explained_at_limits(held):
         "disabled": 0, "without_interval": 0, "host_delay": "none", "host_first": 0, "host_last": 0, "service_delay": "none", "service_first": "none",
         "service_last": "none", "interleave_factor": 1}.items()]
     full["hosts"][0] = host("h0")
-    document = lines(setup(**full, host_dependencies=[depends("h2", "h1", criteria="d")] * PARENTS))
-    held.compare("three lists at their limits, checked", (lines("setup ok", *at_limits), 0), held.run(["check"], document))
+    document = input_lines(setup(**full, host_dependencies=[dependency("h2", "h1", criteria="d")] * PARENTS))
+    harness.compare("three lists at their limits, checked", (input_lines("setup ok", *at_limits), 0), harness.run(["check"], document))
     full["hosts"][0] = host("h0", parents=["x"] * 4)
     explanation = "there are 16385 dependencies of both sorts; there can be 16384"
-    many = {"service_dependencies": [depends("a", "b")], "host_dependencies": [depends("a", "b", criteria="d")] * PARENTS}
-    refused(held, "16,384 parents and 16,385 dependencies", "L3 TooMany", explanation, **full, **many)
+    many = {"service_dependencies": [dependency("a", "b")], "host_dependencies": [dependency("a", "b", criteria="d")] * PARENTS}
+    check_refused(harness, "16,384 parents and 16,385 dependencies", "L3 TooMany", explanation, **full, **many)
     full["hosts"][1] = host("h1", parents=["x"] * 5)
     explanation = "there are 16385 parents of all hosts; there can be 16384"
-    refused(held, "4,096 hosts and 16,385 parents", "L3 TooMany", explanation, **full, **many)
+    check_refused(harness, "4,096 hosts and 16,385 parents", "L3 TooMany", explanation, **full, **many)
     explanation = "there are 4097 hosts and services; there can be 4096"
     odd = [host("a;", parents=["x"] * 5, max_check_attempts=0) for _ in range(4_096)]
-    refused(held, "4,097 objects with each other fault", "L3 TooMany", explanation, hosts=odd, services=[service("", "")], **many)
+    check_refused(harness, "4,097 objects with each other fault", "L3 TooMany", explanation, hosts=odd, services=[service("", "")], **many)
 
 
-def most_dependencies(held):
+def most_dependencies(harness):
     """The largest number of dependencies, all of one host on another."""
-    members = {"hosts": [host("a"), host("b")], "host_dependencies": [depends("a", "b", criteria="d")] * PARENTS}
-    held.compare("16,384 dependencies", (lines("taken 1 a"), 0), held.run([], lines(setup(**members), '["take",0]')))
+    members = {"hosts": [host("a"), host("b")], "host_dependencies": [dependency("a", "b", criteria="d")] * PARENTS}
+    harness.compare("16,384 dependencies", (input_lines("taken 1 a"), 0), harness.run([], input_lines(setup(**members), '["take",0]')))
 
 
-def long_chain(held):
+def long_chain(harness):
     """A problem at one end of a chain of 4,000 dependencies that inherit puts off the check at the other end."""
     chain = ["a-master", *(f"c{n:04}" for n in range(3_999)), "b-dependent"]
     pairs = zip(chain[1:], chain)
     members = {
         "hosts": [host("h", check_interval=0)],
         "services": [service("h", name) for name in chain],
-        "service_dependencies": [depends(f"h;{one}", f"h;{other}", inherits_parent=True) for one, other in pairs],
+        "service_dependencies": [dependency(f"h;{one}", f"h;{other}", inherits_parent=True) for one, other in pairs],
     }
     commands = ['["take",0]', '["report","h;a-master",1,2]', '["take",0]']
     wanted = ["taken 1 h;a-master", "standing CRITICAL HARD 1 yes STEADY 300000 h;a-master", "putoff 300000 h;b-dependent"]
-    held.compare("a chain of 4,000 dependencies", (lines(*wanted), 0), held.run([], lines(setup(**members), *commands)))
+    harness.compare("a chain of 4,000 dependencies", (input_lines(*wanted), 0), harness.run([], input_lines(setup(**members), *commands)))
 
 
-def many_ways(held):
+def many_ways(harness):
     """Forty layers of two hosts. Each host depends on both hosts of the next layer and inherits: 2^39 ways lead from the first to the last."""
     layers = [(f"a{layer}", f"b{layer}") for layer in range(10, 50)]
     pairs = [(one, other) for upper, lower in zip(layers, layers[1:]) for one in upper for other in lower]
-    links = [depends("a10", "a11", criteria="d"), *(depends(one, other, criteria="d", inherits_parent=True) for one, other in pairs)]
-    document = lines(setup(hosts=[host(name) for layer in layers for name in layer], host_dependencies=links))
+    links = [dependency("a10", "a11", criteria="d"), *(dependency(one, other, criteria="d", inherits_parent=True) for one, other in pairs)]
+    document = input_lines(setup(hosts=[host(name) for layer in layers for name in layer], host_dependencies=links))
     names = sorted(sum(layers, ()))
-    takes = lines(*['["take",10]'] * len(names))
+    takes = input_lines(*['["take",10]'] * len(names))
     wanted = [f"taken {at} {name}" for at, name in enumerate(names, 1)]
-    held.compare("forty layers that are up", (lines(*wanted), 0), held.run(["run", "--start", "10"], document + takes))
-    down = lines('["reschedule","b49",0,false]', '["take",0]', '["report","b49",1,2]')
+    harness.compare("forty layers that are up", (input_lines(*wanted), 0), harness.run(["run", "--start", "10"], document + takes))
+    down = input_lines('["reschedule","b49",0,false]', '["take",0]', '["report","b49",1,2]')
     put_off = {name: f"putoff 300010 {name}" for name in names if name != "b49"} | {"a49": "taken 2 a49"}
     wanted = ["done b49", "taken 1 b49", "standing DOWN HARD 1 yes STEADY 300000 b49", *put_off.values(), "idle 300000"]
-    held.compare("forty layers above a host that is down", (lines(*wanted), 0), held.run(["run", "--start", "10"], document + down + takes))
+    harness.compare("forty layers above a host that is down", (input_lines(*wanted), 0), harness.run(["run", "--start", "10"], document + down + takes))
 
 
-def long_cycles(held):
+def long_cycles(harness):
     """4,000 objects in a ring, of each sort of dependency and of parents."""
     names = [f"x{n:04}" for n in range(4_000)]
     ring = list(zip(names, [*names[1:], names[0]]))
     hosts = [host(name) for name in names]
     services = [service("h", name) for name in names]
-    of_services = [depends(f"h;{one}", f"h;{other}") for one, other in ring]
-    of_hosts = [depends(one, other, criteria="d") for one, other in ring]
-    refused(held, "a cycle of services", "L9 DependencyCycle", hosts=[host("h")], services=services, service_dependencies=of_services)
-    refused(held, "a cycle of hosts", "L9 DependencyCycle", hosts=hosts, host_dependencies=of_hosts)
-    refused(held, "a cycle of parents", "L10 ParentCycle", hosts=[host(one, parents=[other]) for one, other in ring])
+    of_services = [dependency(f"h;{one}", f"h;{other}") for one, other in ring]
+    of_hosts = [dependency(one, other, criteria="d") for one, other in ring]
+    check_refused(harness, "a cycle of services", "L9 DependencyCycle", hosts=[host("h")], services=services, service_dependencies=of_services)
+    check_refused(harness, "a cycle of hosts", "L9 DependencyCycle", hosts=hosts, host_dependencies=of_hosts)
+    check_refused(harness, "a cycle of parents", "L10 ParentCycle", hosts=[host(one, parents=[other]) for one, other in ring])
     ended = [host(one, parents=[other]) for one, other in ring[:-1]] + [host(names[-1])]
-    held.compare("a chain of parents", (b"", 0), held.run([], lines(setup(hosts=ended))))
+    harness.compare("a chain of parents", (b"", 0), harness.run([], input_lines(setup(hosts=ended))))
 
 
-def last_of_many(held):
+def last_of_many(harness):
     """A fault in the last of 4,000 services is reported with its index, in each test of services."""
     for what, line, last in [
         ("an unknown member", "L2 Shape", {"check_period": 1}),
@@ -192,23 +192,23 @@ def last_of_many(held):
         ("a number past its limit", "L8 Range", {"max_check_attempts": 256}),
         ("a number below its limit", "L8 Range", {"max_check_attempts": 0}),
     ]:
-        refused(held, f"{what}, last of many", f"{line} services {SERVICES - 1}", **many(**last))
+        check_refused(harness, f"{what}, last of many", f"{line} services {SERVICES - 1}", **many_services(**last))
 
 
-def places(held):
+def places(harness):
     """Faults of each member of the document, and of an item of each list, with their places."""
     for place in ("options", "hosts", "services", "service_dependencies", "host_dependencies"):
-        refused(held, f"{place} of the wrong kind", f"L2 Shape {place}", **{place: 5})
+        check_refused(harness, f"{place} of the wrong kind", f"L2 Shape {place}", **{place: 5})
     for place in ("hosts", "services", "service_dependencies", "host_dependencies"):
-        refused(held, f"{place} with a number", f"L2 Shape {place} 0", **{place: [5]})
-    refused(held, "an unknown member", "L2 Shape document", unknown=5)
-    refused(held, "an unknown option", "L2 Shape options", options={"unknown": 5})
-    refused(held, "an option out of its limits", "L8 Range options", options={"interval_length": 0})
-    refused(held, "a host out of its limits", "L8 Range hosts 1", hosts=[host("a"), host("b", retry_interval=525_601)])
-    refused(held, "a service out of its limits", "L8 Range services 0", hosts=[host("a")], services=[service("a", "s", check_interval=525_601)])
+        check_refused(harness, f"{place} with a number", f"L2 Shape {place} 0", **{place: [5]})
+    check_refused(harness, "an unknown member", "L2 Shape document", unknown=5)
+    check_refused(harness, "an unknown option", "L2 Shape options", options={"unknown": 5})
+    check_refused(harness, "an option out of its limits", "L8 Range options", options={"interval_length": 0})
+    check_refused(harness, "a host out of its limits", "L8 Range hosts 1", hosts=[host("a"), host("b", retry_interval=525_601)])
+    check_refused(harness, "a service out of its limits", "L8 Range services 0", hosts=[host("a")], services=[service("a", "s", check_interval=525_601)])
 
 
-def run_file(held, front, byte, size, words=()):
+def run_file(harness, front, byte, size, arguments=()):
     """Runs, with these arguments, on a file of a prefix and copies of a byte. Also returns the number of its bytes that the program has read."""
     with tempfile.TemporaryFile() as file:
         file.write(front)
@@ -216,60 +216,60 @@ def run_file(held, front, byte, size, words=()):
             file.write(byte * min(left, 1 << 20))
         file.flush()
         os.lseek(file.fileno(), 0, os.SEEK_SET)
-        return *held.run(words, file.fileno()), os.lseek(file.fileno(), 0, os.SEEK_CUR)
+        return *harness.run(arguments, file.fileno()), os.lseek(file.fileno(), 0, os.SEEK_CUR)
 
 
-def long_inputs(held):
+def long_inputs(harness):
     """Inputs at the limits of bytes. At most one byte past the limit is read, and an endless input is refused."""
-    too_long = lines("refused S1 TooLong 0"), 1
-    held.compare("a document at its limit", (b"", 0, DOCUMENT), run_file(held, b"{}", b" ", DOCUMENT))
-    past = (lines("refused L12 TooLong"), 1, DOCUMENT + 1)
-    held.compare("a document past its limit", past, run_file(held, b"{}", b" ", DOCUMENT + 1))
-    held.compare("spaces past the limit", past, run_file(held, b"", b" ", DOCUMENT + 1))
+    too_long = input_lines("refused S1 TooLong 0"), 1
+    harness.compare("a document at its limit", (b"", 0, DOCUMENT), run_file(harness, b"{}", b" ", DOCUMENT))
+    past = (input_lines("refused L12 TooLong"), 1, DOCUMENT + 1)
+    harness.compare("a document past its limit", past, run_file(harness, b"{}", b" ", DOCUMENT + 1))
+    harness.compare("spaces past the limit", past, run_file(harness, b"", b" ", DOCUMENT + 1))
     checked = ["check", "--line"]
-    held.compare("a check at the limit", (lines("{}"), 0, DOCUMENT), run_file(held, b"{}", b" ", DOCUMENT, checked))
-    explained = lines("refused L12 TooLong", f"the document has more than {DOCUMENT} bytes")
-    held.compare("a check past the limit", (explained, 1, DOCUMENT + 1), run_file(held, b"{}", b" ", DOCUMENT + 1, checked))
-    held.compare("an input at its limit", (b"", 0, WHOLE_INPUT), run_file(held, b"{}", b"\n", WHOLE_INPUT))
-    held.compare("an input past its limit", (*too_long, WHOLE_INPUT + 1), run_file(held, b"{}", b"\n", WHOLE_INPUT + 1))
-    held.compare("an input far past its limit", (*too_long, WHOLE_INPUT + 1), run_file(held, b"{}", b"\n", WHOLE_INPUT + 5_000_000))
+    harness.compare("a check at the limit", (input_lines("{}"), 0, DOCUMENT), run_file(harness, b"{}", b" ", DOCUMENT, checked))
+    explained = input_lines("refused L12 TooLong", f"the document has more than {DOCUMENT} bytes")
+    harness.compare("a check past the limit", (explained, 1, DOCUMENT + 1), run_file(harness, b"{}", b" ", DOCUMENT + 1, checked))
+    harness.compare("an input at its limit", (b"", 0, WHOLE_INPUT), run_file(harness, b"{}", b"\n", WHOLE_INPUT))
+    harness.compare("an input past its limit", (*too_long, WHOLE_INPUT + 1), run_file(harness, b"{}", b"\n", WHOLE_INPUT + 1))
+    harness.compare("an input far past its limit", (*too_long, WHOLE_INPUT + 1), run_file(harness, b"{}", b"\n", WHOLE_INPUT + 5_000_000))
     late = b"{}" + b"\n" * 999_999 + b"5"
-    held.compare("a refusal of line 1,000,000", (lines("refused S3 Shape 1000000"), 1), held.run([], late))
+    harness.compare("a refusal of line 1,000,000", (input_lines("refused S3 Shape 1000000"), 1), harness.run([], late))
     with subprocess.Popen(["yes", "{}"], stdout=subprocess.PIPE, stderr=subprocess.DEVNULL) as endless:
-        held.compare("an input without an end", too_long, held.run([], endless.stdout.fileno()))
+        harness.compare("an input without an end", too_long, harness.run([], endless.stdout.fileno()))
         endless.stdout.close()
 
 
-def saved_states(held):
+def saved_states(harness):
     """Saved states at the limits of bytes and of objects, each in a run and in a check, and an input past its limit."""
     pending = {"attempt": 1, "check_interval": 300_000, "checked": False, "enabled": True, "enabled_in_setup": True, "flapping": "STEADY",
                "forced": False, "kind": "HARD", "last_hard_state": "UP", "max_check_attempts": 1, "next_check": 0, "results": "", "run": None,
                "state": "UP"}
     objects = [{**pending, "name": f"h{n}"} for n in range(4_097)]
     many = [json.dumps({"format": 1, "objects": objects[:count], "runs": 0, "start": 0}) for count in (4_096, 4_097)]
-    document = lines(setup(hosts=[host("h0")]))
-    whole = document + lines(many[0])
+    document = input_lines(setup(hosts=[host("h0")]))
+    whole = document + input_lines(many[0])
     past = len(document) + DOCUMENT + 1
     for what, front, byte, size, line, explanation in [
-        ("4,097 saved objects", document + lines(many[1]), b"", 0, "K5 TooMany", '"objects" has more than 4096 objects'),
+        ("4,097 saved objects", document + input_lines(many[1]), b"", 0, "K5 TooMany", '"objects" has more than 4096 objects'),
         ("a saved state past its limit", document, b" ", past, "K1 TooLong", f"the saved state has more than {DOCUMENT} bytes"),
         ("spaces up to the limit", document, b" ", past - 1, "K2 NotJson", "the saved state is no JSON"),
         ("lines past the limit", whole, b"\n", WHOLE_INPUT + 1, "S1 TooLong 0", f"the input has more than {WHOLE_INPUT} bytes"),
     ]:
         size = max(size, len(front))
-        held.compare(f"{what}, in a run", (lines(f"refused {line}"), 1, size), run_file(held, front, byte, size, ["run", "--resume"]))
-        held.compare(f"{what}, checked", (lines(f"refused {line}", explanation), 1, size), run_file(held, front, byte, size, ["check", "--resume"]))
+        harness.compare(f"{what}, in a run", (input_lines(f"refused {line}"), 1, size), run_file(harness, front, byte, size, ["run", "--resume"]))
+        harness.compare(f"{what}, checked", (input_lines(f"refused {line}", explanation), 1, size), run_file(harness, front, byte, size, ["check", "--resume"]))
     for what, front, byte, size in [
         ("a saved state at its limit", whole[:-1], b" ", past - 1),
         ("lines up to the limit", whole, b"\n", WHOLE_INPUT),
     ]:
-        held.compare(f"{what}, in a run", (b"", 0, size), run_file(held, front, byte, size, ["run", "--resume"]))
-        text, *ended = run_file(held, front, byte, size, ["check", "--resume"])
-        held.compare(f"{what}, checked", (["kept 1", "new 0", "dropped 4095", "given_up 0"], [0, size]), (text.decode().splitlines()[-4:], ended))
+        harness.compare(f"{what}, in a run", (b"", 0, size), run_file(harness, front, byte, size, ["run", "--resume"]))
+        text, *ended = run_file(harness, front, byte, size, ["check", "--resume"])
+        harness.compare(f"{what}, checked", (["kept 1", "new 0", "dropped 4095", "given_up 0"], [0, size]), (text.decode().splitlines()[-4:], ended))
 
 
-held = Held("limits")
+harness = Harness("limits")
 LISTS = (many_objects, long_names, many_parents, too_many, explained_at_limits, most_dependencies, long_chain, many_ways, long_cycles, last_of_many)
 for part in (*LISTS, many_calls, places, long_inputs, saved_states):
-    part(held)
-held.end()
+    part(harness)
+harness.end()

@@ -33,19 +33,19 @@ MEGABYTE = 1 << 20
 ADDRESSES = 64 * MEGABYTE
 
 
-def as_run(program):
+def run_differences(program):
     """The cases in which `live` writes something else than `run`."""
     for case in runs():
         ran = subprocess.run([program, "live", *case.arguments[1:]], input=case.given, capture_output=True, timeout=SECONDS)
         yield None if (ran.returncode, ran.stdout) == (0, case.wanted) else f"{case.name}: live writes {ran.stdout[:200]!r}"
 
 
-def talk(program, *words, **how):
+def start_live(program, *words, **how):
     """A conversation: the program, over two pipes."""
     return subprocess.Popen([program, "live", *words], **{"stdin": subprocess.PIPE, "stdout": subprocess.PIPE, "bufsize": 0, **how})
 
 
-def send(live, rest):
+def send_all(live, rest):
     """Sends all of it."""
     rest = memoryview(rest)
     while rest:
@@ -59,7 +59,7 @@ def answers_to(live, pieces):
     reading.start()
     try:
         for piece in pieces:
-            send(live, piece)
+            send_all(live, piece)
     except BrokenPipeError:
         pass
     live.stdin.close()
@@ -67,14 +67,14 @@ def answers_to(live, pieces):
     return b"".join(answers), live.wait(SECONDS)
 
 
-def told(what, wanted, came):
+def difference(what, wanted, came):
     """A line about a difference from the wanted output, shortened, or nothing."""
     return None if came == wanted else f"{what}: wanted {repr(wanted)[:200]}, came {repr(came)[:200]}"
 
 
 def line_by_line(program):
     """Each answer comes before the next line is sent."""
-    with talk(program) as live:
+    with start_live(program) as live:
         live.stdin.write(SETUP)
         for number in range(200):
             live.stdin.write(b"nope\n" if number % 3 == 2 else TAKE)
@@ -92,34 +92,34 @@ def line_by_line(program):
 
 def all_at_once(program, count):
     """This many lines at once, while a thread reads."""
-    with talk(program) as live:
-        return told(f"{count} lines", (TAKEN + IDLE * (count - 1), 0), answers_to(live, [SETUP, TAKE * count]))
+    with start_live(program) as live:
+        return difference(f"{count} lines", (TAKEN + IDLE * (count - 1), 0), answers_to(live, [SETUP, TAKE * count]))
 
 
-def unread(live):
+def unread_bytes(live):
     """The number of bytes that wait in the program's input."""
     return struct.unpack("i", fcntl.ioctl(live.stdin.fileno(), termios.FIONREAD, b"\0" * 4))[0]
 
 
 def byte_by_byte(program):
     """A setup of 3,000 bytes, and then a line of 3,000, each byte sent when the one before was read."""
-    with talk(program) as live:
+    with start_live(program) as live:
         spaces = b" " * (3_000 - len(SETUP))
         line = TAKE.replace(b",", b"," + b" " * (3_000 - len(TAKE)))
         deadline = time.monotonic() + SECONDS
         for byte in SETUP[:-1] + spaces + b"\n" + line:
-            while unread(live) and time.monotonic() < deadline:
+            while unread_bytes(live) and time.monotonic() < deadline:
                 time.sleep(0)
-            send(live, bytes([byte]))
-        return told("bytes one at a time", (TAKEN, 0), answers_to(live, []))
+            send_all(live, bytes([byte]))
+        return difference("bytes one at a time", (TAKEN, 0), answers_to(live, []))
 
 
 def long_setup(program):
     """A setup of the most bytes that are allowed, and one of one byte more, which is refused before its line ends."""
     for size, wanted in {DOCUMENT: (TAKEN, 0), DOCUMENT + 1: (b"refused L12 TooLong\n", 1)}.items():
-        with talk(program) as live:
+        with start_live(program) as live:
             behind = [b"\n", TAKE] if size == DOCUMENT else []
-            wrong = told(f"a setup of {size} bytes", wanted, answers_to(live, [SETUP[:-1].ljust(size), *behind]))
+            wrong = difference(f"a setup of {size} bytes", wanted, answers_to(live, [SETUP[:-1].ljust(size), *behind]))
             if wrong:
                 return wrong
     return None
@@ -129,7 +129,7 @@ def while_open(live, pieces):
     """The answers to these pieces, and the end of the conversation, while its input stays open."""
     try:
         for piece in pieces:
-            send(live, piece)
+            send_all(live, piece)
     except BrokenPipeError:
         pass
     try:
@@ -149,34 +149,34 @@ def refused_state(program):
         (SETUP, b"x" * DOCUMENT, b"\n"): b"refused K2 NotJson\n",
         (SETUP, b"x" * DOCUMENT, b"x"): b"refused K1 TooLong\n",
     }.items():
-        with talk(program, "--resume") as live:
-            wrong = told(f"the saved state {pieces[1][:20]!r} ..", (wanted, 1), while_open(live, pieces))
+        with start_live(program, "--resume") as live:
+            wrong = difference(f"the saved state {pieces[1][:20]!r} ..", (wanted, 1), while_open(live, pieces))
             if wrong:
                 return wrong
     return None
 
 
-def few_addresses():
+def limit_memory():
     """Limits the program's memory, used or not."""
     resource.setrlimit(resource.RLIMIT_AS, (ADDRESSES, ADDRESSES))
 
 
 def long_line(program):
     """A line of 70 MB is refused, and the next one answered, by a program with 64 MB of address space."""
-    with talk(program, preexec_fn=few_addresses) as live:
+    with start_live(program, preexec_fn=limit_memory) as live:
         pieces = [SETUP, *[b"x" * MEGABYTE] * (LONG_LINE // MEGABYTE), b"x" * (LONG_LINE % MEGABYTE), b"\n", TAKE]
-        return told("a line of 70 MB", (b"refused S1 TooLong 2\n" + TAKEN, 0), answers_to(live, pieces))
+        return difference("a line of 70 MB", (b"refused S1 TooLong 2\n" + TAKEN, 0), answers_to(live, pieces))
 
 
-def most_memory(live):
+def peak_memory(live):
     """The most bytes of memory that a program had."""
     text = pathlib.Path(f"/proc/{live.pid}/status").read_text(encoding="utf-8")
     return int(re.search(r"VmHWM:\s+(\d+) kB", text)[1]) * 1024
 
 
-def answered(live, lines, wanted):
+def are_answered(live, lines, wanted):
     """Sends lines while the wanted number of answers is read, and returns whether those came."""
-    sending = threading.Thread(target=send, args=(live, lines))
+    sending = threading.Thread(target=send_all, args=(live, lines))
     sending.start()
     came = bytearray()
     while len(came) < len(wanted):
@@ -189,21 +189,21 @@ def answered(live, lines, wanted):
 
 def million_lines(program):
     """The memory after a million lines is the same as after a thousand."""
-    with talk(program) as live:
-        send(live, SETUP)
-        came = answered(live, TAKE * 1_000, TAKEN + IDLE * 999)
-        before = most_memory(live)
-        came = came and answered(live, TAKE * 999_000, IDLE * 999_000)
-        grown = most_memory(live) - before
+    with start_live(program) as live:
+        send_all(live, SETUP)
+        came = are_answered(live, TAKE * 1_000, TAKEN + IDLE * 999)
+        before = peak_memory(live)
+        came = came and are_answered(live, TAKE * 999_000, IDLE * 999_000)
+        grown = peak_memory(live) - before
         live.stdin.close()
         if not came or live.wait(SECONDS):
             return "a million lines are answered otherwise"
         return None if grown < MEGABYTE else f"a million lines leave {grown} bytes more"
 
 
-def torn(program):
+def closed_reader(program):
     """The reader of the answers goes away."""
-    with talk(program) as live:
+    with start_live(program) as live:
         live.stdin.write(SETUP)
         live.stdout.close()
         try:
@@ -215,11 +215,11 @@ def torn(program):
         return None if live.wait(SECONDS) == 3 else f"a torn pipe ends in status {live.returncode}"
 
 
-def full(program):
+def full_device(program):
     """Nothing can be written: the conversation ends while its input continues."""
     for given in (SETUP + TAKE, b"{\n"):
-        with open("/dev/full", "wb") as device, talk(program, stdout=device) as live:
-            send(live, given)
+        with open("/dev/full", "wb") as device, start_live(program, stdout=device) as live:
+            send_all(live, given)
             try:
                 status = live.wait(SECONDS)
             except subprocess.TimeoutExpired:
@@ -232,8 +232,8 @@ def full(program):
 
 def main():
     program = str(pathlib.Path(sys.argv[1]).resolve())
-    faults = [*as_run(program), all_at_once(program, 70_000), all_at_once(program, 200_000)]
-    faults += [part(program) for part in (line_by_line, byte_by_byte, long_setup, refused_state, long_line, million_lines, torn, full)]
+    faults = [*run_differences(program), all_at_once(program, 70_000), all_at_once(program, 200_000)]
+    faults += [part(program) for part in (line_by_line, byte_by_byte, long_setup, refused_state, long_line, million_lines, closed_reader, full_device)]
     wrong = [fault for fault in faults if fault is not None]
     for fault in wrong:
         print(f"live: {fault}")

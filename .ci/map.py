@@ -29,7 +29,7 @@ def definitions(file, crate):
     return ", ".join(name for name in sorted(set(cited)) if (TOP / f"crates/{crate}/specs/{name}.antt").exists())
 
 
-def rows(crate):
+def crate_rows(crate):
     """A crate's lines: its sources with their definitions, and then the definitions."""
     folder = TOP / "crates" / crate
     for file in sorted(folder.glob("src/**/*.rt")):
@@ -42,7 +42,7 @@ def rows(crate):
             yield f"  {file.relative_to(folder)}: {said}"
 
 
-def root(crate):
+def root_file(crate):
     """The root file of a crate."""
     source = TOP / "crates" / crate / "src"
     return next(file for file in (source / "lib.rt", source / "main.rt") if file.exists())
@@ -51,14 +51,14 @@ def root(crate):
 def main():
     crates = re.findall(r"^\w+", (TOP / "crates.txt").read_text(encoding="utf-8"), re.MULTILINE)
     if sys.argv[1:] == ["--crates"]:
-        print("\n".join(f"{crate}: {first_sentence(root(crate))}" for crate in crates))
+        print("\n".join(f"{crate}: {first_sentence(root_file(crate))}" for crate in crates))
         return 0
     unknown = [name for name in sys.argv[1:] if name not in crates]
     if unknown:
         print(f"map: crates.txt has no crate {unknown[0]}")
         return 1
     for crate in sys.argv[1:] or crates:
-        print("\n".join([crate, *rows(crate)]))
+        print("\n".join([crate, *crate_rows(crate)]))
     return 0
 
 

@@ -26,7 +26,7 @@ COMMANDS = {"gateway": "true", "gateway;web page": "exit 2"}
 PLUGIN = "#!/bin/sh\nexit 0\n"
 
 
-def loop(program):
+def loop_output(program):
     """The lines of the loop, over two seconds."""
     with tempfile.TemporaryDirectory() as folder:
         setup, commands = pathlib.Path(folder, "setup.json"), pathlib.Path(folder, "commands.json")
@@ -36,7 +36,7 @@ def loop(program):
     return [line.split(" ", 1)[1] for line in ran.stdout.splitlines()]
 
 
-def site(program):
+def site_output(program):
     """The monitor's output about a site made from Nagios's own files, in which plugins replace those that the files name."""
     with tempfile.TemporaryDirectory() as folder:
         work = pathlib.Path(folder)
@@ -53,7 +53,7 @@ def site(program):
         return made.returncode, tested.stdout, tested.stderr
 
 
-def complaints():
+def mypy_report():
     """mypy's report about the monitor, from_nagios.py, the Python module and its loop; nothing if mypy isn't installed."""
     if not shutil.which("mypy"):
         print("monitor: passed over what mypy says of the types, which isn't here")
@@ -67,7 +67,7 @@ def complaints():
     return told
 
 
-def tests_of(module):
+def run_tests(module):
     """The number of a module's tests that passed, and of those that failed, whose output is printed. Skipped tests are named, and count as neither."""
     ran = subprocess.run([sys.executable, "-m", "unittest", "-v", f"tests.{module}"], cwd=TOP / "monitor", stdout=subprocess.PIPE, stderr=subprocess.STDOUT, text=True)
     count = int((re.search(r"^Ran (\d+) tests?", ran.stdout, re.MULTILINE) or [0, "0"])[1])
@@ -89,12 +89,12 @@ def main():
     os.environ["NAGSCHED_RUNNER"] = str(TOP / "monitor/out/nagsched-runner")
     modules = sorted(file.stem for file in (TOP / "monitor/tests").glob("test_*.py"))
     with ThreadPoolExecutor(os.cpu_count()) as several:
-        counts = list(several.map(tests_of, modules))
+        counts = list(several.map(run_tests, modules))
     passed, wrong = sum(count[0] for count in counts), sum(count[1] for count in counts)
     for what, wanted, came in (
-        ("the loop", ["gateway;web page is CRITICAL SOFT 1"], [line for line in loop(program) if "SOFT 1" in line]),
-        ("types", "", complaints()),
-        ("a site of Nagios's files", (0, "15 objects, 1 parts\n", ""), site(program)),
+        ("the loop", ["gateway;web page is CRITICAL SOFT 1"], [line for line in loop_output(program) if "SOFT 1" in line]),
+        ("types", "", mypy_report()),
+        ("a site of Nagios's files", (0, "15 objects, 1 parts\n", ""), site_output(program)),
     ):
         if came == wanted:
             passed += 1

@@ -41,13 +41,13 @@ def words_of(all_files):
     return words
 
 
-def told(page):
+def quoted_names(page):
     """The texts between backticks on a page, without its code blocks."""
     text = re.sub(r"^```.*?^```", "", page.read_text(encoding="utf-8"), flags=re.MULTILINE | re.DOTALL)
     return re.findall(r"`([^`\n]+)`", text)
 
 
-def missing(name, all_files, words):
+def is_missing(name, all_files, words):
     """Whether this looks like a name, and doesn't exist."""
     if name in OF_OTHERS or name in OF_A_SITE:
         return False
@@ -61,8 +61,8 @@ def missing(name, all_files, words):
 def main():
     all_files = files()
     words = words_of(all_files)
-    names = [(page, name) for page in PAGES for name in told(page)]
-    wrong = sorted({f"{page.relative_to(TOP)}: {name}" for page, name in names if missing(name, all_files, words)})
+    names = [(page, name) for page in PAGES for name in quoted_names(page)]
+    wrong = sorted({f"{page.relative_to(TOP)}: {name}" for page, name in names if is_missing(name, all_files, words)})
     for line in wrong:
         print(f"names: {line} isn't there")
     print(f"names: {len(names)} looked up\nnames: {0 if wrong else 1} passed, {len(wrong)} failed")

@@ -27,7 +27,7 @@ checked = 0
 wrong = []
 
 
-def output(lines, *words):
+def program_output(lines, *words):
     """The program's output for these lines."""
     text = "".join(line + "\n" for line in lines)
     return subprocess.run([PROGRAM, *words], input=text.encode(), stdout=subprocess.PIPE).stdout.decode()
@@ -45,7 +45,7 @@ def on_one_line(block):
     return " ".join(line.strip() for line in block.splitlines()).strip()
 
 
-def answered(block):
+def commands_and_answers(block):
     """The commands of a block that shows each with its answer, and the answers."""
     pairs = [re.split(r"\s{2,}", line.strip(), maxsplit=1) for line in block.splitlines()]
     return [pair[0] for pair in pairs], [pair[1] for pair in pairs]
@@ -53,25 +53,25 @@ def answered(block):
 
 def answers(examples):
     """A whole setup, and calls over it with their answers."""
-    calls, told = answered(examples["answers"])
-    return "".join(line + "\n" for line in told), output([on_one_line(examples["whole-setup"]), *calls])
+    calls, told = commands_and_answers(examples["answers"])
+    return "".join(line + "\n" for line in told), program_output([on_one_line(examples["whole-setup"]), *calls])
 
 
 def conversation(examples):
     """The input and the answers of `nagsched live`, in one block."""
     lines = examples["conversation"].splitlines()[1:]
     typed = [line for line in lines if line.startswith(("{", "["))]
-    return [line for line in lines if line not in typed], output(typed, "live").splitlines()
+    return [line for line in lines if line not in typed], program_output(typed, "live").splitlines()
 
 
 # For each example, the names that it uses, and the function that returns the wanted and the written text.
 EXAMPLES = {
     ("whole-setup", "answers"): answers,
     ("conversation",): conversation,
-    ("figures",): lambda ex: (ex["figures"], output([on_one_line(ex["whole-setup"])], "check", "--start", "1000")),
-    ("drill-input", "drill-output"): lambda ex: (ex["drill-output"], output(ex["drill-input"].splitlines(), "drill", "--workers", "1")),
-    ("live-input", "live-output"): lambda ex: (ex["live-output"], output(ex["live-input"].splitlines(), "live")),
-    ("save-input", "save-output"): lambda ex: (ex["save-output"], output(ex["save-input"].splitlines())),
+    ("figures",): lambda ex: (ex["figures"], program_output([on_one_line(ex["whole-setup"])], "check", "--start", "1000")),
+    ("drill-input", "drill-output"): lambda ex: (ex["drill-output"], program_output(ex["drill-input"].splitlines(), "drill", "--workers", "1")),
+    ("live-input", "live-output"): lambda ex: (ex["live-output"], program_output(ex["live-input"].splitlines(), "live")),
+    ("save-input", "save-output"): lambda ex: (ex["save-output"], program_output(ex["save-input"].splitlines())),
 }
 
 
@@ -84,16 +84,16 @@ def run_examples():
             compare(f"example {' '.join(names)}", *pair(examples))
 
 
-def told(text):
+def printed_refusals(text):
     """Each refusal and each explanation that a page prints after its input: `INPUT`: `LINE`."""
     for given, line in re.findall(r"`([\[{][^`]*)`: `([^`]*)`", text):
         if line.startswith("refused "):
-            compare(f"a refusal: {given}", line + "\n", output([given] if given.startswith("{") else [HOST, given]))
+            compare(f"a refusal: {given}", line + "\n", program_output([given] if given.startswith("{") else [HOST, given]))
         else:
-            compare(f"an explanation: {given}", line + "\n", output([given], "check").partition("\n")[2])
+            compare(f"an explanation: {given}", line + "\n", program_output([given], "check").partition("\n")[2])
 
 
-def helped(text):
+def compare_help(text):
     """The commands that a page lists in a table after the anchor `commands` are those of the help."""
     table = text.partition("<!-- commands -->")[2]
     if not table:
@@ -101,19 +101,19 @@ def helped(text):
     listed = re.findall(r'^\| `(\["\w+"[^`]*\])` \|', table, re.M)
     of_drill = [command for command in listed if command.startswith(('["plugin"', '["moment"'))]
     for subcommand, wanted in (("run", [command for command in listed if command not in of_drill]), ("drill", of_drill)):
-        compare(f"the commands in the help of {subcommand}", wanted, re.findall(r"^  (\[\S+\])", output([], subcommand, "--help"), re.M))
+        compare(f"the commands in the help of {subcommand}", wanted, re.findall(r"^  (\[\S+\])", program_output([], subcommand, "--help"), re.M))
 
 
-def explained(text):
+def compare_explanations(text):
     """The refusals and explanations of a table after the anchor `explained` are the two lines that cases expect."""
     expected = {tuple(file.read_text(encoding="utf-8").splitlines()) for folder in ("explained", "checks") for file in (TOP / "conformance" / folder).glob("*.stdout")}
     for refusal, explanation in re.findall(r"^\| `(refused [^`]*)` \|[^|]*\| `([^`]*)` \|$", text.partition("<!-- explained -->")[2].split("\n\n")[0], re.M):
         compare(f"an explanation that a case expects: {explanation}", True, (refusal, explanation) in expected)
 
 
-def code():
+def compare_code():
     """Code that a page shows is in its file as it is, apart from the indentation."""
-    for page, name, block in anchors.anchored("from"):
+    for page, name, block in anchors.anchored_blocks("from"):
         file = TOP / name
         whole = file.read_text(encoding="utf-8") if file.is_file() else ""
         parts = [part.strip("\n") for part in re.split(r"^\s*(?://|#) \.\.\n", block, flags=re.M)]
@@ -134,7 +134,7 @@ def signatures():
     return found
 
 
-def methods(page):
+def compare_methods(page):
     """The methods that the page on Python names with parameters have these parameters."""
     known = signatures()
     for name, parameters in re.findall(r"`(\w+)\(([^`]*)\)`", anchors.text_of(page)):
@@ -144,15 +144,15 @@ def methods(page):
 
 def main():
     run_examples()
-    methods(TOP / "docs/embedding-python.md")
+    compare_methods(TOP / "docs/embedding-python.md")
     for page in anchors.PAGES:
         text = anchors.text_of(page)
-        told(text)
-        helped(text)
-        explained(text)
-        compare(f"{anchors.name_of(page)}: generated text (run .ci/generated.py)", generated.generated(text), text)
+        printed_refusals(text)
+        compare_help(text)
+        compare_explanations(text)
+        compare(f"{anchors.name_of(page)}: generated text (run .ci/generated.py)", generated.page_with_generated_text(text), text)
     compare("the pages list the commands", 1, sum("<!-- commands -->" in anchors.text_of(page) for page in anchors.PAGES))
-    code()
+    compare_code()
     if shutil.which("rt"):
         kit = subprocess.run(["rt", "version"], stdout=subprocess.PIPE, text=True).stdout.strip()
         compare("the kit's version on README", True, f"`{kit}`" in anchors.text_of(TOP / "README.md"))

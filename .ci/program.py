@@ -18,7 +18,7 @@ SERVICE = (
 )
 
 
-class Held:
+class Harness:
     """Runs a program, counts each comparison, and prints the differences."""
 
     def __init__(self, part):
@@ -29,11 +29,11 @@ class Held:
             self.compare("the program", "there", "not there")
             self.end()
 
-    def run(self, words, given, **how):
+    def run(self, arguments, given, **how):
         """The program's output on an input, and its exit status. The input is bytes, or a file's number."""
         how |= {"input": given} if isinstance(given, bytes) else {"stdin": given}
         try:
-            ran = subprocess.run([self.program, *words], stdout=subprocess.PIPE, timeout=SECONDS, **how)
+            ran = subprocess.run([self.program, *arguments], stdout=subprocess.PIPE, timeout=SECONDS, **how)
         except subprocess.TimeoutExpired:
             return f"not ended after {SECONDS} seconds", None
         return ran.stdout, ran.returncode
@@ -44,7 +44,7 @@ class Held:
             self.passed += 1
         else:
             self.failed += 1
-            print(f"{self.part}: {what}: wanted {shortened(wanted)}, came {shortened(came)}")
+            print(f"{self.part}: {what}: wanted {short_text(wanted)}, came {short_text(came)}")
 
     def end(self):
         """Prints the counts as the last line, and ends."""
@@ -52,12 +52,12 @@ class Held:
         sys.exit(1 if self.failed or not self.passed else 0)
 
 
-def shortened(value):
+def short_text(value):
     """A value as it is printed; a long text is cut."""
     told = repr(value)
     return told if len(told) <= 300 else f"{told[:200]} .. {told[-80:]}"
 
 
-def lines(*commands):
+def input_lines(*commands):
     """An input's lines, each with its line feed."""
     return "".join(f"{command}\n" for command in commands).encode()

@@ -28,7 +28,7 @@ class Case(NamedTuple):
     """An input that `run` accepts: its name, the arguments after `run`, its lines, and its output."""
 
     name: str
-    words: list[str]
+    arguments: list[str]
     lines: list[bytes]
     wanted: bytes
 
@@ -48,20 +48,20 @@ def cuts(case: Case) -> list[int]:
     return calls[::step]
 
 
-def run(program: str, words: list[str], lines: list[bytes]) -> Optional[bytes]:
+def program_output(program: str, arguments: list[str], lines: list[bytes]) -> Optional[bytes]:
     """The program's output, if it ends in 0."""
-    ran = subprocess.run([program, *words], input=b"\n".join(lines), capture_output=True, timeout=SECONDS)
+    ran = subprocess.run([program, *arguments], input=b"\n".join(lines), capture_output=True, timeout=SECONDS)
     return ran.stdout if ran.returncode == 0 else None
 
 
 def fault_at(program: str, case: Case, cut: int, subcommand: str) -> Optional[str]:
     """How a case that is cut there differs from the whole, or nothing."""
-    before = run(program, [subcommand, *case.words], [*case.lines[:cut], b'["save"]'])
+    before = program_output(program, [subcommand, *case.arguments], [*case.lines[:cut], b'["save"]'])
     answers = before.splitlines(keepends=True) if before else [b""]
     if not answers[-1].startswith(b"saved "):
         return f"{case.name}: cut at line {cut}, {subcommand} saves nothing"
     saved = answers[-1].rstrip(b"\n").removeprefix(b"saved ")
-    behind = run(program, [subcommand, "--resume"], [case.lines[0], saved, *case.lines[cut:]])
+    behind = program_output(program, [subcommand, "--resume"], [case.lines[0], saved, *case.lines[cut:]])
     if behind is None or b"".join(answers[:-1]) + behind != case.wanted:
         return f"{case.name}: cut at line {cut}, {subcommand} goes on otherwise"
     return None

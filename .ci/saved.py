@@ -42,14 +42,14 @@ class Answer(NamedTuple):
     status: int
 
 
-def asked(program: str, state: str, behind: list[str], word: str = "run", setup: State = SETUP) -> Answer:
+def answer_after(program: str, state: str, behind: list[str], word: str = "run", setup: State = SETUP) -> Answer:
     """The program's answers after a state."""
     given = "\n".join([json.dumps(setup), state, *behind, ""]).encode(errors="surrogateescape")
     ran = subprocess.run([program, word, "--resume"], input=given, stdout=subprocess.PIPE, stderr=subprocess.PIPE, timeout=SECONDS, check=False)
     return Answer(ran.stdout.decode(errors="replace"), ran.returncode)
 
 
-def saved(program: str, setup: State, commands: list[str]) -> str:
+def saved_state(program: str, setup: State, commands: list[str]) -> str:
     """The state after these commands."""
     given = "\n".join([json.dumps(setup), *commands, ""]).encode()
     ran = subprocess.run([program, "run"], input=given, stdout=subprocess.PIPE, timeout=SECONDS, check=True)
@@ -66,67 +66,67 @@ class Fault(NamedTuple):
     line: str
 
 
-def put(**members: Any) -> Callable[[State], Any]:
+def with_members(**members: Any) -> Callable[[State], Any]:
     """Sets members of the whole."""
     return lambda state: state.update(members)
 
 
-def at(index: int, **members: Any) -> Callable[[State], Any]:
+def with_object_members(index: int, **members: Any) -> Callable[[State], Any]:
     """Sets members of an object."""
     return lambda state: state["objects"][index].update(members)
 
 
-def without(index: int, member: str) -> Callable[[State], Any]:
+def without_member(index: int, member: str) -> Callable[[State], Any]:
     """Drops a member of an object."""
     return lambda state: state["objects"][index].pop(member)
 
 
-def both(*changes: Callable[[State], Any]) -> Callable[[State], Any]:
+def with_all(*changes: Callable[[State], Any]) -> Callable[[State], Any]:
     """Makes several changes."""
     return lambda state: [change(state) for change in changes]
 
 
-def limits() -> Iterator[Fault]:
+def limit_faults() -> Iterator[Fault]:
     """Each number at its limits, and one past them."""
     for member, most in (("start", LAST_MOMENT), ("runs", LAST_MOMENT)):
-        yield Fault(put(**{member: most}), "")
-        yield Fault(put(**{member: most + 1}), "refused K8 Range")
-    yield Fault(at(0, next_check=LAST_TIME), "")
-    yield Fault(at(0, next_check=LAST_TIME + 1), "refused K8 Range 0")
-    yield Fault(at(1, run={"number": 2, "start": LAST_MOMENT}), "")
-    yield Fault(at(1, run={"number": 2, "start": LAST_MOMENT + 1}), "refused K8 Range 1")
+        yield Fault(with_members(**{member: most}), "")
+        yield Fault(with_members(**{member: most + 1}), "refused K8 Range")
+    yield Fault(with_object_members(0, next_check=LAST_TIME), "")
+    yield Fault(with_object_members(0, next_check=LAST_TIME + 1), "refused K8 Range 0")
+    yield Fault(with_object_members(1, run={"number": 2, "start": LAST_MOMENT}), "")
+    yield Fault(with_object_members(1, run={"number": 2, "start": LAST_MOMENT + 1}), "refused K8 Range 1")
     for member in ("attempt", "max_check_attempts"):
-        yield Fault(at(2, **{member: 0}), "refused K8 Range 2")
-        yield Fault(at(2, **{member: 256}), "refused K8 Range 2")
-    yield Fault(at(2, max_check_attempts=255), "")
-    yield Fault(at(0, results="d" * 21), "")
-    yield Fault(at(0, results="d" * 22), "refused K9 Unlawful 0")
+        yield Fault(with_object_members(2, **{member: 0}), "refused K8 Range 2")
+        yield Fault(with_object_members(2, **{member: 256}), "refused K8 Range 2")
+    yield Fault(with_object_members(2, max_check_attempts=255), "")
+    yield Fault(with_object_members(0, results="d" * 21), "")
+    yield Fault(with_object_members(0, results="d" * 22), "refused K9 Unlawful 0")
     for name, line in (("n" * 255, ""), ("n" * 256, "refused K6 BadName 0"), ("n" * 255 + ";" + "d" * 255, "refused K9 Unlawful 0"),
                        ("n" * 255 + ";" + "d" * 256, "refused K6 BadName 0"), ("", "refused K6 BadName 0"), (";d", "refused K6 BadName 0"),
                        ("n;", "refused K6 BadName 0"), ("n;d;e", "refused K6 BadName 0"), ("a\tb", "refused K6 BadName 0"), ("a\x7fb", "refused K6 BadName 0")):
-        yield Fault(at(0, name=name), line)
+        yield Fault(with_object_members(0, name=name), line)
 
 
-def shapes(state: State) -> Iterator[Fault]:
+def shape_faults(state: State) -> Iterator[Fault]:
     """Each member without its value, with one of another kind, and one more."""
     for member in state:
         yield Fault(lambda state, member=member: state.pop(member), "refused K4 Shape")
-        yield Fault(put(**{member: True}), "refused K4 Shape")
+        yield Fault(with_members(**{member: True}), "refused K4 Shape")
     for member in state["objects"][1]:
-        yield Fault(without(1, member), "refused K4 Shape 1")
-        yield Fault(at(1, **{member: []}), "refused K4 Shape 1")
+        yield Fault(without_member(1, member), "refused K4 Shape 1")
+        yield Fault(with_object_members(1, **{member: []}), "refused K4 Shape 1")
     for member in ("number", "start"):
         yield Fault(lambda state, member=member: state["objects"][1]["run"].pop(member), "refused K4 Shape 1")
-    yield Fault(put(more=1), "refused K4 Shape")
-    yield Fault(at(0, more=1), "refused K4 Shape 0")
-    yield Fault(at(0, state="PENDING"), "refused K4 Shape 0")
-    yield Fault(at(0, results="dx"), "refused K4 Shape 0")
-    yield Fault(at(0, kind="soft"), "refused K4 Shape 0")
-    yield Fault(at(0, attempt=1.0), "refused K4 Shape 0")
+    yield Fault(with_members(more=1), "refused K4 Shape")
+    yield Fault(with_object_members(0, more=1), "refused K4 Shape 0")
+    yield Fault(with_object_members(0, state="PENDING"), "refused K4 Shape 0")
+    yield Fault(with_object_members(0, results="dx"), "refused K4 Shape 0")
+    yield Fault(with_object_members(0, kind="soft"), "refused K4 Shape 0")
+    yield Fault(with_object_members(0, attempt=1.0), "refused K4 Shape 0")
     yield Fault(lambda state: state["objects"].__setitem__(2, 5), "refused K4 Shape 2")
 
 
-def unlawful() -> Iterator[Fault]:
+def unlawful_states() -> Iterator[Fault]:
     """States that no scheduler can have."""
     changes = {
         0: [{"state": "OK"}, {"last_hard_state": "OK"}, {"results": "w"}, {"attempt": 3}, {"kind": "HARD"}, {"checked": False},
@@ -136,10 +136,10 @@ def unlawful() -> Iterator[Fault]:
     }
     for index, each in changes.items():
         for members in each:
-            yield Fault(at(index, **members), f"refused K9 Unlawful {index}")
+            yield Fault(with_object_members(index, **members), f"refused K9 Unlawful {index}")
 
 
-def standings() -> Iterator[Fault]:
+def standing_faults() -> Iterator[Fault]:
     """Facts of a host with a maximum of 3 attempts that are possible, and ones that aren't."""
     for state, kind, attempt, last, is_lawful_one in [
         ("DOWN", "SOFT", 2, "UP", True), ("DOWN", "SOFT", 3, "UP", False), ("DOWN", "SOFT", 1, "DOWN", False), ("DOWN", "HARD", 3, "DOWN", True),
@@ -147,53 +147,53 @@ def standings() -> Iterator[Fault]:
         ("UP", "HARD", 1, "UP", True), ("UP", "HARD", 1, "DOWN", False),
     ]:
         line = "" if is_lawful_one else "refused K9 Unlawful 0"
-        yield Fault(at(0, state=state, kind=kind, attempt=attempt, last_hard_state=last), line)
+        yield Fault(with_object_members(0, state=state, kind=kind, attempt=attempt, last_hard_state=last), line)
 
 
-def orders() -> Iterator[Fault]:
+def order_faults() -> Iterator[Fault]:
     """Two faults: the one that is tested first is reported, and of one test the first object."""
-    faults = [(put(format=2), "refused K3 Version"), (at(2, state=1), "refused K4 Shape 2"), (at(2, name=""), "refused K6 BadName 2"),
-              (at(1, name="h"), "refused K7 Duplicate 1"), (at(0, attempt=0), "refused K8 Range 0"), (at(0, state="OK"), "refused K9 Unlawful 0")]
+    faults = [(with_members(format=2), "refused K3 Version"), (with_object_members(2, state=1), "refused K4 Shape 2"), (with_object_members(2, name=""), "refused K6 BadName 2"),
+              (with_object_members(1, name="h"), "refused K7 Duplicate 1"), (with_object_members(0, attempt=0), "refused K8 Range 0"), (with_object_members(0, state="OK"), "refused K9 Unlawful 0")]
     for place, (first, line) in enumerate(faults):
         for later, _ in faults[place + 1 :]:
-            yield Fault(both(later, first) if line != "refused K7 Duplicate 1" else both(first, later), line)
-    yield Fault(both(at(0, name=""), at(1, name="")), "refused K6 BadName 0")
-    yield Fault(put(format=1.0), "refused K4 Shape")
-    yield Fault(put(format="1"), "refused K4 Shape")
+            yield Fault(with_all(later, first) if line != "refused K7 Duplicate 1" else with_all(first, later), line)
+    yield Fault(with_all(with_object_members(0, name=""), with_object_members(1, name="")), "refused K6 BadName 0")
+    yield Fault(with_members(format=1.0), "refused K4 Shape")
+    yield Fault(with_members(format="1"), "refused K4 Shape")
 
 
-def refusals(program: str, text: str) -> Iterator[tuple[str, bool]]:
+def refusal_results(program: str, text: str) -> Iterator[tuple[str, bool]]:
     """Each refusal, by `run` and by `live`."""
     state = json.loads(text)
-    for number, fault in enumerate([*limits(), *shapes(state), *unlawful(), *standings(), *orders()]):
+    for number, fault in enumerate([*limit_faults(), *shape_faults(state), *unlawful_states(), *standing_faults(), *order_faults()]):
         changed = copy.deepcopy(state)
         fault.change(changed)
         line = json.dumps(changed, ensure_ascii=False)
         wanted = Answer(fault.line + "\n", 1) if fault.line else Answer("", 0)
         for word in ("run", "live"):
-            answer = asked(program, line, [], word)
+            answer = answer_after(program, line, [], word)
             yield f"{word}, change {number} of a state: wanted {wanted}, came {answer}", answer == wanted
 
 
 # ---- sizes
 
 
-def sizes(program: str, text: str) -> Iterator[tuple[str, bool]]:
+def size_results(program: str, text: str) -> Iterator[tuple[str, bool]]:
     """States at the limit of bytes and of objects."""
     padded = text + " " * (MOST_BYTES - len(text.encode()))
-    yield "16 MiB", asked(program, padded, []) == Answer("", 0)
-    yield "16 MiB and a byte", asked(program, padded + " ", []) == Answer("refused K1 TooLong\n", 1)
-    yield "nothing", asked(program, "", ['["take",0]']) == Answer("refused K2 NotJson\n", 1)
-    yield "a refused setup comes first", asked(program, "", [], setup={"hots": []}) == Answer("refused L2 Shape document\n", 1)
+    yield "16 MiB", answer_after(program, padded, []) == Answer("", 0)
+    yield "16 MiB and a byte", answer_after(program, padded + " ", []) == Answer("refused K1 TooLong\n", 1)
+    yield "nothing", answer_after(program, "", ['["take",0]']) == Answer("refused K2 NotJson\n", 1)
+    yield "a refused setup comes first", answer_after(program, "", [], setup={"hots": []}) == Answer("refused L2 Shape document\n", 1)
     hosts = [{"name": f"host-{number:024}", "max_check_attempts": 1 + number % 5} for number in range(MOST_OBJECTS)]
     results = [line for number in range(200) for line in ('["take",0]', f'["report","host-{number:024}",{number + 1},{number % 3}]')]
     setup = {"options": {"host_inter_check_delay_method": "n"}, "hosts": hosts}
-    many = saved(program, setup, [*results, '["save"]'])
-    again = asked(program, many, ['["save"]'], setup=setup)
+    many = saved_state(program, setup, [*results, '["save"]'])
+    again = answer_after(program, many, ['["save"]'], setup=setup)
     yield "4,096 objects come back", again == Answer(f"saved {many}\n", 0)
     state = json.loads(many)
     state["objects"].append({**state["objects"][0], "name": "one more"})
-    yield "4,097 objects", asked(program, json.dumps(state), [], setup=setup) == Answer("refused K5 TooMany\n", 1)
+    yield "4,097 objects", answer_after(program, json.dumps(state), [], setup=setup) == Answer("refused K5 TooMany\n", 1)
 
 
 # ---- damage
@@ -218,7 +218,7 @@ def is_lawful_line(line: str) -> bool:
     return state in STATES[";" not in name] and 1 <= int(attempt) <= most and is_fit
 
 
-def damaged(text: str) -> Iterator[str]:
+def damaged_texts(text: str) -> Iterator[str]:
     """The text with each of its bytes changed in turn, and with each member dropped."""
     for place, letter in enumerate(text):
         for other in {chr(ord(letter) ^ 1), "0" if letter != "0" else "9", "x"} - {"\n", letter}:
@@ -232,19 +232,19 @@ def damaged(text: str) -> Iterator[str]:
             yield json.dumps(without_it)
 
 
-def damages(program: str, text: str) -> Iterator[tuple[str, bool]]:
+def damage_results(program: str, text: str) -> Iterator[tuple[str, bool]]:
     """The result of each damaged state."""
-    states = list(damaged(text))
+    states = list(damaged_texts(text))
     with ThreadPoolExecutor(os.cpu_count()) as threads:
-        for state, answer in zip(states, threads.map(lambda state: asked(program, state, BEHIND), states)):
+        for state, answer in zip(states, threads.map(lambda state: answer_after(program, state, BEHIND), states)):
             yield f"a damaged state: {state[:80]}..: {answer}", is_lawful(answer)
 
 
 def main() -> int:
     """Makes all comparisons, and counts the results."""
     program = str(pathlib.Path(sys.argv[1]).resolve())
-    text = saved(program, SETUP, BEFORE)
-    found = [*refusals(program, text), *sizes(program, text), *damages(program, text)]
+    text = saved_state(program, SETUP, BEFORE)
+    found = [*refusal_results(program, text), *size_results(program, text), *damage_results(program, text)]
     wrong = [what for what, is_right in found if not is_right]
     print("\n".join([*wrong[:20], f"saved: {len(found) - len(wrong)} passed, {len(wrong)} failed"]))
     return 1 if wrong or not found else 0

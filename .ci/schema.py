@@ -17,7 +17,7 @@ import subprocess
 import sys
 from concurrent.futures import ThreadPoolExecutor
 
-from program import TOP, Held
+from program import TOP, Harness
 
 SCHEMA = json.loads((TOP / "docs/setup.schema.json").read_text(encoding="utf-8"))
 MISSING = object()
@@ -108,16 +108,16 @@ def faults(schema, value, path=()):
             yield from faults(schema["items"], inner, (*path, index))
 
 
-def runs(held, document):
+def is_accepted(harness, document):
     """Whether the program takes the document."""
     line = json.dumps(document, ensure_ascii=False).encode() + b"\n"
-    return not held.run([], line)[0].startswith(b"refused L")
+    return not harness.run([], line)[0].startswith(b"refused L")
 
 
-def explained(held, document):
+def explained_place(harness, document):
     """The place of the document's fault by `check`, as the steps that lead there; None if it only reports a count."""
     line = json.dumps(document, ensure_ascii=False).encode()
-    told = held.run(["check"], line)[0].decode().splitlines()[1]
+    told = harness.run(["check"], line)[0].decode().splitlines()[1]
     if told.startswith("there are "):
         return None
     part, index, rest = PLACE.fullmatch(told).groups()
@@ -127,7 +127,7 @@ def explained(held, document):
     return named + tuple(int(step) if step.isdigit() else step for step in ([index] if index else []) + inner)
 
 
-def changed(path, value):
+def changed_document(path, value):
     """The document with another value at this place, or without it."""
     document = copy.deepcopy(DOCUMENT)
     inner = document
@@ -173,55 +173,55 @@ def probes():
         for other in [*KINDS, *limits(schema_at(path))]:
             lost = named and isinstance(other, str) or path[-1] in ("hosts", "services") and other == []
             if not lost and not (path[-1] == "parents" and other == ["x"]):
-                yield f"{told} = {other!r}", changed(path, other)
+                yield f"{told} = {other!r}", changed_document(path, other)
         if not isinstance(path[-1], int) and path[-1] not in ("hosts", "services"):
-            yield f"without {told}", changed(path, MISSING)
+            yield f"without {told}", changed_document(path, MISSING)
         if isinstance(value, dict):
-            yield f"{told} with an unknown member", changed(path, {**value, "unknown": 1})
+            yield f"{told} with an unknown member", changed_document(path, {**value, "unknown": 1})
     for path in NAMES:
         for text in TEXTS:
-            yield f"{path} = {text!r}", changed(path, text)
+            yield f"{path} = {text!r}", changed_document(path, text)
     for which in ("service_dependencies", "host_dependencies"):
         for length in range(4):
             for letters in itertools.product("owucdpn, C", repeat=length):
-                yield f"{which} criteria {''.join(letters)!r}", changed((which, 0, "criteria"), "".join(letters))
+                yield f"{which} criteria {''.join(letters)!r}", changed_document((which, 0, "criteria"), "".join(letters))
     for count in (4096, 4097):
         yield f"{count} hosts", {"hosts": [{"name": f"h{i}", "max_check_attempts": 1} for i in range(count)]}
 
 
-def hold(held, told, document):
+def compare_document(harness, told, document):
     """Compares the program and its explanation with the schema, on one document."""
     refused = set(faults(SCHEMA, document))
-    if runs(held, document) == bool(refused):
+    if is_accepted(harness, document) == bool(refused):
         return f"{told}: the schema {'refuses' if refused else 'takes'} it, the program doesn't"
-    place = explained(held, document) if refused else None
+    place = explained_place(harness, document) if refused else None
     if place is not None and place not in refused:
         return f"{told}: the schema refuses {refused}, the explanation is of {place}"
     return None
 
 
-def documents(held):
+def compare_documents(harness):
     """Each changed document, by the schema and by the program."""
     with ThreadPoolExecutor() as threads:
-        for wrong in threads.map(lambda probe: hold(held, *probe), probes()):
-            held.compare("a document", None, wrong)
+        for wrong in threads.map(lambda probe: compare_document(harness, *probe), probes()):
+            harness.compare("a document", None, wrong)
 
 
-def from_nagios(held):
+def check_from_nagios(harness):
     """The setup that tools/from_nagios.py makes of Nagios's own files follows the schema."""
     office = TOP / "conformance/nagios"
     words = [sys.executable, str(TOP / "tools/from_nagios.py"), str(office / "nagios.cfg"), str(office / "objects.precache")]
     made = subprocess.run(words, stdout=subprocess.PIPE, check=True).stdout
-    held.compare("what from_nagios.py writes", [], list(faults(SCHEMA, json.loads(made))))
+    harness.compare("what from_nagios.py writes", [], list(faults(SCHEMA, json.loads(made))))
 
 
 def main():
-    held = Held("schema")
+    harness = Harness("schema")
     schema = (TOP / "docs/setup.schema.json").read_bytes()
-    held.compare("what `nagsched schema` writes", (schema, 0), held.run(["schema"], b""))
-    documents(held)
-    from_nagios(held)
-    held.end()
+    harness.compare("what `nagsched schema` writes", (schema, 0), harness.run(["schema"], b""))
+    compare_documents(harness)
+    check_from_nagios(harness)
+    harness.end()
 
 
 if __name__ == "__main__":

@@ -15,7 +15,7 @@ import subprocess
 import tempfile
 import termios
 
-from program import EXAMPLES, REFUSED_WORDS, SERVICE, TOP, Held
+from program import EXAMPLES, REFUSED_WORDS, SERVICE, TOP, Harness
 
 TAKE = b'["take",0]\n'
 SAVE = b'["save"]\n'
@@ -42,34 +42,34 @@ NO_JOB = (["walk"], ["check", "--resume", "--line"], ["drill", "--resume"], ["sc
 NO_TEXT = ([b"\xff"], [b"run", b"--start", b"\xff"], [b"drill", b"--workers", b"1", b"\xc3"], [b"--help", b"\xed\xa0\x80"])
 
 
-def unread(held, words):
+def run_without_input(harness, arguments):
     """The program's output on these arguments, and its status, if the input can't be read."""
     folder = os.open(EXAMPLES, os.O_RDONLY)
     try:
-        return held.run(words, folder)
+        return harness.run(arguments, folder)
     finally:
         os.close(folder)
 
 
-def into_torn_pipe(held, words, given):
+def status_of_torn_pipe(harness, arguments, given):
     """The status when nobody reads the program's output."""
     reading, writing = os.pipe()
     os.close(reading)
     try:
-        return subprocess.run([held.program, *words], input=given, stdout=writing).returncode
+        return subprocess.run([harness.program, *arguments], input=given, stdout=writing).returncode
     finally:
         os.close(writing)
 
 
-def into_full_device(held, words, given):
+def status_of_full_device(harness, arguments, given):
     """The status when no byte of the program's output finds room."""
     with open("/dev/full", "wb") as full:
-        return subprocess.run([held.program, *words], input=given, stdout=full).returncode
+        return subprocess.run([harness.program, *arguments], input=given, stdout=full).returncode
 
 
-def while_input_is_open(held, given, output):
+def status_with_open_input(harness, given, output):
     """The status of a conversation that can't write its answers to these lines, while more lines may come."""
-    with subprocess.Popen([held.program, "live"], stdin=subprocess.PIPE, stdout=output) as live:
+    with subprocess.Popen([harness.program, "live"], stdin=subprocess.PIPE, stdout=output) as live:
         live.stdin.write(given)
         live.stdin.flush()
         try:
@@ -79,18 +79,18 @@ def while_input_is_open(held, given, output):
             return f"not ended after {SECONDS} seconds"
 
 
-def of_file(held, words, given):
+def run_on_file(harness, arguments, given):
     """The program's output on a file of these bytes, its status, and the number of bytes that it has read."""
     with tempfile.TemporaryFile() as file:
         file.write(given)
         file.seek(0)
-        return *held.run(words, file.fileno()), os.lseek(file.fileno(), 0, os.SEEK_CUR)
+        return *harness.run(arguments, file.fileno()), os.lseek(file.fileno(), 0, os.SEEK_CUR)
 
 
-def in_writes(held, words, given):
+def output_pieces(harness, arguments, given):
     """The program's output on these arguments, a piece for each write, and its status. A socket that keeps records apart shows the writes."""
     here, there = socket.socketpair(socket.AF_UNIX, socket.SOCK_SEQPACKET)
-    with here, subprocess.Popen([held.program, *words], stdin=subprocess.PIPE, stdout=there) as ran:
+    with here, subprocess.Popen([harness.program, *arguments], stdin=subprocess.PIPE, stdout=there) as ran:
         there.close()
         here.settimeout(SECONDS)
         ran.stdin.write(given)
@@ -105,13 +105,13 @@ def in_writes(held, words, given):
             return pieces, f"not ended after {SECONDS} seconds"
 
 
-def from_terminal(held, words, given):
+def run_at_terminal(harness, arguments, given):
     """The program's output when these lines are typed at a terminal, followed by one Ctrl-D, and its status."""
     keyboard, terminal = pty.openpty()
     modes = termios.tcgetattr(terminal)
     modes[3] &= ~termios.ECHO
     termios.tcsetattr(terminal, termios.TCSANOW, modes)
-    with subprocess.Popen([held.program, *words], stdin=terminal, stdout=subprocess.PIPE) as ran:
+    with subprocess.Popen([harness.program, *arguments], stdin=terminal, stdout=subprocess.PIPE) as ran:
         try:
             os.write(keyboard, given + b"\x04")
             return ran.communicate(timeout=SECONDS)[0], ran.returncode
@@ -123,119 +123,119 @@ def from_terminal(held, words, given):
             os.close(terminal)
 
 
-def helps(held):
+def helps(harness):
     """Help has status 0, reads nothing, and is the same to the byte for all arguments that ask for it, in lines of 80 columns."""
     for case, forms in HELPS.items():
         text = (TOP / "conformance/words" / f"{case}.stdout").read_bytes()
-        for words in forms:
-            held.compare(words, (text, 0), unread(held, words))
-        held.compare(f"{case}: lines that are too long", [], [line for line in text.decode().splitlines() if len(line) > COLUMNS])
+        for arguments in forms:
+            harness.compare(arguments, (text, 0), run_without_input(harness, arguments))
+        harness.compare(f"{case}: lines that are too long", [], [line for line in text.decode().splitlines() if len(line) > COLUMNS])
 
 
-def versions(held):
+def versions(harness):
     """The version is that of the repository's file, has status 0 and reads nothing. If help is asked for before it, help is written."""
     version = (TOP / "VERSION").read_text(encoding="utf-8").removesuffix("\n")
-    held.compare("the file VERSION is three numbers", True, bool(re.fullmatch(r"\d+\.\d+\.\d+", version)))
-    for words in VERSIONS:
-        held.compare(words, (f"nagsched {version}\n".encode(), 0), unread(held, words))
-    for words in NO_VERSIONS:
-        held.compare(words, (REFUSED_WORDS, 2), unread(held, words))
+    harness.compare("the file VERSION is three numbers", True, bool(re.fullmatch(r"\d+\.\d+\.\d+", version)))
+    for arguments in VERSIONS:
+        harness.compare(arguments, (f"nagsched {version}\n".encode(), 0), run_without_input(harness, arguments))
+    for arguments in NO_VERSIONS:
+        harness.compare(arguments, (REFUSED_WORDS, 2), run_without_input(harness, arguments))
     help_text = (TOP / "conformance/words/help-of-the-program.stdout").read_bytes()
-    held.compare(["--help", "--version"], (help_text, 0), unread(held, ["--help", "--version"]))
+    harness.compare(["--help", "--version"], (help_text, 0), run_without_input(harness, ["--help", "--version"]))
 
 
-def schema(held):
+def schema(harness):
     """The schema reads nothing. .ci/schema.py compares its output with docs/setup.schema.json."""
-    held.compare(["schema"], 0, unread(held, ["schema"])[1])
+    harness.compare(["schema"], 0, run_without_input(harness, ["schema"])[1])
 
 
-def refused_words(held):
+def refused_words(harness):
     """Arguments that are no text or belong to no job are refused, and nothing is read."""
-    for words in (*NO_TEXT, *NO_JOB):
-        held.compare(words, (REFUSED_WORDS, 2), unread(held, words))
+    for arguments in (*NO_TEXT, *NO_JOB):
+        harness.compare(arguments, (REFUSED_WORDS, 2), run_without_input(harness, arguments))
 
 
-def faults(held):
+def faults(harness):
     """An input that can't be read, and an output that can't be written, have status 3, for any output."""
     resumed = ["run", "--resume"], ["live", "--resume"], ["check", "--resume"]
-    for words in ([], ["run", "--start", "7"], ["live"], ["check"], ["check", "--line"], ["drill", "--workers", "1"], *resumed):
-        held.compare(f"{words}: no input", (b"", 3), unread(held, words))
+    for arguments in ([], ["run", "--start", "7"], ["live"], ["check"], ["check", "--line"], ["drill", "--workers", "1"], *resumed):
+        harness.compare(f"{arguments}: no input", (b"", 3), run_without_input(harness, arguments))
     office, drill = ((EXAMPLES / name).read_bytes() for name in ("office.txt", "drill.txt"))
     torn = [([], office), ([], b""), (["drill", "--workers", "1"], drill), (["drill", "--workers", "3"], drill)]
     torn += [(["live"], SERVICE + TAKE), (["live"], b"{}}")]
-    torn += [(words, given) for words in (["check"], ["check", "--line"]) for given in (SERVICE, b"{}}")]
-    torn += [(words, given) for words in resumed for given in (b"{}\n{}\n", b"{}}")]
-    torn += [(words, SERVICE + saved_state(held) + TAKE) for words in resumed]
-    for words, given in [*torn, (["--help"], b""), (["--version"], b""), (["schema"], b""), (["walk"], b""), ([b"\xff"], b"")]:
-        held.compare(f"{words}: a torn pipe", 3, into_torn_pipe(held, words, given))
-        held.compare(f"{words}: a full device", 3, into_full_device(held, words, given))
-    for words in ([], ["live"]):
-        held.compare(f"{words}: nothing to write into a torn pipe", 0, into_torn_pipe(held, words, b"{}\n"))
+    torn += [(arguments, given) for arguments in (["check"], ["check", "--line"]) for given in (SERVICE, b"{}}")]
+    torn += [(arguments, given) for arguments in resumed for given in (b"{}\n{}\n", b"{}}")]
+    torn += [(arguments, SERVICE + saved_state(harness) + TAKE) for arguments in resumed]
+    for arguments, given in [*torn, (["--help"], b""), (["--version"], b""), (["schema"], b""), (["walk"], b""), ([b"\xff"], b"")]:
+        harness.compare(f"{arguments}: a torn pipe", 3, status_of_torn_pipe(harness, arguments, given))
+        harness.compare(f"{arguments}: a full device", 3, status_of_full_device(harness, arguments, given))
+    for arguments in ([], ["live"]):
+        harness.compare(f"{arguments}: nothing to write into a torn pipe", 0, status_of_torn_pipe(harness, arguments, b"{}\n"))
 
 
-def faults_of_conversations(held):
+def faults_of_conversations(harness):
     """A conversation whose answers can't be written ends in status 3 at the first of them, though its input is open."""
     for what, given in {"an answer": SERVICE + TAKE, "a refused line": SERVICE + b"[]\n", "a refused setup": b"{}}\n"}.items():
         with open("/dev/full", "wb") as full:
-            held.compare(f"{what} into a full device", 3, while_input_is_open(held, given, full))
+            harness.compare(f"{what} into a full device", 3, status_with_open_input(harness, given, full))
         reading, writing = os.pipe()
         os.close(reading)
-        held.compare(f"{what} into a torn pipe", 3, while_input_is_open(held, given, writing))
+        harness.compare(f"{what} into a torn pipe", 3, status_with_open_input(harness, given, writing))
         os.close(writing)
 
 
-def three_workers(held):
+def three_workers(harness):
     """Each of three workers finds nothing to check; their lines come in any order, and the total after them."""
-    text, status = held.run(["drill", "--workers", "3"], b'{}\n["moment",5]\n')
+    text, status = harness.run(["drill", "--workers", "3"], b'{}\n["moment",5]\n')
     written = text.decode().splitlines()
-    held.compare("three workers", (["0 idle none", "1 idle none", "2 idle none"], ["total 3 0"], 0), (sorted(written[:3]), written[3:], status))
+    harness.compare("three workers", (["0 idle none", "1 idle none", "2 idle none"], ["total 3 0"], 0), (sorted(written[:3]), written[3:], status))
 
 
-def long_documents(held):
+def long_documents(harness):
     """A check reads only enough of a document to see that it is too long: one byte past its limit, and after a line feed one more."""
     whole = b"{}" + b" " * (DOCUMENT - 2)
-    held.compare("the longest document and its line feed", (b"{}\n", 0, DOCUMENT + 1), of_file(held, ["check", "--line"], whole + b"\n"))
+    harness.compare("the longest document and its line feed", (b"{}\n", 0, DOCUMENT + 1), run_on_file(harness, ["check", "--line"], whole + b"\n"))
     for what, given, read in [
         ("a byte past the limit", whole + b" ", DOCUMENT + 1),
         ("a long document", whole + b" " * 5_000_000, DOCUMENT + 1),
         ("a line feed past the limit, and a second one", whole + b"\n\n", DOCUMENT + 2),
         ("a line feed past the limit, and more behind it", whole + b"\n" + b"5" * 5_000_000, DOCUMENT + 2),
     ]:
-        for words in (["check"], ["check", "--line"]):
-            text, status, count = of_file(held, words, given)
-            held.compare(f"{words}: {what}", (b"refused L12 TooLong", 1, read), (text.split(b"\n")[0], status, count))
+        for arguments in (["check"], ["check", "--line"]):
+            text, status, count = run_on_file(harness, arguments, given)
+            harness.compare(f"{arguments}: {what}", (b"refused L12 TooLong", 1, read), (text.split(b"\n")[0], status, count))
 
 
-def saved_state(held):
+def saved_state(harness):
     """The line of the saved state of a scheduler that was opened over the service, without its command."""
-    return held.run([], SERVICE + SAVE)[0].removeprefix(b"saved ")
+    return harness.run([], SERVICE + SAVE)[0].removeprefix(b"saved ")
 
 
-def inputs(held):
+def inputs(harness):
     """An input of each job that reads one."""
     calls = TAKE + SAVE + TAKE
-    resumed = SERVICE + saved_state(held) + calls
+    resumed = SERVICE + saved_state(harness) + calls
     yield from (([word], SERVICE + calls) for word in ("run", "live"))
     yield from (([word, "--resume"], resumed) for word in ("run", "live", "check"))
-    yield from ((words, SERVICE) for words in (["check"], ["check", "--line"]))
+    yield from ((arguments, SERVICE) for arguments in (["check"], ["check", "--line"]))
     yield ["drill", "--workers", "1"], SERVICE + b'["plugin","h;s",0]\n["moment",0]\n'
 
 
-def writes(held):
+def writes(harness):
     """Output that fits the program's buffer is written at once, at the end. A conversation, whose lines come at once here, writes before it reads more."""
-    for words, given in inputs(held):
-        text, status = held.run(words, given)
-        held.compare(f"{words}: some text", (True, 0), (text.endswith(b"\n"), status))
-        held.compare(f"{words}: one write", ([text], 0), in_writes(held, words, given))
+    for arguments, given in inputs(harness):
+        text, status = harness.run(arguments, given)
+        harness.compare(f"{arguments}: some text", (True, 0), (text.endswith(b"\n"), status))
+        harness.compare(f"{arguments}: one write", ([text], 0), output_pieces(harness, arguments, given))
 
 
-def terminals(held):
+def terminals(harness):
     """The end of an input is read once: at a terminal Ctrl-D once ends it."""
-    for words, given in inputs(held):
-        held.compare(f"{words}: from a terminal", held.run(words, given), from_terminal(held, words, given))
+    for arguments, given in inputs(harness):
+        harness.compare(f"{arguments}: from a terminal", harness.run(arguments, given), run_at_terminal(harness, arguments, given))
 
 
-held = Held("session")
+harness = Harness("session")
 for part in (helps, versions, schema, refused_words, faults, faults_of_conversations, three_workers, long_documents, writes, terminals):
-    part(held)
-held.end()
+    part(harness)
+harness.end()

@@ -118,7 +118,7 @@ def dead_links() -> Iterator[str]:
                 yield f"{anchors.name_of(page)}: a link to {target}#{fragment}, which isn't there"
 
 
-def sums(pages: dict[str, str]) -> tuple[int, float, int]:
+def page_sums(pages: dict[str, str]) -> tuple[int, float, int]:
     """The bytes of all pages, the mean length of their sentences outside of tables, and the number of words that are only sometimes right."""
     found = [sentence for page in pages.values() for sentence in whole_sentences(prose_of(page))]
     running = [sentence for page in pages.values() for sentence in whole_sentences(re.sub(r"^\|.*\n", "", prose_of(page), flags=re.M)) if sentence.endswith(".")]
@@ -132,7 +132,7 @@ def all_faults() -> Iterator[str]:
     for name, page in pages.items():
         yield from (f"{name}: {fault}" for fault in faults(page))
     yield from dead_links()
-    size, mean, habits = sums(pages)
+    size, mean, habits = page_sums(pages)
     if size > ALL_BYTES or mean > MEAN_WORDS or habits > HABITS:
         yield f"all pages: {size:,} bytes (at most {ALL_BYTES:,}), {mean:.1f} words per sentence ({MEAN_WORDS}), {habits} habits ({HABITS})"
 
@@ -141,7 +141,7 @@ def main() -> int:
     named = {word: anchors.text_of(pathlib.Path(word)) for word in sys.argv[1:]} or {anchors.name_of(page): anchors.text_of(page) for page in anchors.PAGES}
     wrong = [f"{name}: {fault}" for name, page in named.items() for fault in faults(page)]
     wrong += [] if sys.argv[1:] else dead_links()
-    size, mean, habits = sums(named)
+    size, mean, habits = page_sums(named)
     print("\n".join([*wrong, f"{len(wrong)} faults; {size:,} bytes, {mean:.1f} words per sentence, {habits} habits"]))
     return 1 if wrong else 0
 

@@ -124,7 +124,7 @@ SITE = {
 }
 
 
-def from_nagios(*words):
+def run_from_nagios(*words):
     ran = subprocess.run([sys.executable, TOP / "tools/from_nagios.py", *words], capture_output=True, text=True)
     return ran.returncode, ran.stdout, ran.stderr
 
@@ -141,14 +141,14 @@ def first_checks(program, setup, names):
     return sorted(int(time) for time in times if time != "none")
 
 
-def figures(program, setup, *words):
+def check_figures(program, setup, *words):
     """The figures that a check prints about a setup, by word."""
     ran = subprocess.run([program, "check", *words], input=json.dumps(setup, indent=1), capture_output=True, text=True)
     first, *lines = ran.stdout.splitlines()
     return dict(line.split(" ") for line in lines) if (first, ran.returncode) == ("setup ok", 0) else {}
 
 
-def scheduled_by_nagios():
+def nagios_schedule():
     """Nagios's report of its schedule: by word of a check, the figures that both report."""
     told = re.findall(r"^([A-Z][\w -]+):\s+(.*)$", (OFFICE / "schedule.txt").read_text(), re.M)
     first_of = {}
@@ -161,10 +161,10 @@ def scheduled_by_nagios():
             "interleave_factor": first_of["Service interleave factor"]}
 
 
-def office(program):
+def check_office(program):
     """The small network: six hosts, five of which are scheduled a quarter of a second apart, and nine services, eight of which are
     scheduled 652.5 / 8 seconds apart."""
-    status, told, left_out = from_nagios(OFFICE / "nagios.cfg", OFFICE / "objects.precache")
+    status, told, left_out = run_from_nagios(OFFICE / "nagios.cfg", OFFICE / "objects.precache")
     setup = json.loads(told)
     hosts, services = names_of(setup)
     options = setup["options"]
@@ -172,7 +172,7 @@ def office(program):
     yield "its counts", (len(hosts), len(services), len(setup["service_dependencies"]), len(setup["host_dependencies"])) == (6, 9, 5, 1)
     yield "its options", (options["interval_length"], options["host_inter_check_delay_method"], options["high_service_flap_threshold"]) == (30, 250, 21)
     yield "its hosts' first checks", first_checks(program, setup, hosts) == [250 * rank for rank in range(5)]
-    told_here, told_there = figures(program, setup), scheduled_by_nagios()
+    told_here, told_there = check_figures(program, setup), nagios_schedule()
     yield "the figures that Nagios tells too", {word: told_here.get(word) for word in told_there} == told_there
     yield "its other figures", [told_here.get(word) for word in ("dependencies", "parents", "disabled", "without_interval")] == ["6", "7", "2", "0"]
     yield "its first and last checks", [told_here.get(word) for word in ("host_first", "host_last", "service_first", "service_last")] == [
@@ -180,7 +180,7 @@ def office(program):
     yield "its services' first checks", first_checks(program, setup, services) == [5_220_000 * rank // 64 for rank in range(8)]
 
 
-def large(program, work):
+def check_large_network(program, work):
     """A thousand hosts below ten others, with ten services each: no host is separated from its parent."""
     objects = work / "large.precache"
     with objects.open("w") as file:
@@ -188,14 +188,14 @@ def large(program, work):
             name = f"host-{number:04}"
             file.write(HOST.format(name=name, parents="" if number < 10 else f"host-{number % 10:04}"))
             file.writelines(SERVICE.format(host=name, number=service) for service in range(10))
-    status, _, told = from_nagios("--parts", work / "parts", OFFICE / "nagios.cfg", objects)
+    status, _, told = run_from_nagios("--parts", work / "parts", OFFICE / "nagios.cfg", objects)
     parts = sorted((work / "parts").iterdir())
     yield "its parts", status == 0 and len(parts) == 4 and "4 parts" in told
     counts = [sum(map(len, names_of(json.loads(part.read_text())))) for part in parts]
     yield "their objects", sum(counts) == 11_000 and max(counts) <= 4_096
-    checked = [figures(program, json.loads(part.read_text())) for part in parts]
+    checked = [check_figures(program, json.loads(part.read_text())) for part in parts]
     yield "that each is a setup, with these objects", [int(it["hosts"]) + int(it["services"]) for it in checked if it] == counts
-    yield "that one setup is refused", from_nagios(OFFICE / "nagios.cfg", objects)[0] == 1
+    yield "that one setup is refused", run_from_nagios(OFFICE / "nagios.cfg", objects)[0] == 1
 
 
 def needs_of(part, mirrors):
@@ -228,14 +228,14 @@ def networks(count):
         yield setup
 
 
-def mirrored(program, work):
+def check_mirrors(program, work):
     """Pieces that are too large are cut: each object is checked in one part, and each part has exactly the objects that its objects need."""
     wrong, cuts = [], 0
     for setup in networks(200):
         for most in (12, 20, 31):
             try:
                 parts, mirrors = nagios_parts.parts_of(setup, nagios_parts.Limits(objects=most))
-            except nagios_parts.CannotBeParted as error:
+            except nagios_parts.CannotBeSplit as error:
                 wrong += [] if "the piece with host h" in str(error) else [str(error)]
                 continue
             checked, cuts = [], cuts + bool(mirrors)
@@ -252,26 +252,26 @@ def mirrored(program, work):
     yield "parts with mirrors", not wrong and cuts > 100
     objects = work / "wide.precache"
     objects.write_text(HOST.format(name="wide", parents="") + "".join(SERVICE.format(host="wide", number=number) for number in range(4_096)))
-    status, _, told = from_nagios("--site", work / "wide", OFFICE / "nagios.cfg", objects)
+    status, _, told = run_from_nagios("--site", work / "wide", OFFICE / "nagios.cfg", objects)
     yield "a host with too many services", status == 1 and "the piece with host wide is too large for one setup: 4097 objects" in told
     objects = work / "flat.precache"
     hosts = [HOST.format(name="gateway", parents="")] + [HOST.format(name=f"host-{number:03}", parents="gateway") for number in range(250)]
     objects.write_text("".join(hosts) + "".join(SERVICE.format(host=f"host-{number % 250:03}", number=number // 250) for number in range(5_000)))
-    status, _, told = from_nagios("--site", work / "flat", OFFICE / "nagios.cfg", objects)
+    status, _, told = run_from_nagios("--site", work / "flat", OFFICE / "nagios.cfg", objects)
     files = {path.stem: json.loads(path.read_text()) for path in (work / "flat").iterdir()} if status == 0 else {}
     yield "a site behind one gateway", files.get("mirrors") == {"part-2": {"gateway": "part-1"}} and "2 parts with 1 mirrors" in told
-    yield "that its parts are setups", all(figures(program, files[name])["hosts"] == count for name, count in (("part-1", "196"), ("part-2", "56")))
-    status, _, told = from_nagios("--site", work / "flat", OFFICE / "nagios.cfg", OFFICE / "objects.precache")
+    yield "that its parts are setups", all(check_figures(program, files[name])["hosts"] == count for name, count in (("part-1", "196"), ("part-2", "56")))
+    status, _, told = run_from_nagios("--site", work / "flat", OFFICE / "nagios.cfg", OFFICE / "objects.precache")
     yield "that a smaller site has no mirrors", status == 0 and not (work / "flat/mirrors.json").exists() and (work / "flat/setup.json").exists()
 
 
-def template(work):
+def check_templates(work):
     (work / "template.cfg").write_text("define host {\n\tname\tmachine\n\tregister\t0\n\tmax_check_attempts\t3\n\t}\n")
-    status, told, why = from_nagios(OFFICE / "nagios.cfg", work / "template.cfg")
+    status, told, why = run_from_nagios(OFFICE / "nagios.cfg", work / "template.cfg")
     yield "a template", (status, told) == (1, "") and "template.cfg:" in why
 
 
-def command_lines(work):
+def check_command_lines(work):
     """The command line of each object, with expanded macros; those without a command line are named, and disabled."""
     (work / "resource.cfg").write_text("# macros\n$USER1$=/plugins\n")
     objects, wanted = COMMANDS, {"h": ["/bin/sh", "-c", "/bin/echo costs $5 '$_HOSTMISSING$' h"]}
@@ -282,24 +282,24 @@ def command_lines(work):
             wanted[f"h;{name}"] = line
     (work / "site.precache").write_text(objects)
     file = work / "commands.json"
-    status, made, told = from_nagios("--commands", file, "--resource", work / "resource.cfg", OFFICE / "nagios.cfg", work / "site.precache")
+    status, made, told = run_from_nagios("--commands", file, "--resource", work / "resource.cfg", OFFICE / "nagios.cfg", work / "site.precache")
     lines = json.loads(file.read_text()) if status == 0 else {}
     yield "the command lines of a site", {name: shlex.split(line) for name, line in lines.items()} == wanted
     yield "that only their owner reads them", file.stat().st_mode & 0o777 == 0o600
     off = {it["description"] for it in json.loads(made)["services"] if it.get("enabled") is False}
     without = {name for name, (_, line) in LINES.items() if line is None}
     yield "which services have none", off == without and all(f": h;{name}: " in told for name in without)
-    status, made, told = from_nagios("--commands", file, "--resource", work / "missing.cfg", OFFICE / "nagios.cfg", work / "site.precache")
+    status, made, told = run_from_nagios("--commands", file, "--resource", work / "missing.cfg", OFFICE / "nagios.cfg", work / "site.precache")
     yield "a resource file that isn't there", (status, made) == (1, "") and "missing.cfg" in told
     (work / "copied.cfg").write_text((OFFICE / "nagios.cfg").read_text() + "resource_file=/nowhere/resource.cfg\n")
-    status, _, told = from_nagios("--commands", file, work / "copied.cfg", work / "site.precache")
+    status, _, told = run_from_nagios("--commands", file, work / "copied.cfg", work / "site.precache")
     yield "the resource file of a copied configuration", (status, json.loads(file.read_text()) == lines) == (0, True) and "/nowhere/resource.cfg isn't here: " in told
     (work / "resource.cfg").unlink()
-    status, made, told = from_nagios("--commands", file, work / "copied.cfg", work / "site.precache")
+    status, made, told = run_from_nagios("--commands", file, work / "copied.cfg", work / "site.precache")
     yield "a configuration that was copied without it", (status, made) == (1, "") and "/nowhere/resource.cfg" in told
 
 
-def site(work):
+def check_site(work):
     """The folder of a site: commands with and without a shell, the periods of objects, passive objects, the monitor's options."""
     services = "".join("define service {\n\thost_name\th\n\tservice_description\t%s\n\tmax_check_attempts\t3\n%s\t}\n"
                        % (name, "".join(f"\t{member}\t{value}\n" for member, value in members.items())) for name, members in SITE.items())
@@ -307,7 +307,7 @@ def site(work):
     options = {"max_concurrent_checks": 40, "service_check_timeout": 20, "host_check_timeout": 7, "cached_host_check_horizon": 9, "interval_length": 60}
     (work / "site.cfg").write_text("".join(f"{name}={value}\n" for name, value in options.items()))
     (work / "resource.cfg").write_text("$USER1$=/plugins\n")
-    status, _, told = from_nagios("--site", work / "site", "--resource", work / "resource.cfg", work / "site.cfg", work / "site.precache")
+    status, _, told = run_from_nagios("--site", work / "site", "--resource", work / "resource.cfg", work / "site.cfg", work / "site.precache")
     files = {path.stem: json.loads(path.read_text()) for path in (work / "site").iterdir()} if status == 0 else {}
     yield "the files of a site", sorted(files) == ["commands", "groups", "monitor", "passive", "periods", "setup"]
     commands = files["commands"]
@@ -327,11 +327,11 @@ def site(work):
     off = {it["description"] for it in files["setup"]["services"] if it.get("enabled") is False}
     yield "what has no command", off == {"trap", "backup", "lost"} and "h;lost: no command nothing" in told and "h;trap" not in told
     (work / "latin.precache").write_bytes(b"define host {\n\thost_name\th\n\talias\tB\xfcro\n\tmax_check_attempts\t3\n\t}\n")
-    status, _, told = from_nagios("--site", work / "latin", work / "site.cfg", work / "latin.precache")
+    status, _, told = run_from_nagios("--site", work / "latin", work / "site.cfg", work / "latin.precache")
     yield "an alias that is no UTF-8", status == 1 and "latin.precache:3" in told and not (work / "latin").exists()
 
 
-def pictures():
+def check_pictures():
     drawn = [subprocess.run([sys.executable, TOP / "tools/timeline.py", TOP / f"examples/{name}.txt", TOP / f"examples/{name}.out"],
                             capture_output=True, text=True).stdout for name in ("office", "drill")]
     yield "the picture of README", drawn[0] == (TOP / "docs/office.svg").read_text()
@@ -345,7 +345,7 @@ def main():
     program = str(pathlib.Path(sys.argv[1]).resolve())
     with tempfile.TemporaryDirectory() as folder:
         work = pathlib.Path(folder)
-        told = [*office(program), *large(program, work), *mirrored(program, work), *template(work), *command_lines(work), *site(work), *pictures()]
+        told = [*check_office(program), *check_large_network(program, work), *check_mirrors(program, work), *check_templates(work), *check_command_lines(work), *check_site(work), *check_pictures()]
     wrong = [what for what, is_so in told if not is_so]
     for what in wrong:
         print(f"tools: {what}: otherwise than wanted")

@@ -11,14 +11,11 @@ repeats=${1:-5}
 # Valgrind counts a string store byte by byte, so the C library is set to store by words.
 export GLIBC_TUNABLES=glibc.cpu.x86_rep_stosb_threshold=100000000:glibc.cpu.x86_rep_movsb_threshold=100000000
 top=$(cd "$(dirname "$0")/.." && pwd)
-crate=$top/crates/nagsched_bench
 work=$(mktemp -d)
 trap 'rm -rf "$work"' EXIT
 . "$top/bench/best.sh"
 
-# Proves and builds the program if it isn't built yet.
-mapfile -t words < "$crate/args"
-(cd "$crate" && rt run -- "${words[@]}" > "$work/build.log" 2>&1) || { cat "$work/build.log"; exit 1; }
+workloads=$("$top/bench/build.sh")
 cc -std=c11 -O2 -Wall -Wextra "$top/bench/anchor.c" -o "$work/anchor"
 
 # The instructions of a cycle of a program's workload, after 21 results of each object.
@@ -30,7 +27,7 @@ by_cycles() {
 least_times() {
     local ours=999999 c=999999 took
     for _ in $(seq "$repeats"); do
-        took=$("$crate/out/nagsched_bench" "$1" "$2" 1000000 | sed 's/^ns=\([0-9]*\) .*/\1/')
+        took=$("$workloads" "$1" "$2" 1000000 | sed 's/^ns=\([0-9]*\) .*/\1/')
         ((took / 100000 < ours)) && ours=$((took / 100000))
         took=$("$work/anchor" "$1" "$2" 1000000 | sed 's/^ns=\([0-9]*\) .*/\1/')
         ((took / 100000 < c)) && c=$((took / 100000))
@@ -49,10 +46,10 @@ limit_of() {
 printf '%8s %8s %12s %6s %6s %6s %6s %8s %8s %6s\n' '' objects instructions C ratio limit ratio ns 'ns of C' ratio
 for workload in cycle vary; do
     for objects in 64 1000 4096; do
-        ours=$("$crate/out/nagsched_bench" "$workload" "$objects" 100000 untimed)
+        ours=$("$workloads" "$workload" "$objects" 100000 untimed)
         theirs=$("$work/anchor" "$workload" "$objects" 100000 untimed)
         [[ $ours == "$theirs" ]] || { echo "$workload $objects: $ours, and C $theirs"; exit 1; }
-        printf '%s %s %s %s %s %s\n' "$workload" "$objects" "$(by_cycles "$crate/out/nagsched_bench" "$workload" "$objects")" \
+        printf '%s %s %s %s %s %s\n' "$workload" "$objects" "$(by_cycles "$workloads" "$workload" "$objects")" \
             "$(by_cycles "$work/anchor" "$workload" "$objects")" "$(limit_of "$workload" "$objects")" "$(least_times "$workload" "$objects")"
     done
 done | awk '{

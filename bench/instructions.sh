@@ -24,13 +24,8 @@ trap 'rm -rf "$work"' EXIT
 . "$top/bench/best.sh"
 
 # Proves and builds the programs if they aren't built yet.
-for crate in nagsched nagsched_bench; do
-    input=/dev/null
-    [[ -f $crates/$crate/stdin ]] && input=$crates/$crate/stdin
-    words=()
-    [[ -f $crates/$crate/args ]] && mapfile -t words < "$crates/$crate/args"
-    (cd "$crates/$crate" && rt run -- "${words[@]}" < "$input" > "$work/build.log" 2>&1) || { cat "$work/build.log"; exit 1; }
-done
+(cd "$crates/nagsched" && rt run < stdin > "$work/build.log" 2>&1) || { cat "$work/build.log"; exit 1; }
+workloads=$("$top/bench/build.sh")
 build_c_asks "${PREFIX:-$top/out/c}" "$work/c_asks"
 
 # The instructions of a cycle of a program's workload, after 21 results of each object.
@@ -43,7 +38,7 @@ by_cycles() {
 
 # A cycle's instructions: of WORKLOAD at n numbers.
 by_workload() {
-    by_cycles "$crates/nagsched_bench/out/nagsched_bench" "$1" "$2"
+    by_cycles "$workloads" "$1" "$2"
 }
 
 # A cycle's instructions of WORKLOAD at n numbers, without those of `calls`.

@@ -3,7 +3,7 @@
 is no part of the gate.
 
     bench/lines.py [OBJECTS] [TAKES]     16 and 1,500 if no number is given; PREFIX=FOLDER where tools/build_c.sh has installed it
-    bench/lines.py --pass [OBJECTS] [TAKES]     the same for the only pass of a desk, by the workload `ask` of nagsched_bench, which rt has built
+    bench/lines.py --pass [OBJECTS] [TAKES]     the same for the only pass of a desk, by the workload `ask` of nagsched_bench, which bench/build.sh has built
 
 Valgrind's lackey traces the loads and stores of the workload `turns` of bench/c_asks.c: two passes in alternation take a check and report it.
 The trace is cut when the program counts its calls. The distinct lines of 64 bytes between two cuts are counted, in the second half
@@ -33,7 +33,7 @@ ACCESS = re.compile(r"^(?: ([LSM])|I ) +([0-9a-f]+),(\d+)$")
 DRAW = re.compile(r"^ *([0-9a-f]+):.*lock xadd", re.M)
 
 
-def built(folder):
+def build_program(folder):
     """The program, the address of its threads, and the beginning of its writable memory: its constants are below."""
     program = folder / "c_asks"
     library = [f"-I{PREFIX}/include", TOP / "bench/c_asks.c", PREFIX / "lib/libnagsched.a", "-lpthread"]
@@ -43,14 +43,14 @@ def built(folder):
     return program, at(r"threads\."), at("__data_start")
 
 
-def built_by_rt():
+def build_with_rt():
     """The program of a desk's only pass, the address of the instruction that draws a ticket, and the beginning of other memory."""
-    program = TOP / "crates/nagsched_bench/out/nagsched_bench"
+    program = TOP / "bench/out/nagsched_bench"
     code = subprocess.run(["objdump", "-d", program], check=True, stdout=subprocess.PIPE, text=True).stdout
     return program, PLACED_AT + int(DRAW.search(code)[1], 16), PLACED
 
 
-def windows(trace, threads, draw):
+def call_windows(trace, threads, draw):
     """For each call the lines that it wrote and those that it touched, cut when threads count calls, or when a ticket is drawn."""
     written, touched = set(), set()
     for line in trace:
@@ -68,27 +68,27 @@ def windows(trace, threads, draw):
                 written.update(lines)
 
 
-def owned(calls):
+def owned_lines(calls):
     """The lines that are one caller's own. Each caller makes two calls, and then the other one does."""
     often = [collections.Counter(line for at in (0, 1) for call in calls[2 * caller + at::4] for line in call) for caller in (0, 1)]
     return {line for mine, others in (often, often[::-1]) for line, times in mine.items() if times >= OFTEN and line not in others}
 
 
-def traced(words):
+def trace_lines(arguments):
     """lackey's output for a run, line by line."""
-    words = ["valgrind", "--tool=lackey", "--trace-mem=yes", *words, "untimed"]
-    return subprocess.Popen(words, stdout=subprocess.DEVNULL, stderr=subprocess.PIPE, text=True).stderr
+    arguments = ["valgrind", "--tool=lackey", "--trace-mem=yes", *arguments, "untimed"]
+    return subprocess.Popen(arguments, stdout=subprocess.DEVNULL, stderr=subprocess.PIPE, text=True).stderr
 
 
 def calls_of(by_pass, objects, takes):
     """For each call of the run's second half the lines that it wrote and those that it touched, and the beginning of writable memory."""
     with tempfile.TemporaryDirectory() as name:
         if by_pass:
-            program, draw, writable = built_by_rt()
-            calls = list(windows(traced([program, "ask", objects, takes]), 0, draw))[1:]
+            program, draw, writable = build_with_rt()
+            calls = list(call_windows(trace_lines([program, "ask", objects, takes]), 0, draw))[1:]
         else:
-            program, threads, writable = built(pathlib.Path(name))
-            calls = list(windows(traced([program, "turns", "1", objects, takes]), threads, None))
+            program, threads, writable = build_program(pathlib.Path(name))
+            calls = list(call_windows(trace_lines([program, "turns", "1", objects, takes]), threads, None))
     return calls[len(calls) // 8 * 4:], writable
 
 
@@ -96,7 +96,7 @@ def main():
     given = [word for word in sys.argv[1:] if word != "--pass"]
     by_pass = len(given) < len(sys.argv) - 1
     half, writable = calls_of(by_pass, *(given + ["16", "1500"][len(given):])[:2])
-    own = set() if by_pass else owned([touched for _, touched in half])
+    own = set() if by_pass else owned_lines([touched for _, touched in half])
     constants = range(writable // LINE)
     half = [(len(written - own), len(shared := touched - own), sum(line in constants for line in shared)) for written, touched in half]
     print(f"{'':10} {'written':>10} {'touched':>10} {'constants':>10}")

@@ -73,7 +73,7 @@ def usage(process):
     return ticks / os.sysconf("SC_CLK_TCK"), pages * os.sysconf("SC_PAGE_SIZE") / 1e6
 
 
-def watched(command, count, status, environment=None):
+def measure(command, count, status, environment=None):
     """Runs a command for this time: checks, processor seconds and megabytes over the second half, and the text of its status file at the end."""
     running = subprocess.Popen([str(word) for word in command], stdout=subprocess.DEVNULL, stderr=subprocess.DEVNULL, env=environment)
     time.sleep(SECONDS / 2)
@@ -95,7 +95,7 @@ def percentiles(late):
 # ---- Nagios
 
 
-def nagios(work, binary, plugin, rate):
+def measure_nagios(work, binary, plugin, rate):
     folder = work / f"nagios-{rate}"
     (folder / "spool").mkdir(parents=True)
     options = {
@@ -118,7 +118,7 @@ def nagios(work, binary, plugin, rate):
                        f" check_interval {INTERVAL}\n retry_interval {INTERVAL}\n check_period always\n notifications_enabled 0\n}}\n")
     (folder / "objects.cfg").write_text("".join(objects))
     (folder / "count").touch()
-    figures, text = watched([binary, folder / "nagios.cfg"], folder / "count", folder / "status")
+    figures, text = measure([binary, folder / "nagios.cfg"], folder / "count", folder / "status")
     late = [float(line.partition("=")[2]) * 1000 for line in text.splitlines() if line.strip().startswith("check_latency=")]
     return figures, percentiles(late), ""
 
@@ -126,7 +126,7 @@ def nagios(work, binary, plugin, rate):
 # ---- the monitor
 
 
-def monitor(work, program, plugin, rate, environment=None):
+def measure_monitor(work, program, plugin, rate, environment=None):
     folder = work / f"monitor-{rate}{'' if environment is None else '-slow'}"
     folder.mkdir()
     names = names_of(rate)
@@ -141,27 +141,27 @@ def monitor(work, program, plugin, rate, environment=None):
     (folder / "commands.json").write_text(json.dumps(commands))
     (folder / "monitor.json").write_text(json.dumps({"slots": 500}))
     (folder / "count").touch()
-    figures, _ = watched([sys.executable, MONITOR, "--program", program, folder], folder / "count", folder / "none", environment)
+    figures, _ = measure([sys.executable, MONITOR, "--program", program, folder], folder / "count", folder / "none", environment)
     late = percentiles(late_of(folder))
-    return figures, late, restarted(folder, program)
+    return figures, late, measure_restart(folder, program)
 
 
-def restarted(folder, program):
+def measure_restart(folder, program):
     """The seconds of a restart and of a reload."""
     begin = time.monotonic()
     running = subprocess.Popen([sys.executable, MONITOR, "--program", program, folder], stdout=subprocess.DEVNULL, stderr=subprocess.DEVNULL)
-    while asked(folder, "status", "h1").returncode:
+    while run_command(folder, "status", "h1").returncode:
         time.sleep(0.01)
     restart, begin = time.monotonic() - begin, time.monotonic()
-    asked(folder, "reload").check_returncode()
+    run_command(folder, "reload").check_returncode()
     reload = time.monotonic() - begin
     running.send_signal(signal.SIGTERM)
     running.wait(timeout=60)
     return f"{restart:8.2f} {reload:7.2f}"
 
 
-def asked(folder, *words):
-    return subprocess.run([sys.executable, MONITOR, folder, *words], stdout=subprocess.DEVNULL, stderr=subprocess.DEVNULL, check=False)
+def run_command(folder, *arguments):
+    return subprocess.run([sys.executable, MONITOR, folder, *arguments], stdout=subprocess.DEVNULL, stderr=subprocess.DEVNULL, check=False)
 
 
 def late_of(folder):
@@ -184,9 +184,9 @@ def main(program, *rates):
         heads = f"{'due a second':>14} {'':10} {'checks a second':>16} {'median ms':>10} {'95th ms':>8} {'CPU ms a check':>15} {'MB':>6}"
         print(heads, f"{'restart s':>8} {'reload s':>8}")
         for rate in [int(rate) for rate in rates] or RATES:
-            sides = {"Nagios": (nagios, work / "nagios/usr/sbin/nagios4"), "monitor": (monitor, program)}
+            sides = {"Nagios": (measure_nagios, work / "nagios/usr/sbin/nagios4"), "monitor": (measure_monitor, program)}
             if rate == SLOW:
-                sides["slow disk"] = (functools.partial(monitor, environment=slow), program)
+                sides["slow disk"] = (functools.partial(measure_monitor, environment=slow), program)
             for who, (ran, binary) in sides.items():
                 (a_second, cost, megabytes), (median, late), rest = ran(work, binary, plugin, rate)
                 print(f"{rate:>14} {who:10} {a_second:>16.1f} {median:>10.1f} {late:>8.1f} {cost:>15.2f} {megabytes:>6.0f} {rest}", flush=True)

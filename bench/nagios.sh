@@ -13,8 +13,7 @@ cycles=200000
 work=$(mktemp -d)
 trap 'rm -rf "$work"' EXIT
 "$top/conformance/nagios/build.sh" "$directory"
-crate=$top/crates/nagsched_bench
-(cd "$crate" && rt run -- cycle 64 1000 > "$work/build.log" 2>&1) || { cat "$work/build.log"; exit 1; }
+workloads=$("$top/bench/build.sh")
 
 # Nanoseconds per cycle, from a program's line.
 each() {
@@ -27,7 +26,7 @@ for what in queue cycle; do
     [[ $what == queue ]] && ours=steady
     for number in 1000 4096; do
         for _ in $(seq "$repeats"); do
-            each "$crate/out/nagsched_bench" "$ours" "$number" "$cycles" >> "$work/ours"
+            each "$workloads" "$ours" "$number" "$cycles" >> "$work/ours"
             each "$directory/$what" "$number" "$cycles" >> "$work/theirs"
         done
         least=$(sort -n "$work/ours" | head -n 1) other=$(sort -n "$work/theirs" | head -n 1)

@@ -28,7 +28,7 @@ HOSTS, SERVICES = 1_000, 20
 NETWORKS = {"one gateway": 0, "a tree": 10}
 
 
-def taken_over(folder, children):
+def prepare_site(folder, children):
     """Makes the folder of a site: parts, mirrors, seconds, processor seconds, megabytes."""
     write_network(folder, HOSTS, SERVICES, children)
     begin = time.monotonic()
@@ -68,10 +68,10 @@ def main(program, seconds="300"):
     for name, children in NETWORKS.items():
         with tempfile.TemporaryDirectory() as holder:
             folder = pathlib.Path(holder)
-            parts, mirrors, took, processor, megabytes = taken_over(folder, children)
+            parts, mirrors, took, processor, megabytes = prepare_site(folder, children)
             print(f"{name:12} {parts:>5} {mirrors:>7} {took:>11.1f} {processor:>6.1f} {megabytes:>5.0f}", end=" ", flush=True)
             a_second, (median, late), cost, resident = run(folder / "site", program, float(seconds))
-            rest = monitor.restarted(folder / "site", program)
+            rest = monitor.measure_restart(folder / "site", program)
             print(f"{a_second:>16.1f} {median:>10.1f} {late:>8.1f} {cost:>15.2f} {resident:>6.0f} {rest}", flush=True)
 
 

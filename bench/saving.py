@@ -35,14 +35,14 @@ fn main() {
 """
 
 
-def instructions(words, given):
+def instructions(arguments, given):
     """The number of instructions that a program takes on an input."""
-    told = subprocess.run(["valgrind", "--tool=callgrind", "--callgrind-out-file=/dev/null", *words], input=given, env=STEADY, stdout=subprocess.DEVNULL,
+    told = subprocess.run(["valgrind", "--tool=callgrind", "--callgrind-out-file=/dev/null", *arguments], input=given, env=STEADY, stdout=subprocess.DEVNULL,
                           stderr=subprocess.PIPE, check=True)
     return int(re.search(rb"Collected : (\d+)", told.stderr).group(1))
 
 
-def built(work):
+def build_tree(work):
     """The program that reads and writes a tree of serde_json."""
     (work / "src").mkdir()
     (work / ".cargo").mkdir()
@@ -86,7 +86,7 @@ def restart(program, given):
 def main():
     program = str(pathlib.Path(sys.argv[1] if len(sys.argv) > 1 else TOP / "crates/nagsched/out/nagsched").resolve())
     with tempfile.TemporaryDirectory() as folder:
-        tree = str(built(pathlib.Path(folder)))
+        tree = str(build_tree(pathlib.Path(folder)))
         heads = ("Objects", "bytes", "save", "to a tree made and written", "to a tree written", "resume", "to a tree made", "restart, ms")
         print(f"| {' | '.join(heads)} |\n|{'---|' * len(heads)}")
         for count in COUNTS:

@@ -3,7 +3,7 @@
 #   bench/sharing.sh [REPEATS]    the median of this number of times is printed, 5 if no number is given
 #   PREFIX=FOLDER                 where tools/build_c.sh has installed the C library; out/c if none is named
 # Cache lines by bench/lines.py over 16 objects, as two passes come to them in alternation, and as one pass of a desk does. Times of
-# threads by bench/asks.sh, whose table comes first. A take and its report alone, by nagsched_bench, which rt has built. The bytes of
+# threads by bench/asks.sh, whose table comes first. A take and its report alone, by nagsched_bench, which bench/build.sh builds. The bytes of
 # an entry by the C library.
 set -eu -o pipefail
 repeats=${1:-5}
@@ -13,7 +13,7 @@ work=$(mktemp -d)
 trap 'rm -rf "$work"' EXIT
 . "$top/bench/best.sh"
 build_c_asks "$PREFIX" "$work/c_asks"
-alone=("$top/crates/nagsched_bench/out/nagsched_bench" cycle 4096)
+alone=("$("$top/bench/build.sh")" cycle 4096)
 
 "$top/bench/asks.sh" "$repeats" | tee "$work/times"
 echo

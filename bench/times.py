@@ -55,7 +55,7 @@ def edit_in(crate, folder):
     return "(what they begin with)"
 
 
-def work_of(number):
+def process_work(number):
     """The work of a process, as a crate and a kind of work, or nothing if it is no check."""
     folder = pathlib.Path(f"/proc/{number}")
     try:
@@ -99,7 +99,7 @@ class Times:
     def is_check(self, name):
         """Whether a process is a check. One that isn't may still become one."""
         if self.works.get(name) is None:
-            self.works[name] = work_of(name[0])
+            self.works[name] = process_work(name[0])
         return self.works[name] is not None
 
     def minutes(self):

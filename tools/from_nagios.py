@@ -37,19 +37,19 @@ import nagios_periods
 import nagios_site
 from nagios_objects import dependency_of, host_of, service_of
 from nagios_values import (
-    FEW, MINUTES, MOST_UNITS, CannotTakeOver, Definition, LeftOut, Members, Setup, Value, between, delay, factor, lines_of, number, percent,
-    read_objects, read_options, switch, whole,
+    FEW, MINUTES, MOST_UNITS, CannotConvert, Definition, LeftOut, Members, Setup, Value, delay, factor, lines_of, number, number_between, percent,
+    read_objects, read_options, switch, whole_number,
 )
 
 # Each option with a counterpart: how it is read, and Nagios's default.
 OPTIONS: Dict[str, Tuple[Callable[[Value], object], str]] = {
-    "interval_length": (between(1, 86_400), "60"),
+    "interval_length": (number_between(1, 86_400), "60"),
     "service_inter_check_delay_method": (delay, "s"),
-    "max_service_check_spread": (between(1, MINUTES), "30"),
+    "max_service_check_spread": (number_between(1, MINUTES), "30"),
     "service_interleave_factor": (factor, "s"),
     "host_inter_check_delay_method": (delay, "s"),
-    "max_host_check_spread": (between(1, MINUTES), "30"),
-    "max_concurrent_checks": (between(0, 1_000_000), "0"),
+    "max_host_check_spread": (number_between(1, MINUTES), "30"),
+    "max_concurrent_checks": (number_between(0, 1_000_000), "0"),
     "soft_state_dependencies": (switch, "0"),
     "use_aggressive_host_checking": (switch, "0"),
     "low_service_flap_threshold": (percent, "20"),
@@ -105,7 +105,7 @@ NOTHING_HERE = {
 def documents_of(options: Members, objects: Sequence[Definition], left_out: LeftOut) -> Setup:
     """One setup of everything: its options, and each object and dependency in the order of the file."""
     setup: Setup = {"options": options_of(options, left_out), "hosts": [], "services": [], "service_dependencies": [], "host_dependencies": []}
-    left_out.always = nagios_periods.always(objects)
+    left_out.always = nagios_periods.always_periods(objects)
     for kind, place, members in objects:
         if kind == "host":
             setup["hosts"].append(host_of(members, place, left_out))
@@ -120,12 +120,12 @@ def documents_of(options: Members, objects: Sequence[Definition], left_out: Left
             of = ";".join(members[name] for name in ("host_name", "service_description") if name in members)
             left_out.add(f"{kind} definitions", NOTHING_HERE[kind], of or None)
         else:
-            raise CannotTakeOver(f"{place}: a definition of a kind that isn't known: {kind}")
-    in_whole_units(setup)
+            raise CannotConvert(f"{place}: a definition of a kind that isn't known: {kind}")
+    use_whole_units(setup)
     return setup
 
 
-def in_whole_units(setup: Setup) -> None:
+def use_whole_units(setup: Setup) -> None:
     """Makes every interval whole: if one isn't, the unit becomes the longest that divides them all."""
     timed = setup["hosts"] + setup["services"]
     length = setup["options"]["interval_length"]
@@ -140,46 +140,46 @@ def in_whole_units(setup: Setup) -> None:
     setup["options"]["interval_length"] = unit
     for it in timed:
         for name in ("check_interval", "retry_interval"):
-            it[name] = whole(it[name], number(it[name]) * length / unit, 0, MOST_UNITS)
+            it[name] = whole_number(it[name], number(it[name]) * length / unit, 0, MOST_UNITS)
 
 
 # ---- parts
 
 
-def is_one(setup: Setup) -> bool:
+def fits_one_setup(setup: Setup) -> bool:
     """Whether one setup can have all of it."""
-    return nagios_parts.Limits().hold(nagios_parts.sizes_of(setup))
+    return nagios_parts.Limits().allow(nagios_parts.sizes_of(setup))
 
 
 def parts_of(setup: Setup, with_mirrors: bool) -> Tuple[List[Setup], Dict[str, Dict[str, str]]]:
     """Several setups, and their mirrors if mirrors are allowed."""
     try:
         return nagios_parts.parts_of(setup, with_mirrors=with_mirrors)
-    except nagios_parts.CannotBeParted as error:
-        raise CannotTakeOver(str(error)) from None
+    except nagios_parts.CannotBeSplit as error:
+        raise CannotConvert(str(error)) from None
 
 
 # ---- command lines
 
 
-def macros_of_file(words: argparse.Namespace, options: Members) -> Dict[str, str]:
+def macros_of_file(arguments: argparse.Namespace, options: Members) -> Dict[str, str]:
     """The macros of the resource file, if there is one."""
-    path = nagios_commands.resource_file(options, words.options, words.resource)
+    path = nagios_commands.resource_file(options, arguments.options, arguments.resource)
     try:
         return nagios_commands.read_resource(lines_of(path)) if path is not None else {}
     except nagios_commands.NoCommand as error:
-        raise CannotTakeOver(str(error)) from None
+        raise CannotConvert(str(error)) from None
 
 
-def take_commands(words: argparse.Namespace, options: Members, objects: Sequence[Definition], setup: Setup) -> None:
+def add_commands(arguments: argparse.Namespace, options: Members, objects: Sequence[Definition], setup: Setup) -> None:
     """Writes the command line of each object, and disables those without one."""
-    resource = macros_of_file(words, options)
+    resource = macros_of_file(arguments, options)
     lines, without = nagios_commands.commands_of(objects, resource)
     disable(setup, without)
-    file = os.open(words.commands, os.O_WRONLY | os.O_CREAT | os.O_TRUNC, 0o600)
+    file = os.open(arguments.commands, os.O_WRONLY | os.O_CREAT | os.O_TRUNC, 0o600)
     os.fchmod(file, 0o600)
     with open(file, "w", encoding="utf-8") as commands:
-        json.dump({name: nagios_commands.without_shell(line) for name, line in lines.items()}, commands, ensure_ascii=False, indent=1)
+        json.dump({name: nagios_commands.direct_line(line) for name, line in lines.items()}, commands, ensure_ascii=False, indent=1)
         commands.write("\n")
 
 
@@ -198,12 +198,12 @@ def disable(setup: Setup, without: Mapping[str, str]) -> None:
 # ---- a whole site
 
 
-def take_site(words: argparse.Namespace, options: Members, objects: Sequence[Definition], setup: Setup, left_out: LeftOut) -> None:
+def write_site_files(arguments: argparse.Namespace, options: Members, objects: Sequence[Definition], setup: Setup, left_out: LeftOut) -> None:
     """Writes the files of a site, and prints what is left out."""
     unit = setup["options"]["interval_length"]
     interval_of = {it["name"]: it["check_interval"] * unit for it in setup["hosts"]}
     interval_of |= {f"{it['host']};{it['description']}": it["check_interval"] * unit for it in setup["services"]}
-    lines, without = nagios_commands.commands_of(objects, macros_of_file(words, options))
+    lines, without = nagios_commands.commands_of(objects, macros_of_file(arguments, options))
     commands = nagios_site.commands_of(options, objects, lines)
     for name in (name for name, line in lines.items() if line.by_a_value):
         left_out.add("quotes around values", "an alias or custom variable has a sign that the shell of its command line obeys", name)
@@ -213,13 +213,13 @@ def take_site(words: argparse.Namespace, options: Members, objects: Sequence[Def
         passive.get(name, {}).pop("freshness", None)
     periods, unsaid = nagios_site.periods_of(objects)
     setup["options"]["max_concurrent_checks"] = 0
-    setups, mirrors = ([setup], {}) if is_one(setup) else parts_of(setup, True)
+    setups, mirrors = ([setup], {}) if fits_one_setup(setup) else parts_of(setup, True)
     files = {"commands": commands, "periods": periods, "passive": passive, "groups": nagios_groups.Groups(objects).document(objects)}
     try:
-        files["monitor"] = nagios_site.monitor_of(options, nagios_site.options_before(words.site))
-        nagios_site.write_site(words.site, setups, {**files, **({"mirrors": mirrors} if mirrors else {})})
+        files["monitor"] = nagios_site.monitor_of(options, nagios_site.options_before(arguments.site))
+        nagios_site.write_site(arguments.site, setups, {**files, **({"mirrors": mirrors} if mirrors else {})})
     except (nagios_site.CannotWrite, OSError) as error:
-        raise CannotTakeOver(str(error)) from None
+        raise CannotConvert(str(error)) from None
     for dates, names in sorted(unsaid.items()):
         for name in names:
             left_out.add(f"dates of the period {dates}", "a site's periods can't say them", name)
@@ -227,50 +227,50 @@ def take_site(words: argparse.Namespace, options: Members, objects: Sequence[Def
         for host in setup["hosts"]:
             if passive.get(host["name"], {}).get("only") and host["max_check_attempts"] > 1:
                 left_out.add("passive results of hosts", "a problem is soft until its last attempt, where Nagios makes it hard at once", host["name"])
-    left_out.tell({*nagios_site.DONE, *OF_A_SITE}, len(setup["hosts"]) + len(setup["services"]) if words.all else FEW)
+    left_out.report({*nagios_site.DONE, *OF_A_SITE}, len(setup["hosts"]) + len(setup["services"]) if arguments.all else FEW)
     if len(setups) > 1:
         count = sum(map(len, mirrors.values()))
         print(f"{len(setups)} parts with {count} mirrors: the spread of first checks holds for each apart, and the limit for all", file=sys.stderr)
     print(f"{len(interval_of)} objects, {len(commands)} commands, {len(setups)} parts", file=sys.stderr)
 
 
-def written(setup: Setup) -> str:
+def json_text(setup: Setup) -> str:
     return json.dumps(setup, ensure_ascii=False, separators=(",", ":")) + "\n"
 
 
 def main() -> int:
-    arguments = argparse.ArgumentParser(description=__doc__, formatter_class=argparse.RawDescriptionHelpFormatter)
-    arguments.add_argument("--parts", metavar="DIRECTORY", type=pathlib.Path, help="write few setups into this folder")
-    arguments.add_argument("--commands", metavar="FILE", type=pathlib.Path, help="write the command line of each object into this file")
-    arguments.add_argument("--site", metavar="DIRECTORY", type=pathlib.Path, help="write the files of a site into this folder")
-    arguments.add_argument("--all", action="store_true", help="with --site: name every object that something is left out for")
-    arguments.add_argument("--resource", metavar="FILE", type=pathlib.Path, help="the resource file, if not the one that nagios.cfg names")
-    arguments.add_argument("options", metavar="nagios.cfg", type=pathlib.Path)
-    arguments.add_argument("objects", metavar="objects.precache", type=pathlib.Path)
-    words = arguments.parse_args()
+    parser = argparse.ArgumentParser(description=__doc__, formatter_class=argparse.RawDescriptionHelpFormatter)
+    parser.add_argument("--parts", metavar="DIRECTORY", type=pathlib.Path, help="write few setups into this folder")
+    parser.add_argument("--commands", metavar="FILE", type=pathlib.Path, help="write the command line of each object into this file")
+    parser.add_argument("--site", metavar="DIRECTORY", type=pathlib.Path, help="write the files of a site into this folder")
+    parser.add_argument("--all", action="store_true", help="with --site: name every object that something is left out for")
+    parser.add_argument("--resource", metavar="FILE", type=pathlib.Path, help="the resource file, if not the one that nagios.cfg names")
+    parser.add_argument("options", metavar="nagios.cfg", type=pathlib.Path)
+    parser.add_argument("objects", metavar="objects.precache", type=pathlib.Path)
+    arguments = parser.parse_args()
     left_out = LeftOut()
     try:
-        options, objects = read_options(words.options), read_objects(words.objects)
+        options, objects = read_options(arguments.options), read_objects(arguments.objects)
         setup = documents_of(options, objects, left_out)
-        if words.site is not None:
-            take_site(words, options, objects, setup, left_out)
+        if arguments.site is not None:
+            write_site_files(arguments, options, objects, setup, left_out)
             return 0
-        if words.commands is not None:
-            take_commands(words, options, objects, setup)
-        if words.parts is None and not is_one(setup):
+        if arguments.commands is not None:
+            add_commands(arguments, options, objects, setup)
+        if arguments.parts is None and not fits_one_setup(setup):
             sizes = nagios_parts.sizes_of(setup)
-            raise CannotTakeOver("more than one setup can have ({} objects, {} dependencies, {} parents): --parts makes several".format(*sizes))
-        parts = [] if words.parts is None else parts_of(setup, False)[0]
-    except CannotTakeOver as error:
+            raise CannotConvert("more than one setup can have ({} objects, {} dependencies, {} parents): --parts makes several".format(*sizes))
+        parts = [] if arguments.parts is None else parts_of(setup, False)[0]
+    except CannotConvert as error:
         print(f"from_nagios: {error}", file=sys.stderr)
         return 1
-    left_out.tell()
-    if words.parts is None:
-        sys.stdout.write(written(setup))
+    left_out.report()
+    if arguments.parts is None:
+        sys.stdout.write(json_text(setup))
         return 0
-    words.parts.mkdir(parents=True, exist_ok=True)
+    arguments.parts.mkdir(parents=True, exist_ok=True)
     for number_of_part, part in enumerate(parts, 1):
-        (words.parts / f"part-{number_of_part}.json").write_text(written(part), encoding="utf-8")
+        (arguments.parts / f"part-{number_of_part}.json").write_text(json_text(part), encoding="utf-8")
     print(f"{len(parts)} parts: the limit of concurrent checks and the spread of first checks hold for each apart", file=sys.stderr)
     return 0
 

@@ -66,10 +66,10 @@ done
 for example in embed.py loop.py monitor.py mail_change.py; do
     place 755 "$top/examples/$example" "share/doc/nagsched/examples/$example"
 done
-# The loop in Rattle is a part of machine_room: its file and, in a folder, the modules that it names.
-place 644 "$top/crates/machine_room/src/months.rt" share/doc/nagsched/examples/loop.rt
-for module in fault outside restart round runs; do
-    place 644 "$top/crates/machine_room/src/$module.rt" "share/doc/nagsched/examples/loop/$module.rt"
+# The loop in Rattle is a part of nagsched_loop: its file and, in a folder, the modules that it names.
+place 644 "$top/crates/nagsched_loop/src/months.rt" share/doc/nagsched/examples/loop.rt
+for module in environment fault resuming round runs; do
+    place 644 "$top/crates/nagsched_loop/src/$module.rt" "share/doc/nagsched/examples/loop/$module.rt"
 done
 # The first programs on the pages about C and Python.
 place 644 "$top/examples/first.c" share/doc/nagsched/examples/first.c

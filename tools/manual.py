@@ -92,28 +92,28 @@ def sections_of(page: pathlib.Path) -> Dict[str, List[str]]:
 # ---- writing
 
 
-def escaped(text):
+def roff_text(text):
     """A text whose characters mean nothing to roff."""
     return text.replace("\\", "\\e").replace("-", "\\-").replace("'", "\\(aq").replace("`", "\\(ga").replace("^", "\\(ha").replace("~", "\\(ti")
 
 
-def inline(text):
+def roff_inline(text):
     """A text with its links as words, and texts between backticks in bold."""
     text = re.sub(r"!\[[^]]*\]\([^)]*\)", "", text)
     text = re.sub(r"\[([^]]*)\]\([^)]*\)", r"\1", text)
-    text = installed(text)
+    text = with_installed_names(text)
     parts = re.split(r"`([^`]*)`", text)
-    return "".join(f"\\fB{escaped(part)}\\fR" if place % 2 else escaped(part.replace("**", "")) for place, part in enumerate(parts))
+    return "".join(f"\\fB{roff_text(part)}\\fR" if place % 2 else roff_text(part.replace("**", "")) for place, part in enumerate(parts))
 
 
-def installed(text):
+def with_installed_names(text):
     """A text with the names under which files are installed."""
     for path, name in INSTALLED.items():
         text = text.replace(path, name)
     return text
 
 
-def line(text):
+def roff_line(text):
     """A line of roff that begins with no dot."""
     return "\\&" + text if text.startswith(".") else text
 
@@ -126,13 +126,13 @@ def table(rows):
     """A table as a list: the first cell of each row, and then the others, each after its heading if there are more than one."""
     head, *body = [cells_of(row) for row in [rows[0], *rows[2:]]]
     if len(head) > 2:
-        yield from [".PP", line("\\fI" + "\\fR, \\fI".join(escaped(name) for name in head) + "\\fR:")]
+        yield from [".PP", roff_line("\\fI" + "\\fR, \\fI".join(roff_text(name) for name in head) + "\\fR:")]
     yield ".PD 0"
     for first, *others in body:
-        tag = inline(first).replace('"', "\\(dq")
+        tag = roff_inline(first).replace('"', "\\(dq")
         yield f'.IP "{tag}" 4'
         said = [cell if len(others) == 1 else f"{name}: {cell}" for name, cell in zip(head[1:], others) if cell]
-        yield line(inline(". ".join(text.rstrip(".") for text in said)) if said else "\\&")
+        yield roff_line(roff_inline(". ".join(text.rstrip(".") for text in said)) if said else "\\&")
     yield ".PD"
 
 
@@ -177,22 +177,22 @@ def body(lines: List[str]) -> Iterator[str]:
     """A section without its heading."""
     for kind, block in blocks_of(lines):
         if kind == "code":
-            yield from [".PP", ".nf", ".RS 4", *(line(escaped(installed(text))) for text in block), ".RE", ".fi"]
+            yield from [".PP", ".nf", ".RS 4", *(roff_line(roff_text(with_installed_names(text))) for text in block), ".RE", ".fi"]
         elif kind == "table":
             yield from table(block)
             yield ".PP"
         elif kind == "list":
             for mark, text in items_of(block):
                 bullet = "\\(bu" if mark == "-" else mark
-                yield from [f'.IP "{bullet}" 3', line(inline(text))]
+                yield from [f'.IP "{bullet}" 3', roff_line(roff_inline(text))]
             yield ".PP"
         elif kind == "heading":
-            yield f".SS {inline(block[0].lstrip('# '))}"
+            yield f".SS {roff_inline(block[0].lstrip('# '))}"
         else:
-            yield from [".PP", line(inline(" ".join(text.strip() for text in block)))]
+            yield from [".PP", roff_line(roff_inline(" ".join(text.strip() for text in block)))]
 
 
-def tidy(lines):
+def tidy_lines(lines):
     """The lines without empty paragraphs, with long lines of text broken at spaces."""
     kept, in_code = [], False
     for text in lines:
@@ -204,7 +204,7 @@ def tidy(lines):
         if text.startswith(".") or in_code:
             kept.append(text)
         else:
-            kept += [line(part) for part in textwrap.wrap(text, WIDTH, break_long_words=False, break_on_hyphens=False)]
+            kept += [roff_line(part) for part in textwrap.wrap(text, WIDTH, break_long_words=False, break_on_hyphens=False)]
     while kept and kept[-1] == ".PP":
         kept.pop()
     return kept
@@ -214,19 +214,19 @@ def page_of(name: str, number: int, version: str) -> Iterator[str]:
     yield f'.TH {name.upper()} {number} "{DATE}" "nagsched {version}" "nagsched"'
     yield ".ad l"
     yield ".SH NAME"
-    yield f"{escaped(name)} \\- {escaped(SUMMARY[name, number])}"
+    yield f"{roff_text(name)} \\- {roff_text(SUMMARY[name, number])}"
     for heading, parts in PARTS[name, number].items():
         yield f".SH {heading.upper()}"
         if isinstance(parts, str):
-            yield from [".PP", line(inline(parts))]
+            yield from [".PP", roff_line(roff_inline(parts))]
             continue
         for page, title in parts:
             if title and len(parts) > 1 or title.lower() not in (heading.lower(), "exit statuses", "examples", ""):
-                yield f".SS {inline(title)}"
+                yield f".SS {roff_inline(title)}"
             yield from body(sections_of(TOP / f"docs/{page}.md")[title])
     yield ".SH SEE ALSO"
     yield ".PP"
-    yield ", ".join(f"\\fB{escaped(other.split('(')[0])}\\fR({other.split('(')[1]}" for other in SEE[name, number].split(", "))
+    yield ", ".join(f"\\fB{roff_text(other.split('(')[0])}\\fR({other.split('(')[1]}" for other in SEE[name, number].split(", "))
     yield ".PP"
     yield "Pages with more, and examples: share/doc/nagsched. The C library is described in nagsched.h."
 
@@ -234,7 +234,7 @@ def page_of(name: str, number: int, version: str) -> Iterator[str]:
 def pages() -> Dict[str, str]:
     """The text of each manual page by the name of its file."""
     version = (TOP / "VERSION").read_text(encoding="utf-8").strip()
-    return {f"{name}.{number}": "\n".join(tidy(list(page_of(name, number, version)))) + "\n" for name, number in PARTS}
+    return {f"{name}.{number}": "\n".join(tidy_lines(list(page_of(name, number, version)))) + "\n" for name, number in PARTS}
 
 
 def main(folder: pathlib.Path) -> None:

@@ -6,7 +6,7 @@ import sys
 import urllib.parse
 from typing import Callable, Dict, Iterable, List, Mapping, NamedTuple, Optional, Sequence, Tuple
 
-from nagios_groups import Definition, Groups, Members, listed
+from nagios_groups import Definition, Groups, Members, split_list
 
 # The macros whose values are known before Nagios runs, each with its member; every other macro of capital letters has a value only at run time.
 HOST_MACROS = {"NAME": "host_name", "ALIAS": "alias", "DISPLAYNAME": "display_name", "ADDRESS": "address", "CHECKCOMMAND": "check_command"}
@@ -23,7 +23,7 @@ FOR_A_SHELL = re.compile(r"""[|&;<>()$`\\"'*?\[\]#~{}!]""")
 Lookup = Callable[[str], Optional[str]]
 
 
-class Line(NamedTuple):
+class CommandLine(NamedTuple):
     """A command line; whether it needs a shell, and whether only because of the value of a macro, such as an alias with a semicolon."""
 
     text: str
@@ -46,7 +46,7 @@ def read_resource(lines: Iterable[Tuple[str, str]]) -> Dict[str, str]:
     return macros
 
 
-def written_out(text: str, lookup: Lookup, encoded: bool = False) -> str:
+def expanded(text: str, lookup: Lookup, encoded: bool = False) -> str:
     """The text with expanded macros; `$$` is one dollar. A custom variable that the object doesn't have stays unchanged, and so does
     any other text between two dollars, as in Nagios."""
     def value(match: "re.Match[str]") -> str:
@@ -80,7 +80,7 @@ class Macros:
         """A macro of the host, of another one, or, with a delimiter, of each host of a group."""
         group, colon, delimiter = of.partition(":")
         if colon:
-            members = listed(self._network.groups.hosts.get(group, {}).get("members", ""))
+            members = split_list(self._network.groups.hosts.get(group, {}).get("members", ""))
             values = [value for value in (self._of_host(name, member) for member in members) if value is not None]
             return delimiter.join(values) if values and len(values) == len(members) else None
         host = self._network.hosts.get(of) if of else self._host
@@ -120,7 +120,7 @@ class Macros:
         if group is None:
             return None
         if name == "MEMBERS":
-            return ",".join(listed(group.get("members", "")))
+            return ",".join(split_list(group.get("members", "")))
         return self.of_member(group, name, {macro: member.format(kind) for macro, member in GROUP_MACROS.items()})
 
     def of_member(self, members: Members, name: str, names: Mapping[str, str]) -> Optional[str]:
@@ -129,7 +129,7 @@ class Macros:
             return {key.upper(): str(value) for key, value in members.items() if key.startswith("_")}.get(name)
         if name in NOTES:
             member, encoded = NOTES[name]
-            return written_out(members.get(member, ""), self.lookup, encoded)
+            return expanded(members.get(member, ""), self.lookup, encoded)
         if name not in names:
             return None
         return str(members.get(names[name], "" if name == "CHECKCOMMAND" else members[next(iter(names.values()))]))
@@ -144,33 +144,33 @@ class Network:
         self.hosts = {str(members["host_name"]): members for kind, _, members in objects if kind == "host"}
         self.services = {f"{members['host_name']};{members['service_description']}": members for kind, _, members in objects if kind == "service"}
 
-    def line_of(self, members: Members, service: Optional[Members]) -> Line:
+    def line_of(self, members: Members, service: Optional[Members]) -> CommandLine:
         """The command line of one object."""
         if "check_command" not in members:
             raise NoCommand("no check_command")
-        name, arguments = arguments_of(members["check_command"])
+        name, arguments = split_check_command(members["check_command"])
         if name not in self.commands:
             raise NoCommand(f"no command {name}")
         macros = Macros(self, self.hosts.get(members["host_name"], members), service)
-        line = with_arguments(self.commands[name], arguments, macros.lookup)
+        line = expanded_command(self.commands[name], arguments, macros.lookup)
         try:
             words = shlex.split(line)
         except ValueError as error:
             raise NoCommand(f"its command line can't be split into words: {error}") from None
         if not words:
             raise NoCommand("its command line is empty")
-        without_values = with_arguments(self.commands[name], arguments, lambda macro: self.resource.get(macro, "x"))
-        return Line(line, needs_shell(line), needs_shell(line) and not needs_shell(without_values))
+        without_values = expanded_command(self.commands[name], arguments, lambda macro: self.resource.get(macro, "x"))
+        return CommandLine(line, needs_shell(line), needs_shell(line) and not needs_shell(without_values))
 
 
-def with_arguments(text: str, arguments: Sequence[str], lookup: Lookup) -> str:
+def expanded_command(text: str, arguments: Sequence[str], lookup: Lookup) -> str:
     """A command line with its arguments and macros."""
     given = {f"ARG{number}": "" for number in range(1, 33)}
-    given.update({f"ARG{number}": written_out(argument, lookup) for number, argument in enumerate(arguments, 1)})
-    return written_out(text, lambda macro: given[macro] if macro in given else lookup(macro))
+    given.update({f"ARG{number}": expanded(argument, lookup) for number, argument in enumerate(arguments, 1)})
+    return expanded(text, lambda macro: given[macro] if macro in given else lookup(macro))
 
 
-def arguments_of(check_command: str) -> Tuple[str, List[str]]:
+def split_check_command(check_command: str) -> Tuple[str, List[str]]:
     """The name of a command and its arguments, separated by exclamation marks; after a backslash an exclamation mark is a letter."""
     name, *rest = re.split(r"(?<!\\)!", check_command)
     return name.strip(), [argument.replace("\\!", "!") for argument in rest]
@@ -180,7 +180,7 @@ def needs_shell(line: str) -> bool:
     return bool(FOR_A_SHELL.search(QUOTED.sub("", line))) or "=" in line.split(" ", 1)[0]
 
 
-def without_shell(line: Line) -> str:
+def direct_line(line: CommandLine) -> str:
     """The line as one that needs no shell: a line that needs one begins with the shell."""
     return shlex.join(["/bin/sh", "-c", line.text]) if line.needs_shell else line.text
 
@@ -199,10 +199,10 @@ def resource_file(options: Mapping[str, str], beside: pathlib.Path, named: Optio
     return copy
 
 
-def commands_of(objects: Sequence[Definition], resource: Mapping[str, str]) -> Tuple[Dict[str, Line], Dict[str, str]]:
+def commands_of(objects: Sequence[Definition], resource: Mapping[str, str]) -> Tuple[Dict[str, CommandLine], Dict[str, str]]:
     """The command line of each host and service by its full name; and why others have none, by name."""
     network = Network(objects, resource)
-    lines: Dict[str, Line] = {}
+    lines: Dict[str, CommandLine] = {}
     without: Dict[str, str] = {}
     for kind, place, members in objects:
         if kind not in ("host", "service"):

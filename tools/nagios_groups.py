@@ -7,14 +7,14 @@ Members = Mapping[str, str]
 Definition = Tuple[str, str, Members]
 
 
-def listed(text: str) -> List[str]:
+def split_list(text: str) -> List[str]:
     """The names of a list with commas."""
     return [name.strip() for name in text.split(",") if name.strip()]
 
 
 def service_names(text: str) -> List[str]:
     """The full names of a list in which host and description alternate."""
-    names = listed(text)
+    names = split_list(text)
     return [f"{host};{description}" for host, description in zip(names[::2], names[1::2])]
 
 
@@ -29,7 +29,7 @@ class Groups:
         self.of_service: Dict[str, List[str]] = collections.defaultdict(list)
         for kind, _, members in objects:
             if kind == "hostgroup":
-                self._add(members["hostgroup_name"], members, self.hosts, self.of_host, listed(members.get("members", "")))
+                self._add(members["hostgroup_name"], members, self.hosts, self.of_host, split_list(members.get("members", "")))
             elif kind == "servicegroup":
                 self._add(members["servicegroup_name"], members, self.services, self.of_service, service_names(members.get("members", "")))
 
@@ -50,8 +50,8 @@ class Groups:
             several = {
                 "host_groups": sorted(self.of_host.get(host, [])),
                 "service_groups": sorted(self.of_service.get(name, [])) if kind == "service" else [],
-                "contact_groups": sorted(listed(members.get("contact_groups", ""))),
-                "contacts": sorted(listed(members.get("contacts", ""))),
+                "contact_groups": sorted(split_list(members.get("contact_groups", ""))),
+                "contacts": sorted(split_list(members.get("contacts", ""))),
             }
             found = {member: names for member, names in several.items() if names}
             if found:

@@ -1,7 +1,7 @@
 """Hosts, services and dependencies of a configuration of Nagios Core 4, as a setup has them. For from_nagios.py."""
 from typing import Dict, Optional, Tuple
 
-from nagios_values import LeftOut, Members, Setup, Value, number, required, switch, whole
+from nagios_values import LeftOut, Members, Setup, Value, number, required, switch, whole_number
 
 TAKEN = {"host_name", "service_description", "parents", "check_interval", "retry_interval", "max_check_attempts", "active_checks_enabled"}
 # Members without a counterpart: the values at which they change nothing, their kind, and the effect here.
@@ -24,7 +24,7 @@ MEMBERS: Dict[str, Tuple[Tuple[str, ...], str, str]] = {
 OTHER = ("other members of hosts and services", "names, addresses, contacts, notifications, events and what is shown")
 
 
-def tell_members(members: Members, left_out: LeftOut, of: str) -> None:
+def report_members(members: Members, left_out: LeftOut, of: str) -> None:
     for name, value in members.items():
         if name in ("use", "register", "name"):
             value.refuse("a template; let Nagios write them out: nagios4 -vp nagios.cfg")
@@ -43,14 +43,14 @@ def name_of(value: Value) -> str:
     return str(value)
 
 
-def timing(members: Members, place: str, left_out: LeftOut, of: str) -> Setup:
+def timing_members(members: Members, place: str, left_out: LeftOut, of: str) -> Setup:
     """The members that hosts and services share; intervals are still those of Nagios."""
-    tell_members(members, left_out, of)
+    report_members(members, left_out, of)
     attempts = required(members, "max_check_attempts", place)
     taken: Setup = {
         "check_interval": members.get("check_interval", Value("5", place)),
         "retry_interval": members.get("retry_interval", Value("1", place)),
-        "max_check_attempts": whole(attempts, number(attempts), 1, 255),
+        "max_check_attempts": whole_number(attempts, number(attempts), 1, 255),
     }
     if not switch(members.get("active_checks_enabled", Value("1", place))):
         taken["enabled"] = False
@@ -63,7 +63,7 @@ def host_of(members: Members, place: str, left_out: LeftOut) -> Setup:
     parents = [parent.strip() for parent in members.get("parents", "").split(",") if parent.strip()]
     if parents:
         host["parents"] = parents
-    return host | timing(members, place, left_out, host["name"])
+    return host | timing_members(members, place, left_out, host["name"])
 
 
 def service_of(members: Members, place: str, left_out: LeftOut) -> Setup:
@@ -71,13 +71,13 @@ def service_of(members: Members, place: str, left_out: LeftOut) -> Setup:
     description = name_of(required(members, "service_description", place))
     if members.get("parents"):
         left_out.add("parents of services", "a service is checked whatever the services are that it names as parents", f"{host};{description}")
-    return {"host": str(host), "description": description} | timing(members, place, left_out, f"{host};{description}")
+    return {"host": str(host), "description": description} | timing_members(members, place, left_out, f"{host};{description}")
 
 
 # ---- dependencies
 
 
-def end_of(members: Members, place: str, before: str, service: bool) -> str:
+def object_name(members: Members, place: str, before: str, service: bool) -> str:
     """The full name of the dependent (before is `dependent_`) or of the master."""
     host = required(members, before + "host_name", place)
     return f"{host};{required(members, before + 'service_description', place)}" if service else str(host)
@@ -88,9 +88,9 @@ def dependency_of(members: Members, place: str, service: bool, left_out: LeftOut
     letters = "owucpn" if service else "odupn"
     criteria = members.get("execution_failure_options", members.get("execution_failure_criteria"))
     if "dependency_period" in members and members["dependency_period"] not in left_out.always:
-        left_out.add("dependency_period", "a dependency holds at any time", end_of(members, place, "dependent_", service))
+        left_out.add("dependency_period", "a dependency holds at any time", object_name(members, place, "dependent_", service))
     if any(name.startswith("notification_failure") for name in members):
-        left_out.add("dependencies of notifications", "no notifications are sent", end_of(members, place, "dependent_", service))
+        left_out.add("dependencies of notifications", "no notifications are sent", object_name(members, place, "dependent_", service))
     if criteria is None:
         return None
     named = [letter.strip() for letter in criteria.split(",")]
@@ -99,7 +99,7 @@ def dependency_of(members: Members, place: str, service: bool, left_out: LeftOut
     for letter in named:
         if len(letter) != 1 or letter not in letters:
             criteria.refuse(f"no criteria: {criteria}")
-    dependency: Setup = {"dependent": end_of(members, place, "dependent_", service), "master": end_of(members, place, "", service)}
+    dependency: Setup = {"dependent": object_name(members, place, "dependent_", service), "master": object_name(members, place, "", service)}
     dependency["criteria"] = ",".join(named)
     if switch(members.get("inherits_parent", Value("0", place))):
         dependency["inherits_parent"] = True

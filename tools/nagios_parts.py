@@ -17,7 +17,7 @@ Setup = Dict[str, Any]
 Sizes = Tuple[int, int, int]
 
 
-class CannotBeParted(Exception):
+class CannotBeSplit(Exception):
     """No cut makes a piece small enough, or a named object doesn't exist."""
 
 
@@ -28,7 +28,7 @@ class Limits:
     objects: int = MOST_OBJECTS
     links: int = MOST_LINKS
 
-    def hold(self, sizes: Sizes) -> bool:
+    def allow(self, sizes: Sizes) -> bool:
         return sizes[0] <= self.objects and max(sizes[1:]) <= self.links
 
 
@@ -66,25 +66,25 @@ class Network:
         self._above: Dict[str, FrozenSet[str]] = {}
         self.names = set(self.hosts)
         for service in setup["services"]:
-            self.services[self.known(service["host"])].append(service_name(service))
+            self.services[self.existing_host(service["host"])].append(service_name(service))
             self.names.add(service_name(service))
         for host in setup["hosts"]:
             for parent in host.get("parents", ()):
-                self.known(parent)
+                self.existing_host(parent)
         for kind in DEPENDENCIES:
             for dependency in setup[kind]:
                 self.masters[self._there(dependency["dependent"])].append(self._there(dependency["master"]))
 
-    def known(self, host: str) -> str:
+    def existing_host(self, host: str) -> str:
         """The name of an existing host."""
         if host not in self.hosts:
-            raise CannotBeParted(f"no host {host}")
+            raise CannotBeSplit(f"no host {host}")
         return host
 
     def _there(self, name: str) -> str:
-        self.known(host_of(name))
+        self.existing_host(host_of(name))
         if name not in self.names:
-            raise CannotBeParted(f"no service {name}")
+            raise CannotBeSplit(f"no service {name}")
         return name
 
     def parents(self, host: str) -> Sequence[str]:
@@ -95,7 +95,7 @@ class Network:
         """The number of dependencies of these dependents, and the number of their parents."""
         return sum(len(self.masters.get(name, ())) for name in names), sum(len(self.parents(name)) for name in names if name in self.hosts)
 
-    def above(self, host: str) -> FrozenSet[str]:
+    def ancestors(self, host: str) -> FrozenSet[str]:
         """A host and all its parents up to the root."""
         if host not in self._above:
             found, left = {host}, [host]
@@ -125,9 +125,9 @@ class Network:
         checked = frozenset([*hosts, *(name for host in hosts for name in self.services[host])])
         masters = self.all_masters(checked)
         needed = {*hosts, *(host_of(name) for name in masters)}
-        return Group(checked, checked.union(masters, *(self.above(host) for host in needed)), checked | masters)
+        return Group(checked, checked.union(masters, *(self.ancestors(host) for host in needed)), checked | masters)
 
-    def pieces(self) -> List[List[str]]:
+    def connected_pieces(self) -> List[List[str]]:
         """The connected hosts, each piece from its roots down, so that hosts with the same parents are next to each other."""
         beside: Dict[str, List[str]] = {host: [] for host in self.hosts}
         below: Dict[str, List[str]] = {host: [] for host in self.hosts}
@@ -140,17 +140,17 @@ class Network:
             for master in masters:
                 beside[host_of(name)].append(host_of(master))
                 beside[host_of(master)].append(host_of(name))
-        place = {host: number for number, host in enumerate(walk([host for host in self.hosts if not self.parents(host)], below))}
+        place = {host: number for number, host in enumerate(reachable([host for host in self.hosts if not self.parents(host)], below))}
         seen: Set[str] = set()
         pieces = []
         for host in self.hosts:
             if host not in seen:
-                piece = list(walk([host], beside, seen))
+                piece = list(reachable([host], beside, seen))
                 pieces.append(sorted(piece, key=lambda name: place.get(name, len(place))))
         return pieces
 
 
-def walk(first: Sequence[str], after: Dict[str, List[str]], seen: Optional[Set[str]] = None) -> Iterator[str]:
+def reachable(first: Sequence[str], after: Dict[str, List[str]], seen: Optional[Set[str]] = None) -> Iterator[str]:
     """All that is reached from these, each once, and everything from one before the next."""
     seen = set() if seen is None else seen
     left = list(reversed(first))
@@ -180,7 +180,7 @@ class Part:
         return self.sizes[0] + len(new), self.sizes[1] + dependencies, self.sizes[2] + parents
 
     def has_room(self, group: Group) -> bool:
-        return self.limits.hold(self.sizes_with(group))
+        return self.limits.allow(self.sizes_with(group))
 
     def add(self, group: Group) -> None:
         self.sizes = self.sizes_with(group)
@@ -208,13 +208,13 @@ def parts_of(setup: Setup, limits: Limits = Limits(), with_mirrors: bool = True)
 
     Each piece goes, the largest first, into the first part with room. A piece that is too large is cut, or refused if mirrors aren't allowed."""
     network = Network(setup)
-    pieces = sorted(((network.group(hosts), hosts) for hosts in network.pieces()), key=lambda piece: len(piece[0].there), reverse=True)
+    pieces = sorted(((network.group(hosts), hosts) for hosts in network.connected_pieces()), key=lambda piece: len(piece[0].there), reverse=True)
     parts: List[Part] = []
     for group, hosts in pieces:
         if Part(network, limits).has_room(group):
-            place(group, parts, parts, Part(network, limits))
+            place_group(group, parts, parts, Part(network, limits))
         elif with_mirrors:
-            cut(hosts, parts, network, limits)
+            split_piece(hosts, parts, network, limits)
         else:
             refuse(hosts[0], Part(network, limits).sizes_with(group), limits)
     home = {name: f"part-{number}" for number, part in enumerate(parts, 1) for name in part.checked}
@@ -222,7 +222,7 @@ def parts_of(setup: Setup, limits: Limits = Limits(), with_mirrors: bool = True)
     return [part.setup(setup) for part in parts], mirrors
 
 
-def place(group: Group, wanted: Sequence[Part], parts: List[Part], empty: Part) -> Part:
+def place_group(group: Group, wanted: Sequence[Part], parts: List[Part], empty: Part) -> Part:
     """Adds objects to the first of these parts that has room, or to one more."""
     part = next((part for part in wanted if part.has_room(group)), None)
     if part is None:
@@ -232,19 +232,19 @@ def place(group: Group, wanted: Sequence[Part], parts: List[Part], empty: Part) 
     return part
 
 
-def cut(hosts: Sequence[str], parts: List[Part], network: Network, limits: Limits) -> None:
+def split_piece(hosts: Sequence[str], parts: List[Part], network: Network, limits: Limits) -> None:
     """Cuts a piece between its hosts. Each host goes into the part of the one before it, while there is room."""
     own: List[Part] = []
     for host in hosts:
         group = network.group([host])
         if not Part(network, limits).has_room(group):
             refuse(host, Part(network, limits).sizes_with(group), limits)
-        part = place(group, own, parts, Part(network, limits))
+        part = place_group(group, own, parts, Part(network, limits))
         own = [part, *(other for other in own if other is not part)]
 
 
 def refuse(host: str, sizes: Sizes, limits: Limits) -> None:
     objects, dependencies, parents = sizes
-    raise CannotBeParted(
+    raise CannotBeSplit(
         f"the piece with host {host} is too large for one setup: {objects} objects, {dependencies} dependencies, {parents} parents "
         f"(at most {limits.objects}, {limits.links}, {limits.links})")

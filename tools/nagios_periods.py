@@ -18,7 +18,7 @@ Dates = List[Dict[str, Any]]
 Period = Dict[str, Any]
 
 
-class CannotSay(Exception):
+class CannotExpress(Exception):
     """Dates that a site's periods can't express."""
 
 
@@ -33,17 +33,17 @@ def month_days(first_month: str, first_day: str, last_month: str, last_day: str,
     try:
         days = days_between((MONTHS.index(first_month) + 1, int(first_day)), (MONTHS.index(last_month) + 1, int(last_day)))
     except ValueError:
-        raise CannotSay from None
+        raise CannotExpress from None
     return [{"month": month, "day": day, "times": times} for month, day in days]
 
 
 def every_month(first: str, last: str, times: List[str]) -> Dates:
     if not 1 <= int(first) <= int(last) <= 31:
-        raise CannotSay
+        raise CannotExpress
     return [{"day": day, "times": times} for day in range(int(first), int(last) + 1)]
 
 
-def nth(weekday: str, number: str, month: Optional[str], times: List[str]) -> Dates:
+def nth_weekday(weekday: str, number: str, month: Optional[str], times: List[str]) -> Dates:
     date: Dict[str, Any] = {"weekday": weekday, "nth": int(number), "times": times}
     return [date if month is None else {"month": MONTHS.index(month) + 1, **date}]
 
@@ -57,8 +57,8 @@ FORMS: List[Tuple[str, Callable[..., Dates]]] = [
     (f"{MONTH} {NUMBER} - {MONTH} {NUMBER}", lambda times, month, day, last_month, last: month_days(month, day, last_month, last, times)),
     (f"day {NUMBER}", lambda times, day: [{"day": int(day), "times": times}]),
     (f"day {NUMBER} - {NUMBER}", lambda times, first, last: every_month(first, last, times)),
-    (f"{WEEKDAY} {NUMBER}", lambda times, weekday, number: nth(weekday, number, None, times)),
-    (f"{WEEKDAY} {NUMBER} {MONTH}", lambda times, weekday, number, month: nth(weekday, number, month, times)),
+    (f"{WEEKDAY} {NUMBER}", lambda times, weekday, number: nth_weekday(weekday, number, None, times)),
+    (f"{WEEKDAY} {NUMBER} {MONTH}", lambda times, weekday, number, month: nth_weekday(weekday, number, month, times)),
 ]
 
 
@@ -72,7 +72,7 @@ def dates_of(name: str, times: List[str]) -> Dates:
         match = re.fullmatch(form, name)
         if match is not None:
             return made(times, *match.groups())
-    raise CannotSay
+    raise CannotExpress
 
 
 def period_of(members: Mapping[str, str]) -> Tuple[Period, List[str]]:
@@ -86,7 +86,7 @@ def period_of(members: Mapping[str, str]) -> Tuple[Period, List[str]]:
         elif name not in OTHER:
             try:
                 dates += dates_of(" ".join(name.lower().split()), times_of(value))
-            except CannotSay:
+            except CannotExpress:
                 unsaid.append(f"{name} {value}")
     excluded = [other.strip() for other in members.get("exclude", "").split(",") if other.strip()]
     return {"weekdays": weekdays, "dates": dates, "exclude": excluded}, unsaid
@@ -97,6 +97,6 @@ def is_always(period: Period) -> bool:
     return all(period["weekdays"].get(day) == ALL_DAY for day in WEEKDAYS) and not period["dates"] and not period["exclude"]
 
 
-def always(objects: Sequence[Definition]) -> Set[str]:
+def always_periods(objects: Sequence[Definition]) -> Set[str]:
     """The names of the periods that include each time."""
     return {str(members["timeperiod_name"]) for kind, _, members in objects if kind == "timeperiod" and is_always(period_of(members)[0])}

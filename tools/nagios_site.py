@@ -43,7 +43,7 @@ def full_name(kind: str, members: Members) -> str:
     return f"{members['host_name']};{members['service_description']}" if kind == "service" else str(members["host_name"])
 
 
-def checked(objects: Sequence[Definition]) -> List[Tuple[str, str, Members]]:
+def checked_objects(objects: Sequence[Definition]) -> List[Tuple[str, str, Members]]:
     """Each host and service: its full name, its kind and its members."""
     return [(full_name(kind, members), kind, members) for kind, _, members in objects if kind in ("host", "service")]
 
@@ -57,7 +57,7 @@ def periods_of(objects: Sequence[Definition]) -> Tuple[Dict[str, Any], Dict[str,
             name = str(members["timeperiod_name"])
             periods[name], unsaid[name] = nagios_periods.period_of(members)
     period_of = {}
-    for name, _, members in checked(objects):
+    for name, _, members in checked_objects(objects):
         period = str(members.get("check_period", ""))
         if period in periods and not nagios_periods.is_always(periods[period]):
             period_of[name] = period
@@ -82,7 +82,7 @@ def with_excluded(periods: Mapping[str, nagios_periods.Period], names: Set[str])
 def passive_of(options: Options, objects: Sequence[Definition], interval_of: Mapping[str, int]) -> Dict[str, Dict[str, Any]]:
     """The passive objects, and the freshness that their results need."""
     passive = {}
-    for name, _, members in checked(objects):
+    for name, _, members in checked_objects(objects):
         entry: Dict[str, Any] = {}
         if members.get("active_checks_enabled", "1") == "0":
             entry["only"] = True
@@ -94,10 +94,10 @@ def passive_of(options: Options, objects: Sequence[Definition], interval_of: Map
     return passive
 
 
-def commands_of(options: Options, objects: Sequence[Definition], lines: Mapping[str, nagios_commands.Line]) -> Dict[str, Dict[str, Any]]:
+def commands_of(options: Options, objects: Sequence[Definition], lines: Mapping[str, nagios_commands.CommandLine]) -> Dict[str, Dict[str, Any]]:
     """The command of each object that has a line."""
     commands: Dict[str, Dict[str, Any]] = {}
-    for name, kind, _ in checked(objects):
+    for name, kind, _ in checked_objects(objects):
         if name in lines:
             commands[name] = {"line": lines[name].text, "limit": int(option(options, f"{kind}_check_timeout"))}
             if lines[name].needs_shell:
@@ -160,7 +160,7 @@ def write_new(path: pathlib.Path, document: Any, mode: int) -> pathlib.Path:
 
 
 @contextlib.contextmanager
-def alone(folder: pathlib.Path) -> Iterator[int]:
+def lock_site(folder: pathlib.Path) -> Iterator[int]:
     """While nobody reads the site: the monitor holds its folder locked while it reads."""
     lock = os.open(folder, os.O_RDONLY)
     end = time.monotonic() + PATIENCE
@@ -188,7 +188,7 @@ def write_site(folder: pathlib.Path, setups: Sequence[Any], files: Mapping[str, 
     documents = {**dict(zip(names, setups)), **files}
     paths = {name: folder / f"{name}.json" for name in documents}
     new = {name: write_new(paths[name], document, 0o600 if name == "commands" else 0o644) for name, document in documents.items()}
-    with alone(folder) as file:
+    with lock_site(folder) as file:
         for name, path in paths.items():
             os.replace(new[name], path)
         for path in [*folder.glob("part-*.json"), folder / "setup.json", folder / "mirrors.json"]:

@@ -15,7 +15,7 @@ MINUTES, MILLISECONDS = 525_600, 86_400_000
 FEW = 5
 
 
-class CannotTakeOver(Exception):
+class CannotConvert(Exception):
     """A setting that a setup can't express."""
 
 
@@ -30,7 +30,7 @@ class Value(str):
         return value
 
     def refuse(self, why: str) -> NoReturn:
-        raise CannotTakeOver(f"{self.place}: {why}")
+        raise CannotConvert(f"{self.place}: {why}")
 
 
 Members = Dict[str, Value]
@@ -64,14 +64,14 @@ class LeftOut:
         if name is not None:
             self.names[kind].append(name)
 
-    def tell(self, without: Collection[str] = (), named: int = 0) -> None:
+    def report(self, without: Collection[str] = (), named: int = 0) -> None:
         """Names each kind that isn't one of these, the worst first, with some of its objects."""
         for kind in sorted(self.kinds, key=lambda kind: (self.WORST.index(kind) if kind in self.WORST else len(self.WORST), kind)):
             if kind not in without:
                 count = len(set(self.names[kind])) or self.kinds[kind]
-                print(f"left out: {kind} ({count}): {self.meanings[kind]}{self.some(kind, named)}", file=sys.stderr)
+                print(f"left out: {kind} ({count}): {self.meanings[kind]}{self.example_names(kind, named)}", file=sys.stderr)
 
-    def some(self, kind: str, named: int) -> str:
+    def example_names(self, kind: str, named: int) -> str:
         names = list(dict.fromkeys(self.names[kind]))
         more = f" and {len(names) - named} more" if len(names) > named else ""
         return f": {', '.join(names[:named])}{more}" if named and names else ""
@@ -85,12 +85,12 @@ def lines_of(path: pathlib.Path) -> Iterator[Tuple[str, str]]:
     try:
         lines = path.read_bytes().split(b"\n")
     except OSError as error:
-        raise CannotTakeOver(f"{path}: {error}") from None
+        raise CannotConvert(f"{path}: {error}") from None
     for number, line in enumerate(lines, 1):
         try:
             text = line.decode("utf-8").strip()
         except UnicodeDecodeError as error:
-            raise CannotTakeOver(f"{path}:{number}: {error}") from None
+            raise CannotConvert(f"{path}:{number}: {error}") from None
         if text and text[0] not in "#;":
             yield f"{path}:{number}", text
 
@@ -101,7 +101,7 @@ def read_options(path: pathlib.Path) -> Members:
     for place, line in lines_of(path):
         name, equals, value = line.partition("=")
         if not equals:
-            raise CannotTakeOver(f"{place}: no option: {line}")
+            raise CannotConvert(f"{place}: no option: {line}")
         options[name.strip()] = Value(value.strip(), place)
     return options
 
@@ -114,7 +114,7 @@ def read_objects(path: pathlib.Path) -> List[Definition]:
         if members is None:
             words = line.replace("{", " { ").split()
             if len(words) != 3 or words[0] != "define" or words[2] != "{":
-                raise CannotTakeOver(f"{place}: no definition: {line}")
+                raise CannotConvert(f"{place}: no definition: {line}")
             members = {}
             objects.append((words[1], place, members))
         elif line == "}":
@@ -123,13 +123,13 @@ def read_objects(path: pathlib.Path) -> List[Definition]:
             name, _, value = line.partition("\t") if "\t" in line else line.partition(" ")
             members[name] = Value(value.strip(), place)
     if members is not None:
-        raise CannotTakeOver(f"{path}: its last definition has no end")
+        raise CannotConvert(f"{path}: its last definition has no end")
     return objects
 
 
 def required(members: Members, name: str, place: str) -> Value:
     if name not in members:
-        raise CannotTakeOver(f"{place}: no {name}")
+        raise CannotConvert(f"{place}: no {name}")
     return members[name]
 
 
@@ -144,7 +144,7 @@ def number(value: Value) -> fractions.Fraction:
         value.refuse(f"no number: {value}")
 
 
-def whole(value: Value, of: fractions.Fraction, least: int, most: int) -> int:
+def whole_number(value: Value, of: fractions.Fraction, least: int, most: int) -> int:
     """The number of a value, which has to be whole and within its limits."""
     if of.denominator != 1 or not least <= of <= most:
         value.refuse(f"{value} is {float(of):g} here; it can be a whole number from {least} to {most}")
@@ -162,17 +162,17 @@ def switch(value: Value) -> bool:
 
 def delay(value: Value) -> Union[str, int]:
     """A delay method: a letter, or seconds there and milliseconds here."""
-    return str(value) if value in ("n", "d", "s") else whole(value, number(value) * 1000, 0, MILLISECONDS)
+    return str(value) if value in ("n", "d", "s") else whole_number(value, number(value) * 1000, 0, MILLISECONDS)
 
 
 def factor(value: Value) -> Union[str, int]:
-    return "s" if value == "s" else whole(value, number(value), 1, nagios_parts.MOST_OBJECTS)
+    return "s" if value == "s" else whole_number(value, number(value), 1, nagios_parts.MOST_OBJECTS)
 
 
 def percent(value: Value) -> int:
     """A percent, rounded up: percents are whole here."""
-    return whole(value, fractions.Fraction(math.ceil(number(value))), 0, 100)
+    return whole_number(value, fractions.Fraction(math.ceil(number(value))), 0, 100)
 
 
-def between(least: int, most: int) -> Callable[[Value], int]:
-    return lambda value: whole(value, number(value), least, most)
+def number_between(least: int, most: int) -> Callable[[Value], int]:
+    return lambda value: whole_number(value, number(value), least, most)

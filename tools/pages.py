@@ -38,7 +38,7 @@ COMMENT = re.compile(r"^<!--.*?-->\n+|<!--.*?-->", re.DOTALL | re.MULTILINE)
 LINK = re.compile(r"\[([^\]\[]*)\]\(([\w./-]+)(#[\w-]*)?\)")
 
 
-def installed(text: str) -> str:
+def installed_page(text: str) -> str:
     """A page with the names of an installation, and with the commands that work there."""
     text = COMMENT.sub("", OF_THE_REPOSITORY.sub(lambda part: INSTEAD.get(part.group(1), ""), text))
     for old, new in NAMES:
@@ -53,7 +53,7 @@ def main(directory: pathlib.Path) -> None:
     directory.mkdir(parents=True, exist_ok=True)
     for file in FILES:
         text = (TOP / file).read_text(encoding="utf-8")
-        (directory / pathlib.PurePath(file).name).write_text(installed(text), encoding="utf-8")
+        (directory / pathlib.PurePath(file).name).write_text(installed_page(text), encoding="utf-8")
     for file in PICTURES:
         (directory / pathlib.PurePath(file).name).write_bytes((TOP / file).read_bytes())
 

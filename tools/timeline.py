@@ -42,7 +42,7 @@ class History:
         self.taken = {}
         self.first = self.last = None
 
-    def at(self, moment):
+    def note_moment(self, moment):
         """A call was made at this moment."""
         self.first = moment if self.first is None else min(self.first, moment)
         self.last = moment if self.last is None else max(self.last, moment)
@@ -52,7 +52,7 @@ class History:
 
     def take(self, moment, reply):
         """A check was asked for, and this was the answer."""
-        self.at(moment)
+        self.note_moment(moment)
         if reply[0] == "taken":
             self.taken[reply[2]] = moment
         elif reply[0] == "putoff":
@@ -70,7 +70,7 @@ def words_of(line):
     return line.split(" ", counts.get(line.split(" ", 1)[0], -1))
 
 
-def of_run(history, lines, replies):
+def read_run(history, lines, replies):
     calls = [json.loads(line) for line in lines if line.strip()]
     if len(calls) != len(replies):
         raise SystemExit("timeline: the output doesn't answer this input line by line")
@@ -83,7 +83,7 @@ def of_run(history, lines, replies):
             history.mark(call[1], call[0])
 
 
-def of_drill(history, lines, entries):
+def read_drill(history, lines, entries):
     """The moments follow one after another, for each pass separately."""
     moments = [call[1] for call in map(json.loads, filter(str.strip, lines)) if call[0] == "moment"]
     taken = collections.Counter()
@@ -103,9 +103,9 @@ def history_of(given, written):
     replies = written.read_text(encoding="utf-8").splitlines()
     history = History(json.loads(setup))
     if replies and replies[-1].startswith("total "):
-        of_drill(history, lines, replies)
+        read_drill(history, lines, replies)
     else:
-        of_run(history, lines, replies)
+        read_run(history, lines, replies)
     return history
 
 
@@ -129,7 +129,7 @@ class Picture:
         self.height = TOP + self.row * len(names) + 66
         self.parts = []
 
-    def across(self, moment):
+    def x_of(self, moment):
         return LEFT + WIDTH * (min(max(moment, self.begin), self.end) - self.begin) / (self.end - self.begin)
 
     def add(self, part):
@@ -144,7 +144,7 @@ class Picture:
         step = 1000 * next((it for it in STEPS if seconds / it <= 9), 86_400 * max(1, int(seconds // (9 * 86_400)) + 1))
         moment = -(-self.begin // step) * step
         while moment <= self.end:
-            x = self.across(moment)
+            x = self.x_of(moment)
             self.add(f'<line x1="{x:.1f}" y1="{TOP - 10}" x2="{x:.1f}" y2="{self.height - 62}" stroke="#ddd"/>')
             self.text(x + 3, TOP - 13, time_text(moment), ink="#777")
             moment += step
@@ -159,15 +159,15 @@ class Picture:
         for state, after in zip(held, held[1:] + [State(self.end, *held[-1][1:])] if held else []):
             if after.moment < self.begin or state.moment > self.end:
                 continue
-            x, until = self.across(state.moment), self.across(after.moment)
+            x, until = self.x_of(state.moment), self.x_of(after.moment)
             fill = COLOURS[state.word][state.hard]
             dash = ' stroke-dasharray="4 3"' if state.word == "UNREACHABLE" else ""
             self.add(f'<rect x="{x:.1f}" y="{y + 2}" width="{max(until - x, 1):.1f}" height="{self.row - 4}" fill="{fill}" stroke="#666" stroke-width="0.5"{dash}/>')
             if state.flapping:
                 self.add(f'<rect x="{x:.1f}" y="{y + self.row - 5}" width="{max(until - x, 1):.1f}" height="3" fill="#222"/>')
-            self.told(x, until, y, state)
+            self.span_text(x, until, y, state)
 
-    def told(self, x, until, y, state):
+    def span_text(self, x, until, y, state):
         """The words in a span, as many as there is room for."""
         ink = "white" if state.hard and state.word != "WARNING" else "black"
         whole = f"{state.word} {'hard' if state.hard else 'soft'} {state.attempt}" + (" flapping" if state.flapping else "")
@@ -180,7 +180,7 @@ class Picture:
         """Checks that were put off (hollow triangles), and operators' actions (filled ones)."""
         for mark in marks:
             if self.begin <= mark.moment <= self.end:
-                x, fill = self.across(mark.moment), "white" if mark.kind == "putoff" else "#1f5fa8"
+                x, fill = self.x_of(mark.moment), "white" if mark.kind == "putoff" else "#1f5fa8"
                 self.add(f'<path d="M{x:.1f} {y + self.row - 3} l-4 -7 h8 z" fill="{fill}" stroke="#1f5fa8"><title>{MARKS[mark.kind]}</title></path>')
 
     def legend(self):
@@ -194,7 +194,7 @@ class Picture:
         self.text(10, y + 30, "Pale: soft. Strong: hard. Dashed: unreachable. Black bar: flapping. "
                   "Hollow triangle: put off by a dependency. Filled: an operator's call.", ink="#777")
 
-    def written(self, title, history):
+    def svg(self, title, history):
         self.add(f'<svg xmlns="http://www.w3.org/2000/svg" width="{LEFT + WIDTH + 60}" height="{self.height}" font-family="sans-serif">')
         self.add('<rect width="100%" height="100%" fill="white"/>')
         self.text(10, 22, title, size=15, ink="black")
@@ -214,19 +214,19 @@ class Picture:
 
 
 def main():
-    arguments = argparse.ArgumentParser(description=__doc__, formatter_class=argparse.RawDescriptionHelpFormatter)
-    arguments.add_argument("given", metavar="INPUT", type=pathlib.Path)
-    arguments.add_argument("written", metavar="OUTPUT", type=pathlib.Path)
-    arguments.add_argument("--from", dest="begin", metavar="MOMENT", type=int)
-    arguments.add_argument("--to", dest="end", metavar="MOMENT", type=int)
-    arguments.add_argument("--objects", metavar="PATTERN", default="*")
-    words = arguments.parse_args()
-    history = history_of(words.given, words.written)
-    names = [name for name in history.states if fnmatch.fnmatchcase(name, words.objects)]
+    parser = argparse.ArgumentParser(description=__doc__, formatter_class=argparse.RawDescriptionHelpFormatter)
+    parser.add_argument("given", metavar="INPUT", type=pathlib.Path)
+    parser.add_argument("written", metavar="OUTPUT", type=pathlib.Path)
+    parser.add_argument("--from", dest="begin", metavar="MOMENT", type=int)
+    parser.add_argument("--to", dest="end", metavar="MOMENT", type=int)
+    parser.add_argument("--objects", metavar="PATTERN", default="*")
+    arguments = parser.parse_args()
+    history = history_of(arguments.given, arguments.written)
+    names = [name for name in history.states if fnmatch.fnmatchcase(name, arguments.objects)]
     first, last = history.first or 0, history.last or 0
-    begin = first if words.begin is None else words.begin
-    end = last + (last - first) // 5 + 1 if words.end is None else words.end
-    sys.stdout.write(Picture(names, begin, end).written(f"{words.given.name}, as nagsched reports it", history))
+    begin = first if arguments.begin is None else arguments.begin
+    end = last + (last - first) // 5 + 1 if arguments.end is None else arguments.end
+    sys.stdout.write(Picture(names, begin, end).svg(f"{arguments.given.name}, as nagsched reports it", history))
     return 0
 
 

@@ -6,8 +6,8 @@ import pathlib
 import signal
 from typing import Any, Callable, Dict, List, Optional, Sequence, Set, Tuple
 
-from nagsched_monitor.core.rhythm import TOLERANCE
-from nagsched_monitor.core.running import Owner
+from nagsched_monitor.core.phases import TOLERANCE
+from nagsched_monitor.core.run_table import Owner
 from nagsched_monitor.faults import ConversationEnded, NotStored
 from nagsched_monitor.inputs.requests import Request
 from nagsched_monitor.run.jobs import Job
@@ -30,7 +30,7 @@ RESULTS = [(40, "near;trap"), (41, "near;trap"), (100, "far;web"), (160, "near;t
 ORDERS = [(70, "disable", "far;web"), (130, "enable", "far;web"), (240, "reschedule", "near;web")]
 
 
-class Killed(BaseException):
+class MonitorKilled(BaseException):
     """The monitor is killed here."""
 
 
@@ -60,7 +60,7 @@ def plugin(name: str, moment: int) -> Tuple[int, int, str]:
     return 12_000 if name == "far;web" else 300, 2 if is_down or name == "far;backup" else 0, "by a plugin"
 
 
-class Faulty:
+class FaultRun:
     """The site with a fault. The write with this number is refused, or is the last one. Or the scheduler ends at the exchange with this number, or
     the start of a scheduler with this number is refused."""
 
@@ -77,17 +77,17 @@ class Faulty:
         self.wrong: List[str] = []
         self.quiet_from: float = END
         write_site(folder, False)
-        self.monitor = self._begun()
+        self.monitor = self._start_monitor()
 
     # ---- faults
 
-    def _begun(self) -> SimulatedMonitor:
+    def _start_monitor(self) -> SimulatedMonitor:
         converse = self._converse()
         while True:
             try:
                 monitor = SimulatedMonitor(self.folder, plugin, self.clock, converse, self._store())
                 break
-            except (ConversationEnded, NotStored, Killed):
+            except (ConversationEnded, NotStored, MonitorKilled):
                 self.clock.now += 1_000
         start = monitor.runners.start
 
@@ -125,7 +125,7 @@ class Faulty:
                 elif table == "outbox":
                     self.documents.add(str(cells[0]))
             if self.writes == self.last:
-                raise Killed
+                raise MonitorKilled
 
         setattr(store, "write", counted)
         setattr(store, "insert_all", noted)
@@ -173,7 +173,7 @@ class Faulty:
                 try:
                     if happen():
                         break
-                except Killed:
+                except MonitorKilled:
                     self._restart()
                 self._work_until(self._now() + 1)
         self._work_until(END)
@@ -188,7 +188,7 @@ class Faulty:
             try:
                 self.monitor.work(min(1.0, seconds - self._now()))
                 self._look()
-            except Killed:
+            except MonitorKilled:
                 self._restart()
 
     def _restart(self) -> None:
@@ -197,7 +197,7 @@ class Faulty:
             os.kill(process, signal.SIGKILL)
         self.monitor.close()
         self.clock.now += 2_000
-        self.monitor = self._begun()
+        self.monitor = self._start_monitor()
         self.quiet_from = max(END, self._now())
 
     def _kill(self) -> bool:
@@ -207,9 +207,9 @@ class Faulty:
 
     def _ask(self, request: Dict[str, Any]) -> bool:
         answers: List[bytes] = []
-        self.monitor.engine.ask(Request(json.dumps(request).encode(), answers.append))
+        self.monitor.engine.add_request(Request(json.dumps(request).encode(), answers.append))
         for _ in range(3):
-            self.monitor.loop.go_round()
+            self.monitor.loop.run_turn()
             if answers:
                 return not json.loads(answers[0]).get("again", False)
         return False
@@ -239,7 +239,7 @@ class Faulty:
     def _look(self) -> None:
         """Facts that hold at any time."""
         now = self.clock.now
-        for run in self.monitor.scheduling.known.running:
+        for run in self.monitor.scheduling.states.running:
             is_owned = run.owner in (Owner.PLUGIN, Owner.RESULT)
             if is_owned and (run.deadline is None or run.deadline < now - 60_000):
                 self.wrong.append(f"{self._now():g} s: a run without a deadline, or past it: {run}")
@@ -251,34 +251,34 @@ class Faulty:
         wrong += [line for line in self.lines if line.startswith("fault: ")]
         wrong += [f"{words} was accepted and reported {self.reported.count(words)} times" for words in self.accepted if self.reported.count(words) != 1]
         wrong += [f"not accepted: {number} of {name}" for number, (_, name) in enumerate(RESULTS) if f"result {number} of {name}" not in self.accepted]
-        wrong += [f"result still waits: {result}" for result in self.monitor.store.waiting()]
+        wrong += [f"result still waits: {result}" for result in self.monitor.store.waiting_results()]
         wrong += [f"never told: {document}" for document in self.documents - self.taken]
-        for run in scheduling.known.running:
+        for run in scheduling.states.running:
             if run.owner is Owner.NOBODY:
                 wrong.append(f"nobody ends {run}")
         states = scheduling.schedulers.states() or {}
         for part, state in states.items():
-            wrong += [f"known otherwise: {name}" for name in scheduling.known.read_saved(scheduling.mirrors.read_saved(part, json.loads(state)["objects"]))]
-        wrong += self._unmonitored()
+            wrong += [f"known otherwise: {name}" for name in scheduling.states.apply_saved(scheduling.mirrors.apply_saved(part, json.loads(state)["objects"]))]
+        wrong += self._unmonitored_objects()
         if sorted(engine.objects) != sorted(["far", "far;backup", "far;web", "gateway", "near", "near;trap", "near;web", "new"]):
             wrong.append(f"objects {sorted(engine.objects)}")
         return wrong
 
-    def _unmonitored(self) -> List[str]:
+    def _unmonitored_objects(self) -> List[str]:
         """Objects whose checks aren't in time and in phase, whose states differ from those of their plugins, or whose mirror's standing differs."""
         wrong = []
         starts = self.monitor.starts()
         now = self.clock.now - BEGIN
-        for name, known in self.monitor.engine.objects.items():
-            if known.watched.passive_only:
+        for name, obj in self.monitor.engine.objects.items():
+            if obj.definition.passive_only:
                 continue
             own = starts.get(name, [])
             if not own or now - own[-1] > 60_000 + TOLERANCE + 12_500:
                 wrong.append(f"{name} wasn't checked in time: {own[-3:]}, now {now}")
-            elif known.phase is None or min((own[-1] + BEGIN - known.phase) % 60_000, (known.phase - own[-1] - BEGIN) % 60_000) > 2 * TOLERANCE:
-                wrong.append(f"{name} isn't in phase: {own[-3:]}, phase {known.phase and known.phase - BEGIN}")
-            if known.standing is None or known.standing.is_problem():
-                wrong.append(f"{name} stands as {known.standing}")
+            elif obj.phase is None or min((own[-1] + BEGIN - obj.phase) % 60_000, (obj.phase - own[-1] - BEGIN) % 60_000) > 2 * TOLERANCE:
+                wrong.append(f"{name} isn't in phase: {own[-3:]}, phase {obj.phase and obj.phase - BEGIN}")
+            if obj.standing is None or obj.standing.is_problem():
+                wrong.append(f"{name} stands as {obj.standing}")
         standing = self.monitor.engine.objects["far;backup"].standing
         if not isinstance(standing, Standing) or standing.state != "CRITICAL":
             wrong.append(f"far;backup stands as {standing}")

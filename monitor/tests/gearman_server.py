@@ -2,8 +2,8 @@
 from dataclasses import dataclass, field
 from typing import Any, Dict, List, Optional
 
-from nagsched_monitor.run.gearman import Happening, Kind, ServerFault
-from nagsched_monitor.run.gearman_seal import JOB, RESULT, Seal
+from nagsched_monitor.run.gearman import JobEvent, JobEventKind, ServerFault
+from nagsched_monitor.run.gearman_signing import JOB, RESULT, Signer
 
 
 @dataclass
@@ -24,7 +24,7 @@ class StandInServer:
     is_there: bool = True
     # It accepts all requests, and answers nothing.
     is_silent: bool = False
-    seal: Seal = Seal(b"the key of the test's site")
+    signer: Signer = Signer(b"the key of the test's site")
 
     def connect(self) -> "StandInClient":
         client = StandInClient(self)
@@ -36,13 +36,13 @@ class StandInServer:
         if not self.waiting or self.is_silent:
             return None
         job = self.waiting.pop(0)
-        job.client.come.append(Happening(Kind.TAKEN, job.number))
+        job.client.come.append(JobEvent(JobEventKind.TAKEN, job.number))
         return job
 
     def answer(self, job: ServedJob, /, **members: Any) -> None:
         """A worker answers a job."""
         result = {"job": job.workload["job"], "code": 0, "end": "exited", "output": "fine", **members}
-        job.client.come.append(Happening(Kind.COMPLETE, job.number, self.seal.sign(RESULT, result)))
+        job.client.come.append(JobEvent(JobEventKind.COMPLETE, job.number, self.signer.sign(RESULT, result)))
 
     def lose_worker(self, job: ServedJob) -> None:
         """A worker leaves with a job, which waits again, as the first one."""
@@ -60,22 +60,22 @@ class StandInServer:
 @dataclass
 class StandInClient:
     server: StandInServer
-    come: List[Happening] = field(default_factory=list)
+    come: List[JobEvent] = field(default_factory=list)
     sent: List[ServedJob] = field(default_factory=list)
     is_closed: bool = False
     is_lost: bool = False
 
     def submit(self, number: int, queue: str, workload: bytes) -> None:
-        self.sent.append(ServedJob(self, number, self.server.seal.open(JOB, workload) or {}))
+        self.sent.append(ServedJob(self, number, self.server.signer.verified_document(JOB, workload) or {}))
 
-    def work(self) -> List[Happening]:
+    def work(self) -> List[JobEvent]:
         if self.is_lost or not self.server.is_there:
             raise ServerFault("lost connection")
         if self.server.is_silent:
             return []
         for job in self.sent:
             self.server.waiting.append(job)
-            self.come.append(Happening(Kind.KNOWN, job.number))
+            self.come.append(JobEvent(JobEventKind.KNOWN, job.number))
         self.sent.clear()
         came, self.come = self.come, []
         return came

@@ -16,7 +16,7 @@ HERE = pathlib.Path(__file__).resolve().parent.parent
 WORKER = HERE / "nagsched-gearman-worker"
 
 
-def missing() -> Optional[str]:
+def missing_program() -> Optional[str]:
     """Missing requirements of a trial; None if this machine has everything."""
     return "gearmand" if shutil.which("gearmand", path=search_path()) is None else None
 
@@ -32,7 +32,7 @@ def is_open(address: str, port: int) -> bool:
         return tried.connect_ex((address, port)) == 0
 
 
-def runner_words(trial: "GearmanTrial", queue: str, *options: str) -> List[str]:
+def runner_command(trial: "GearmanTrial", queue: str, *options: str) -> List[str]:
     """The command of a runner that sends jobs to a queue."""
     return [str(HERE / "nagsched-gearman-runner"), "--key", str(trial.key), *options, trial.place(), queue]
 
@@ -112,7 +112,7 @@ class GearmanTrial:
         self._holder.cleanup()
 
 
-class HandedJobs:
+class SubmittedJobs:
     """A runner for each queue; each answer is stored under the number of its job."""
 
     def __init__(self, trial: GearmanTrial, wait: float) -> None:
@@ -123,7 +123,7 @@ class HandedJobs:
 
     def _runner(self, queue: str) -> "subprocess.Popen[bytes]":
         if queue not in self._runners:
-            words = runner_words(self._trial, queue, "--wait", str(self._wait))
+            words = runner_command(self._trial, queue, "--wait", str(self._wait))
             self._runners[queue] = subprocess.Popen(words, stdin=subprocess.PIPE, stdout=subprocess.PIPE, stderr=subprocess.DEVNULL, bufsize=0)
             threading.Thread(target=self._read, args=(self._runners[queue],), daemon=True).start()
         return self._runners[queue]
@@ -135,7 +135,7 @@ class HandedJobs:
                 answer = json.loads(line)
                 self.answers.setdefault(answer["job"], []).append(answer)
 
-    def hand(self, count: int, queue: str, words: Sequence[str], limit: float = 10) -> None:
+    def submit(self, count: int, queue: str, words: Sequence[str], limit: float = 10) -> None:
         jobs = self._runner(queue).stdin
         assert jobs is not None
         lines = b""
@@ -145,11 +145,11 @@ class HandedJobs:
         while lines:
             lines = lines[jobs.write(lines) or 0 :]
 
-    def hand_steadily(self, rate: float, seconds: float, queue: str, words: Sequence[str]) -> None:
+    def submit_steadily(self, rate: float, seconds: float, queue: str, words: Sequence[str]) -> None:
         """Passes on this many jobs per second, in batches as a monitor does."""
         begin, before = time.monotonic(), self.sent
         while time.monotonic() - begin < seconds:
-            self.hand(int((time.monotonic() - begin) * rate) - (self.sent - before), queue, words)
+            self.submit(int((time.monotonic() - begin) * rate) - (self.sent - before), queue, words)
             time.sleep(0.05)
 
     def wait(self, seconds: float) -> bool:
@@ -163,7 +163,7 @@ class HandedJobs:
         """Submits one job after another until a plugin's result comes."""
         end = time.monotonic() + seconds
         while time.monotonic() < end:
-            self.hand(1, queue, ["true"])
+            self.submit(1, queue, ["true"])
             self.wait(seconds)
             (answer, *_) = self.answers.get(self.sent, [{}])
             if (answer.get("end"), answer.get("code")) == ("exited", 0):

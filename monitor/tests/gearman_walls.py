@@ -14,9 +14,9 @@ import tempfile
 import time
 from typing import Any, Dict, List, Optional
 
-from .gearman_trial import GearmanTrial, is_open, runner_words, search_path
+from .gearman_trial import GearmanTrial, is_open, runner_command, search_path
 from .ssh_server import SshServer, free_port
-from .waiting import comes
+from .waiting import becomes_true
 
 MONITOR = pathlib.Path(__file__).resolve().parent.parent / "nagsched-monitor"
 PLUGINS = pathlib.Path("/usr/lib/nagios/plugins")
@@ -90,7 +90,7 @@ def behind_the_wall(program: str) -> List[str]:
             folder = pathlib.Path(holder)
             (folder / "ask.py").write_text(ASK.format(port=port))
             line = f"{sys.executable} {folder}/ask.py"
-            write_site(folder, {"behind": line, "before": line}, runners={"runners": {"wall": runner_words(trial, "wall")},
+            write_site(folder, {"behind": line, "before": line}, runners={"runners": {"wall": runner_command(trial, "wall")},
                                                                           "objects": {"wall": ["far;behind"]}})
             found = states_of(folder, program, 2)
     finally:
@@ -149,7 +149,7 @@ def begin_nrpe(folder: pathlib.Path, ends: contextlib.ExitStack) -> str:
     daemon = subprocess.Popen([str(found_program("nrpe")), "-c", str(folder / "nrpe.cfg"), "-f"], stdout=subprocess.DEVNULL, stderr=subprocess.DEVNULL)
     ends.callback(daemon.wait, timeout=20)
     ends.callback(daemon.terminate)
-    comes(lambda: is_open("127.0.0.1", port), 10)
+    becomes_true(lambda: is_open("127.0.0.1", port), 10)
     return f"{found_program('check_nrpe')} -t 50 -H 127.0.0.1 -p {port} -c warns"
 
 

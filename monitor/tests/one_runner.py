@@ -29,7 +29,7 @@ class OneRunner:
         self._jobs, self._results = self.process.stdin, self.process.stdout
         self._unread = b""
 
-    def give(self, *lines: Line) -> None:
+    def send(self, *lines: Line) -> None:
         data = b"".join(line if isinstance(line, bytes) else json.dumps(line).encode() + b"\n" for line in lines)
         while data:
             data = data[self._jobs.write(data) or 0 :]
@@ -45,9 +45,9 @@ class OneRunner:
             lines += [json.loads(line) for line in came]
         return sorted(lines, key=lambda line: int(line.get("job", -1)))
 
-    def ran(self, *lines: Line) -> List[Dict[str, Any]]:
+    def results_of(self, *lines: Line) -> List[Dict[str, Any]]:
         """The results of these jobs."""
-        self.give(*lines)
+        self.send(*lines)
         return self.results(len(lines))
 
     def __enter__(self) -> "OneRunner":

@@ -10,11 +10,11 @@ FAILED = ("DOWN", "UNREACHABLE")
 MOST_RESULTS, ALL_WEIGHTS = 21, 1_520
 
 # State, kind, attempt, and whether it is flapping.
-Told = Tuple[str, str, int, bool]
+StandingParts = Tuple[str, str, int, bool]
 
 
 @dataclass
-class Judged:
+class JudgedObject:
     """An object, and its standing."""
 
     host: str
@@ -43,7 +43,7 @@ class OneScheduler:
     """All objects of a site."""
 
     def __init__(self) -> None:
-        self.objects: Dict[str, Judged] = {}
+        self.objects: Dict[str, JudgedObject] = {}
         self.is_aggressive = False
 
     def add(self, setup: Mapping[str, Any], but: Sequence[str] = ()) -> None:
@@ -53,14 +53,14 @@ class OneScheduler:
         for host in setup["hosts"]:
             if host["name"] not in but:
                 limits = options.get("low_host_flap_threshold", 20), options.get("high_host_flap_threshold", 30)
-                self.objects[host["name"]] = Judged("", host.get("parents", ()), host["max_check_attempts"], "UP", *limits)
+                self.objects[host["name"]] = JudgedObject("", host.get("parents", ()), host["max_check_attempts"], "UP", *limits)
         for service in setup["services"]:
             name = f"{service['host']};{service['description']}"
             if name not in but:
                 limits = options.get("low_service_flap_threshold", 20), options.get("high_service_flap_threshold", 30)
-                self.objects[name] = Judged(service["host"], (), service["max_check_attempts"], "OK", *limits)
+                self.objects[name] = JudgedObject(service["host"], (), service["max_check_attempts"], "OK", *limits)
 
-    def report(self, name: str, code: int) -> Told:
+    def report(self, name: str, code: int) -> StandingParts:
         """The standing of an object after a result."""
         judged = self.objects[name]
         state = self.state_of(judged, code)
@@ -76,7 +76,7 @@ class OneScheduler:
         judged.add(state)
         return state, judged.kind, judged.attempt, judged.flapping
 
-    def state_of(self, judged: Judged, code: int) -> str:
+    def state_of(self, judged: JudgedObject, code: int) -> str:
         if judged.host:
             return STATES[code]
         if code == 0 or code == 1 and not self.is_aggressive:
@@ -85,7 +85,7 @@ class OneScheduler:
         return "UNREACHABLE" if cut_off else "DOWN"
 
 
-def is_change(before: Optional[Told], now: Told) -> bool:
+def is_change(before: Optional[StandingParts], now: StandingParts) -> bool:
     """Whether a result is reported as a change: another state, a problem that became hard, flapping that begins or ends."""
     state, kind, _, flapping = now
     if before is None:
@@ -93,6 +93,6 @@ def is_change(before: Optional[Told], now: Told) -> bool:
     return state != before[0] or flapping != before[3] or state not in WELL and (before[1], kind) == ("SOFT", "HARD")
 
 
-def told_of(standing: Standing) -> Told:
+def standing_parts(standing: Standing) -> StandingParts:
     """The parts of a scheduler's answer that this one has to give too."""
     return standing.state, standing.kind, standing.attempt, standing.flapping

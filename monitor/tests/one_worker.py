@@ -7,12 +7,12 @@ from typing import Any, Callable, Dict, List, Optional, Tuple
 
 from nagsched_monitor.program.turn_timer import FilePoller
 from nagsched_monitor.run.gearman import Code, Packet
-from nagsched_monitor.run.gearman_door import Door
-from nagsched_monitor.run.gearman_seal import JOB, RESULT, Seal
+from nagsched_monitor.run.gearman_policy import JobPolicy
+from nagsched_monitor.run.gearman_signing import JOB, RESULT, Signer
 from nagsched_monitor.run.gearman_worker import Worker
-from nagsched_monitor.run.pool import Pool
+from nagsched_monitor.run.pool import RunnerPool
 
-from .waiting import comes
+from .waiting import becomes_true
 
 
 class StandInConnection:
@@ -71,7 +71,7 @@ class StandInConnection:
 class WorkerTest(unittest.TestCase):
     """A worker with a runner."""
 
-    seal = Seal(None)
+    signer = Signer(None)
 
     def setUp(self) -> None:
         self.jobs: List[bytes] = []
@@ -88,17 +88,17 @@ class WorkerTest(unittest.TestCase):
         self.connections.append(StandInConnection(self.jobs, self.answers))
         return self.connections[-1]
 
-    def begin(self, slots: int = 4, words: str = "", runner: Any = None) -> Worker:
+    def start_worker(self, slots: int = 4, words: str = "", runner: Any = None) -> Worker:
         def clock() -> float:
             return time.monotonic() + self.passed
 
         self.poller = FilePoller()
         if runner is None:
             command = [words] if words else [os.environ["NAGSCHED_RUNNER"]]
-            runner = Pool("worker", command, 1, None, 0.0, self.lines.append, self.poller.watch, self.poller.unwatch, clock)
-            self.addCleanup(runner.end)
+            runner = RunnerPool("worker", command, 1, None, 0.0, self.lines.append, self.poller.watch, self.poller.unwatch, clock)
+            self.addCleanup(runner.close)
         self.runner = runner
-        self.worker = Worker(self.connect, ["dmz"], slots, self.seal, Door(self.seal, ["dmz"]), runner, self.lines.append, clock)
+        self.worker = Worker(self.connect, ["dmz"], slots, self.signer, JobPolicy(self.signer, ["dmz"]), runner, self.lines.append, clock)
         return self.worker
 
     def document(self, command: Any, **members: Any) -> Dict[str, Any]:
@@ -107,7 +107,7 @@ class WorkerTest(unittest.TestCase):
         return {"job": f"mark-{self.last}", "words": command, "limit": 10.0, "queue": "dmz", "time": now, "until": now + 30, **members}
 
     def job(self, command: Any, **members: Any) -> None:
-        self.jobs.append(self.seal.sign(JOB, self.document(command, **members)))
+        self.jobs.append(self.signer.sign(JOB, self.document(command, **members)))
 
     def turns_until(self, what: Callable[[], bool]) -> bool:
         def turned() -> bool:
@@ -118,8 +118,8 @@ class WorkerTest(unittest.TestCase):
                     return True
             return False
 
-        return comes(turned)
+        return becomes_true(turned)
 
-    def came(self, count: int) -> List[Dict[str, Any]]:
+    def results(self, count: int) -> List[Dict[str, Any]]:
         self.turns_until(lambda: len(self.answers) >= count)
-        return sorted((self.seal.open(RESULT, answer) or {} for answer in self.answers), key=lambda answer: str(answer.get("job")))
+        return sorted((self.signer.verified_document(RESULT, answer) or {} for answer in self.answers), key=lambda answer: str(answer.get("job")))

@@ -20,7 +20,7 @@ HERE = pathlib.Path(__file__).resolve().parent.parent
 sys.path.insert(0, str(HERE))
 
 from tests.ssh_server import free_port  # noqa: E402
-from tests.waiting import comes  # noqa: E402
+from tests.waiting import becomes_true  # noqa: E402
 
 MONITOR = HERE / "nagsched-monitor"
 # In seconds: the limit for a message, the time in which no other message may follow, and a time after which an alert would end that isn't posted again.
@@ -90,7 +90,7 @@ class Trial:
         words = [sys.executable, str(MONITOR), "--program", self.program, "--alertmanager", f"http://127.0.0.1:{self.port}", str(self.site)]
         with (self.folder / "log").open("ab") as log:
             self.monitor = subprocess.Popen(words, stdout=log, stderr=log)
-        comes(lambda: subprocess.run([sys.executable, str(MONITOR), str(self.site), "save"], capture_output=True, check=False).returncode == 0)
+        becomes_true(lambda: subprocess.run([sys.executable, str(MONITOR), str(self.site), "save"], capture_output=True, check=False).returncode == 0)
 
     def end(self, process: "subprocess.Popen[bytes]") -> None:
         process.terminate()
@@ -108,7 +108,7 @@ class Trial:
         """Whether the receiver comes to have exactly these messages, and gets no other for this time."""
         expected = collections.Counter({(name.replace("_", ";"), status): count for name, counts in wanted.items() for status, count in counts.items()})
         begun = time.monotonic()
-        comes(lambda: self.receiver.heard == expected, TOLD)
+        becomes_true(lambda: self.receiver.heard == expected, TOLD)
         time.sleep(quiet)
         is_right = self.receiver.heard == expected
         print(f"alerts: {what}: {'as wanted' if is_right else f'wanted {dict(expected)}, came {dict(self.receiver.heard)}'}, {time.monotonic() - begun:.0f} s")

@@ -23,7 +23,7 @@ from typing import Any, Callable, Counter, Dict, List, Tuple
 HERE = pathlib.Path(__file__).resolve().parent.parent
 sys.path.insert(0, str(HERE))
 
-from tests.gearman_trial import GearmanTrial, HandedJobs, missing, runner_words  # noqa: E402
+from tests.gearman_trial import GearmanTrial, SubmittedJobs, missing_program, runner_command  # noqa: E402
 from tests.gearman_walls import remote, wall  # noqa: E402
 
 MONITOR = HERE / "nagsched-monitor"
@@ -71,7 +71,7 @@ def write_site(folder: pathlib.Path, trial: GearmanTrial) -> None:
         commands.update({f"h{part}": {"line": "/bin/true"}, **{f"h{part};{it['description']}": {"line": "/bin/true"} for it in services}})
     (folder / "commands.json").write_text(json.dumps(commands))
     (folder / "runners.json").write_text(json.dumps(
-        {"runners": {"checks": runner_words(trial, "checks")}, "objects": {"checks": ["*"]}, "slots": {"checks": 500}}))
+        {"runners": {"checks": runner_command(trial, "checks")}, "objects": {"checks": ["*"]}, "slots": {"checks": 500}}))
 
 
 class RunningSite:
@@ -152,11 +152,11 @@ def kills_of_jobs() -> List[str]:
     trial.begin_server()
     for _ in range(WORKERS):
         trial.begin_worker("checks", slots=SLOTS)
-    jobs = HandedJobs(trial, 60)
+    jobs = SubmittedJobs(trial, 60)
     try:
         killing = threading.Thread(target=mishaps, args=(trial, "checks", KILLING))
         killing.start()
-        jobs.hand_steadily(RATE, KILLING + 3, "checks", ["sleep", "0.02"])
+        jobs.submit_steadily(RATE, KILLING + 3, "checks", ["sleep", "0.02"])
         killing.join()
         is_answered = jobs.wait(90)
     finally:
@@ -195,7 +195,7 @@ def kills_of_a_site(program: str) -> List[str]:
 
 
 def main(program: str, *wanted: str) -> int:
-    lacking = missing()
+    lacking = missing_program()
     parts: Dict[str, Callable[[], List[str]]] = {
         "rate": lambda: rate(program),
         "kills": lambda: kills_of_jobs() + kills_of_a_site(program),

@@ -21,9 +21,9 @@ from typing import Any, Counter, Dict, List, Tuple
 HERE = pathlib.Path(__file__).resolve().parent.parent
 sys.path.insert(0, str(HERE))
 
-from nagsched_monitor.run.runner_program import runner_words  # noqa: E402
-from tests.ssh_server import SshServer, missing  # noqa: E402
-from tests.waiting import comes  # noqa: E402
+from nagsched_monitor.run.runner_program import runner_command  # noqa: E402
+from tests.ssh_server import SshServer, missing_program  # noqa: E402
+from tests.waiting import becomes_true  # noqa: E402
 
 MONITOR = HERE / "nagsched-monitor"
 RATE, BETWEEN, AFTER = 100, 3.0, 40.0
@@ -60,7 +60,7 @@ def ended(folder: pathlib.Path) -> Tuple[Counter[Tuple[str, int]], Counter[str]]
 
 
 def main(program: str, cuts: str = "20") -> int:
-    lacking = missing()
+    lacking = missing_program()
     if lacking is not None:
         print(f"packages: passed over SSH: {lacking} isn't here")
         return 0
@@ -68,12 +68,12 @@ def main(program: str, cuts: str = "20") -> int:
     with tempfile.TemporaryDirectory() as holder:
         folder = pathlib.Path(holder)
         (server.folder / "allowed").write_text("/bin/true\n")
-        server.allow(f"{runner_words()[0]} --only {server.folder / 'allowed'}")
+        server.allow(f"{runner_command()[0]} --only {server.folder / 'allowed'}")
         write_site(folder, server)
         with (folder / "log").open("wb") as log:
             running = subprocess.Popen([sys.executable, str(MONITOR), "--program", program, str(folder)], stdout=log, stderr=log)
         try:
-            comes(lambda: (folder / "monitor.socket").exists())
+            becomes_true(lambda: (folder / "monitor.socket").exists())
             time.sleep(5)
             done = 0
             for _ in range(int(cuts)):

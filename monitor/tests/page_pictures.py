@@ -16,10 +16,10 @@ import urllib.parse
 import urllib.request
 from typing import Any, Dict, List, Tuple
 
-from nagsched_monitor.outputs.page import Server, Site
-from nagsched_monitor.store.rows import KeptChange
+from nagsched_monitor.outputs.page import Server, SiteFolder
+from nagsched_monitor.store.rows import StoredChange
 
-from .shown_site import fill, standing
+from .shown_site import fill_database, standing
 
 BROWSERS = ("chromium-headless-shell", "chrome-headless-shell", "chromium", "google-chrome")
 SERVICES = {
@@ -44,7 +44,7 @@ def quiet(hosts: int) -> Objects:
     return objects
 
 
-def outage() -> Tuple[Objects, List[KeptChange]]:
+def outage() -> Tuple[Objects, List[StoredChange]]:
     """A host and its services are down, one below it can't be reached, and there are a few problems elsewhere. The host was down before on this day."""
     now, objects = time.time(), quiet(24)
     wrong = [("web-00", "DOWN", "HARD", 2400, UNREACHABLE), ("web-01", "UNREACHABLE", "HARD", 2300, UNREACHABLE)]
@@ -65,10 +65,10 @@ def outage() -> Tuple[Objects, List[KeptChange]]:
     objects["db-05;load"].update(state="PENDING", since=None, hard_since=None, last_check=None, words="")
     day = [(80_000, "DOWN", "SOFT"), (79_000, "DOWN", "HARD"), (70_000, "UP", "HARD"), (52_000, "UNREACHABLE", "HARD"), (49_000, "UP", "HARD")]
     day += [(20_000, "DOWN", "SOFT"), (17_000, "UP", "SOFT"), (2_400, "DOWN", "SOFT"), (2_340, "DOWN", "HARD")]
-    changes: List[KeptChange] = []
+    changes: List[StoredChange] = []
     for ago, state, kind in day:
         words = PING if state == "UP" else UNREACHABLE
-        changes.append(KeptChange(len(changes) + 1, now - ago, "web-00", state, kind, 3 if kind == "HARD" and state != "UP" else 1, False, words))
+        changes.append(StoredChange(len(changes) + 1, now - ago, "web-00", state, kind, 3 if kind == "HARD" and state != "UP" else 1, False, words))
     return objects, changes
 
 
@@ -97,12 +97,12 @@ def complaints(url: str) -> None:
 def main() -> int:
     folder = pathlib.Path(sys.argv[1]).resolve()
     found = [browser for browser in BROWSERS if shutil.which(browser)]
-    moments: List[Tuple[str, Tuple[Objects, List[KeptChange]]]] = [("quiet", (quiet(6), [])), ("outage", outage()), ("campus", (quiet(125), []))]
+    moments: List[Tuple[str, Tuple[Objects, List[StoredChange]]]] = [("quiet", (quiet(6), [])), ("outage", outage()), ("campus", (quiet(125), []))]
     for name, (objects, kept) in moments:
         site = folder / name
         site.mkdir(parents=True, exist_ok=True)
-        fill(site, list(objects.values()), figures(len(objects)), tuple(kept))
-        server = Server(("127.0.0.1", 0), Site(site))
+        fill_database(site, list(objects.values()), figures(len(objects)), tuple(kept))
+        server = Server(("127.0.0.1", 0), SiteFolder(site))
         threading.Thread(target=server.serve_forever, daemon=True).start()
         pages = {name: ""} if not kept else {name: "", "object": "object?name=" + urllib.parse.quote("web-00")}
         for width in (1280, 400):

@@ -5,14 +5,14 @@ import sys
 from typing import Any, Dict, Iterable, List, Optional, Sequence, Tuple
 from unittest import mock
 
-from nagsched_monitor.core.mirroring import AskedOf, Mirrors
+from nagsched_monitor.core.mirroring import Mirrors, PlannedCall
 from nagsched_monitor.scheduler.protocol import Answer, Call, Report, Standing, Status
-from nagsched_monitor.scheduler.scheduling import Heard
+from nagsched_monitor.scheduler.scheduling import ObjectAnswer
 from nagsched_monitor.site.site import read_site
-from nagsched_monitor.store.rows import KeptChange
+from nagsched_monitor.store.rows import StoredChange
 from nagsched_monitor.store.store import Write
 
-from .one_scheduler import OneScheduler, Told, is_change, told_of
+from .one_scheduler import OneScheduler, StandingParts, is_change, standing_parts
 from .simulated import PROGRAM, Plugin, SimulatedClock, SimulatedMonitor, SiteTest
 
 TOOLS = pathlib.Path(__file__).resolve().parent.parent.parent / "tools"
@@ -47,7 +47,7 @@ def setup(hosts: List[Dict[str, Any]], services: List[Dict[str, Any]], *dependen
     return {"options": {**OPTIONS, **options}, "hosts": hosts, "services": services, "service_dependencies": list(dependencies), "host_dependencies": []}
 
 
-class Parted(SiteTest):
+class PartedSiteTest(SiteTest):
     """A test of parts with mirrors."""
 
     def setUp(self) -> None:
@@ -58,9 +58,9 @@ class Parted(SiteTest):
         self.mirrors: Dict[Tuple[int, str], List[Standing]] = {}
         self.results = 0
         # The standing of each object with one scheduler, and its changes there.
-        self.stands: Dict[str, Told] = {}
-        self.wanted: Dict[str, List[Told]] = {}
-        owns = Mirrors.owns
+        self.stands: Dict[str, StandingParts] = {}
+        self.wanted: Dict[str, List[StandingParts]] = {}
+        owns = Mirrors.apply_answer
 
         def listening(mirrors: Mirrors, part: int, call: Call, answer: Answer) -> bool:
             is_owned = owns(mirrors, part, call, answer)
@@ -68,7 +68,7 @@ class Parted(SiteTest):
                 self.mirrors.setdefault((part, call.name), []).append(answer)
             return is_owned
 
-        patched = mock.patch.object(Mirrors, "owns", listening)
+        patched = mock.patch.object(Mirrors, "apply_answer", listening)
         patched.start()
         self.addCleanup(patched.stop)
 
@@ -90,17 +90,17 @@ class Parted(SiteTest):
         self.write_parts(setups, mirrors)
         return len(setups)
 
-    def begun(self, plugin: Plugin, clock: Optional[SimulatedClock] = None) -> SimulatedMonitor:
+    def start_monitor(self, plugin: Plugin, clock: Optional[SimulatedClock] = None) -> SimulatedMonitor:
         """A monitor of the site, each of whose results is compared with one scheduler's judgement."""
         monitor = self.monitor(plugin, clock)
-        store, make = monitor.scheduling.store, monitor.scheduling.make
-        asked: List[AskedOf] = []
+        store, make = monitor.scheduling.store_calls, monitor.scheduling.make_calls
+        asked: List[PlannedCall] = []
 
-        def noted(calls: Sequence[AskedOf], writes: Sequence[Write] = ()) -> None:
+        def noted(calls: Sequence[PlannedCall], writes: Sequence[Write] = ()) -> None:
             store(calls, writes)
             asked[:] = calls
 
-        def judged() -> List[Heard]:
+        def judged() -> List[ObjectAnswer]:
             heard = make()
             answers = {each.call.name: each.answer for each in heard if isinstance(each.call, Report)}
             for part, call, _ in asked:
@@ -110,34 +110,34 @@ class Parted(SiteTest):
                     self.judge(call, answer)
             return heard
 
-        setattr(monitor.scheduling, "store", noted)
-        setattr(monitor.scheduling, "make", judged)
+        setattr(monitor.scheduling, "store_calls", noted)
+        setattr(monitor.scheduling, "make_calls", judged)
         self.originals, self.mirrors = {}, {}
         return monitor
 
     def judge(self, call: Report, answer: Standing) -> None:
         """Compares the answer to a result with one scheduler's judgement."""
         wanted = self.one.report(call.name, call.code)
-        if told_of(answer) != wanted:
+        if standing_parts(answer) != wanted:
             self.fail(f"result {self.results}: {call} gave {answer}, and one scheduler gives {wanted}")
         if is_change(self.stands.get(call.name), wanted):
             self.wanted.setdefault(call.name, []).append(wanted)
         self.stands[call.name] = wanted
         self.originals.setdefault(call.name, []).append(answer)
 
-    def assert_told(self, changes: Iterable[KeptChange]) -> None:
+    def assert_changes(self, changes: Iterable[StoredChange]) -> None:
         """The changes of each object are those that it has with one scheduler, in their order."""
-        told: Dict[str, List[Told]] = {}
+        told: Dict[str, List[StandingParts]] = {}
         for change in changes:
             told.setdefault(change.name, []).append((change.state, change.kind, change.attempt, change.flapping))
         for name in sorted({*told, *self.wanted}):
             self.assertEqual(told.get(name), self.wanted.get(name), name)
 
-    def assert_alike(self) -> int:
+    def assert_mirrors_answered_alike(self) -> int:
         """Each result of a mirror was answered as that of its original; returns the number of these results. Then the lists begin from scratch."""
         for (part, name), standings in self.mirrors.items():
-            of_original = [told_of(standing) + (standing.changed,) for standing in self.originals[name]]
-            self.assertEqual([told_of(standing) + (standing.changed,) for standing in standings], of_original, (part, name))
+            of_original = [standing_parts(standing) + (standing.changed,) for standing in self.originals[name]]
+            self.assertEqual([standing_parts(standing) + (standing.changed,) for standing in standings], of_original, (part, name))
         count = sum(map(len, self.mirrors.values()))
         self.originals, self.mirrors = {}, {}
         return count
@@ -146,10 +146,10 @@ class Parted(SiteTest):
         """Each mirror has the standing of its original, according to the schedulers."""
         schedulers = monitor.scheduling.schedulers
         for part, names in monitor.site.mirrors.items():
-            for name, answer in zip(sorted(names), schedulers.ask(part, [Status(name) for name in sorted(names)])):
-                (original,) = schedulers.ask(monitor.site.objects[name].part, [Status(name)])
+            for name, answer in zip(sorted(names), schedulers.query(part, [Status(name) for name in sorted(names)])):
+                (original,) = schedulers.query(monitor.site.objects[name].part, [Status(name)])
                 assert isinstance(answer, Standing) and isinstance(original, Standing)
-                self.assertEqual((told_of(answer), answer.next), (told_of(original), None), (part, name))
+                self.assertEqual((standing_parts(answer), answer.next), (standing_parts(original), None), (part, name))
 
     def reload(self, monitor: SimulatedMonitor) -> List[str]:
         """Continues with the site as its files are now."""

@@ -9,7 +9,7 @@ from nagsched_monitor.faults import MonitorFault
 from nagsched_monitor.inputs import control
 
 from .simulated import PROGRAM, SiteTest
-from .waiting import LONG, comes
+from .waiting import LONG, becomes_true
 
 MONITOR = pathlib.Path(__file__).resolve().parent.parent / "nagsched-monitor"
 
@@ -17,34 +17,34 @@ MONITOR = pathlib.Path(__file__).resolve().parent.parent / "nagsched-monitor"
 class ProcessTest(SiteTest):
     """A test with a monitor."""
 
-    def begin(self, *words: str, environment: Optional[Dict[str, str]] = None) -> "subprocess.Popen[str]":
+    def start_monitor(self, *words: str, environment: Optional[Dict[str, str]] = None) -> "subprocess.Popen[str]":
         command = [sys.executable, str(MONITOR), "--program", PROGRAM, *words, str(self.folder)]
         running = subprocess.Popen(command, stdout=subprocess.PIPE, text=True, env=environment, start_new_session=True)
-        self.addCleanup(self.end, running)
+        self.addCleanup(self.stop_monitor, running)
         self.await_socket(running)
         return running
 
-    def end(self, running: "subprocess.Popen[str]", number: int = signal.SIGTERM) -> str:
+    def stop_monitor(self, running: "subprocess.Popen[str]", number: int = signal.SIGTERM) -> str:
         if running.poll() is None:
             running.send_signal(number)
         output, _ = running.communicate(timeout=LONG) if running.stdout is not None and not running.stdout.closed else ("", None)
         return output
 
     def await_socket(self, running: "subprocess.Popen[str]") -> None:
-        self.assertTrue(comes(lambda: self.is_answering() or running.poll() is not None))
+        self.assertTrue(becomes_true(lambda: self.is_answering() or running.poll() is not None))
 
     def is_answering(self) -> bool:
         try:
-            return bool(control.ask(self.folder, b'{"do":"signs"}'))
+            return bool(control.send_request(self.folder, b'{"do":"signs"}'))
         except MonitorFault:
             return False
 
-    def ask(self, *words: str) -> "subprocess.CompletedProcess[str]":
+    def run_command(self, *words: str) -> "subprocess.CompletedProcess[str]":
         return subprocess.run([sys.executable, str(MONITOR), str(self.folder), *words], capture_output=True, text=True, check=False)
 
     def states(self) -> List[str]:
         """The lines of `status`, without the word for a running check."""
-        return [line.replace(" out ", " ", 1) for line in self.ask("status").stdout.splitlines()]
+        return [line.replace(" out ", " ", 1) for line in self.run_command("status").stdout.splitlines()]
 
     def await_states(self, wanted: List[str]) -> None:
         """Waits until each object has this standing. A running check doesn't matter: the next one may have begun."""
@@ -54,7 +54,7 @@ class ProcessTest(SiteTest):
             came[:] = self.states()
             return came == wanted
 
-        comes(stand)
+        becomes_true(stand)
         self.assertEqual(came, wanted)
 
     def children_of(self, process: int) -> List[int]:

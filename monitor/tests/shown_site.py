@@ -5,10 +5,10 @@ import threading
 import time
 from typing import Any, Dict, List, Optional, Tuple
 
-from nagsched_monitor.outputs.page import Server, Site
-from nagsched_monitor.store.rows import KeptChange, KeptStanding
+from nagsched_monitor.outputs.page import Server, SiteFolder
+from nagsched_monitor.store.rows import StoredChange, StoredStanding
 from nagsched_monitor.store.store import Store
-from nagsched_monitor.store.writes import drop_standings, keep_change, keep_figures, keep_standings
+from nagsched_monitor.store.writes import drop_standings, store_change, store_figures, store_standings
 
 from .simulated import SiteTest
 
@@ -23,30 +23,31 @@ def standing(name: str, state: str = "UP", kind: Optional[str] = "HARD", words: 
     return {**usual, **others}
 
 
-def fill(folder: pathlib.Path, standings: List[Dict[str, Any]], figures: Optional[Dict[str, float]] = None, changes: Tuple[KeptChange, ...] = ()) -> None:
+def fill_database(folder: pathlib.Path, standings: List[Dict[str, Any]], figures: Optional[Dict[str, float]] = None,
+                  changes: Tuple[StoredChange, ...] = ()) -> None:
     """A database with these objects."""
     store = Store(folder)
     store.write(
         drop_standings([kept.name for kept in store.standings()]),
-        keep_standings([KeptStanding(**it) for it in standings]),
-        keep_figures({"written_at": time.time(), **(figures or {})}),
-        *(keep_change(change, None) for change in changes),
+        store_standings([StoredStanding(**it) for it in standings]),
+        store_figures({"written_at": time.time(), **(figures or {})}),
+        *(store_change(change, None) for change in changes),
     )
     store.close()
 
 
-class ShownSite(SiteTest):
+class PageTest(SiteTest):
     """A test with a server over the folder of a site."""
 
     def serve(self) -> None:
-        self.server = Server(("127.0.0.1", 0), Site(self.folder))
+        self.server = Server(("127.0.0.1", 0), SiteFolder(self.folder))
         self.port = int(self.server.server_address[1])
         thread = threading.Thread(target=self.server.serve_forever, args=(0.05,), daemon=True)
         thread.start()
         self.addCleanup(self.server.server_close)
         self.addCleanup(self.server.shutdown)
 
-    def ask(self, path: str, method: str = "GET", **headers: str) -> Tuple[int, Dict[str, str], str]:
+    def request(self, path: str, method: str = "GET", **headers: str) -> Tuple[int, Dict[str, str], str]:
         """Status, headers by their names in small letters, and text of an answer."""
         connection = http.client.HTTPConnection("127.0.0.1", self.port, timeout=30)
         try:

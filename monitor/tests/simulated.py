@@ -11,15 +11,15 @@ from typing import Any, Callable, Dict, List, Optional, Set, Tuple
 from nagsched_monitor.core.engine import Engine
 from nagsched_monitor.inputs.requests import Request
 from nagsched_monitor.program.loop import Loop
-from nagsched_monitor.program.turn_timer import Pace
-from nagsched_monitor.run.jobs import Event, Finished, Job, Lost
+from nagsched_monitor.program.turn_timer import TurnTimer
+from nagsched_monitor.run.jobs import Event, Job, JobFinished, JobLost
 from nagsched_monitor.scheduler.live_process import Conversation
-from nagsched_monitor.scheduler.schedulers import Converse
+from nagsched_monitor.scheduler.schedulers import ConversationFactory
 from nagsched_monitor.scheduler.scheduling import Scheduling
 from nagsched_monitor.site.site import Site, read_site
-from nagsched_monitor.store.rows import KeptChange, KeptResult
+from nagsched_monitor.store.rows import StoredChange, StoredResult
 from nagsched_monitor.store.store import Store
-from nagsched_monitor.store.writes import keep_result
+from nagsched_monitor.store.writes import store_result
 
 PROGRAM = os.environ.get("NAGSCHED", "nagsched")
 # 2026-11-27 08:00:00, in UTC.
@@ -54,7 +54,7 @@ class SimulatedRunners:
     def start(self, job: Job) -> None:
         took, code, output = self.plugin(job.name, self.clock.now)
         self.started.append((self.clock.now, job))
-        heapq.heappush(self._ends, (self.clock.now + took, len(self.started), Finished(job, "exited", code, output)))
+        heapq.heappush(self._ends, (self.clock.now + took, len(self.started), JobFinished(job, "exited", code, output)))
 
     def flush(self) -> None:
         pass
@@ -68,20 +68,20 @@ class SimulatedRunners:
     def first(self) -> Optional[int]:
         return self._ends[0][0] if self._ends else None
 
-    def jobs(self) -> Set[int]:
+    def job_ids(self) -> Set[int]:
         return {id(event.job) for _, _, event in self._ends}
 
     def running(self) -> List[str]:
         """The names of the objects whose plugins run now."""
         return [event.job.name for end, _, event in self._ends if end > self.clock.now]
 
-    def signs(self) -> Dict[str, Dict[str, int]]:
+    def process_counts(self) -> Dict[str, Dict[str, int]]:
         return {}
 
     def kill(self, job: Job) -> bool:
         """Its plugin is killed, and lost."""
-        is_there = id(job) in self.jobs()
-        self._ends = [(self.clock.now, number, Lost(job)) if event.job is job else (end, number, event) for end, number, event in self._ends]
+        is_there = id(job) in self.job_ids()
+        self._ends = [(self.clock.now, number, JobLost(job)) if event.job is job else (end, number, event) for end, number, event in self._ends]
         heapq.heapify(self._ends)
         return is_there
 
@@ -108,7 +108,8 @@ class SimulatedMonitor:
     """A monitor whose day takes seconds."""
 
     def __init__(
-        self, folder: pathlib.Path, plugin: Plugin, clock: Optional[SimulatedClock] = None, converse: Converse = Conversation, store: Optional[Store] = None
+        self, folder: pathlib.Path, plugin: Plugin, clock: Optional[SimulatedClock] = None, converse: ConversationFactory = Conversation,
+        store: Optional[Store] = None,
     ) -> None:
         self.folder = folder
         site: Site = read_site(folder, PROGRAM)
@@ -118,7 +119,7 @@ class SimulatedMonitor:
         # The least time from one turn to the next, in milliseconds.
         self.between = 1
         self.lines: List[str] = []
-        self.changes: List[Tuple[int, KeptChange]] = []
+        self.changes: List[Tuple[int, StoredChange]] = []
         self.scheduling = Scheduling(PROGRAM, site, self.store, self.clock, self.log, True, converse)
         try:
             self.scheduling.open()
@@ -128,7 +129,7 @@ class SimulatedMonitor:
         self.runners = SimulatedRunners(self.clock, plugin)
         self.engine = Engine(self.scheduling, self.runners, self.store, self.clock, self.log)
         self.engine.requests.log = self.log
-        self.loop = Loop(self.engine, Pace(self.clock, SimulatedPoller(self.clock, self.runners)), self.clock, self.log)
+        self.loop = Loop(self.engine, TurnTimer(self.clock, SimulatedPoller(self.clock, self.runners)), self.clock, self.log)
         self.loop.after = [self.take_changes]
 
     def log(self, line: str) -> None:
@@ -139,7 +140,7 @@ class SimulatedMonitor:
         return self.engine.site
 
     def take_changes(self) -> None:
-        self.changes += [(self.clock.now, change) for change in self.scheduling.changed()]
+        self.changes += [(self.clock.now, change) for change in self.scheduling.pop_changes()]
 
     def run(self, seconds: float) -> None:
         """Continues for this time, with a turn when something is due or has come."""
@@ -156,7 +157,7 @@ class SimulatedMonitor:
         """Continues for this time, with the monitor's own loop."""
         end = self.clock.now + round(seconds * 1000)
         while self.clock.now < end and self.loop.status is None:
-            self.loop.go_round()
+            self.loop.run_turn()
 
     def pause(self, seconds: float) -> None:
         """Nothing runs for this time, as when a machine sleeps."""
@@ -165,7 +166,7 @@ class SimulatedMonitor:
     def ask_line(self, line: bytes) -> Dict[str, Any]:
         """The answer to a request, after the turn in which it is obeyed."""
         answers: List[bytes] = []
-        self.engine.ask(Request(line, answers.append))
+        self.engine.add_request(Request(line, answers.append))
         self.engine.requests.begin_turn()
         self.engine.turn()
         self.take_changes()
@@ -175,11 +176,11 @@ class SimulatedMonitor:
     def ask(self, **members: Any) -> Dict[str, Any]:
         return self.ask_line(json.dumps(members).encode())
 
-    def give(self, name: str, code: int, words: str) -> None:
+    def add_result(self, name: str, code: int, words: str) -> None:
         """A passive result, which is stored."""
         self.store.last_result += 1
-        self.store.write(keep_result(name, code, words, self.store.last_result))
-        self.engine.passive.expect(KeptResult(self.store.last_result, name, code, words))
+        self.store.write(store_result(name, code, words, self.store.last_result))
+        self.engine.passive.add(StoredResult(self.store.last_result, name, code, words))
 
     def starts(self) -> Dict[str, List[int]]:
         """When each object's plugin was started, in milliseconds from the beginning."""
@@ -219,7 +220,7 @@ class SiteTest(unittest.TestCase):
         for name, document in files.items():
             self.write(f"{name}.json", document)
 
-    def monitor(self, plugin: Plugin, clock: Optional[SimulatedClock] = None, converse: Converse = Conversation) -> SimulatedMonitor:
+    def monitor(self, plugin: Plugin, clock: Optional[SimulatedClock] = None, converse: ConversationFactory = Conversation) -> SimulatedMonitor:
         monitor = SimulatedMonitor(self.folder, plugin, clock, converse)
         self.addCleanup(monitor.close)
         return monitor

@@ -9,10 +9,10 @@ import tempfile
 from typing import List, Optional
 
 from .gearman_trial import is_open, search_path
-from .waiting import comes
+from .waiting import becomes_true
 
 
-def missing() -> Optional[str]:
+def missing_program() -> Optional[str]:
     """A program that is missing here; None if all exist."""
     return next((name for name in ("sshd", "ssh", "ssh-keygen") if shutil.which(name, path=search_path()) is None), None)
 
@@ -41,7 +41,7 @@ class SshServer:
             pathlib.Path("/run/sshd").mkdir(exist_ok=True)
         program = str(shutil.which("sshd", path=search_path()))
         self._server = subprocess.Popen([program, "-D", "-f", str(self.folder / "sshd.cfg")], stdout=subprocess.DEVNULL, stderr=subprocess.DEVNULL)
-        comes(lambda: is_open("127.0.0.1", self.port), 10)
+        becomes_true(lambda: is_open("127.0.0.1", self.port), 10)
 
     def allow(self, command: str) -> None:
         """The key may run only this command, for every request."""

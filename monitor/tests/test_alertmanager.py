@@ -13,9 +13,9 @@ from typing import Any, Dict, List, Tuple
 from unittest import mock
 
 from nagsched_monitor.outputs import alertmanager
-from nagsched_monitor.outputs.alertmanager import FLAPPING, HEARTBEAT, PROBLEM, Alerts
+from nagsched_monitor.outputs.alertmanager import FLAPPING, HEARTBEAT, PROBLEM, AlertPoster
 
-from .shown_site import fill, standing
+from .shown_site import fill_database, standing
 from .simulated import SiteTest
 
 EXAMPLES = pathlib.Path(__file__).resolve().parent.parent.parent / "examples"
@@ -44,14 +44,14 @@ class Posting(SiteTest):
         self.addCleanup(server.server_close)
         self.addCleanup(server.shutdown)
         self.url = f"http://127.0.0.1:{server.server_port}/"
-        self.alerts = Alerts(self.url, self.folder, 30, 300)
+        self.alerts = AlertPoster(self.url, self.folder, 30, 300)
         self.said = mock.patch("builtins.print").start()
         self.addCleanup(mock.patch.stopall)
 
     def look(self) -> List[Tuple[str, str, str, bool]]:
         """The alerts that are posted now: name, host and service of each, and whether it is firing."""
         before = len(self.posted)
-        self.alerts.look()
+        self.alerts.post_due()
         alerts = [alert for alerts in self.posted[before:] for alert in alerts if alert["labels"]["alertname"] != HEARTBEAT]
         now = datetime.datetime.now(datetime.timezone.utc)
         return sorted((it["labels"]["alertname"], it["labels"]["host"], it["labels"].get("service", ""), datetime.datetime.fromisoformat(it["endsAt"]) > now)
@@ -61,7 +61,7 @@ class Posting(SiteTest):
         """Hard problems and flapping objects, with their labels; no soft problem, nothing that is OK or was never checked."""
         self.write("groups.json", {"web;http": {"host_groups": ["linux", "dmz"], "contact_groups": ["ops"]}})
         now = time.time()
-        fill(self.folder, [
+        fill_database(self.folder, [
             standing("db", "DOWN", words="no answer\nat all", hard_since=now - 60), standing("db;disk", "CRITICAL", words="full"),
             standing("far", "UNREACHABLE"),
             standing("soft", "DOWN", "SOFT"), standing("soft;http", "UNKNOWN"), standing("web"), standing("web;http", "WARNING", words="slow"),
@@ -92,24 +92,24 @@ class Posting(SiteTest):
 
     def test_when_it_is_posted(self) -> None:
         """At once when something changes, otherwise at a fixed interval; an end is posted once."""
-        fill(self.folder, [standing("web"), standing("web;http", "CRITICAL")])
+        fill_database(self.folder, [standing("web"), standing("web;http", "CRITICAL")])
         self.assertEqual(self.look(), [(PROBLEM, "web", "http", True)])
         self.assertEqual(self.look(), [])
-        fill(self.folder, [standing("web"), standing("web;http", "WARNING")])
+        fill_database(self.folder, [standing("web"), standing("web;http", "WARNING")])
         self.assertEqual(self.look(), [(PROBLEM, "web", "http", False), (PROBLEM, "web", "http", True)])
-        fill(self.folder, [standing("web"), standing("web;http", "OK")])
+        fill_database(self.folder, [standing("web"), standing("web;http", "OK")])
         self.assertEqual(self.look(), [(PROBLEM, "web", "http", False)])
         self.assertEqual(self.look(), [])
-        self.alerts = Alerts(self.url, self.folder, 0, 300)
-        fill(self.folder, [standing("web", "DOWN")])
+        self.alerts = AlertPoster(self.url, self.folder, 0, 300)
+        fill_database(self.folder, [standing("web", "DOWN")])
         self.assertEqual([self.look(), self.look()], [[(PROBLEM, "web", "", True)]] * 2)
 
     def test_one_that_takes_nothing(self) -> None:
         """It is posted again with each look, and logged once; an end that wasn't accepted is posted again."""
-        fill(self.folder, [standing("web", "DOWN")])
+        fill_database(self.folder, [standing("web", "DOWN")])
         self.look()
         self.is_refusing = True
-        fill(self.folder, [standing("web")])
+        fill_database(self.folder, [standing("web")])
         self.assertEqual([self.look(), self.look()], [[], []])
         self.assertEqual(self.said.call_count, 1)
         self.is_refusing = False
@@ -123,16 +123,16 @@ class Posting(SiteTest):
 
     def test_a_monitor_that_writes_nothing(self) -> None:
         """Its problems stay as they were; its heartbeat ends."""
-        fill(self.folder, [standing("web", "DOWN")])
+        fill_database(self.folder, [standing("web", "DOWN")])
         self.look()
-        fill(self.folder, [standing("web", "DOWN")], {"written_at": time.time() - 60})
+        fill_database(self.folder, [standing("web", "DOWN")], {"written_at": time.time() - 60})
         self.assertEqual(self.look(), [(PROBLEM, "web", "", True)])
         ended = [it for it in self.posted[-1] if it["labels"]["alertname"] == HEARTBEAT]
         self.assertLessEqual(datetime.datetime.fromisoformat(ended[0]["endsAt"]).timestamp(), time.time())
 
     def test_many(self) -> None:
         """They are posted in several requests."""
-        fill(self.folder, [standing(f"h{number:04}", "DOWN") for number in range(alertmanager.AT_ONCE + 5)])
+        fill_database(self.folder, [standing(f"h{number:04}", "DOWN") for number in range(alertmanager.AT_ONCE + 5)])
         self.assertEqual(len(self.look()), alertmanager.AT_ONCE + 5)
         self.assertEqual([len(alerts) for alerts in self.posted], [alertmanager.AT_ONCE, 6])
 

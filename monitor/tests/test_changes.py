@@ -10,14 +10,14 @@ from unittest import mock
 
 from nagsched_monitor.faults import NotStored
 from nagsched_monitor.outputs import changes
-from nagsched_monitor.outputs.changes import MOST_AGE, PAUSE, Notifier, document_of, is_change, is_important, line_of
+from nagsched_monitor.outputs.changes import MOST_AGE, PAUSE, Notifier, change_document, change_line, is_change, is_important
 from nagsched_monitor.scheduler.protocol import Standing
-from nagsched_monitor.store.rows import KeptChange
+from nagsched_monitor.store.rows import StoredChange
 from nagsched_monitor.store.store import Store
-from nagsched_monitor.store.writes import keep_change
+from nagsched_monitor.store.writes import store_change
 
 from .simulated import SiteTest
-from .waiting import LONG, comes
+from .waiting import LONG, becomes_true
 
 
 def standing(state: str, kind: str = "HARD", attempt: int = 1, flapping: bool = False) -> Standing:
@@ -43,8 +43,8 @@ class Changes(SiteTest):
             self.assertEqual((is_change(before, now), is_change(before, now) and is_important(before, now)), (printed, counts), (before, now))
 
     def test_the_line(self) -> None:
-        change = KeptChange(1, 1_795_766_400.0, "web;http", "CRITICAL", "HARD", 3, True, "no answer")
-        self.assertEqual(line_of(change, datetime.timezone.utc), "2026-11-27 08:00:00+00:00 web;http is CRITICAL HARD 3 FLAPPING: no answer")
+        change = StoredChange(1, 1_795_766_400.0, "web;http", "CRITICAL", "HARD", 3, True, "no answer")
+        self.assertEqual(change_line(change, datetime.timezone.utc), "2026-11-27 08:00:00+00:00 web;http is CRITICAL HARD 3 FLAPPING: no answer")
 
 
 class Command(SiteTest):
@@ -57,8 +57,8 @@ class Command(SiteTest):
 
     def keep(self, count: int) -> None:
         for number in range(1, count + 1):
-            change = KeptChange(number, 1000.0 * number, f"h{number}", "DOWN", "HARD", 3, False, 'a "word"')
-            self.store.write(keep_change(change, document_of(change, None)))
+            change = StoredChange(number, 1000.0 * number, f"h{number}", "DOWN", "HARD", 3, False, 'a "word"')
+            self.store.write(store_change(change, change_document(change, None)))
 
     def notifier(self, command: Optional[str]) -> Notifier:
         return Notifier(command, self.store, self.lines.append, lambda: time.monotonic() + self.passed, lambda: self.began + self.passed)
@@ -100,7 +100,7 @@ class Command(SiteTest):
                 (self.folder / "up").touch()
             return not self.store.outbox()
 
-        self.assertTrue(comes(is_done))
+        self.assertTrue(becomes_true(is_done))
         notifier.close()
         self.assertEqual(len((self.folder / "taken").read_text().splitlines()), 12)
         self.assertEqual(self.lines, ["the command for changes ended with 1; it is tried again"])
@@ -125,7 +125,7 @@ class Command(SiteTest):
             return bool(self.lines)
 
         with mock.patch.object(self.store, "write", side_effect=NotStored("the disk is full")):
-            self.assertTrue(comes(is_said))
+            self.assertTrue(becomes_true(is_said))
             for _ in range(100):
                 is_said()
                 time.sleep(0.005)
@@ -158,7 +158,7 @@ class Command(SiteTest):
         """One line says why it isn't started, and it is started when there is room."""
         self.keep(1)
         notifier = self.notifier(f"cat >> {self.folder}/taken")
-        for what, fault in ((subprocess, "Popen"), (changes, "file_with")):
+        for what, fault in ((subprocess, "Popen"), (changes, "file_of_bytes")):
             with mock.patch.object(what, fault, side_effect=OSError(28, "no room")):
                 for _ in range(3):
                     notifier.work()

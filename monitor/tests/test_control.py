@@ -11,13 +11,13 @@ from nagsched_monitor.faults import MonitorFault
 from nagsched_monitor.inputs.requests import Request
 
 from .simulated import SiteTest
-from .waiting import comes
+from .waiting import becomes_true
 
 
 class Socket(SiteTest):
     """The socket alone: each request is answered by `answer` in the turn in which it came."""
 
-    def serving(self, answer: bytes = b"") -> control.Control:
+    def serving(self, answer: bytes = b"") -> control.ControlSocket:
         self.files: Dict[int, Callable[[int], None]] = {}
         self.heard: List[bytes] = []
 
@@ -25,7 +25,7 @@ class Socket(SiteTest):
             self.heard.append(request.line)
             request.reply(answer or b"heard " + request.line + b"\n")
 
-        made = control.Control(self.folder, asked, self.files.__setitem__, self.files.__delitem__)
+        made = control.ControlSocket(self.folder, asked, self.files.__setitem__, self.files.__delitem__)
         self.addCleanup(made.close)
         return made
 
@@ -35,7 +35,7 @@ class Socket(SiteTest):
         connection.connect(control.short_path(self.folder / control.NAME))
         return connection
 
-    def turn(self, made: control.Control) -> bool:
+    def turn(self, made: control.ControlSocket) -> bool:
         """One turn of the loop around it, which reads what can be read."""
         for file, read in list(self.files.items()):
             read(file)
@@ -45,9 +45,9 @@ class Socket(SiteTest):
         made = self.serving()
         self.assertEqual((self.folder / control.NAME).stat().st_mode & 0o777, 0o600)
         answers: List[bytes] = []
-        asking = threading.Thread(target=lambda: answers.extend([control.ask(self.folder, b"one"), control.ask(self.folder, b"two")]))
+        asking = threading.Thread(target=lambda: answers.extend([control.send_request(self.folder, b"one"), control.send_request(self.folder, b"two")]))
         asking.start()
-        self.assertTrue(comes(lambda: self.turn(made) or not asking.is_alive()))
+        self.assertTrue(becomes_true(lambda: self.turn(made) or not asking.is_alive()))
         self.assertEqual(answers, [b"heard one\n", b"heard two\n"])
 
     def test_one_that_asks_much_leaves_room_for_others(self) -> None:
@@ -60,14 +60,14 @@ class Socket(SiteTest):
         other.sendall(b"other\n")
         self.turn(made)
         self.assertLess(self.heard.index(b"other"), 4 * control.LINES_IN_TURN)
-        self.assertTrue(comes(lambda: not self.turn(made) and len(self.heard) == 1_001))
+        self.assertTrue(becomes_true(lambda: not self.turn(made) and len(self.heard) == 1_001))
         self.assertEqual([line for line in self.heard if line != b"other"], [b"%d" % number for number in range(1_000)])
 
     def test_one_that_reads_slowly_holds_up_nobody(self) -> None:
         made = self.serving(b"x" * 1_000_000 + b"\n")
         slow = self.asking()
         slow.sendall(b"one\n")
-        self.assertTrue(comes(lambda: self.turn(made) or self.heard == [b"one"]))
+        self.assertTrue(becomes_true(lambda: self.turn(made) or self.heard == [b"one"]))
         other = self.asking()
         other.settimeout(30)
         other.sendall(b"two\n")
@@ -80,7 +80,7 @@ class Socket(SiteTest):
                 got.append(other.recv(1 << 20))
             return sum(map(len, got)) == 1_000_001
 
-        self.assertTrue(comes(is_answered))
+        self.assertTrue(becomes_true(is_answered))
         slow.settimeout(30)
         read = 0
 
@@ -90,14 +90,14 @@ class Socket(SiteTest):
             read += len(slow.recv(1 << 20))
             return read == 1_000_001
 
-        self.assertTrue(comes(is_read))
+        self.assertTrue(becomes_true(is_read))
         self.assertFalse(made.is_sending())
 
     def test_one_that_says_nothing_is_forgotten(self) -> None:
         made = self.serving()
         there = self.asking()
         there.settimeout(30)
-        self.assertTrue(comes(lambda: self.turn(made) or len(self.files) == 2))
+        self.assertTrue(becomes_true(lambda: self.turn(made) or len(self.files) == 2))
         with mock.patch.object(control, "IDLE", -1.0):
             self.turn(made)
         self.assertEqual((len(self.files), there.recv(1)), (1, b""))
@@ -108,7 +108,7 @@ class Socket(SiteTest):
         there.settimeout(30)
         sending = threading.Thread(target=lambda: there.sendall(b"x" * (control.LONGEST_LINE + control.READ_BYTES)), daemon=True)
         sending.start()
-        self.assertTrue(comes(lambda: self.turn(made) or len(self.files) == 1))
+        self.assertTrue(becomes_true(lambda: self.turn(made) or len(self.files) == 1))
         self.assertEqual(self.heard, [])
 
     def test_no_room_for_a_connection(self) -> None:
@@ -119,9 +119,9 @@ class Socket(SiteTest):
         with mock.patch.object(socket.socket, "accept", side_effect=OSError(24, "too many files")):
             made.read(next(iter(self.files)))
         self.assertEqual(len(self.files), 1)
-        self.assertTrue(comes(lambda: self.turn(made) or self.heard == [b"one"]))
+        self.assertTrue(becomes_true(lambda: self.turn(made) or self.heard == [b"one"]))
         self.assertEqual(there.recv(100), b"done\n")
 
     def test_no_monitor(self) -> None:
         with self.assertRaisesRegex(MonitorFault, "no monitor runs on"):
-            control.ask(self.folder, b"{}")
+            control.send_request(self.folder, b"{}")

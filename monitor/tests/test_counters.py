@@ -3,7 +3,7 @@ from typing import Dict, Tuple
 
 from nagsched_monitor.store.counters import BOUNDS, BUCKETS, Counters
 from nagsched_monitor.store.store import Store
-from nagsched_monitor.store.writes import keep_figures
+from nagsched_monitor.store.writes import store_figures
 
 from .simulated import SimulatedClock, SimulatedMonitor, SiteTest, fine
 
@@ -25,7 +25,7 @@ class Figures(SiteTest):
         monitor.run(60)
         monitor.engine.close()
         figures = figures_of(monitor)
-        self.assertEqual((figures["checks.UP"], figures["checks.DOWN"]), (monitor.engine.made - figures["checks.DOWN"], figures["checks.DOWN"]))
+        self.assertEqual((figures["checks.UP"], figures["checks.DOWN"]), (monitor.engine.result_count - figures["checks.DOWN"], figures["checks.DOWN"]))
         self.assertGreater(figures["checks.DOWN"], 50)
         self.assertAlmostEqual(late_of(figures), len(monitor.runners.started), delta=10)
         self.assertEqual((figures["calls"], figures["saves"]), (monitor.store.last_call, 1))
@@ -55,8 +55,8 @@ class Figures(SiteTest):
         monitor.run(30)
         monitor.engine.close()
         after = figures_of(monitor)
-        self.assertAlmostEqual(after["checks.UP"] - before["checks.UP"], monitor.engine.made)
-        self.assertGreater(monitor.engine.made, 25)
+        self.assertAlmostEqual(after["checks.UP"] - before["checks.UP"], monitor.engine.result_count)
+        self.assertGreater(monitor.engine.result_count, 25)
         self.assertEqual((before["saves"], after["saves"]), (1, 2))
         self.assertGreater(after["calls"], before["calls"] + 50)
         self.assertGreater(after["begun_at"], before["begun_at"])
@@ -73,7 +73,7 @@ class Figures(SiteTest):
         monitor.store._database.execute("PRAGMA max_page_count = 1000000")
         monitor.run(10)
         monitor.engine.close()
-        self.assertEqual(figures_of(monitor)["checks.UP"], monitor.engine.made)
+        self.assertEqual(figures_of(monitor)["checks.UP"], monitor.engine.result_count)
 
 
 class Histogram(SiteTest):
@@ -81,10 +81,10 @@ class Histogram(SiteTest):
         clock = SimulatedClock()
         counters = Counters({}, clock)
         for each in late:
-            counters.started(each)
+            counters.count_start(each)
         store = Store(self.folder)
         self.addCleanup(store.close)
-        store.write(keep_figures(counters.changed(0)))
+        store.write(store_figures(counters.changed_figures(0)))
         return counters, store.figures()
 
     def test_bounds(self) -> None:
@@ -101,11 +101,11 @@ class Histogram(SiteTest):
     def test_the_latest_start_of_late(self) -> None:
         clock = SimulatedClock()
         counters = Counters({}, clock)
-        counters.started(700)
+        counters.count_start(700)
         lately = []
         for _ in range(20):
             clock.now += 10_000
-            values = counters._all(clock.moment(), 0)
+            values = counters._all_figures(clock.moment(), 0)
             lately.append((values["latest_start_lately"], values["latest_start"]))
         self.assertEqual(lately[0], (0.7, 0.7))
         self.assertEqual(lately[-1], (0.0, 0.7))

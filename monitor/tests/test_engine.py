@@ -90,7 +90,7 @@ class Outages(SiteTest):
                     longest = max(longest, moment - hard_since.pop(name))
         self.assertEqual(hard_since, {})
         self.assertLessEqual(longest, 1_000)
-        states = {known.name: known.standing.state for known in monitor.scheduling.known.objects.values() if known.standing is not None}
+        states = {obj.name: obj.standing.state for obj in monitor.scheduling.states.objects.values() if obj.standing is not None}
         self.assertEqual(collections.Counter(states.values()), {"UP": 51, "OK": 500})
 
     def test_children_are_looked_at_when_the_parent_is_back(self) -> None:

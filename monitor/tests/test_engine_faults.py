@@ -5,7 +5,7 @@ from typing import Any, List, Sequence, Set
 from unittest import mock
 
 from nagsched_monitor.faults import ConversationEnded, NotStored
-from nagsched_monitor.run.jobs import Finished, Gone, Job, Lost
+from nagsched_monitor.run.jobs import Job, JobFinished, JobLost, StuckJobEnded
 from nagsched_monitor.scheduler.live_process import Conversation
 from nagsched_monitor.scheduler.schedulers import Schedulers
 from nagsched_monitor.site.site import read_site
@@ -43,14 +43,14 @@ class Faults(SiteTest):
         self.write_site([host("web")], [service("web", "http")])
         monitor = self.monitor(lambda name, moment: (20_000, 0, "fine"))
         monitor.run(70)
-        self.assertEqual(monitor.engine.busy(), {"web", "web;http"})
+        self.assertEqual(monitor.engine.objects_with_plugins(), {"web", "web;http"})
         os.kill(monitor.scheduling.process_ids()[0], signal.SIGKILL)
         monitor.run(5)
         monitor.ask(do="reschedule", name="web", at=monitor.clock.wall() + 100)
         monitor.run(5)
-        self.assertEqual((monitor.engine.busy(), len(monitor.runners.started)), ({"web", "web;http"}, 4))
+        self.assertEqual((monitor.engine.objects_with_plugins(), len(monitor.runners.started)), ({"web", "web;http"}, 4))
         monitor.run(10)
-        self.assertEqual((monitor.engine.made, monitor.engine.busy()), (4, set()))
+        self.assertEqual((monitor.engine.result_count, monitor.engine.objects_with_plugins()), (4, set()))
         self.assertEqual(len([line for line in monitor.lines if "it is started again" in line]), 1)
 
     def test_a_scheduler_that_cant_be_had_for_a_while(self) -> None:
@@ -65,7 +65,7 @@ class Faults(SiteTest):
             self.assertLessEqual(len(monitor.starts()["web"]), 3)
         monitor.run(200)
         self.assertGreaterEqual(len(monitor.starts()["web"]), 5)
-        self.assertEqual(monitor.engine.made, len(monitor.runners.started))
+        self.assertEqual(monitor.engine.result_count, len(monitor.runners.started))
 
     def test_a_scheduler_that_cant_be_had_at_a_reload(self) -> None:
         """The site is taken over as a whole, and new objects are checked as soon as their scheduler runs."""
@@ -102,7 +102,7 @@ class Faults(SiteTest):
         after = self.monitor(fine, monitor.clock, converse=Poisoned)
         after.run(100)
         self.assertFalse([line for line in after.lines if "started again" in line])
-        self.assertGreaterEqual(after.engine.made, 2)
+        self.assertGreaterEqual(after.engine.result_count, 2)
 
     def test_runners_that_end(self) -> None:
         """A check whose runner ended is abandoned and made again; the third time it is UNKNOWN."""
@@ -114,7 +114,7 @@ class Faults(SiteTest):
         def losing() -> List[Any]:
             told = events()
             lost.update(event.job.run for event in told if event.job.name == "web;http")
-            return [Lost(event.job) if event.job.name == "web;http" else event for event in told]
+            return [JobLost(event.job) if event.job.name == "web;http" else event for event in told]
 
         setattr(monitor.runners, "events", losing)
         monitor.run(5)
@@ -126,9 +126,9 @@ class Faults(SiteTest):
         self.write_site([host("web", check_interval=600)], [])
         monitor = self.monitor(lambda name, moment: (10**9 if moment < BEGIN + 10_000 else 10, 0, "fine"))
         monitor.run(70)
-        self.assertEqual((len(monitor.runners.started), monitor.engine.busy()), (1, {"web"}))
+        self.assertEqual((len(monitor.runners.started), monitor.engine.objects_with_plugins()), (1, {"web"}))
         monitor.run(20)
-        self.assertEqual((monitor.engine.made, monitor.engine.busy(), len(monitor.runners.started)), (1, set(), 2))
+        self.assertEqual((monitor.engine.result_count, monitor.engine.objects_with_plugins(), len(monitor.runners.started)), (1, set(), 2))
         self.assertIn("web: run 1 gave no result in time", monitor.lines)
 
     def test_a_job_that_no_runner_has(self) -> None:
@@ -137,7 +137,7 @@ class Faults(SiteTest):
         monitor.run(2)
         monitor.runners._ends.clear()
         monitor.run(10)
-        self.assertEqual((monitor.engine.made, len(monitor.runners.started)), (1, 2))
+        self.assertEqual((monitor.engine.result_count, len(monitor.runners.started)), (1, 2))
         self.assertIn("web: no runner has run 1", monitor.lines)
 
     def test_what_this_machine_lacks(self) -> None:
@@ -145,14 +145,14 @@ class Faults(SiteTest):
         self.write_site([host("web", check_interval=600), host("off", enabled=False)], [])
         monitor = self.monitor(fine)
         events = monitor.runners.events
-        setattr(monitor.runners, "events", lambda: [Lost(event.job, "too many open files", True) for event in events()])
+        setattr(monitor.runners, "events", lambda: [JobLost(event.job, "too many open files", True) for event in events()])
         monitor.ask(do="reschedule", name="off", force=True)
         monitor.run(100)
-        self.assertEqual((monitor.changes, monitor.engine.made), ([], 0))
+        self.assertEqual((monitor.changes, monitor.engine.result_count), ([], 0))
         self.assertTrue(all(6 <= len(starts) <= 8 for starts in monitor.starts().values()), monitor.starts())
         setattr(monitor.runners, "events", events)
         monitor.run(70)
-        self.assertEqual(monitor.engine.made, 2)
+        self.assertEqual(monitor.engine.result_count, 2)
         monitor.engine.close()
         self.assertEqual(monitor.store.figures()["checks.not_started"], len(monitor.runners.started) - 2)
 
@@ -164,15 +164,15 @@ class Faults(SiteTest):
         stuck: List[Job] = []
 
         def told() -> List[Any]:
-            came = [Finished(event.job, "limit", 0, "", "", True) for event in events()]
+            came = [JobFinished(event.job, "limit", 0, "", "", True) for event in events()]
             stuck.extend(event.job for event in came)
             return came
 
         setattr(monitor.runners, "events", told)
         monitor.run(70)
         self.assertEqual((len(monitor.runners.started), len(stuck)), (1, 1))
-        self.assertGreaterEqual(monitor.engine.made, 4)
-        setattr(monitor.runners, "events", lambda: [Gone(stuck.pop())] if stuck else events())
+        self.assertGreaterEqual(monitor.engine.result_count, 4)
+        setattr(monitor.runners, "events", lambda: [StuckJobEnded(stuck.pop())] if stuck else events())
         monitor.run(35)
         self.assertEqual(len(monitor.runners.started), 3)
 
@@ -198,7 +198,7 @@ class Faults(SiteTest):
                         runners={"runners": {"dmz": ["true"]}, "objects": {"dmz": ["web"]}})
         monitor = self.monitor(fine)
         events = monitor.runners.events
-        setattr(monitor.runners, "events", lambda: [Lost(event.job, f"the runner {event.job.runner} didn't take it") for event in events()])
+        setattr(monitor.runners, "events", lambda: [JobLost(event.job, f"the runner {event.job.runner} didn't take it") for event in events()])
         monitor.run(5)
         self.assertEqual([(change.name, change.words) for _, change in monitor.changes], [("web;http", "the runner dmz didn't take it 3 times")])
 
@@ -206,10 +206,10 @@ class Faults(SiteTest):
         self.write_site([host("web", max_check_attempts=5)], [service("web", "http")])
         monitor = self.monitor(lambda name, moment: (10, 2, "bad"))
         monitor.run(35)
-        before = [known.standing for known in monitor.scheduling.known.objects.values()]
+        before = [obj.standing for obj in monitor.scheduling.states.objects.values()]
         monitor.close()
         after = self.monitor(fine, monitor.clock)
-        self.assertEqual([known.standing for known in after.scheduling.known.objects.values()], before)
+        self.assertEqual([obj.standing for obj in after.scheduling.states.objects.values()], before)
         self.assertEqual(after.changes, [])
         after.run(60)
         self.assertEqual({change.state for _, change in after.changes}, {"UP", "OK"})
@@ -233,5 +233,5 @@ class Faults(SiteTest):
         monitor.close()
         self.write_site([host("web", max_check_attempts=5), host("db")], [])
         after = self.monitor(fine, monitor.clock)
-        standings = {name: known.standing for name, known in after.scheduling.known.objects.items()}
+        standings = {name: obj.standing for name, obj in after.scheduling.states.objects.items()}
         self.assertEqual({name: it and (it.state, it.attempt) for name, it in standings.items()}, {"web": ("DOWN", 4), "db": ("PENDING", 1)})

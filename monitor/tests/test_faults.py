@@ -6,16 +6,16 @@ import tempfile
 import unittest
 from typing import Dict, List
 
-from .faults import Faulty
+from .faults import FaultRun
 
 # The number of moments of each kind that the gate tries.
 TRIED = int(os.environ.get("FAULTS_TRIED", "8"))
 
 
-def run(**fault: int) -> Faulty:
+def run(**fault: int) -> FaultRun:
     """All events with this fault, and the facts that hold then."""
     with tempfile.TemporaryDirectory() as folder:
-        faulty = Faulty(pathlib.Path(folder), **fault)
+        faulty = FaultRun(pathlib.Path(folder), **fault)
         try:
             faulty.run()
             faulty.wrong = faulty.judge()

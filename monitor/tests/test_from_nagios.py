@@ -12,8 +12,8 @@ from typing import Any, Dict, List, Optional
 from unittest import mock
 
 from nagsched_monitor.faults import SiteFault
-from nagsched_monitor.site import whole_site
-from nagsched_monitor.site.whole_site import reading
+from nagsched_monitor.site import site_lock
+from nagsched_monitor.site.site_lock import lock_for_reading
 
 from .waiting import LONG
 
@@ -209,7 +209,7 @@ class TakingOver(unittest.TestCase):
 
         def read() -> None:
             while not is_over.is_set():
-                with reading(self.site):
+                with lock_for_reading(self.site):
                     hosts = sorted(host["name"] for host in self.read("setup")["hosts"])
                     (seen if hosts == sorted(self.read("commands")) else different).append(len(hosts))
 
@@ -230,8 +230,8 @@ class TakingOver(unittest.TestCase):
         lock = os.open(self.site, os.O_RDONLY)
         self.addCleanup(os.close, lock)
         fcntl.flock(lock, fcntl.LOCK_EX)
-        with mock.patch.object(whole_site, "PATIENCE", 0.1), self.assertRaises(SiteFault):
-            with reading(self.site):
+        with mock.patch.object(site_lock, "PATIENCE", 0.1), self.assertRaises(SiteFault):
+            with lock_for_reading(self.site):
                 pass
-        with self.assertRaises(SiteFault), reading(self.folder / "none"):
+        with self.assertRaises(SiteFault), lock_for_reading(self.folder / "none"):
             pass

@@ -3,9 +3,9 @@ import socket
 import unittest
 from typing import List, Tuple
 
-from nagsched_monitor.run.gearman import HEADER, LONGEST_PACKET, REQUEST, RESPONSE, Code, Connection, Happening, Kind, ServerClient, ServerFault
+from nagsched_monitor.run.gearman import HEADER, LONGEST_PACKET, REQUEST, RESPONSE, Code, Connection, JobEvent, JobEventKind, ServerClient, ServerFault
 
-from .waiting import comes
+from .waiting import becomes_true
 
 
 def response(code: int, *parts: bytes) -> bytes:
@@ -42,14 +42,14 @@ class Protocol(unittest.TestCase):
             self.unread = self.unread[HEADER.size + size :]
         return packets
 
-    def happenings(self, client: ServerClient, count: int) -> List[Happening]:
-        came: List[Happening] = []
+    def happenings(self, client: ServerClient, count: int) -> List[JobEvent]:
+        came: List[JobEvent] = []
 
         def is_there() -> bool:
             came.extend(client.work())
             return len(came) >= count
 
-        self.assertTrue(comes(is_there))
+        self.assertTrue(becomes_true(is_there))
         return came
 
     def test_jobs_and_their_ends(self) -> None:
@@ -63,19 +63,20 @@ class Protocol(unittest.TestCase):
         there.sendall(response(Code.WORK_COMPLETE, b"H:8", b"again") + response(Code.WORK_COMPLETE, b"H:unknown", b"x") + response(99, b"what is this?"))
         there.sendall(response(Code.WORK_COMPLETE, b"H:9", b""))
         self.assertEqual(self.happenings(client, 7), [
-            Happening(Kind.KNOWN, 7), Happening(Kind.KNOWN, 8), Happening(Kind.KNOWN, 9), Happening(Kind.TAKEN, 8), Happening(Kind.COMPLETE, 8, b"a\0b\0c"),
-            Happening(Kind.FAILED, 7), Happening(Kind.COMPLETE, 9, b"")])
+            JobEvent(JobEventKind.KNOWN, 7), JobEvent(JobEventKind.KNOWN, 8), JobEvent(JobEventKind.KNOWN, 9), JobEvent(JobEventKind.TAKEN, 8),
+            JobEvent(JobEventKind.COMPLETE, 8, b"a\0b\0c"),
+            JobEvent(JobEventKind.FAILED, 7), JobEvent(JobEventKind.COMPLETE, 9, b"")])
 
     def test_a_packet_in_pieces(self) -> None:
         client, there = self.client()
         client.submit(1, "dmz", b"job")
         client.work()
-        came: List[Happening] = []
+        came: List[JobEvent] = []
         for byte in response(Code.JOB_CREATED, b"H:1") + response(Code.WORK_COMPLETE, b"H:1", b"fine"):
             there.sendall(bytes([byte]))
             came += client.work()
         came += self.happenings(client, 2 - len(came)) if len(came) < 2 else []
-        self.assertEqual(came, [Happening(Kind.KNOWN, 1), Happening(Kind.COMPLETE, 1, b"fine")])
+        self.assertEqual(came, [JobEvent(JobEventKind.KNOWN, 1), JobEvent(JobEventKind.COMPLETE, 1, b"fine")])
 
     def test_more_than_the_connection_takes_at_once(self) -> None:
         client, there = self.client()
@@ -93,7 +94,7 @@ class Protocol(unittest.TestCase):
                 pass
             return got == 5_000 * (HEADER.size + 1_005)
 
-        self.assertTrue(comes(is_sent))
+        self.assertTrue(becomes_true(is_sent))
 
     def test_what_is_no_server(self) -> None:
         """The connection is lost, with a reason; nothing waits."""

@@ -5,15 +5,15 @@ import time
 from typing import Any, Callable, Dict, List, Optional
 from unittest import mock
 
-from nagsched_monitor.run.gearman_door import SKEW, Door, Refusal
-from nagsched_monitor.run.gearman_seal import JOB, RESULT, Seal
-from nagsched_monitor.run.gearman_worker import NOT_SIGNED, SAYING, Worker
-from nagsched_monitor.run.jobs import Event, Finished, Job
+from nagsched_monitor.run.gearman_policy import SKEW, JobPolicy, Refusal
+from nagsched_monitor.run.gearman_signing import JOB, RESULT, Signer
+from nagsched_monitor.run.gearman_worker import LOG_REFUSALS_EVERY, NOT_SIGNED, Worker
+from nagsched_monitor.run.jobs import Event, Job, JobFinished
 
 from .one_worker import WorkerTest
 
 KEY = b"a key of a test: 16 bytes or more"
-# The number of damaged, forged and replayed jobs. Manually: FORGED=100000 python3 -m unittest tests.test_gearman_door
+# The number of damaged, forged and replayed jobs. Manually: FORGED=100000 python3 -m unittest tests.test_gearman_policy
 FORGED = int(os.environ.get("FORGED", "4000"))
 
 
@@ -24,8 +24,8 @@ class Ran:
         self._run, self._events = run, list[Event]()
 
     def start(self, job: Job) -> None:
-        self._run(list(job.words), job.limit)
-        self._events.append(Finished(job, "exited", 0, ""))
+        self._run(list(job.arguments), job.limit)
+        self._events.append(JobFinished(job, "exited", 0, ""))
 
     def flush(self) -> None:
         pass
@@ -38,20 +38,20 @@ class Ran:
 class Signed(WorkerTest):
     """A worker that has a key."""
 
-    seal = Seal(KEY)
+    signer = Signer(KEY)
 
     def refused(self, *jobs: bytes) -> List[Optional[str]]:
         """Why each of these is refused; None if it was run."""
-        worker = Worker(mock.Mock(), [], 1, self.seal, Door(self.seal, ["dmz", "lan"], lambda: self.now), mock.Mock(), self.lines.append)
+        worker = Worker(mock.Mock(), [], 1, self.signer, JobPolicy(self.signer, ["dmz", "lan"], lambda: self.now), mock.Mock(), self.lines.append)
         told: List[Optional[str]] = []
         for job in jobs:
-            answer = worker.begin(mock.Mock(), b"handle", job)
-            document = None if answer is None else self.seal.open(RESULT, answer)
+            answer = worker.start_job(mock.Mock(), b"handle", job)
+            document = None if answer is None else self.signer.verified_document(RESULT, answer)
             told.append(None if answer is None else NOT_SIGNED.decode() if document is None else document["lost"].partition(": ")[2])
         return told
 
     def signed(self, **members: Any) -> bytes:
-        return self.seal.sign(JOB, self.document(["true"], **{"time": self.now, "until": self.now + 30, **members}))
+        return self.signer.sign(JOB, self.document(["true"], **{"time": self.now, "until": self.now + 30, **members}))
 
     def setUp(self) -> None:
         super().setUp()
@@ -59,9 +59,9 @@ class Signed(WorkerTest):
 
     def test_signatures(self) -> None:
         document, bare = self.document(["true"], time=self.now, until=self.now + 30), NOT_SIGNED.decode()
-        whole = self.seal.sign(JOB, document)
+        whole = self.signer.sign(JOB, document)
         body = whole.partition(b" ")[2]
-        several = [body, Seal(b"another key of 16 bytes").sign(JOB, document), self.seal.sign(RESULT, document), whole[:-1], whole + b" ",
+        several = [body, Signer(b"another key of 16 bytes").sign(JOB, document), self.signer.sign(RESULT, document), whole[:-1], whole + b" ",
                    b"0" * 64 + b" " + body, whole[1:],
                    whole[:64], whole.replace(b"true", b"fals"), whole.upper(), b"", b" ", whole[:64] + b"\t" + body[:-1]]
         self.assertEqual(self.refused(*several), [bare] * len(several))
@@ -77,12 +77,12 @@ class Signed(WorkerTest):
 
     def test_times(self) -> None:
         """It holds until its end; the clocks may be a minute apart."""
-        door = Door(self.seal, ["dmz"], lambda: self.now)
+        policy = JobPolicy(self.signer, ["dmz"], lambda: self.now)
 
         def is_taken(**members: Any) -> bool:
             document = self.document(["true"], **{"job": str(random.random()), "time": self.now, "until": self.now + 30, **members})
             try:
-                door.job_of(document)
+                policy.job_of(document)
             except Refusal:
                 return False
             return True
@@ -104,14 +104,14 @@ class Signed(WorkerTest):
 
     def test_what_it_remembers(self) -> None:
         """A job is remembered as long as it would be accepted, and no longer."""
-        door = Door(self.seal, ["dmz"], lambda: self.now)
+        policy = JobPolicy(self.signer, ["dmz"], lambda: self.now)
         for number in range(100):
-            door.job_of(self.document(["true"], job=str(number), time=self.now, until=self.now + 30))
+            policy.job_of(self.document(["true"], job=str(number), time=self.now, until=self.now + 30))
         self.now += 30 + SKEW
-        self.assertRaises(Exception, door.job_of, self.document(["true"], job="99", time=self.now - 30 - SKEW, until=self.now - SKEW))
+        self.assertRaises(Exception, policy.job_of, self.document(["true"], job="99", time=self.now - 30 - SKEW, until=self.now - SKEW))
         self.now += SKEW + 1
-        door.job_of(self.document(["true"], job="last", time=self.now, until=self.now))
-        self.assertEqual(len(door._taken), 1)
+        policy.job_of(self.document(["true"], job="last", time=self.now, until=self.now))
+        self.assertEqual(len(policy._accepted), 1)
 
     def test_forged_damaged_and_replayed_jobs(self) -> None:
         """None of them is run or ends the worker, and in the end a good job is run. Some jobs between them are signed, and are run once each."""
@@ -132,20 +132,20 @@ class Signed(WorkerTest):
             elif how == 2:
                 del whole[chance.randrange(len(whole)) :]
             elif how == 3:
-                return Seal(b"not the key of the site").sign(JOB, self.document(["forged"]))
+                return Signer(b"not the key of the site").sign(JOB, self.document(["forged"]))
             elif how == 4:
-                return Seal(None).sign(JOB, self.document(["forged"]))
+                return Signer(None).sign(JOB, self.document(["forged"]))
             elif how == 5:
                 return chance.choice((b"[", b'{"a":', b"\xff", b"0")) * chance.choice((1, 1000, 100_000))
             elif how == 6:
-                return self.seal.sign(RESULT, self.document(["forged"]))
+                return self.signer.sign(RESULT, self.document(["forged"]))
             else:
-                return self.seal.sign(JOB, self.document(["forged"], time=time.time() - 9_000, until=time.time() - 8_000))
+                return self.signer.sign(JOB, self.document(["forged"], time=time.time() - 9_000, until=time.time() - 8_000))
             return bytes(whole)
 
         begun = time.monotonic()
-        self.begin(8, runner=Ran(run))
-        good += [self.seal.sign(JOB, self.document(["run", str(number)])) for number in range(20)]
+        self.start_worker(8, runner=Ran(run))
+        good += [self.signer.sign(JOB, self.document(["run", str(number)])) for number in range(20)]
         self.jobs += good
         self.assertTrue(self.turns_until(lambda: len(ran) == len(good)))
         for number in range(0, FORGED, 500):
@@ -156,4 +156,4 @@ class Signed(WorkerTest):
         self.assertEqual(sorted(ran), sorted([["run", str(number)] for number in range(20)] + [["run", "last"]]))
         said = [line for line in self.lines if "jobs were refused" in line]
         self.assertLessEqual(1, len(said))
-        self.assertLessEqual(len(said), 1 + (time.monotonic() - begun) / SAYING)
+        self.assertLessEqual(len(said), 1 + (time.monotonic() - begun) / LOG_REFUSALS_EVERY)

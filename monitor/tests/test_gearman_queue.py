@@ -4,9 +4,9 @@ import random
 import unittest
 from typing import Any, Dict, List
 
-from nagsched_monitor.run.gearman import Happening, Kind
+from nagsched_monitor.run.gearman import JobEvent, JobEventKind
 from nagsched_monitor.run.gearman_queue import GRACE, RETRY, SILENCE, Queue
-from nagsched_monitor.run.gearman_seal import JOB, RESULT, Seal
+from nagsched_monitor.run.gearman_signing import JOB, RESULT, Signer
 
 from .gearman_server import ServedJob, StandInServer
 
@@ -20,7 +20,7 @@ class OneQueue(unittest.TestCase):
         self.lines: List[str] = []
         self.now = 1000.0
         self.last = 0
-        self.queue = Queue("dmz", "mark", WAIT, self.server.connect, self.answers.append, self.lines.append, self.server.seal)
+        self.queue = Queue("dmz", "mark", WAIT, self.server.connect, self.answers.append, self.lines.append, self.server.signer)
 
     def add(self, count: int = 1) -> None:
         for _ in range(count):
@@ -178,15 +178,15 @@ class OneQueue(unittest.TestCase):
 
     def answer_with(self, data: bytes) -> None:
         job = self.take()
-        job.client.come.append(Happening(Kind.COMPLETE, job.number, data))
+        job.client.come.append(JobEvent(JobEventKind.COMPLETE, job.number, data))
         self.pass_by()
 
     def test_answers_that_are_not_signed(self) -> None:
         """Damaged answers aren't accepted either, nor are those with another key, or those of earlier jobs."""
         result = {"job": "mark-1", "code": 0, "end": "exited", "output": "forged"}
-        good = self.server.seal.sign(RESULT, result)
-        bad = [b"", b"[]", b"\xff", b"[" * 100_000, json.dumps(result).encode(), Seal(b"another key of the network").sign(RESULT, result),
-               self.server.seal.sign(JOB, result),
+        good = self.server.signer.sign(RESULT, result)
+        bad = [b"", b"[]", b"\xff", b"[" * 100_000, json.dumps(result).encode(), Signer(b"another key of the network").sign(RESULT, result),
+               self.server.signer.sign(JOB, result),
                good[:-1], good.replace(b"forged", b"folded")]
         for data in bad:
             self.add()
@@ -199,8 +199,8 @@ class OneQueue(unittest.TestCase):
         self.assertEqual(self.ends()[-1], (len(bad) + 1, "lost", "its worker's answer was no result"))
 
     def test_a_site_without_signatures(self) -> None:
-        self.server.seal = Seal(None)
-        self.queue = Queue("dmz", "mark", WAIT, self.server.connect, self.answers.append, self.lines.append, self.server.seal)
+        self.server.signer = Signer(None)
+        self.queue = Queue("dmz", "mark", WAIT, self.server.connect, self.answers.append, self.lines.append, self.server.signer)
         self.add(2)
         self.pass_by()
         self.answer_with(b'{"job":"mark-1","code":1,"end":"exited","output":"fine","stderr":"words"}')
@@ -211,14 +211,14 @@ class OneQueue(unittest.TestCase):
     def test_a_result_that_a_worker_lost(self) -> None:
         self.add()
         self.pass_by()
-        self.answer_with(self.server.seal.sign(RESULT, {"job": "mark-1", "lost": "no room"}))
+        self.answer_with(self.server.signer.sign(RESULT, {"job": "mark-1", "lost": "no room"}))
         self.assertEqual(self.ends(), [(1, "lost", "no room")])
 
     def test_a_job_that_the_server_gives_up(self) -> None:
         self.add()
         self.pass_by()
         job = self.take()
-        job.client.come.append(Happening(Kind.FAILED, job.number))
+        job.client.come.append(JobEvent(JobEventKind.FAILED, job.number))
         self.pass_by()
         self.assertEqual(self.ends(), [(1, "lost", "its worker failed")])
 

@@ -12,10 +12,10 @@ from unittest import mock
 from nagsched_monitor.run import gearman_worker
 
 from nagsched_monitor.run.gearman import Code, ServerFault
-from nagsched_monitor.run.gearman_queue import result_of
-from nagsched_monitor.run.gearman_worker import GRACE, NOT_SIGNED, RETRY, SIGN
-from nagsched_monitor.run.jobs import Finished
-from nagsched_monitor.run.pool import Pool
+from nagsched_monitor.run.gearman_queue import read_result
+from nagsched_monitor.run.gearman_worker import ECHO_EVERY, GRACE, NOT_SIGNED, RETRY
+from nagsched_monitor.run.jobs import JobFinished
+from nagsched_monitor.run.pool import RunnerPool
 
 from .one_worker import WorkerTest
 
@@ -24,31 +24,31 @@ class Working(WorkerTest):
     """A worker that needs no signatures."""
 
     def test_results(self) -> None:
-        self.begin()
+        self.start_worker()
         for line in ("echo fine; echo why >&2", "echo bad; exit 2", "kill -9 $$"):
             self.job(["/bin/sh", "-c", line])
         self.job(["/no/such/plugin"])
-        results = self.came(4)
+        results = self.results(4)
         self.assertEqual([(it["job"], it["end"], it["code"], it["output"].partition(":")[0], it["stderr"]) for it in results],
                          [("mark-1", "exited", 0, "fine\n", "why\n"), ("mark-2", "exited", 2, "bad\n", ""), ("mark-3", "signal", 9, "", ""),
                           ("mark-4", "failed", 0, "/no/such/plugin", "")])
         for result in results:
-            self.assertIsNotNone(result_of(result, result["job"]))
+            self.assertIsNotNone(read_result(result, result["job"]))
 
     def test_a_limit(self) -> None:
-        self.begin()
+        self.start_worker()
         self.job(["sleep", "60"], limit=0.3)
-        self.assertEqual([it["end"] for it in self.came(1)], ["limit"])
+        self.assertEqual([it["end"] for it in self.results(1)], ["limit"])
 
     def test_as_many_at_once_as_it_has_slots(self) -> None:
         runner = mock.Mock(events=mock.Mock(return_value=[]))
-        worker = self.begin(3, runner=runner)
+        worker = self.start_worker(3, runner=runner)
         for _ in range(8):
             self.job(["true"])
         for _ in range(5):
             worker.turn()
         self.assertEqual((runner.start.call_count, len(self.jobs), worker.is_idle()), (3, 5, False))
-        runner.events.return_value = [Finished(call.args[0], "exited", 0, "fine") for call in runner.start.call_args_list]
+        runner.events.return_value = [JobFinished(call.args[0], "exited", 0, "fine") for call in runner.start.call_args_list]
         worker.turn()
         runner.events.return_value = []
         worker.turn()
@@ -56,19 +56,19 @@ class Working(WorkerTest):
 
     def test_what_it_asks_the_server_for(self) -> None:
         """It announces its functions, sleeps when there is nothing, and wakes when the server wakes it."""
-        worker = self.begin(2)
+        worker = self.start_worker(2)
         worker.turn()
         worker.turn()
         (there,) = self.connections
         self.assertEqual(there.sent[0], (Code.CAN_DO, (b"dmz",)))
         self.assertEqual(there.codes(), [Code.CAN_DO, Code.ECHO_REQ, Code.GRAB_JOB, Code.PRE_SLEEP])
         self.job(["true"])
-        self.assertEqual(len(self.came(1)), 1)
+        self.assertEqual(len(self.results(1)), 1)
         self.assertTrue(self.turns_until(lambda: there.codes()[-1] is Code.PRE_SLEEP))
 
     def test_a_server_that_is_lost(self) -> None:
         """It is tried again, and logged once."""
-        worker = self.begin(1)
+        worker = self.start_worker(1)
         self.faults += [ServerFault("still gone"), ServerFault("gone")]
         for _ in range(3):
             worker.turn()
@@ -81,55 +81,55 @@ class Working(WorkerTest):
         worker.turn()
         self.passed += RETRY
         self.job(["echo", "fine"])
-        self.assertEqual([it["output"] for it in self.came(1)], ["fine\n"])
+        self.assertEqual([it["output"] for it in self.results(1)], ["fine\n"])
         self.assertTrue(self.turns_until(worker.is_idle))
         self.assertEqual(len(self.answers), 1)  # the server gave the first one to another worker
 
     def test_a_server_that_stands_still(self) -> None:
-        worker = self.begin(1)
+        worker = self.start_worker(1)
         for _ in range(2):
             worker.turn()
         self.connections[0].is_echoing = False
         for _ in range(2):
-            self.passed += SIGN
+            self.passed += ECHO_EVERY
             worker.turn()
         self.assertEqual(self.lines, ["the server isn't reached: it gives no answer"])
 
     def test_it_stops_when_its_plugins_have_ended(self) -> None:
-        worker = self.begin(1)
+        worker = self.start_worker(1)
         self.job(["/bin/sh", "-c", "sleep 0.5; echo fine"])
         self.assertTrue(self.turns_until(lambda: not worker.is_idle()))
         worker.is_stopping = True
         self.job(["true"])
-        gearman_worker.work(worker, self.poller)
-        self.assertEqual(([it["output"] for it in self.came(1)], len(self.jobs)), (["fine\n"], 1))
+        gearman_worker.run_worker(worker, self.poller)
+        self.assertEqual(([it["output"] for it in self.results(1)], len(self.jobs)), (["fine\n"], 1))
 
     def test_what_is_no_command(self) -> None:
         several: List[Dict[str, Any]] = [{"words": []}, {"words": "true"}, {"words": [1]}, {"words": ["a\0b"]}, {"words": None}, {"limit": 0}, {"limit": -1},
                                          {"limit": True},
                                          {"limit": "9"}, {"limit": 1e9}, {"limit": 10**400}, {"limit": float("nan")}, {"limit": float("inf")}, {"limit": None}]
-        self.begin(runner=mock.Mock(start=mock.Mock(side_effect=AssertionError), events=mock.Mock(return_value=[])))
+        self.start_worker(runner=mock.Mock(start=mock.Mock(side_effect=AssertionError), events=mock.Mock(return_value=[])))
         for members in several:
             self.job(["true"], **members)
-        told = {it["lost"] for it in self.came(len(several))}
+        told = {it["lost"] for it in self.results(len(several))}
         self.assertEqual(told, {f"its worker refused it: {why}" for why in ("it has no command", "it has no limit", "its limit is no number")})
 
     def test_what_is_no_job(self) -> None:
         """Each is answered, and the worker continues."""
         self.jobs += [b"", b"[]", b"1", b"\xff", b"[" * 100_000, b'{"a":' * 100_000, b'{"limit":1' + 400 * b"0" + b"}", b"x" * 2_000_000, b'"' * 3]
         count = len(self.jobs)
-        self.begin()
+        self.start_worker()
         self.assertTrue(self.turns_until(lambda: len(self.answers) == count))
         self.job(["echo", "fine"])
-        self.came(count + 1)
+        self.results(count + 1)
         self.assertIn(b"fine", self.answers[-1])
 
     def test_a_fault_of_its_own(self) -> None:
         """A job that can't be made ends nothing."""
         runner = mock.Mock(start=mock.Mock(side_effect=MemoryError("none left")), events=mock.Mock(return_value=[]))
-        worker = self.begin(1, runner=runner)
+        worker = self.start_worker(1, runner=runner)
         self.job(["true"])
-        self.came(1)
+        self.results(1)
         self.assertEqual((self.answers, worker.is_idle()), ([NOT_SIGNED], True))
         self.assertEqual(self.lines, ["the server is reached again", "1 jobs were refused; the last one: MemoryError: none left"][1:])
 
@@ -142,47 +142,47 @@ class Runner(WorkerTest):
         return int(process.process.pid)
 
     def test_one_that_is_killed(self) -> None:
-        worker = self.begin()
+        worker = self.start_worker()
         self.job(["sleep", "60"], limit=60)
         self.assertTrue(self.turns_until(lambda: not worker.is_idle()))
         self.passed = 10
         os.kill(self.process(), signal.SIGKILL)
-        self.assertEqual(self.came(1), [{"lost": "its runner ended", "job": "mark-1"}])
+        self.assertEqual(self.results(1), [{"lost": "its runner ended", "job": "mark-1"}])
         self.job(["true"])
-        self.assertEqual(self.came(2)[1]["end"], "exited")
+        self.assertEqual(self.results(2)[1]["end"], "exited")
 
     def test_one_that_is_deaf(self) -> None:
         """It is killed when a result is late."""
-        worker = self.begin()
+        worker = self.start_worker()
         self.job(["true"])
-        self.came(1)
+        self.results(1)
         stopped = self.process()
         os.kill(stopped, signal.SIGSTOP)
         self.job(["true"])
         self.assertTrue(self.turns_until(lambda: not worker.is_idle()))
         self.passed = 10 + GRACE
-        self.assertEqual(self.came(2)[1], {"lost": "its runner ended", "job": "mark-2"})
+        self.assertEqual(self.results(2)[1], {"lost": "its runner ended", "job": "mark-2"})
         self.assertNotEqual(self.process(), stopped)
 
     def test_one_that_cannot_be_started(self) -> None:
-        self.begin(words="/no/such/runner")
+        self.start_worker(words="/no/such/runner")
         self.job(["true"], limit=1)
         self.turns_until(lambda: not self.jobs)
         self.passed = 1 + GRACE
-        self.assertEqual(self.came(1), [{"lost": "its runner can't be started", "job": "mark-1"}])
+        self.assertEqual(self.results(1), [{"lost": "its runner can't be started", "job": "mark-1"}])
 
     def test_a_plugin_that_cannot_be_killed(self) -> None:
         """No second one is started next to it until it has ended."""
         script = """read l; echo '{"job":1,"code":9,"end":"limit","output":"","stuck":true}'; read l; echo '{"job":2,"code":0,"end":"exited","output":""}'
                     echo '{"job":1,"gone":true}'; read l; echo '{"job":3,"code":0,"end":"exited","output":"fine"}'; read l"""
-        runner = Pool("worker", ["/bin/sh", "-c", script], 1, None, 0.0, self.lines.append, lambda file, read: None, lambda file: None, time.monotonic)
-        self.addCleanup(runner.end)
-        self.begin(1, runner=runner)
+        runner = RunnerPool("worker", ["/bin/sh", "-c", script], 1, None, 0.0, self.lines.append, lambda file, read: None, lambda file: None, time.monotonic)
+        self.addCleanup(runner.close)
+        self.start_worker(1, runner=runner)
         said = []
         self.poller.watch(next(iter(runner.processes)), runner.read)
         for count, word in enumerate(("hangs", "hangs", "other", "hangs"), 1):
             self.job([word])
-            said.append(self.came(count)[-1]["output"])
+            said.append(self.results(count)[-1]["output"])
             self.turns_until(lambda: count != 3 or not self.worker._stuck)
         self.assertEqual(said, ["", "the plugin before it can't be killed", "", "fine"])
 

@@ -11,11 +11,11 @@ from typing import Any, List, Tuple
 from unittest import mock
 
 from nagsched_monitor.faults import MonitorFault
-from nagsched_monitor.program.helper_process import LONGEST_PAUSE, Beside
-from nagsched_monitor.program.places import is_own, place_of, test_url
+from nagsched_monitor.program.helper_process import LONGEST_PAUSE, HelperProcess
+from nagsched_monitor.program.addresses import is_loopback, parse_address, test_url
 
 from .simulated import PROGRAM, SiteTest
-from .waiting import comes
+from .waiting import becomes_true
 
 MONITOR = pathlib.Path(__file__).resolve().parent.parent / "nagsched-monitor"
 
@@ -53,7 +53,7 @@ class PageProcess(SiteTest):
 
     def await_page(self, count: int) -> int:
         """The port of the page when it was started this many times."""
-        self.assertTrue(comes(lambda: len(self.starts_of_page()) == count), self.log.read_text())
+        self.assertTrue(becomes_true(lambda: len(self.starts_of_page()) == count), self.log.read_text())
         return int(self.starts_of_page()[-1].rstrip("/").rpartition(":")[2])
 
     def starts_of_page(self) -> List[str]:
@@ -79,7 +79,7 @@ class PageProcess(SiteTest):
             except OSError:
                 return True
 
-        self.assertTrue(comes(ended))
+        self.assertTrue(becomes_true(ended))
 
     def test_killed_and_started_anew(self) -> None:
         """It shows the monitor's figures; when killed, it is restarted; it ends with the monitor."""
@@ -109,7 +109,7 @@ class PageProcess(SiteTest):
             self.assertEqual(status, 200, text)
             return float(text.partition('result="UP"} ')[2].partition("\n")[0]) >= count
 
-        self.assertTrue(comes(came))
+        self.assertTrue(becomes_true(came))
 
     def compare(self, port: int) -> None:
         """After a while the page shows the state of each object's plugin."""
@@ -119,7 +119,7 @@ class PageProcess(SiteTest):
             objects = json.loads(self.get(port, "/status.json")[1])["objects"]
             return [(it["name"], it["state"], it["kind"], it["attempt"], it["words"]) for it in objects]
 
-        comes(lambda: shown() == wanted)
+        becomes_true(lambda: shown() == wanted)
         self.assertEqual(shown(), wanted)
 
     def test_the_other_processes(self) -> None:
@@ -129,11 +129,11 @@ class PageProcess(SiteTest):
             address = f"http://127.0.0.1:{free.getsockname()[1]}"
         file = self.folder / "nagsched.prom"
         running = self.started("--textfile", str(file), "--alertmanager", address)
-        self.assertTrue(comes(file.exists))
+        self.assertTrue(becomes_true(file.exists))
         self.assertIn("nagsched_up{", file.read_text())
-        self.assertTrue(comes(lambda: "alertmanager: alerts aren't taken" in self.log.read_text()))
+        self.assertTrue(becomes_true(lambda: "alertmanager: alerts aren't taken" in self.log.read_text()))
         self.killed(running)
-        self.assertTrue(comes(lambda: not file.exists()))
+        self.assertTrue(becomes_true(lambda: not file.exists()))
         self.assertEqual(self.log.read_text().count("alertmanager: "), 1)
 
     def test_a_monitor_that_is_killed(self) -> None:
@@ -145,7 +145,7 @@ class PageProcess(SiteTest):
 
     def test_an_address_of_others(self) -> None:
         self.started("--page", "0.0.0.0:0")
-        comes(lambda: "the page is at http://0.0.0.0:" in self.log.read_text())
+        becomes_true(lambda: "the page is at http://0.0.0.0:" in self.log.read_text())
         lines = self.log.read_text()
         self.assertIn("the page on 0.0.0.0:0 is shown to everybody who reaches this address\n", lines)
         self.assertIn("the page is at http://0.0.0.0:", lines)
@@ -163,7 +163,8 @@ class PageProcess(SiteTest):
 
     def await_any(self, running: "subprocess.Popen[bytes]") -> None:
         words = [sys.executable, str(MONITOR), str(self.folder), "status"]
-        self.assertTrue(comes(lambda: subprocess.run(words, capture_output=True, check=False).returncode == 0 and (self.folder / "monitor.socket").exists()))
+        monitor_socket = self.folder / "monitor.socket"
+        self.assertTrue(becomes_true(lambda: subprocess.run(words, capture_output=True, check=False).returncode == 0 and monitor_socket.exists()))
 
 
 class Pauses(SiteTest):
@@ -171,7 +172,7 @@ class Pauses(SiteTest):
         """It is restarted after pauses that grow, up to a minute."""
         lines: List[str] = []
         now = [0.0]
-        beside = Beside("faults", [], lines.append, lambda: now[0])
+        beside = HelperProcess("faults", [], lines.append, lambda: now[0])
         self.addCleanup(beside.close)
         begun = []
         for second in range(220):
@@ -191,7 +192,7 @@ class Pauses(SiteTest):
         """It is started a minute later."""
         lines: List[str] = []
         now = [0.0]
-        beside = Beside("faults", [], lines.append, lambda: now[0])
+        beside = HelperProcess("faults", [], lines.append, lambda: now[0])
         self.addCleanup(beside.close)
         with mock.patch.object(subprocess, "Popen", side_effect=BlockingIOError(11, "no room")) as tried:
             for now[0] in (0.0, 1.0, 59.0):
@@ -216,7 +217,7 @@ class Places(SiteTest):
             ("127.0.0.1:80", ("127.0.0.1", 80), True), ("localhost:0", ("127.0.0.1", 0), True), ("[::1]:8080", ("::1", 8080), True),
             ("0.0.0.0:1", ("0.0.0.0", 1), False), ("[::]:65535", ("::", 65535), False), ("10.0.0.1:80", ("10.0.0.1", 80), False),
         ):
-            self.assertEqual((place_of(given), is_own(given)), (place, own), given)
+            self.assertEqual((parse_address(given), is_loopback(given)), (place, own), given)
 
     def test_what_is_none(self) -> None:
         for given in (
@@ -224,4 +225,4 @@ class Places(SiteTest):
             "127.0.0.1:²",
         ):
             with self.assertRaises(MonitorFault, msg=given):
-                place_of(given)
+                parse_address(given)

@@ -2,11 +2,11 @@
 import unittest
 from typing import Dict, List, Optional
 
-from nagsched_monitor.core.hosts import hosts_of
-from nagsched_monitor.core.object_state import Known
-from nagsched_monitor.core.running import Running
+from nagsched_monitor.core.hosts import hosts_to_check
+from nagsched_monitor.core.object_state import ObjectState
+from nagsched_monitor.core.run_table import RunTable
 from nagsched_monitor.scheduler.protocol import Standing
-from nagsched_monitor.site.site import Watched
+from nagsched_monitor.site.site import ObjectDefinition
 
 from .simulated import BEGIN, SiteTest, host, service
 
@@ -18,15 +18,16 @@ def standing(state: Optional[str]) -> Optional[Standing]:
 class Asked(unittest.TestCase):
     def setUp(self) -> None:
         parents = {"web": ("gate", "other"), "child": ("web",), "far": ("web",)}
-        hosts = [Watched(name, 0, None, parents.get(name, ()), 60_000, True) for name in ("gate", "other", "web", "child", "far")]
-        self.objects: Dict[str, Known] = {it.name: Known(it, Running(), True) for it in [*hosts, Watched("web;http", 0, "web", (), 60_000, True)]}
+        hosts = [ObjectDefinition(name, 0, None, parents.get(name, ()), 60_000, True) for name in ("gate", "other", "web", "child", "far")]
+        service = ObjectDefinition("web;http", 0, "web", (), 60_000, True)
+        self.objects: Dict[str, ObjectState] = {it.name: ObjectState(it, RunTable(), True) for it in [*hosts, service]}
 
     def asked(self, name: str, before: Optional[str], now: str, **states: str) -> List[str]:
         for other, state in states.items():
             self.objects[other].standing = standing(state)
         result = standing(now)
         assert result is not None
-        return [it.name for it in hosts_of(self.objects[name], standing(before), result, self.objects, ["child", "far"] if name == "web" else [])]
+        return [it.name for it in hosts_to_check(self.objects[name], standing(before), result, self.objects, ["child", "far"] if name == "web" else [])]
 
     def test_a_service(self) -> None:
         """A new or other problem asks if the host is up or was never checked; an OK asks if it isn't up."""

@@ -6,7 +6,7 @@ import sys
 from typing import List, Tuple
 
 from .networks import write_network
-from .parted import TOOLS, Parted
+from .parted import TOOLS, PartedSiteTest
 from .simulated import BEGIN
 
 HOSTS, SERVICES = 1_000, 20
@@ -15,7 +15,7 @@ GATEWAY = "h00000"
 DOWN, UP = BEGIN + 60_000, BEGIN + 150_000
 
 
-class LargeSites(Parted):
+class LargeSites(PartedSiteTest):
     def take_over(self, children: int) -> List[str]:
         """The folder of the site, made by tools/from_nagios.py within its limits of time and memory."""
         names = write_network(self.folder, HOSTS, SERVICES, children)
@@ -39,14 +39,14 @@ class LargeSites(Parted):
         def plugin(name: str, moment: int) -> Tuple[int, int, str]:
             return (500, 2, "no answer") if DOWN <= moment < UP else (50, 0, "fine")
 
-        monitor = self.begun(plugin)
+        monitor = self.start_monitor(plugin)
         monitor.between = 50
         monitor.run(470)
-        self.assertGreater(self.assert_alike(), 10)
+        self.assertGreater(self.assert_mirrors_answered_alike(), 10)
         # Services alone: the first OK of a service asks for its host, which was never checked.
         services = [moment for moment, job in monitor.runners.started if ";" in job.name and BEGIN + 5_000 <= moment < DOWN]
         self.assertAlmostEqual(len(services) / 55, HOSTS * SERVICES / 300, delta=2)
-        self.assert_told(change for _, change in monitor.changes)
+        self.assert_changes(change for _, change in monitor.changes)
         hosts = {name: told[0][0] for name, told in self.wanted.items() if ";" not in name}
         self.assertEqual((hosts[GATEWAY], len(hosts)), ("DOWN", HOSTS))
         self.assertEqual({told[-1][0] for told in self.wanted.values()}, {"UP", "OK"})

@@ -8,7 +8,7 @@ from nagsched_monitor.program.log import MOST_LINES, Log
 from nagsched_monitor.program.loop import BROKEN
 
 from .simulated import SiteTest, fine, host
-from .waiting import comes
+from .waiting import becomes_true
 
 
 class Faults(SiteTest):
@@ -19,7 +19,7 @@ class Faults(SiteTest):
         monitor.work(10)
         with mock.patch.object(monitor.engine, "turn", side_effect=2 * [KeyError("what"), ZeroDivisionError, monitor.clock.now + 1000]):
             for _ in range(6):
-                monitor.loop.go_round()
+                monitor.loop.run_turn()
         self.assertIn("fault: KeyError: 'what'", monitor.lines)
         monitor.work(120)
         self.assertEqual((monitor.loop.status, len(monitor.starts()["web"])), (None, 3))
@@ -32,14 +32,14 @@ class Faults(SiteTest):
         monitor.work(1)
         begun = monitor.clock.now
         with mock.patch.object(monitor.engine, "turn", side_effect=KeyError):
-            self.assertEqual((monitor.loop.work(), BROKEN), (70, 70))
+            self.assertEqual((monitor.loop.run(), BROKEN), (70, 70))
         self.assertGreaterEqual(monitor.clock.now - begun, 2_000)
 
     def test_a_request_with_a_fault(self) -> None:
         """It gets an error, and the turn continues."""
         self.write_site([host("web")], [])
         monitor = self.monitor(fine)
-        with mock.patch.object(monitor.engine.requests, "_callable", side_effect=KeyError("what")):
+        with mock.patch.object(monitor.engine.requests, "_find_open_object", side_effect=KeyError("what")):
             self.assertIn("the monitor has a fault: KeyError", monitor.ask(do="reschedule", name="web")["error"])
         monitor.work(70)
         self.assertEqual(len(monitor.starts()["web"]), 2)
@@ -69,7 +69,7 @@ class Lines(unittest.TestCase):
             read += os.read(there, 1 << 20)
             return b"are missing here" in read
 
-        self.assertTrue(comes(is_whole))
+        self.assertTrue(becomes_true(is_whole))
         log.close()
         lines = read.decode().splitlines()
         self.assertEqual(lines[0], "line 0 with a plugin's [2K words and more")

@@ -8,10 +8,10 @@ from unittest import mock
 
 from nagsched_monitor.inputs import control
 from nagsched_monitor.outputs import textfile
-from nagsched_monitor.outputs.metrics import escaped, family
+from nagsched_monitor.outputs.metrics import family, label_value
 from nagsched_monitor.store.counters import BOUNDS, RESULTS
 
-from .shown_site import ShownSite, fill, standing
+from .shown_site import PageTest, fill_database, standing
 from .simulated import SiteTest
 
 NAME = r"[a-zA-Z_:][a-zA-Z0-9_:]*"
@@ -65,9 +65,9 @@ class Families:
         return self.samples[name, (("site", self.site), *labels.items())]
 
 
-class Metrics(ShownSite):
+class Metrics(PageTest):
     def families(self) -> Families:
-        status, headers, text = self.ask("/metrics")
+        status, headers, text = self.request("/metrics")
         self.assertEqual((status, headers["content-type"]), (200, "text/plain; version=0.0.4; charset=utf-8"))
         families = Families(text, self.folder.name)
         self.assertEqual(families.wrong, [])
@@ -80,7 +80,7 @@ class Metrics(ShownSite):
         objects += [standing("d", "PENDING", None, next_check=None), standing("e", 'a "state"\\\n', "HARD"), standing("f", is_on=False, next_check=now - 1)]
         figures = {"checks.OK": 7.0, "checks.given_up": 1.0, "calls": 3e9, "saves": 2.0, "saved_at": now - 30}
         figures |= {"late.0.05": 5.0, "late.0.25": 2.0, "late.more": 1.0, "late.sum": 61.5}
-        fill(self.folder, objects, figures)
+        fill_database(self.folder, objects, figures)
         self.serve()
         families = self.families()
         self.assertEqual({name: kind for name, kind in families.kinds.items() if kind != "gauge"}, {
@@ -99,7 +99,7 @@ class Metrics(ShownSite):
 
     def test_the_histogram(self) -> None:
         """Each bucket includes the one before; the last is the count."""
-        fill(self.folder, [], {"late.0.05": 5.0, "late.0.25": 2.0, "late.60": 4.0, "late.more": 1.0, "late.sum": 161.5})
+        fill_database(self.folder, [], {"late.0.05": 5.0, "late.0.25": 2.0, "late.60": 4.0, "late.more": 1.0, "late.sum": 161.5})
         self.serve()
         families = self.families()
         name = "nagsched_check_latency_seconds"
@@ -112,7 +112,7 @@ class Metrics(ShownSite):
     def test_each_object(self) -> None:
         """Its state with its groups. An unchecked object has none, and a soft or flapping one has one more series."""
         self.write("groups.json", {"web;http": {"host_groups": ["linux", "dmz"], "contacts": ["ada"]}})
-        fill(self.folder, [
+        fill_database(self.folder, [
             standing("web"), standing("web;http", "UNKNOWN"), standing("web;disk", "WARNING", "SOFT"), standing("db", "UNREACHABLE", flapping=True),
             standing("new", "PENDING", None)])
         self.serve()
@@ -127,7 +127,7 @@ class Metrics(ShownSite):
     def test_signs_of_life(self) -> None:
         """While the monitor gives no answer, only the facts in the database."""
         now = time.time()
-        fill(self.folder, [], {"written_at": now - 100, "faults": 2.0})
+        fill_database(self.folder, [], {"written_at": now - 100, "faults": 2.0})
         self.serve()
         families = self.families()
         self.assertEqual((families.of("nagsched_up"), families.of("nagsched_last_turn_timestamp_seconds")), (0, now - 100))
@@ -135,7 +135,7 @@ class Metrics(ShownSite):
         self.assertFalse([name for name, _ in families.samples if "stuck" in name or "waiting" in name])
         runners = {"local": {"running": 3, "wanted": 4, "stuck": 1, "waiting": 0}}
         signs = {"turn": now - 7, "is_stuck": True, "passive_waiting": 5, "changes_waiting": 6, "oldest_change": 7.5, "runners": runners}
-        with mock.patch.object(control, "ask", return_value=json.dumps(signs).encode()):
+        with mock.patch.object(control, "send_request", return_value=json.dumps(signs).encode()):
             families = self.families()
         self.assertEqual([families.of(f"nagsched_{name}") for name in ("up", "stuck", "passive_waiting", "changes_waiting", "oldest_change_seconds")],
                          [1, 1, 5, 6, 7.5])
@@ -145,7 +145,7 @@ class Metrics(ShownSite):
 
     def test_nothing_yet(self) -> None:
         """A site whose monitor has counted nothing has all families; if no state was saved, there are no seconds since."""
-        fill(self.folder, [])
+        fill_database(self.folder, [])
         self.serve()
         families = self.families()
         self.assertEqual(len(families.kinds), 22)
@@ -157,13 +157,13 @@ class Format(SiteTest):
         for text in ("plain", '"', "\\", "\n", '\\n"\n\\', "ä", "{}=,"):
             families = Families("\n".join(family("x", "gauge", "Some help.", [("", {"a": text, "b": text}, 1.5)], text)) + "\n")
             self.assertEqual((families.wrong, families.samples), ([], {("x", (("site", text), ("a", text), ("b", text))): 1.5}))
-            self.assertEqual(unescaped(escaped(text)), text)
+            self.assertEqual(unescaped(label_value(text)), text)
 
 
 class Textfile(SiteTest):
     def test_a_file(self) -> None:
         """It exists while its process works, as a whole; if the database can't be read, it stays as it was."""
-        fill(self.folder, [standing("web")])
+        fill_database(self.folder, [standing("web")])
         file = self.folder / "nagsched.prom"
         seen: List[List[str]] = []
 

@@ -7,7 +7,7 @@ from unittest import mock
 from nagsched_monitor.faults import NotStored
 from nagsched_monitor.scheduler.protocol import Reschedule
 
-from .parted import Parted, depends, host, mirror, service, setup
+from .parted import PartedSiteTest, depends, host, mirror, service, setup
 from .simulated import BEGIN, Plugin, SimulatedMonitor, fine
 
 DAY = 86_400
@@ -65,7 +65,7 @@ class Outages:
         return self._chance.randint(20, 3_000), code, f"code {code}"
 
 
-class AsOneScheduler(Parted):
+class AsOneScheduler(PartedSiteTest):
     @mock.patch.multiple("nagsched_monitor.core.engine", LONGEST_WAIT=60_000, PAUSE=61_000)
     def test_a_week_of_random_outages(self) -> None:
         """Each result is judged as by one scheduler, and each mirror as its original; passive results, restarts and other cuts come between."""
@@ -76,29 +76,29 @@ class AsOneScheduler(Parted):
         services = [f"{it['host']};{it['description']}" for it in network["services"]]
         mirrored, parts, told = 0, [], []
         self.write_cut(network, 13)
-        monitor = self.begun(outages.plugin)
+        monitor = self.start_monitor(outages.plugin)
         for day, objects in enumerate((13, 13, 16, 14, 24, 42, 18)):
             parts.append(self.write_cut(network, objects))
             self.reload(monitor)
             for _ in range(8):
                 monitor.run(chance.uniform(0, 2 * DAY / 8))
                 for name in chance.sample([*services, "h00", "h03"], 4):
-                    monitor.give(name, chance.choice((0, 0, 1, 2)), "passive")
-            mirrored += self.assert_alike()
+                    monitor.add_result(name, chance.choice((0, 0, 1, 2)), "passive")
+            mirrored += self.assert_mirrors_answered_alike()
             told += [change for _, change in monitor.changes]
             monitor.changes.clear()
             if day % 2:
-                monitor.scheduling.store(())
+                monitor.scheduling.store_calls(())
                 monitor.close()
-                monitor = self.begun(outages.plugin, monitor.clock)
-        self.assert_told(told)
+                monitor = self.start_monitor(outages.plugin, monitor.clock)
+        self.assert_changes(told)
         self.assertEqual(parts, [7, 7, 5, 6, 3, 1, 4])
         self.assertGreater(self.results, 5_000)
         self.assertGreater(mirrored, 2_000)
         self.assertFalse([line for line in monitor.lines if "too late" in line], monitor.lines)
 
 
-class Handed(Parted):
+class Handed(PartedSiteTest):
     """Two parts written by the test: a gateway and its ping in the first, and in the second a host behind it, whose service depends on the ping."""
 
     def site(self, plugin: Plugin = fine) -> SimulatedMonitor:
@@ -108,7 +108,7 @@ class Handed(Parted):
         self.write_parts([first, second], {"part-2": {"gateway": "part-1", "gateway;ping": "part-1"}})
         self.one.add(first)
         self.one.add(second, ("gateway", "gateway;ping"))
-        return self.begun(plugin)
+        return self.start_monitor(plugin)
 
     def test_an_object_is_there_once(self) -> None:
         monitor = self.site()
@@ -116,7 +116,7 @@ class Handed(Parted):
         self.assertEqual(sorted(monitor.site.objects), ["far", "far;web", "gateway", "gateway;ping", "near", "near;web"])
         self.assertEqual(sorted(name for kept in monitor.store.standings() for name in [kept.name]), sorted(monitor.site.objects))
         self.assertEqual({name: len(starts) for name, starts in monitor.starts().items()}, {name: 4 for name in monitor.site.objects})
-        self.assertEqual(self.assert_alike(), 8)
+        self.assertEqual(self.assert_mirrors_answered_alike(), 8)
 
     def test_unreachable_behind_a_mirror(self) -> None:
         monitor = self.site(lambda name, moment: (50, 2 if moment > BEGIN + 120_000 else 0, ""))
@@ -140,12 +140,12 @@ class Handed(Parted):
     def test_a_passive_result(self) -> None:
         monitor = self.site()
         monitor.run(70)
-        self.assert_alike()
+        self.assert_mirrors_answered_alike()
         for code in (2, 2, 0):
-            monitor.give("gateway", code, "by hand")
+            monitor.add_result("gateway", code, "by hand")
         monitor.run(1)
         self.assertEqual([change.state for _, change in monitor.changes], ["DOWN", "UP"])
-        self.assertEqual(self.assert_alike(), 3)
+        self.assertEqual(self.assert_mirrors_answered_alike(), 3)
 
     def test_a_full_disk(self) -> None:
         """A result that can't be stored is stored later, once for each part."""
@@ -160,13 +160,13 @@ class Handed(Parted):
         monitor.run(60)
         setattr(monitor.store, "write", write)
         monitor.run(300)
-        self.assertGreater(self.assert_alike(), 10)
+        self.assertGreater(self.assert_mirrors_answered_alike(), 10)
 
     def test_a_scheduler_that_took_another_object(self) -> None:
         """If another object is due before a mirror, the schedulers are opened again, and the result reaches both."""
         monitor = self.site()
         monitor.run(30)
-        monitor.scheduling.store([(1, Reschedule("far;web", 0, True), None), (1, Reschedule("far", 0, True), None)])
-        monitor.give("gateway", 2, "by hand")
+        monitor.scheduling.store_calls([(1, Reschedule("far;web", 0, True), None), (1, Reschedule("far", 0, True), None)])
+        monitor.add_result("gateway", 2, "by hand")
         monitor.run(300)
-        self.assert_alike()
+        self.assert_mirrors_answered_alike()

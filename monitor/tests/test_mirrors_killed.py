@@ -11,10 +11,10 @@ from nagsched_monitor.scheduler.scheduling import Scheduling
 from nagsched_monitor.site.site import read_site
 from nagsched_monitor.store.store import Store
 
-from .one_scheduler import told_of
+from .one_scheduler import standing_parts
 from .running import ProcessTest
 from .simulated import PROGRAM, SimulatedClock
-from .waiting import comes
+from .waiting import becomes_true
 
 KILLS = 8
 OPTIONS = {"interval_length": 1, "host_inter_check_delay_method": "n", "service_inter_check_delay_method": "n"}
@@ -45,14 +45,14 @@ class Killed(ProcessTest):
         self.write_parts()
         chance = random.Random(3)
         for kill in range(KILLS):
-            running = self.begin()
+            running = self.start_monitor()
             wanted = self.last_call() + chance.randrange(8, 60)
-            self.assertTrue(comes(lambda: self.last_call() >= wanted))
+            self.assertTrue(becomes_true(lambda: self.last_call() >= wanted))
             time.sleep(chance.uniform(0, 0.2))
             victims = [running.pid, *self.children_of(running.pid)]
             os.kill(victims[kill % len(victims)], signal.SIGKILL)
             time.sleep(0.1)
-            self.end(running, signal.SIGKILL)
+            self.stop_monitor(running, signal.SIGKILL)
         store = Store(self.folder)
         self.addCleanup(store.close)
         scheduling = Scheduling(PROGRAM, read_site(self.folder, PROGRAM), store, SimulatedClock(store.last_moment()), lambda line: None, False)
@@ -60,9 +60,9 @@ class Killed(ProcessTest):
         self.addCleanup(scheduling.close)
         told = []
         for name in ("root", "h0", "h1", "h2"):
-            first, second = [scheduling.schedulers.ask(part, [Status(name)])[0] for part in (0, 1)]
+            first, second = [scheduling.schedulers.query(part, [Status(name)])[0] for part in (0, 1)]
             assert isinstance(first, Standing) and isinstance(second, Standing)
-            self.assertEqual(told_of(first), told_of(second), name)
+            self.assertEqual(standing_parts(first), standing_parts(second), name)
             told.append(first.state)
         self.assertNotEqual(set(told), {"PENDING"})
         self.assertGreater(store.last_call, 50)

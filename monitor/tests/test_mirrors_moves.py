@@ -3,11 +3,11 @@ from typing import Any, Dict, List, Tuple
 
 from nagsched_monitor.faults import NotStored
 
-from .parted import Parted, host, mirror, setup
+from .parted import PartedSiteTest, host, mirror, setup
 from .simulated import SimulatedMonitor, fine
 
 
-class Reloads(Parted):
+class Reloads(PartedSiteTest):
     """Objects that move between parts."""
 
     def write_two(self, first: List[str], second: List[str], extra: List[str]) -> None:
@@ -17,7 +17,7 @@ class Reloads(Parted):
         self.write_parts([setup(hosts, []) for hosts in parts], {"part-2": {"gateway": "part-1"}})
 
     def states(self, monitor: SimulatedMonitor) -> Dict[str, Tuple[str, str, int]]:
-        standings = {name: known.standing for name, known in monitor.scheduling.known.objects.items()}
+        standings = {name: obj.standing for name, obj in monitor.scheduling.states.objects.items()}
         return {name: (it.state, it.kind, it.attempt) for name, it in standings.items() if it is not None}
 
     def test_objects_that_move(self) -> None:
@@ -30,17 +30,17 @@ class Reloads(Parted):
         self.assertEqual((before["b"], before["c"][0]), (("DOWN", "HARD", 3), "DOWN"))
         monitor.ask(do="reschedule", name="b")
         monitor.run(1)
-        self.assertEqual(monitor.engine.busy(), {"b"})
+        self.assertEqual(monitor.engine.objects_with_plugins(), {"b"})
         self.write_two(["a", "c"], ["b"], ["d"])
         self.assertEqual(self.reload(monitor), [])
         self.assertEqual({name: state for name, state in self.states(monitor).items() if name != "d"}, before)
-        started, made = len(monitor.runners.started), monitor.engine.made
+        started, made = len(monitor.runners.started), monitor.engine.result_count
         monitor.run(3.5)
-        self.assertEqual((monitor.engine.busy(), monitor.runners.running()), ({"b"}, ["b"]))
+        self.assertEqual((monitor.engine.objects_with_plugins(), monitor.runners.running()), ({"b"}, ["b"]))
         monitor.run(1)
-        self.assertEqual(monitor.engine.busy(), set())
+        self.assertEqual(monitor.engine.objects_with_plugins(), set())
         names = [job.name for _, job in monitor.runners.started[started:]]
-        self.assertEqual((names.count("b"), monitor.engine.made - made), (0, len(names) + 1))
+        self.assertEqual((names.count("b"), monitor.engine.result_count - made), (0, len(names) + 1))
         self.assertFalse([line for line in monitor.lines if "late" in line or "dropped" in line])
 
     def test_runs_that_are_out_stay_where_nothing_moves(self) -> None:

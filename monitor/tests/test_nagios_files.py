@@ -8,17 +8,17 @@ from typing import Callable, Dict, List, Mapping, Tuple
 
 from nagsched_monitor.inputs.nagios_pipe import NAME
 from nagsched_monitor.outputs.nagios_blocks import HOST_STATES, SERVICE_STATES, Program, Settings, status_file
-from nagsched_monitor.outputs.nagios_files import NagiosFiles, services_of
-from nagsched_monitor.store.rows import KeptStanding
+from nagsched_monitor.outputs.nagios_files import NagiosFiles, services_by_host
+from nagsched_monitor.store.rows import StoredStanding
 
 from .running import ProcessTest
 from .simulated import BEGIN, SiteTest
-from .waiting import comes
+from .waiting import becomes_true
 
 Block = Dict[str, str]
-WELL = KeptStanding("web", "UP", "HARD", 1, False, 1000.5, 1000.5, 2000.25, 2060.9, True, None, 0.5, 0.25, "fine|rta=0.8ms;1;2")
-BAD = KeptStanding("web;http", "CRITICAL", "SOFT", 2, True, 1500.0, 900.0, 2001.0, None, False, 2002.0, None, None, "no\x07answer\nof\\it")
-NEW = KeptStanding("web;new", "PENDING", "HARD", 1, False, None, None, None, 3000.0, True, None, None, None, "")
+WELL = StoredStanding("web", "UP", "HARD", 1, False, 1000.5, 1000.5, 2000.25, 2060.9, True, None, 0.5, 0.25, "fine|rta=0.8ms;1;2")
+BAD = StoredStanding("web;http", "CRITICAL", "SOFT", 2, True, 1500.0, 900.0, 2001.0, None, False, 2002.0, None, None, "no\x07answer\nof\\it")
+NEW = StoredStanding("web;new", "PENDING", "HARD", 1, False, None, None, None, 3000.0, True, None, None, None, "")
 # The members that the pages of nagios4-cgi 4.4.6 read of a host and of a service.
 READ = (
     "host_name has_been_checked should_be_scheduled check_execution_time check_latency check_type current_state last_hard_state plugin_output "
@@ -128,18 +128,18 @@ class Outage(SiteTest):
         for _ in range(80):
             monitor.run(3)
             # No check is taken for more than a second, so that the table agrees with the monitor.
-            if monitor.engine.out() or monitor.scheduling._standings._marked:
+            if monitor.engine.running_plugin_count() or monitor.scheduling._standings._marked:
                 continue
             files.write()
             blocks = objects_of((self.folder / "nagios/status.dat").read_bytes())
             objects = monitor.engine.objects
             self.assertEqual(sorted(blocks), sorted(objects))
-            for name, known in objects.items():
-                block, it = blocks[name], known.standing
+            for name, obj in objects.items():
+                block, it = blocks[name], obj.standing
                 assert it is not None
-                marks = f"{' FLAPPING' if it.flapping else ''}{'' if known.on else ' off'}"
-                self.assertEqual(line_of(name, block), f"{it.state} {it.kind} {it.attempt}{marks} {name}: {known.words}")
-                self.assertEqual(int(block["next_check"]), (known.next or 0) // 1000)
+                marks = f"{' FLAPPING' if it.flapping else ''}{'' if obj.on else ' off'}"
+                self.assertEqual(line_of(name, block), f"{it.state} {it.kind} {it.attempt}{marks} {name}: {obj.output}")
+                self.assertEqual(int(block["next_check"]), (obj.next or 0) // 1000)
                 states.add((it.state, it.kind))
                 compared += 1
         self.assertGreater(compared, 100)
@@ -171,14 +171,14 @@ class Process(ProcessTest):
         return path.read_text().count("run") if path.exists() else 0
 
     def wait(self, what: Callable[[], bool]) -> None:
-        self.assertTrue(comes(what))
+        self.assertTrue(becomes_true(what))
 
     def helper_of(self, running: "subprocess.Popen[str]") -> int:
         words = subprocess.run(["ps", "-o", "pid=,args=", "--ppid", str(running.pid)], stdout=subprocess.PIPE, text=True, check=False).stdout
         return next((int(line.split()[0]) for line in words.splitlines() if "nagios_files" in line), 0)
 
     def test_the_pipe(self) -> None:
-        running = self.begin("--nagios-files", str(self.nagios))
+        running = self.start_monitor("--nagios-files", str(self.nagios))
         names = ("h00", "h01", "h00;http", "h00;ssh")
         self.wait(lambda: (self.nagios / NAME).exists() and all(self.runs(name) == 1 for name in names) and (self.nagios / "status.dat").exists())
         self.assertIn("h00;ssh", objects_of((self.nagios / "status.dat").read_bytes()))
@@ -188,17 +188,17 @@ class Process(ProcessTest):
         self.command(f"SCHEDULE_HOST_SVC_CHECKS;h00;{now}")
         self.wait(lambda: (self.runs("h00;http"), self.runs("h00;ssh")) == (2, 2))
         self.command("DISABLE_SVC_CHECK;h00;ssh", f"SCHEDULE_SVC_CHECK;h00;ssh;{now}", "DISABLE_HOST_CHECK;h01")
-        self.wait(lambda: self.ask("status", "h*").stdout.count(" off ") == 2)
+        self.wait(lambda: self.run_command("status", "h*").stdout.count(" off ") == 2)
         self.command(f"SCHEDULE_FORCED_SVC_CHECK;h00;ssh;{now}", "ENABLE_HOST_CHECK;h01")
         self.wait(lambda: self.runs("h00;ssh") == 3)
         self.command("PROCESS_SERVICE_CHECK_RESULT;h00;http;2;no answer;at all", "PROCESS_HOST_CHECK_RESULT;h01;1;it is gone")
         self.command("REMOVE_HOST_ACKNOWLEDGEMENT;h00", "ENABLE_HOST_CHECK;h07", "nonsense")
-        self.wait(lambda: "CRITICAL HARD 1 h00;http: no answer;at all" in self.ask("status").stdout)
-        self.wait(lambda: "DOWN SOFT 1 h01: it is gone" in self.ask("status").stdout)
+        self.wait(lambda: "CRITICAL HARD 1 h00;http: no answer;at all" in self.run_command("status").stdout)
+        self.wait(lambda: "DOWN SOFT 1 h01: it is gone" in self.run_command("status").stdout)
         # A burst, and no result of it is lost: each is another state than the one before.
         self.command(*[f"PROCESS_SERVICE_CHECK_RESULT;h00;http;{number % 3};number {number}" for number in range(300)])
-        self.wait(lambda: ": number 299" in self.ask("status", "h00;http").stdout)
-        output = self.end(running)
+        self.wait(lambda: ": number 299" in self.run_command("status", "h00;http").stdout)
+        output = self.stop_monitor(running)
         told = [line.rpartition(" ")[2] for line in output.splitlines() if " h00;http is " in line and ": number " in line]
         self.assertEqual(told[-299:], [str(number) for number in range(1, 300)])
         self.assertIn("nagios files: REMOVE_HOST_ACKNOWLEDGEMENT isn't obeyed here\n", output)
@@ -206,14 +206,14 @@ class Process(ProcessTest):
         self.assertEqual((self.runs("h00;ssh"), (self.nagios / NAME).exists()), (3, False))
 
     def test_begun_again_and_ended(self) -> None:
-        running = self.begin("--nagios-files", str(self.nagios))
+        running = self.start_monitor("--nagios-files", str(self.nagios))
         self.wait(lambda: (self.nagios / "status.dat").exists())
         first = self.helper_of(running)
         os.kill(first, signal.SIGKILL)
         self.wait(lambda: self.helper_of(running) not in (0, first))
         second = self.helper_of(running)
         self.command("DISABLE_HOST_CHECK;h01")
-        self.wait(lambda: " off " in self.ask("status", "h01").stdout)
+        self.wait(lambda: " off " in self.run_command("status", "h01").stdout)
         os.kill(running.pid, signal.SIGKILL)
         self.wait(lambda: not pathlib.Path(f"/proc/{second}").exists() or " Z " in pathlib.Path(f"/proc/{second}/stat").read_text())
         running.communicate(timeout=10)
@@ -222,13 +222,13 @@ class Process(ProcessTest):
         """With a running monitor: each object's block agrees with its line of `status`."""
         self.write("commands.json", {name: {"line": f"echo 'of {name}|a=1'; exit {code}", "shell": True}
                                      for name, code in (("h00", 0), ("h01", 2), ("h00;http", 1), ("h00;ssh", 2))})
-        self.begin()
+        self.start_monitor()
         files = NagiosFiles(self.folder, self.nagios, False)
 
         def same() -> bool:
             files.write()
             blocks = objects_of((self.nagios / "status.dat").read_bytes())
-            lines = self.ask("status").stdout.splitlines()
+            lines = self.run_command("status").stdout.splitlines()
             return len(lines) == 4 and "PENDING" not in "".join(lines) and [line_of(name, blocks[name]) for name in sorted(blocks)] == lines
 
         self.wait(same)
@@ -247,5 +247,5 @@ class Size(SiteTest):
             data = status_file(Program(1, 1, False), settings, standings, 3000.0).encode()
             times.append(time.process_time() - begun)
         self.assertEqual(len(objects_of(data)), 4096)
-        self.assertEqual(sum(map(len, services_of(standings).values())), 3840)
+        self.assertEqual(sum(map(len, services_by_host(standings).values())), 3840)
         self.assertLess(min(times), 0.2)

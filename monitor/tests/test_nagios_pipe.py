@@ -7,7 +7,7 @@ from nagsched_monitor.faults import MonitorFault, RequestFault
 from nagsched_monitor.inputs.nagios_pipe import LONGEST_LINE, NAME, Pipe, requests_of
 
 from .simulated import SiteTest
-from .waiting import comes
+from .waiting import becomes_true
 
 
 class Lines(SiteTest):
@@ -76,7 +76,7 @@ class Fifo(SiteTest):
             lines.extend(pipe.read())
             return len(lines) >= count
 
-        comes(came)
+        becomes_true(came)
         return lines
 
     def test_parts_of_lines(self) -> None:

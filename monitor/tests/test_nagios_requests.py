@@ -10,11 +10,11 @@ from typing import Any, Dict, List, Mapping, Optional, Sequence, Set, Tuple
 from unittest import mock
 
 from nagsched_monitor.core import checks
-from nagsched_monitor.core.hosts import hosts_of
-from nagsched_monitor.core.object_state import Known
-from nagsched_monitor.core.running import Running
+from nagsched_monitor.core.hosts import hosts_to_check
+from nagsched_monitor.core.object_state import ObjectState
+from nagsched_monitor.core.run_table import RunTable
 from nagsched_monitor.scheduler.protocol import Standing
-from nagsched_monitor.site.site import Watched
+from nagsched_monitor.site.site import ObjectDefinition
 
 from .simulated import SiteTest, host, service
 
@@ -36,15 +36,15 @@ def standing(state: str) -> Optional[Standing]:
 class AsNagios(SiteTest):
     def test_every_row(self) -> None:
         for (sort, before, after, relation, other), is_asked in REQUESTS.items():
-            objects = {name: Known(Watched(name, 0, None, ("parent",) if name == "own" else (), 60_000, True), Running(), True)
+            objects = {name: ObjectState(ObjectDefinition(name, 0, None, ("parent",) if name == "own" else (), 60_000, True), RunTable(), True)
                        for name in ("own", "parent", "child")}
-            objects["own;s"] = Known(Watched("own;s", 0, "own", (), 60_000, True), Running(), True)
+            objects["own;s"] = ObjectState(ObjectDefinition("own;s", 0, "own", (), 60_000, True), RunTable(), True)
             name = {"host": "own", "parent": "parent", "child": "child"}[relation]
             # A parent or child in this state is asked for or not, in any state of the other one.
             objects[name].standing = standing(other)
             result = standing(after)
             assert result is not None
-            asked = hosts_of(objects["own" if sort == "host" else "own;s"], standing(before), result, objects, ["child"])
+            asked = hosts_to_check(objects["own" if sort == "host" else "own;s"], standing(before), result, objects, ["child"])
             with self.subTest(sort=sort, before=before, after=after, relation=relation, other=other):
                 self.assertEqual(objects[name] in asked, is_asked)
 
@@ -57,10 +57,11 @@ class AsNagios(SiteTest):
         seen: Set[Situation] = set()
         wrong: List[Tuple[Situation, bool]] = []
 
-        def compare(known: Known, before: Optional[Standing], now: Standing, objects: Mapping[str, Known], children: Sequence[str]) -> List[Known]:
-            asked = hosts_of(known, before, now, objects, children)
-            own = known.watched.host
-            others = [("host", own)] if own is not None else [("parent", it) for it in known.watched.parents] + [("child", it) for it in children]
+        def compare(obj: ObjectState, before: Optional[Standing], now: Standing, objects: Mapping[str, ObjectState],
+                    children: Sequence[str]) -> List[ObjectState]:
+            asked = hosts_to_check(obj, before, now, objects, children)
+            own = obj.definition.host
+            others = [("host", own)] if own is not None else [("parent", it) for it in obj.definition.parents] + [("child", it) for it in children]
             for relation, name in others:
                 row = ("host" if own is None else "service", state_of(before), now.state, relation, state_of(objects[name].standing))
                 seen.add(row)
@@ -72,7 +73,7 @@ class AsNagios(SiteTest):
             mood = random.Random(f"{name} {moment // 900_000}").random()
             return chance.randint(5, 3000), chance.choice((0, 0, 0, 0, 1, 2, 3)) if mood < 0.5 else chance.choice((2, 2, 2, 3)), ""
 
-        with mock.patch.object(checks, "hosts_of", compare):
+        with mock.patch.object(checks, "hosts_to_check", compare):
             monitor: Any = self.monitor(plugin)
             monitor.run(24 * 3600)
         self.assertEqual(wrong, [])

@@ -8,10 +8,10 @@ import subprocess
 import sys
 from typing import Dict, List
 
-from nagsched_monitor.outputs.sd_notify import Service
+from nagsched_monitor.outputs.sd_notify import ServiceManager
 
 from .simulated import PROGRAM, SiteTest
-from .waiting import LONG, comes
+from .waiting import LONG, becomes_true
 
 MONITOR = pathlib.Path(__file__).resolve().parent.parent / "nagsched-monitor"
 UNIT = pathlib.Path(__file__).resolve().parent.parent / "nagsched-monitor@.service"
@@ -39,35 +39,35 @@ class Notices(SiteTest):
         path, now = str(self.folder / "notify"), [0.0]
         there = self.manager(path)
         environment = {"NOTIFY_SOCKET": path, "WATCHDOG_USEC": "2000000", "WATCHDOG_PID": str(os.getpid()), "HOME": "/"}
-        service = Service(environment, lambda: now[0])
+        service = ServiceManager(environment, lambda: now[0])
         self.assertEqual(environment, {"HOME": "/"})
-        service.ready("3 objects")
+        service.notify_ready("3 objects")
         for now[0] in (0.5, 0.9, 1.1, 1.5, 2.2):
-            service.alive()
-        service.stopping()
+            service.notify_alive()
+        service.notify_stopping()
         self.assertEqual(self.heard(there), ["READY=1\nSTATUS=3 objects", "WATCHDOG=1", "WATCHDOG=1", "STOPPING=1"])
 
     def test_a_name_that_is_none_of_a_file(self) -> None:
         name = f"nagsched-test-{os.getpid()}"
         there = self.manager(f"\0{name}")
-        Service({"NOTIFY_SOCKET": f"@{name}"}).stopping()
+        ServiceManager({"NOTIFY_SOCKET": f"@{name}"}).notify_stopping()
         self.assertEqual(self.heard(there), ["STOPPING=1"])
 
     def test_nobody_hears(self) -> None:
         """No manager, a manager that is gone, one that reads nothing, and the watchdog of another process."""
         environments: List[Dict[str, str]] = [{}, {"NOTIFY_SOCKET": ""}, {"NOTIFY_SOCKET": str(self.folder / "gone")}]
         for environment in environments:
-            service = Service(environment)
-            service.ready("")
-            service.alive()
-            service.stopping()
+            service = ServiceManager(environment)
+            service.notify_ready("")
+            service.notify_alive()
+            service.notify_stopping()
         there = self.manager(str(self.folder / "full"))
-        service = Service({"NOTIFY_SOCKET": str(self.folder / "full")})
+        service = ServiceManager({"NOTIFY_SOCKET": str(self.folder / "full")})
         for _ in range(5_000):
-            service.stopping()
+            service.notify_stopping()
         self.heard(there)
-        other = Service({"NOTIFY_SOCKET": str(self.folder / "full"), "WATCHDOG_USEC": "1", "WATCHDOG_PID": "1"})
-        other.alive()
+        other = ServiceManager({"NOTIFY_SOCKET": str(self.folder / "full"), "WATCHDOG_USEC": "1", "WATCHDOG_PID": "1"})
+        other.notify_alive()
         self.assertEqual(self.heard(there), [])
 
     def test_a_monitor(self) -> None:
@@ -87,7 +87,7 @@ class Notices(SiteTest):
             said[:] = [subprocess.run(words, capture_output=True, text=True, check=True).stdout.replace(" out", "")]
             return said == ["UP HARD 1 web: 0\n"]
 
-        comes(is_up)
+        becomes_true(is_up)
         self.assertEqual(said, ["UP HARD 1 web: 0\n"])
         running.send_signal(signal.SIGTERM)
         running.communicate(timeout=LONG)

@@ -9,9 +9,9 @@ from nagsched_monitor.outputs import page
 
 from nagsched_monitor.outputs import style
 from nagsched_monitor.outputs.status_query import LONGEST_WORDS
-from nagsched_monitor.store.rows import KeptChange
+from nagsched_monitor.store.rows import StoredChange
 
-from .shown_site import ShownSite, fill, standing
+from .shown_site import PageTest, fill_database, standing
 
 VOID = ("meta",)
 EVIL = '"><script>alert(1)</script><img src=x onerror=\'alert(2)\'>&amp;'
@@ -54,9 +54,9 @@ class Reader(html.parser.HTMLParser):
         return [str(attributes["href"]) for tag, attributes in self.tags if tag == "a"]
 
 
-class Page(ShownSite):
+class Page(PageTest):
     def read(self, path: str = "/") -> Reader:
-        status, headers, text = self.ask(path)
+        status, headers, text = self.request(path)
         self.assertEqual((status, headers["content-type"]), (200, "text/html; charset=utf-8"))
         reader = Reader(text)
         self.assertEqual((reader.wrong, reader.open), ([], []))
@@ -66,7 +66,7 @@ class Page(ShownSite):
         objects = [standing(f"h{number}") for number in range(30)]
         objects += [standing(f"h{number};disk {kind}", "OK", words=f"{number} free") for number in range(30) for kind in "ab"]
         objects.append(standing("new", "PENDING", None, "", since=None, hard_since=None, last_check=None, attempt=1, took=None, late=None))
-        fill(self.folder, objects)
+        fill_database(self.folder, objects)
         self.serve()
         hosts, services = self.read().tables
         self.assertEqual([row[1] for row in hosts], sorted([f"h{number}" for number in range(30)] + ["new"]))
@@ -79,7 +79,7 @@ class Page(ShownSite):
     def test_what_is_wrong(self) -> None:
         """Hard before soft, the longest first; for a hard problem, since when it is hard."""
         now = time.time()
-        fill(self.folder, [
+        fill_database(self.folder, [
             standing("soft and long", "DOWN", "SOFT", since=now - 9000, hard_since=now - 99999),
             standing("hard and young", "DOWN", since=now - 500, hard_since=now - 60),
             standing("hard and old", "UNREACHABLE", since=now - 7200, hard_since=now - 7200),
@@ -97,7 +97,7 @@ class Page(ShownSite):
 
     def test_when_it_is_checked(self) -> None:
         now = time.time()
-        fill(self.folder, [
+        fill_database(self.folder, [
             standing("a", out_since=now - 4, next_check=None), standing("b", is_on=False), standing("c", next_check=now - 10),
             standing("d", next_check=None), standing("e", next_check=now + 86400 * 40), standing("f", next_check=1e15), standing("g", next_check=0.001),
             standing("h", next_check=-1e300),
@@ -114,8 +114,8 @@ class Page(ShownSite):
     def test_names_and_words_are_escaped(self) -> None:
         """No text of a site becomes a tag or an attribute, on any page; forbidden characters are replaced."""
         name = "h;" + EVIL
-        change = KeptChange(1, time.time() - 3600, name, "CRITICAL", "HARD", 3, False, EVIL)
-        fill(self.folder, [standing(name, "CRITICAL", words=EVIL + "\x1b[31m\u202e\x00"), standing(EVIL, out_since=time.time())], {}, (change,))
+        change = StoredChange(1, time.time() - 3600, name, "CRITICAL", "HARD", 3, False, EVIL)
+        fill_database(self.folder, [standing(name, "CRITICAL", words=EVIL + "\x1b[31m\u202e\x00"), standing(EVIL, out_since=time.time())], {}, (change,))
         self.serve()
         for path in ("/", "/object?name=" + urllib.parse.quote(name)):
             reader = self.read(path)
@@ -126,16 +126,16 @@ class Page(ShownSite):
         reader = self.read()
         self.assertEqual([row[1] for row in reader.tables[0]], [name])
         self.assertEqual(urllib.parse.unquote(reader.links()[1]), f"/object?name={name}")
-        status, _, text = self.ask(reader.links()[1])
+        status, _, text = self.request(reader.links()[1])
         self.assertEqual(status, 200)
-        _, _, text = self.ask("/status.json")
+        _, _, text = self.request("/status.json")
         self.assertEqual({it["name"] for it in json.loads(text)["objects"]}, {name, EVIL})
 
     def test_nothing_from_elsewhere(self) -> None:
-        fill(self.folder, [standing("h")])
+        fill_database(self.folder, [standing("h")])
         self.serve()
         for path in ("/", "/object?name=h"):
-            _, headers, text = self.ask(path)
+            _, headers, text = self.request(path)
             reader = Reader(text)
             self.assertFalse([tag for tag, _ in reader.tags if tag in ("link", "script", "img", "iframe")])
             self.assertFalse([tag for tag, attributes in reader.tags if "src" in attributes or "style" in attributes])
@@ -147,7 +147,7 @@ class Page(ShownSite):
 
     def test_long_words(self) -> None:
         """In lists they are cut; on the page of the object they are whole."""
-        fill(self.folder, [standing("h", words="x" * 60_000)])
+        fill_database(self.folder, [standing("h", words="x" * 60_000)])
         self.serve()
         self.assertEqual(self.read().tables[0][0][5], "x" * LONGEST_WORDS + "…")
         self.assertIn("x" * 60_000, self.read("/object?name=h").texts)
@@ -156,12 +156,12 @@ class Page(ShownSite):
         """Its day from the last change before it; each stretch is as long as its state lasted."""
         now = time.time()
         changes = (
-            KeptChange(1, now - 90_000, "h", "DOWN", "HARD", 3, False, "no answer"),
-            KeptChange(2, now - 43_200, "h", "UP", "HARD", 1, False, "there again"),
-            KeptChange(3, now - 7_200, "other", "DOWN", "HARD", 1, False, "of another"),
-            KeptChange(4, now - 3_600, "h", "DOWN", "SOFT", 1, True, "again"),
+            StoredChange(1, now - 90_000, "h", "DOWN", "HARD", 3, False, "no answer"),
+            StoredChange(2, now - 43_200, "h", "UP", "HARD", 1, False, "there again"),
+            StoredChange(3, now - 7_200, "other", "DOWN", "HARD", 1, False, "of another"),
+            StoredChange(4, now - 3_600, "h", "DOWN", "SOFT", 1, True, "again"),
         )
-        fill(self.folder, [standing("h", "DOWN", "SOFT")], {}, changes)
+        fill_database(self.folder, [standing("h", "DOWN", "SOFT")], {}, changes)
         self.serve()
         reader = self.read("/object?name=h")
         widths = [(attributes["class"], round(float(str(attributes["width"])[:-1]), 1)) for tag, attributes in reader.tags if tag == "rect"]
@@ -171,7 +171,7 @@ class Page(ShownSite):
         self.assertIn("DOWN hard, DOWN soft, UP; soft ones are low", "".join(reader.texts))
 
     def test_a_day_of_which_nothing_is_known(self) -> None:
-        fill(self.folder, [standing("h", since=time.time() - 21_600), standing("new", "PENDING", None, since=None, next_check=None)])
+        fill_database(self.folder, [standing("h", since=time.time() - 21_600), standing("new", "PENDING", None, since=None, next_check=None)])
         self.serve()
         for name, wanted in (("h", [("none thin", "75.000%"), ("up", "25.000%")]), ("new", [("none thin", "100.000%")])):
             reader = self.read(f"/object?name={name}")
@@ -183,7 +183,7 @@ class Page(ShownSite):
     def test_groups(self) -> None:
         """Each group with its number of problems; a page shows one group alone; an object's page names its own."""
         self.write("groups.json", {"a": {"host_groups": ["x & y"]}, "a;web": {"host_groups": ["x & y"], "service_groups": ["shop"], "contacts": ["ada"]}})
-        fill(self.folder, [standing("a"), standing("a;web", "CRITICAL"), standing("b")])
+        fill_database(self.folder, [standing("a"), standing("a;web", "CRITICAL"), standing("b")])
         self.serve()
         reader = self.read()
         self.assertEqual(reader.tables[-1], [["shop", "1", "1"], ["x & y", "1", "2"]])
@@ -196,28 +196,28 @@ class Page(ShownSite):
         self.assertEqual(self.read().tables[-1], groups)
 
     def test_no_monitor_at_work(self) -> None:
-        fill(self.folder, [standing("h")], {"written_at": time.time() - 600})
+        fill_database(self.folder, [standing("h")], {"written_at": time.time() - 600})
         self.serve()
         self.assertTrue(any("written nothing for 10 min" in text for text in self.read().texts))
-        fill(self.folder, [standing("h")])
+        fill_database(self.folder, [standing("h")])
         self.assertFalse(any("written nothing" in text for text in self.read().texts))
 
     def test_the_zone(self) -> None:
         """Times are those of the site's zone; while its file is faulty, those of the zone before."""
         self.write("monitor.json", {"zone": "Asia/Kathmandu"})
-        fill(self.folder, [standing("h")])
+        fill_database(self.folder, [standing("h")])
         self.serve()
         for document in ({"zone": "Asia/Kathmandu"}, "{"):
             self.write("monitor.json", document)
             self.assertTrue(any("+05:45" in text for text in self.read().texts))
 
 
-class Data(ShownSite):
+class Data(PageTest):
     def test_status(self) -> None:
         objects = [standing("h", out_since=5.0, next_check=None), standing("h;a", "CRITICAL", "SOFT", "bad", attempt=2, flapping=True, next_check=1.0)]
-        fill(self.folder, objects, {"checks_a_second": 2.5, "latest_start": 0.75, "calls": 8})
+        fill_database(self.folder, objects, {"checks_a_second": 2.5, "latest_start": 0.75, "calls": 8})
         self.serve()
-        status, headers, text = self.ask("/status.json")
+        status, headers, text = self.request("/status.json")
         came = json.loads(text)
         self.assertEqual((status, headers["content-type"], headers["content-length"]), (200, "application/json", str(len(text.encode()))))
         self.assertEqual(came["objects"], [{**it, "phase": None} for it in objects])
@@ -225,12 +225,12 @@ class Data(ShownSite):
         self.assertEqual((came["checks_a_second"], came["latest_start"], came["calls"], came["saved_at"]), (2.5, 0.75, 8, None))
 
 
-class Measured(ShownSite):
+class Measured(PageTest):
     def test_4096_objects(self) -> None:
         """The page of a full site is made in under 300 milliseconds of processor time."""
         words = "PING OK - Packet loss = 0%, RTA = 0.80 ms | rta=0.8ms;100;500 pl=0%;20;60"
-        fill(self.folder, [standing(f"host-{number:04};disk <root>", "OK", words=words) for number in range(4096)])
-        site = page.Site(self.folder)
+        fill_database(self.folder, [standing(f"host-{number:04};disk <root>", "OK", words=words) for number in range(4096)])
+        site = page.SiteFolder(self.folder)
         times = []
         for _ in range(3):
             begun = time.process_time()

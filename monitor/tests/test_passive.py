@@ -21,35 +21,35 @@ class PassiveResults(SiteTest):
         monitor = self.site()
         monitor.run(30)
         for code, words in ((2, "one"), (2, "two"), (0, "three")):
-            monitor.give("web;trap", code, words)
+            monitor.add_result("web;trap", code, words)
         monitor.run(1)
         told = [(change.state, change.kind, change.words) for _, change in monitor.changes if change.name == "web;trap"]
         self.assertEqual(told, [("CRITICAL", "SOFT", "one"), ("CRITICAL", "HARD", "two"), ("OK", "HARD", "three")])
         self.assertNotIn("web;trap", monitor.starts())
-        self.assertEqual(monitor.store.waiting(), [])
+        self.assertEqual(monitor.store.waiting_results(), [])
 
     def test_one_that_comes_while_the_object_is_out_waits(self) -> None:
         monitor = self.site()
         monitor.run(1)
-        self.assertIn("web;http", monitor.engine.busy())
-        monitor.give("web;http", 1, "slow")
+        self.assertIn("web;http", monitor.engine.objects_with_plugins())
+        monitor.add_result("web;http", 1, "slow")
         monitor.run(0.5)
-        self.assertEqual(len(monitor.store.waiting()), 1)
+        self.assertEqual(len(monitor.store.waiting_results()), 1)
         monitor.run(2)
-        self.assertEqual(monitor.store.waiting(), [])
+        self.assertEqual(monitor.store.waiting_results(), [])
         self.assertEqual([change.words for _, change in monitor.changes if change.name == "web;http"], ["slow"])
 
     def test_the_next_check_stays_where_it_was(self) -> None:
         monitor = self.site()
         monitor.run(30)
-        monitor.give("web;http", 0, "by hand")
+        monitor.add_result("web;http", 0, "by hand")
         monitor.run(60)
         self.assertEqual(monitor.starts()["web;http"], [0, 60_000])
 
     def test_one_that_waited_over_a_restart_is_reported(self) -> None:
         monitor = self.site()
         monitor.run(30)
-        monitor.give("web;trap", 2, "late")
+        monitor.add_result("web;trap", 2, "late")
         monitor.close()
         after = self.monitor(fine, monitor.clock)
         after.run(1)
@@ -60,7 +60,7 @@ class PassiveResults(SiteTest):
         self.write_site([host("web")], [trap], passive={"web;trap": {"only": True, "freshness": 90}})
         monitor = self.monitor(lambda name, moment: (10, 3 if "trap" in name else 0, "stale"))
         monitor.run(60)
-        monitor.give("web;trap", 0, "fresh")
+        monitor.add_result("web;trap", 0, "fresh")
         monitor.run(240)
         first, second = monitor.starts()["web;trap"]
         self.assertTrue(150_000 <= first <= 151_000 and 90_000 <= second - first <= 92_000, (first, second))
@@ -87,7 +87,7 @@ class PassiveResults(SiteTest):
         for runs, rests in spans:
             monitor, begun = self.monitor(fine, clock), clock.now
             if is_given and passed == 0:
-                monitor.give("web;trap", 0, "fresh")
+                monitor.add_result("web;trap", 0, "fresh")
             monitor.run(runs)
             started += [passed + (moment - begun) // 1000 for moment, job in monitor.runners.started if job.name == "web;trap"]
             monitor.engine.close()
@@ -115,17 +115,17 @@ class PassiveResults(SiteTest):
 
         def killing(*writes: Write) -> None:
             write(*writes)
-            if monitor.store.waiting() == []:
+            if monitor.store.waiting_results() == []:
                 setattr(monitor.store, "write", write)
                 os.kill(monitor.scheduling.process_ids()[0], signal.SIGKILL)
 
-        monitor.give("web;trap", 2, "door open")
+        monitor.add_result("web;trap", 2, "door open")
         setattr(monitor.store, "write", killing)
         monitor.run(5)
         self.assertEqual(len([line for line in monitor.lines if "it is started again" in line]), 1)
-        standing = monitor.scheduling.known.objects["web;trap"].standing
+        standing = monitor.scheduling.states.objects["web;trap"].standing
         self.assertEqual(standing and (standing.state, standing.kind, standing.attempt), ("CRITICAL", "SOFT", 1))
-        self.assertEqual(monitor.store.waiting(), [])
+        self.assertEqual(monitor.store.waiting_results(), [])
 
     def slow_down(self, monitor: SimulatedMonitor) -> None:
         """Each write takes 20 milliseconds from now on."""
@@ -142,14 +142,14 @@ class PassiveResults(SiteTest):
         monitor = self.site()
         monitor.run(30)
         for number in range(100):
-            monitor.give("web;trap", 2 * (number % 2), f"number {number}")
+            monitor.add_result("web;trap", 2 * (number % 2), f"number {number}")
         self.slow_down(monitor)
         turns = 0
-        while monitor.store.waiting():
+        while monitor.store.waiting_results():
             begun = monitor.clock.now
             wanted = monitor.engine.turn()
             self.assertLess(monitor.clock.now - begun, 500)
-            self.assertTrue(wanted <= monitor.clock.now or not monitor.store.waiting())
+            self.assertTrue(wanted <= monitor.clock.now or not monitor.store.waiting_results())
             turns += 1
         self.assertTrue(100 <= turns <= 102, turns)
         monitor.take_changes()
@@ -163,12 +163,12 @@ class PassiveResults(SiteTest):
         monitor = self.monitor(fine)
         monitor.run(89)
         for number in range(20):
-            monitor.give("web;one", 0, f"number {number}")
-        monitor.give("web;two", 0, "fresh")
+            monitor.add_result("web;one", 0, f"number {number}")
+        monitor.add_result("web;two", 0, "fresh")
         monitor.pause(2)
         self.slow_down(monitor)
         monitor.run(5)
-        self.assertEqual((monitor.store.waiting(), "web;two" in monitor.starts()), ([], False))
+        self.assertEqual((monitor.store.waiting_results(), "web;two" in monitor.starts()), ([], False))
         self.assertFalse([line for line in monitor.lines if "its command is run" in line])
 
     def test_results_of_an_object_that_is_gone(self) -> None:
@@ -179,12 +179,12 @@ class PassiveResults(SiteTest):
         write([service("web", "http", max_check_attempts=1)])
         monitor = self.monitor(lambda name, moment: (30_000, 0, "fine"))
         monitor.run(10)
-        monitor.give("web;http", 2, "of last spring")
+        monitor.add_result("web;http", 2, "of last spring")
         monitor.run(1)
         write([])
         monitor.engine.reload(read_site(self.folder, PROGRAM))
         monitor.run(100)
-        self.assertEqual(monitor.store.waiting(), [])
+        self.assertEqual(monitor.store.waiting_results(), [])
         self.assertIn("web;http: its passive results are dropped, since it isn't part of the site any more", monitor.lines)
         write([service("web", "http", max_check_attempts=1)])
         monitor.engine.reload(read_site(self.folder, PROGRAM))
@@ -211,9 +211,9 @@ class PassiveResults(SiteTest):
                         commands={"web": {"line": "true"}, "web;slow": {"line": "true"}})
         monitor = self.monitor(lambda name, moment: (20_000 if "slow" in name else 10, 0, "fine"))
         monitor.run(5)
-        monitor.give("web;trap", 2, "door open")
+        monitor.add_result("web;trap", 2, "door open")
         monitor.run(5)
-        self.assertEqual((monitor.changes, len(monitor.store.waiting())), ([], 1))
+        self.assertEqual((monitor.changes, len(monitor.store.waiting_results())), ([], 1))
         monitor.run(12)
         self.assertEqual([(change.name, change.words) for _, change in monitor.changes], [("web;trap", "door open")])
         self.assertNotIn("web;trap", monitor.starts())
@@ -225,7 +225,7 @@ class PassiveResults(SiteTest):
         monitor = self.monitor(fine)
         monitor.run(30)
         for trap in traps:
-            monitor.give(f"web;{trap['description']}", 1, "said")
+            monitor.add_result(f"web;{trap['description']}", 1, "said")
         write, writes = monitor.store.write, []
 
         def counted(*each: Write) -> None:
@@ -235,4 +235,4 @@ class PassiveResults(SiteTest):
         setattr(monitor.store, "write", counted)
         monitor.engine.turn()
         monitor.engine.turn()
-        self.assertEqual((monitor.store.waiting(), len(writes)), ([], 2))
+        self.assertEqual((monitor.store.waiting_results(), len(writes)), ([], 2))

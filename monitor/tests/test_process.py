@@ -17,14 +17,14 @@ from unittest import mock
 from nagsched_monitor.program import main, monitor
 
 from nagsched_monitor.faults import ConversationEnded, MonitorFault, NotStored
-from nagsched_monitor.program import reading
+from nagsched_monitor.program import site_reader
 from nagsched_monitor.scheduler.live_process import Conversation
 from nagsched_monitor.site.site import Site
 from nagsched_monitor.store.store import Store
 
 from .running import MONITOR, ProcessTest
 from .simulated import PROGRAM, SiteTest
-from .waiting import LONG, comes
+from .waiting import LONG, becomes_true
 
 KILLS = 10
 
@@ -61,21 +61,21 @@ class Running(ProcessTest):
         self.write("commands.json", {name: {"line": line, "shell": True} for name, line in lines.items()})
         chance = random.Random(7)
         for kill in range(KILLS):
-            running = self.begin()
+            running = self.start_monitor()
             before = self.last_call()
-            self.assertTrue(comes(lambda: self.last_call() > before + 20))
+            self.assertTrue(becomes_true(lambda: self.last_call() > before + 20))
             time.sleep(chance.uniform(0, 1.5))
             if kill == KILLS // 3:
-                self.ask("save")
+                self.run_command("save")
             victims = [running.pid, *self.children_of(running.pid)]
             os.kill(victims[kill % len(victims)], signal.SIGKILL)
             before = self.last_call()
-            self.assertTrue(kill % len(victims) == 0 or comes(lambda: self.last_call() > before + 20))
-            self.end(running, signal.SIGKILL)
-        running = self.begin()
-        self.assertTrue(comes(lambda: self.count_of_calls() > 200))
+            self.assertTrue(kill % len(victims) == 0 or becomes_true(lambda: self.last_call() > before + 20))
+            self.stop_monitor(running, signal.SIGKILL)
+        running = self.start_monitor()
+        self.assertTrue(becomes_true(lambda: self.count_of_calls() > 200))
         told = self.states()
-        self.end(running, signal.SIGKILL)
+        self.stop_monitor(running, signal.SIGKILL)
         self.assertFalse((self.folder / "twice").exists())
         with sqlite3.connect(self.folder / "monitor.db") as database:
             kept = self.calls(database)
@@ -101,11 +101,11 @@ class Running(ProcessTest):
         subprocess.run([compiler, "-shared", "-fPIC", "-o", str(shim), str(pathlib.Path(__file__).parent / "slow_sync.c"), "-ldl"], check=True)
         self.write_site(self.objects(50), [])
         synced = self.folder / "synced"
-        running = self.begin(environment={**os.environ, "LD_PRELOAD": str(shim), "SYNCED": str(synced)})
-        self.assertTrue(comes(lambda: self.count_of_calls() > 400))
+        running = self.start_monitor(environment={**os.environ, "LD_PRELOAD": str(shim), "SYNCED": str(synced)})
+        self.assertTrue(becomes_true(lambda: self.count_of_calls() > 400))
         before, calls = synced.stat().st_size, self.count_of_calls()
-        self.assertTrue(comes(lambda: self.count_of_calls() > calls + 400))
-        self.end(running, signal.SIGKILL)
+        self.assertTrue(becomes_true(lambda: self.count_of_calls() > calls + 400))
+        self.stop_monitor(running, signal.SIGKILL)
         with sqlite3.connect(self.folder / "monitor.db") as database:
             kept = self.calls(database)
         count = synced.stat().st_size - before
@@ -118,47 +118,47 @@ class Running(ProcessTest):
     def test_a_plugin_that_leaves_a_child(self) -> None:
         self.write_site(self.objects(1), [])
         self.write("commands.json", {"h00": {"line": "echo fine; sleep 20 & exit 0", "shell": True}})
-        running = self.begin()
+        running = self.start_monitor()
         self.await_states(["UP HARD 1 h00: fine"])
-        self.end(running)
+        self.stop_monitor(running)
 
     def test_words(self) -> None:
         self.write_site(self.objects(2), [{"host": "h00", "description": "trap", "max_check_attempts": 1, "enabled": False}])
         self.write("commands.json", {"h00": {"line": "echo up"}, "h01": {"line": "echo up"}})
         self.write("passive.json", {"h00;trap": {"only": True}})
-        running = self.begin("--on-change", f"cat >> {self.folder}/changes")
-        self.assertEqual(self.ask("result", "h00;trap", "2", "door open").stdout, "result: h00;trap\n")
-        self.assertTrue(comes(lambda: "UP HARD 1 h01: up" in self.states()))
-        self.assertEqual(self.ask("disable", "h01").stdout, "disable: h01\n")
-        wrong = self.ask("enable", "h02")
+        running = self.start_monitor("--on-change", f"cat >> {self.folder}/changes")
+        self.assertEqual(self.run_command("result", "h00;trap", "2", "door open").stdout, "result: h00;trap\n")
+        self.assertTrue(becomes_true(lambda: "UP HARD 1 h01: up" in self.states()))
+        self.assertEqual(self.run_command("disable", "h01").stdout, "disable: h01\n")
+        wrong = self.run_command("enable", "h02")
         self.assertEqual((wrong.returncode, wrong.stderr), (1, "nagsched-monitor: there is no object 'h02'\n"))
         self.await_states(["UP HARD 1 h00: up", "CRITICAL HARD 1 off h00;trap: door open", "UP HARD 1 off h01: up"])
-        self.assertTrue(comes(lambda: (self.folder / "changes").exists() and (self.folder / "changes").read_text().endswith("\n")))
+        self.assertTrue(becomes_true(lambda: (self.folder / "changes").exists() and (self.folder / "changes").read_text().endswith("\n")))
         second = subprocess.run([sys.executable, str(MONITOR), "--program", PROGRAM, str(self.folder)], capture_output=True, text=True, check=False)
         self.assertEqual(second.returncode, 1)
         self.assertIn("another monitor", second.stderr)
-        self.assertEqual(self.ask("stop").stdout, "stop: done\n")
+        self.assertEqual(self.run_command("stop").stdout, "stop: done\n")
         running.wait(timeout=30)
-        output = self.end(running)
+        output = self.stop_monitor(running)
         self.assertRegex(output, r"\d\d:\d\d:\d\d[+-]\d\d:\d\d h00;trap is CRITICAL HARD 1: door open")
         self.assertEqual(json.loads((self.folder / "changes").read_text())["name"], "h00;trap")
         self.assertEqual(running.returncode, 0)
-        self.assertEqual(self.ask("enable", "h00").returncode, 1)
+        self.assertEqual(self.run_command("enable", "h00").returncode, 1)
 
     def test_reload(self) -> None:
         """Ten checks run while the site is read again: each is reported. A faulty site is refused with its line, and the old one continues."""
         self.write_site(self.objects(10), [])
         self.write("commands.json", {f"h{number:02}": {"line": f"until test -e {self.folder}/go; do sleep 0.1; done; echo slow; echo >> {self.folder}/ended",
                                                        "shell": True} for number in range(10)})
-        running = self.begin()
-        self.assertTrue(comes(lambda: sum(" out " in line for line in self.ask("status").stdout.splitlines()) == 10))
+        running = self.start_monitor()
+        self.assertTrue(becomes_true(lambda: sum(" out " in line for line in self.run_command("status").stdout.splitlines()) == 10))
         self.write("commands.json", {f"h{number:02}": {"line": "echo 'quick", "shell": False} for number in range(10)})
-        refused = self.ask("reload")
+        refused = self.run_command("reload")
         self.assertEqual(refused.returncode, 1)
         self.assertIn("commands.json: h00: its line can't be split", refused.stderr)
         self.write("commands.json", {f"h{number:02}": {"line": "echo quick"} for number in range(10)})
-        self.assertEqual(self.ask("reload").stdout, "reload: done\n")
-        self.assertEqual(sum(" out " in line for line in self.ask("status").stdout.splitlines()), 10)
+        self.assertEqual(self.run_command("reload").stdout, "reload: done\n")
+        self.assertEqual(sum(" out " in line for line in self.run_command("status").stdout.splitlines()), 10)
         (self.folder / "go").touch()
         self.await_states([f"UP HARD 1 h{number:02}: quick" for number in range(10)])
         self.assertEqual((self.folder / "ended").read_text(), "\n" * 10)
@@ -168,7 +168,7 @@ class Running(ProcessTest):
         self.write("commands.json", {f"h{number:02}": {"line": "echo by a signal"} for number in range(10)})
         running.send_signal(signal.SIGHUP)
         self.await_states([f"UP HARD 1 h{number:02}: by a signal" for number in range(10)])
-        output = self.end(running)
+        output = self.stop_monitor(running)
         self.assertNotIn("too late", output)
         self.assertNotIn("is dropped", output)
         self.assertIn("the site isn't taken over: commands.json: ", output)
@@ -177,15 +177,15 @@ class Running(ProcessTest):
         """Objects of both setups continue, with state and attempt. New objects begin, removed ones are dropped, and changes are named."""
         self.write_site([*self.objects(2), {"name": "gone", "check_interval": 1, "max_check_attempts": 3}], [])
         self.write("commands.json", {name: {"line": f"echo {name}; exit 2", "shell": True} for name in ("h00", "h01", "gone")})
-        running = self.begin()
+        running = self.start_monitor()
         self.await_states(["DOWN HARD 3 gone: gone", "DOWN HARD 2 h00: h00", "DOWN HARD 2 h01: h01"])
         hosts = [{**self.objects(1)[0], "check_interval": 100, "retry_interval": 100, "max_check_attempts": 4}, self.objects(2)[1]]
         self.write_site([*hosts, {"name": "new", "check_interval": 100, "max_check_attempts": 1}], [])
         self.write("commands.json", {name: {"line": f"echo {name}; exit 2", "shell": True} for name in ("h00", "h01", "new")})
-        told = self.ask("reload").stdout.splitlines()
+        told = self.run_command("reload").stdout.splitlines()
         self.assertEqual(told, ["reload: done", "new: new", "dropped: gone", "changed attempts h00", "changed interval h00"])
         self.await_states(["DOWN HARD 4 h00: h00", "DOWN HARD 2 h01: h01", "DOWN HARD 1 new: new"])
-        output = self.end(running)
+        output = self.stop_monitor(running)
         self.assertNotIn("h00 is UP", output)
         with sqlite3.connect(self.folder / "monitor.db") as database:
             (runs,) = database.execute("SELECT saved FROM generations").fetchone()
@@ -195,23 +195,23 @@ class Running(ProcessTest):
         """Calls before it are dropped; a monitor that is killed resumes it, with the calls since."""
         self.write_site(self.objects(3), [])
         self.write("commands.json", {name: {"line": f"echo {name}; exit 2", "shell": True} for name in ("h00", "h01", "h02")})
-        running = self.begin()
+        running = self.start_monitor()
         down = [f"DOWN HARD 2 h0{number}: h0{number}" for number in range(3)]
         self.await_states(down)
         last = self.numbers_of_calls()[-1]
-        self.assertEqual(self.ask("save").stdout, "save: done\n")
+        self.assertEqual(self.run_command("save").stdout, "save: done\n")
         self.assertEqual([number for number in self.numbers_of_calls() if number <= last], [])
-        self.ask("disable", "h02")
-        self.end(running, signal.SIGKILL)
-        running = self.begin()
+        self.run_command("disable", "h02")
+        self.stop_monitor(running, signal.SIGKILL)
+        running = self.start_monitor()
         self.await_states([*down[:2], down[2].replace("h02", "off h02", 1)])
-        self.end(running)
+        self.stop_monitor(running)
 
     def test_a_signal_to_all_of_its_processes(self) -> None:
         """Ctrl-C in a terminal reaches the whole group: the state is saved all the same."""
         self.write_site(self.objects(2), [])
-        running = self.begin("--page", "127.0.0.1:0", "--nagios-files", str(self.folder))
-        self.assertTrue(comes((self.folder / "status.dat").exists))
+        running = self.start_monitor("--page", "127.0.0.1:0", "--nagios-files", str(self.folder))
+        self.assertTrue(becomes_true((self.folder / "status.dat").exists))
         os.killpg(running.pid, signal.SIGINT)
         output = running.communicate(timeout=30)[0]
         self.assertEqual((running.returncode, "isn't saved" in output), (0, False))
@@ -226,10 +226,10 @@ class Running(ProcessTest):
         for log in (os.open("/dev/full", os.O_WRONLY), back):
             running = subprocess.Popen([sys.executable, str(MONITOR), "--program", PROGRAM, str(self.folder)], stdout=log, stderr=subprocess.DEVNULL, text=True)
             os.close(log)
-            self.addCleanup(self.end, running)
+            self.addCleanup(self.stop_monitor, running)
             self.await_socket(running)
             self.await_states(["UP HARD 1 h00: "])
-            self.assertEqual(self.ask("stop").stdout, "stop: done\n")
+            self.assertEqual(self.run_command("stop").stdout, "stop: done\n")
             running.wait(timeout=LONG)
 
     def test_no_site(self) -> None:
@@ -242,15 +242,15 @@ class Reloading(SiteTest):
     def test_whatever_is_wrong_with_a_site(self) -> None:
         """It is refused with a line."""
         self.write_site([{"name": "web", "max_check_attempts": 1}], [])
-        with mock.patch.object(reading, "read_site", side_effect=OSError("no room\nat all")):
-            self.assertEqual(reading.read_now(self.folder, PROGRAM), "the site can't be read: OSError: no room at all")
-        self.assertIsInstance(reading.read_now(self.folder, PROGRAM), Site)
+        with mock.patch.object(site_reader, "read_site", side_effect=OSError("no room\nat all")):
+            self.assertEqual(site_reader.read_or_fault(self.folder, PROGRAM), "the site can't be read: OSError: no room at all")
+        self.assertIsInstance(site_reader.read_or_fault(self.folder, PROGRAM), Site)
 
     def test_more_slots_than_files(self) -> None:
         self.write_site([{"name": "web", "max_check_attempts": 1}], [], monitor={"slots": 200})
         wanted = "slots: 200 plugins may take 900 open files"
         with mock.patch.object(monitor, "raise_file_limit", return_value=500), self.assertRaisesRegex(MonitorFault, wanted):
-            monitor.Monitor(main.words_of(["--program", PROGRAM, str(self.folder)]))
+            monitor.Monitor(main.parse_arguments(["--program", PROGRAM, str(self.folder)]))
 
 
 class Starting(SiteTest):
@@ -284,7 +284,7 @@ class Starting(SiteTest):
                 self.assertIn("No space left on device", self.refused())
 
     def test_no_room_in_a_database(self) -> None:
-        with mock.patch.object(Store, "_take_over", side_effect=sqlite3.OperationalError("database or disk is full")):
+        with mock.patch.object(Store, "_migrate", side_effect=sqlite3.OperationalError("database or disk is full")):
             self.assertIn("database or disk is full", self.refused())
 
     def test_no_scheduler(self) -> None:

@@ -65,7 +65,7 @@ class Words(SiteTest):
         self.monitored.close()
         monitor = self.monitor(lambda name, moment: (3_000, 0, "fine"), self.monitored.clock)
         monitor.run(31)
-        self.assertEqual(monitor.engine.busy(), {"web"})
+        self.assertEqual(monitor.engine.objects_with_plugins(), {"web"})
         monitor.ask(do="reschedule", name="web", force=True)
         monitor.run(20)
         self.assertEqual([start // 1000 for start in monitor.starts()["web"]], [60, 63])
@@ -118,7 +118,7 @@ class Words(SiteTest):
             answers: List[bytes] = []
             for number in range(5):
                 line = json.dumps({"do": "result", "name": "web;trap", "code": 2 * (number % 2), "output": f"number {number}"})
-                engine.ask(Request(line.encode(), answers.append))
+                engine.add_request(Request(line.encode(), answers.append))
             self.monitored.run(0.5)
         told = [json.loads(answer) for answer in answers]
         self.assertEqual([answer.get("again", False) for answer in told], [False, False, False, True, True])
@@ -137,9 +137,9 @@ class Words(SiteTest):
         self.monitored.close()
         self.monitored = self.monitor(fine, self.monitored.clock)
         self.assertEqual(self.ask(**asked, number="a-1"), first)
-        self.assertEqual(self.monitored.store.waiting(), [])
+        self.assertEqual(self.monitored.store.waiting_results(), [])
         self.ask(**asked, number="a-2")
-        self.assertEqual(len(self.monitored.store.waiting()), 1)
+        self.assertEqual(len(self.monitored.store.waiting_results()), 1)
 
     def test_a_line_of_the_log_for_what_changes_something(self) -> None:
         self.monitored.lines.clear()
@@ -161,7 +161,7 @@ class Words(SiteTest):
                 self.assertEqual(self.ask(**asked), {"error": "the disk is full", "again": True})
             self.assertNotIn("again", self.ask(do="enable", name="nobody"))
         self.monitored.run(1)
-        self.assertEqual((self.monitored.store.switches(), self.monitored.store.waiting(), self.monitored.starts()["web"]), ({}, [], [0]))
+        self.assertEqual((self.monitored.store.switches(), self.monitored.store.waiting_results(), self.monitored.starts()["web"]), ({}, [], [0]))
         self.assertEqual(self.monitored.store.last_call, before)
 
     def test_others(self) -> None:
@@ -192,4 +192,4 @@ class Words(SiteTest):
         ):
             with self.subTest(line):
                 self.assertIn(word, self.monitored.ask_line(line)["error"])
-        self.assertEqual((self.monitored.store.last_call, self.monitored.store.waiting(), self.monitored.loop.status), (before, [], None))
+        self.assertEqual((self.monitored.store.last_call, self.monitored.store.waiting_results(), self.monitored.loop.status), (before, [], None))

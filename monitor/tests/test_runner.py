@@ -9,7 +9,7 @@ import unittest
 from typing import Any, Dict, List, Set
 
 from .one_runner import MONITOR, OneRunner, shell
-from .waiting import comes
+from .waiting import becomes_true
 
 MOST_KEPT = 4096
 F_SETPIPE_SZ = 1031  # Python 3.9 has no name for it
@@ -38,7 +38,7 @@ def children_of(process: int) -> List[int]:
 class Plugins(unittest.TestCase):
     def ran(self, *jobs: Any) -> List[Dict[str, Any]]:
         with OneRunner() as runner:
-            return runner.ran(*jobs)
+            return runner.results_of(*jobs)
 
     def test_codes_and_words(self) -> None:
         results = self.ran(shell(1, "echo fine"), shell(2, "echo bad; exit 2"), shell(3, "kill -9 $$"), shell(4, "exit 77"))
@@ -74,7 +74,7 @@ class Plugins(unittest.TestCase):
 
     def test_a_child_that_keeps_the_output(self) -> None:
         with OneRunner() as runner:
-            (result,) = runner.ran(shell(1, "sleep 600 & echo $!"))
+            (result,) = runner.results_of(shell(1, "sleep 600 & echo $!"))
             self.assertEqual((result["end"], result["code"]), ("exited", 0))
             os.kill(int(result["output"]), signal.SIGKILL)
 
@@ -108,7 +108,7 @@ class Plugins(unittest.TestCase):
 
     def test_a_runner_without_standard_error(self) -> None:
         with OneRunner(before=["sh", "-c", 'exec "$0" "$@" 2>&-']) as runner:
-            (result,) = runner.ran(shell(1, "echo one; echo two >&2"))
+            (result,) = runner.results_of(shell(1, "echo one; echo two >&2"))
         self.assertEqual((result["output"], result["stderr"]), ("one\n", "two\n"))
 
     def test_memory_is_taken_from_plugins_first(self) -> None:
@@ -118,14 +118,14 @@ class Plugins(unittest.TestCase):
     def test_the_limit_of_files(self) -> None:
         """The runner's limit is as high as possible; a plugin has the one with which the runner was started."""
         with OneRunner(before=["prlimit", "--nofile=100:200"]) as runner:
-            (result,) = runner.ran(shell(1, "ulimit -n"))
+            (result,) = runner.results_of(shell(1, "ulimit -n"))
             limits = pathlib.Path(f"/proc/{runner.process.pid}/limits").read_text()
         self.assertEqual(result["output"], "100\n")
         self.assertEqual(limits.partition("Max open files")[2].split()[:2], ["200", "200"])
 
     def test_many_at_once(self) -> None:
         with OneRunner() as runner:
-            runner.give(*(shell(number, f"sleep 0.2; echo {number}; exit {number % 4}") for number in range(300)))
+            runner.send(*(shell(number, f"sleep 0.2; echo {number}; exit {number % 4}") for number in range(300)))
             self.assertEqual([(it["job"], it["code"], it["output"]) for it in runner.results(300)],
                              [(number, number % 4, f"{number}\n") for number in range(300)])
 
@@ -140,26 +140,26 @@ class Ends(unittest.TestCase):
         self.jobs = [shell(1, f"sleep {self.seconds}; true", 1000), {"job": 2, "words": ["sleep", self.seconds], "limit": 1000}]
 
     def begin(self, runner: OneRunner) -> None:
-        runner.give(*self.jobs)
-        self.assertTrue(comes(lambda: len(living(self.seconds)) == 2))
+        runner.send(*self.jobs)
+        self.assertTrue(becomes_true(lambda: len(living(self.seconds)) == 2))
 
     def test_its_standard_input_ends(self) -> None:
         with OneRunner() as runner:
             self.begin(runner)
             self.assertEqual(runner.end(), 0)
-            self.assertTrue(comes(lambda: not living(self.seconds)))
+            self.assertTrue(becomes_true(lambda: not living(self.seconds)))
 
     def test_it_is_killed(self) -> None:
         with OneRunner() as runner:
             self.begin(runner)
             runner.process.kill()
-            self.assertTrue(comes(lambda: not living(self.seconds)))
+            self.assertTrue(becomes_true(lambda: not living(self.seconds)))
 
     def test_its_group_is_killed(self) -> None:
         with OneRunner() as runner:
             self.begin(runner)
             os.killpg(runner.process.pid, signal.SIGKILL)
-            self.assertTrue(comes(lambda: not living(self.seconds)))
+            self.assertTrue(becomes_true(lambda: not living(self.seconds)))
 
     def test_it_is_killed_with_its_guard(self) -> None:
         """A plugin ends with it even then; only the plugin's own children are left."""
@@ -170,35 +170,35 @@ class Ends(unittest.TestCase):
             children = living(self.seconds) - set(plugins)
             os.kill(guard, signal.SIGKILL)
             runner.process.kill()
-            self.assertTrue(comes(lambda: living(self.seconds) == children))
+            self.assertTrue(becomes_true(lambda: living(self.seconds) == children))
             for child in children:
                 os.kill(child, signal.SIGKILL)
 
     def test_its_guard_is_killed(self) -> None:
         """Another one takes its place."""
         with OneRunner() as runner:
-            self.assertTrue(comes(lambda: bool(children_of(runner.process.pid))))
+            self.assertTrue(becomes_true(lambda: bool(children_of(runner.process.pid))))
             (guard,) = children_of(runner.process.pid)
             os.kill(guard, signal.SIGKILL)
-            self.assertTrue(comes(lambda: children_of(runner.process.pid) not in ([], [guard])))
+            self.assertTrue(becomes_true(lambda: children_of(runner.process.pid) not in ([], [guard])))
             self.begin(runner)
             runner.process.kill()
-            self.assertTrue(comes(lambda: not living(self.seconds)))
+            self.assertTrue(becomes_true(lambda: not living(self.seconds)))
 
     def test_signals_that_the_monitor_has_too(self) -> None:
         """A terminal sends them to all; the runner waits for the end of its standard input."""
         with OneRunner() as runner:
-            runner.ran(shell(1, "true"))
+            runner.results_of(shell(1, "true"))
             for number in (signal.SIGINT, signal.SIGTERM, signal.SIGHUP):
                 runner.process.send_signal(number)
-            self.assertEqual(runner.ran(shell(2, "true"))[0]["job"], 2)
+            self.assertEqual(runner.results_of(shell(2, "true"))[0]["job"], 2)
             self.assertEqual(runner.end(), 0)
 
     def test_nobody_reads_its_results(self) -> None:
         with OneRunner() as runner:
             assert runner.process.stdout is not None
             runner.process.stdout.close()
-            runner.give(shell(1, "true"))
+            runner.send(shell(1, "true"))
             self.assertEqual(runner.process.wait(timeout=90), 0)
 
 
@@ -219,18 +219,18 @@ class Troubles(unittest.TestCase):
 
     def test_no_process(self) -> None:
         with self.runner("fork") as runner:
-            results = runner.ran(*(shell(number, "exit 2") for number in range(6)))
+            results = runner.results_of(*(shell(number, "exit 2") for number in range(6)))
         self.assertEqual([it.get("lost", it.get("code")) for it in results], 3 * ["/bin/sh: Resource temporarily unavailable", 2])
 
     def test_no_pipe(self) -> None:
         with self.runner("pipe") as runner:
-            results = runner.ran(*(shell(number, "exit 2") for number in range(6)))
+            results = runner.results_of(*(shell(number, "exit 2") for number in range(6)))
         self.assertEqual({it.get("lost") for it in results}, {"/bin/sh: Too many open files"})
 
     def test_no_files(self) -> None:
         """A job is lost, or its plugin's result comes; never anything else."""
         with OneRunner(before=["prlimit", "--nofile=32:32"]) as runner:
-            results = runner.ran(*(shell(number, "sleep 1; exit 2") for number in range(40)))
+            results = runner.results_of(*(shell(number, "sleep 1; exit 2") for number in range(40)))
         told = [it.get("lost", (it.get("end"), it.get("code"))) for it in results]
         self.assertEqual(set(told), {("exited", 2), "/bin/sh: Too many open files"})
         self.assertEqual(len(told), 40)
@@ -238,32 +238,32 @@ class Troubles(unittest.TestCase):
     def test_no_place(self) -> None:
         """More plugins than a runner can run at once are lost, and their places are used again."""
         with self.runner("nothing") as runner:
-            results = runner.ran(*(shell(number, "sleep 3") for number in range(60)))
+            results = runner.results_of(*(shell(number, "sleep 3") for number in range(60)))
             self.assertEqual([it.get("lost", it.get("code")) for it in results], [0] * 40 + ["/bin/sh: Resource temporarily unavailable"] * 20)
             for _ in range(4):
-                self.assertEqual({it.get("code") for it in runner.ran(*(shell(number, "exit 2") for number in range(30)))}, {2})
+                self.assertEqual({it.get("code") for it in runner.results_of(*(shell(number, "exit 2") for number in range(30)))}, {2})
 
     def test_no_memory(self) -> None:
         """A plugin that the kernel killed is lost. One that somebody killed isn't, and neither is one that ended meanwhile on its own."""
         with self.runner("memory") as runner:
-            results = runner.ran(shell(1, "kill -9 $$"), shell(2, "kill -TERM $$"), shell(3, "exit 2"), shell(4, "sleep 60", 0.5))
+            results = runner.results_of(shell(1, "kill -9 $$"), shell(2, "kill -TERM $$"), shell(3, "exit 2"), shell(4, "sleep 60", 0.5))
         self.assertEqual([it.get("lost", (it.get("end"), it.get("code"))) for it in results],
                          ["/bin/sh: Cannot allocate memory", ("signal", signal.SIGTERM), ("exited", 2), ("limit", signal.SIGKILL)])
 
     def test_a_program_that_is_never_loaded(self) -> None:
         """Its limit is kept, and others run meanwhile."""
         with self.runner("exec") as runner:
-            runner.give({"job": 1, "words": ["/plugins/hangs"], "limit": 3})
-            self.assertEqual([it["output"] for it in runner.ran(shell(2, "echo fine"))], ["fine\n"])
+            runner.send({"job": 1, "words": ["/plugins/hangs"], "limit": 3})
+            self.assertEqual([it["output"] for it in runner.results_of(shell(2, "echo fine"))], ["fine\n"])
             self.assertEqual([(it["job"], it["end"]) for it in runner.results(1)], [(1, "limit")])
 
     def test_a_plugin_that_cannot_be_killed(self) -> None:
         """It is reported with its limit, and once more when it has ended."""
         with self.runner("kill") as runner:
-            runner.give(shell(1, "echo begun; sleep 8", 0.5))
+            runner.send(shell(1, "echo begun; sleep 8", 0.5))
             (late,) = runner.results(1)
             self.assertEqual((late["end"], late["output"], late["stuck"]), ("limit", "begun\n", True))
-            self.assertEqual(runner.ran(shell(2, "echo fine"))[0]["output"], "fine\n")
+            self.assertEqual(runner.results_of(shell(2, "echo fine"))[0]["output"], "fine\n")
             self.assertEqual(runner.results(1), [{"job": 1, "gone": True}])
-            self.assertEqual(runner.ran(shell(3, "echo fine"))[0]["output"], "fine\n")
+            self.assertEqual(runner.results_of(shell(3, "echo fine"))[0]["output"], "fine\n")
             self.assertEqual(len(children_of(runner.process.pid)), 1)  # the guard

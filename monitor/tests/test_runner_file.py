@@ -7,8 +7,8 @@ import unittest
 from typing import Any, Callable, Dict, List, Tuple
 
 from nagsched_monitor.faults import SiteFault
-from nagsched_monitor.run.jobs import Finished, Job, Lost
-from nagsched_monitor.run.runners import RunnerProcesses
+from nagsched_monitor.run.jobs import Job, JobFinished, JobLost
+from nagsched_monitor.run.runners import RunnerPools
 from nagsched_monitor.site.runner_file import Remote, read_runners
 from nagsched_monitor.site.site import read_site
 
@@ -32,7 +32,7 @@ class Reading(SiteTest):
         self.assertEqual(runner_of, {
             "gate": "branches", "dmz-1": "dmz", "dmz-1;http": "dmz", "dmz-2": "dmz", "dmz-2;http": "dmz", "dmz-2;local": "here",
             "paris": "branches", "paris;disk": "branches"})
-        self.assertEqual({name: (remote.words[1:], remote.slots, remote.wait) for name, remote in remotes.items()}, {
+        self.assertEqual({name: (remote.arguments[1:], remote.slots, remote.wait) for name, remote in remotes.items()}, {
             "here": (("here",), 32, 30), "dmz": (("dmz",), 3, 30), "branches": (("branches",), 32, 30)})
 
     def test_groups(self) -> None:
@@ -69,7 +69,7 @@ class Reading(SiteTest):
             read_site(self.folder, PROGRAM)
         self.write("runners.json", {"runners": {"dmz": ["ssh", "dmz", "nagsched-runner"]}, "objects": {"dmz": ["dmz-*"]}})
         site = read_site(self.folder, PROGRAM)
-        self.assertEqual({name: watched.runner for name, watched in site.objects.items()}, {"web": None, "dmz-1": "dmz"})
+        self.assertEqual({name: definition.runner for name, definition in site.objects.items()}, {"web": None, "dmz-1": "dmz"})
         self.write("groups.json", {"paris": {"host_groups": ["eu"]}})
         with self.assertRaisesRegex(SiteFault, "groups.json: paris: there is no such object"):
             read_site(self.folder, PROGRAM)
@@ -85,7 +85,7 @@ class Handing(unittest.TestCase):
         self.lines: List[str] = []
         self.files: Dict[int, Callable[[int], None]] = {}
         self.passed = 0.0
-        self.runners = RunnerProcesses(1, self.lines.append, self.files.__setitem__, self.files.__delitem__, lambda: time.monotonic() + self.passed)
+        self.runners = RunnerPools(1, self.lines.append, self.files.__setitem__, self.files.__delitem__, lambda: time.monotonic() + self.passed)
         self.addCleanup(self.runners.close)
 
     def events(self, count: int) -> List[Any]:
@@ -104,32 +104,32 @@ class Handing(unittest.TestCase):
         self.runners.start(Job(f"{runner}-1", run, [word], 10, runner or None))
 
     def test_a_job_goes_to_its_runner(self) -> None:
-        self.runners.serve({"dmz": Remote("dmz", STAND_IN)})
+        self.runners.set_remotes({"dmz": Remote("dmz", STAND_IN)})
         self.start(1, "true", "")
         self.start(2, "there")
         self.start(3, "true", "lyon")
         events = {event.job.run: event for event in self.events(3)}
-        self.assertEqual([type(events[run]) for run in (1, 2, 3)], [Finished, Finished, Lost])
+        self.assertEqual([type(events[run]) for run in (1, 2, 3)], [JobFinished, JobFinished, JobLost])
         self.assertEqual((events[1].output, events[2].output, events[3].why), ("", "there", "there is no runner lyon"))
 
     def test_one_that_gives_no_answer_holds_up_no_other(self) -> None:
         """It has as many jobs as it has slots. The others wait for it, and are lost in time; those of other runners continue."""
-        self.runners.serve({"dmz": Remote("dmz", STAND_IN, 2, 5.0), "lan": Remote("lan", STAND_IN)})
+        self.runners.set_remotes({"dmz": Remote("dmz", STAND_IN, 2, 5.0), "lan": Remote("lan", STAND_IN)})
         for run in range(4):
             self.start(run, "wait")
         self.start(9, "there", "lan")
         self.start(10, "true", "")
         self.assertEqual(sorted(event.job.run for event in self.events(2)), [9, 10])
-        self.assertEqual(self.runners.signs()["dmz"], {"running": 1, "wanted": 1, "stuck": 0, "waiting": 2})
+        self.assertEqual(self.runners.process_counts()["dmz"], {"running": 1, "wanted": 1, "stuck": 0, "waiting": 2})
         self.passed = 5
         self.assertEqual([(event.job.run, event.why) for event in self.events(2)], [(2, "the runner dmz didn't take it"), (3, "the runner dmz didn't take it")])
         self.assertEqual(self.lines, [f"dmz-1: run {run} is given up: the runner dmz didn't take it" for run in (2, 3)])
-        self.assertEqual(self.runners.signs()["dmz"]["stuck"], 0)
+        self.assertEqual(self.runners.process_counts()["dmz"]["stuck"], 0)
         self.passed = 10 + 10 + 5
-        self.assertEqual(self.runners.signs()["dmz"]["stuck"], 1)
+        self.assertEqual(self.runners.process_counts()["dmz"]["stuck"], 1)
 
     def test_it_ends(self) -> None:
-        self.runners.serve({"dmz": Remote("dmz", STAND_IN)})
+        self.runners.set_remotes({"dmz": Remote("dmz", STAND_IN)})
         self.start(1, "end")
         self.assertEqual([event.why for event in self.events(1)], ["its runner ended"])
         self.assertEqual(self.lines, ["the runner dmz ended with status 3, and 1 checks with it; another is started in 1 seconds"])
@@ -139,16 +139,16 @@ class Handing(unittest.TestCase):
 
     def test_other_runners(self) -> None:
         """The same runner again changes nothing. Another command, or no runner, ends it, and its jobs are lost."""
-        self.runners.serve({"dmz": Remote("dmz", STAND_IN, 1)})
+        self.runners.set_remotes({"dmz": Remote("dmz", STAND_IN, 1)})
         before = self.runners.process_ids()
-        self.runners.serve({"dmz": Remote("dmz", STAND_IN, 1)})
+        self.runners.set_remotes({"dmz": Remote("dmz", STAND_IN, 1)})
         self.assertEqual(self.runners.process_ids(), before)
         self.start(1, "wait")
         self.start(2, "wait")
         self.runners.flush()
-        self.runners.serve({"dmz": Remote("dmz", (*STAND_IN, "other"), 1)})
+        self.runners.set_remotes({"dmz": Remote("dmz", (*STAND_IN, "other"), 1)})
         self.assertEqual(sorted(event.job.run for event in self.runners.events()), [1, 2])
         self.assertEqual((len(self.runners.process_ids()), self.runners.process_ids()[0]), (2, before[0]))
         self.assertNotEqual(self.runners.process_ids(), before)
-        self.runners.serve({})
+        self.runners.set_remotes({})
         self.assertEqual((self.runners.process_ids(), self.lines), (before[:1], []))

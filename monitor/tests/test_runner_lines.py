@@ -13,7 +13,7 @@ from typing import List
 
 from .one_runner import MONITOR, OneRunner, shell
 from .test_runner import children_of, is_zombie
-from .waiting import comes
+from .waiting import becomes_true
 
 MOST_KEPT = 4096
 F_SETPIPE_SZ = 1031  # Python 3.9 has no name for it
@@ -38,8 +38,8 @@ class Lines(unittest.TestCase):
                      '{"job":1,"words":["true"],"limit":1}\0', '{"job":1e400'):
             with self.subTest(line[:40]), OneRunner() as runner:
                 wanted = {"job": 1, "lost": "the line is no job"} if "1e4" in line else {"error": "the line is no job"}
-                self.assertEqual(runner.ran(line.encode() + b"\n"), [wanted])
-                self.assertEqual(runner.ran(shell(2, "true"))[0]["end"], "exited")
+                self.assertEqual(runner.results_of(line.encode() + b"\n"), [wanted])
+                self.assertEqual(runner.results_of(shell(2, "true"))[0]["end"], "exited")
 
     def test_lines_that_have_a_number(self) -> None:
         lines = ['"words":[],"limit":1', '"words":["true"],"limit":', '"words":["a', '"words":["\\u0000"],"limit":1', '"words":["\\ud800"],"limit":1',
@@ -49,26 +49,26 @@ class Lines(unittest.TestCase):
                  '"words":["true"],"limit":nan', '"words":["true"],"limit":inf', '"words":["true"],"limit":1' + 400 * "0", '"words":["true"],"limit":86401',
                  '"words":["true"],"limit":1} {"job":8']
         with OneRunner() as runner:
-            results = runner.ran(*(f'{{"job":{number},{line}}}\n'.encode() for number, line in enumerate(lines)))
+            results = runner.results_of(*(f'{{"job":{number},{line}}}\n'.encode() for number, line in enumerate(lines)))
         self.assertEqual(results, [{"job": number, "lost": "the line is no job"} for number in range(len(lines))])
 
     def test_members_in_another_order(self) -> None:
         words = b'"words":["printf","%s","fine"]'
         with OneRunner() as runner:
-            results = runner.ran(b'{"job":1,"limit":9,' + words + b"}\n", b"{" + words + b',"limit":9,"job":2}\n',
+            results = runner.results_of(b'{"job":1,"limit":9,' + words + b"}\n", b"{" + words + b',"limit":9,"job":2}\n',
                                  b' { "limit" : 9.0e0 , ' + words + b' ,\t"job" : 3 } \r\n')
         self.assertEqual([(it["job"], it["output"]) for it in results], [(1, "fine"), (2, "fine"), (3, "fine")])
 
     def test_a_line_that_is_too_long(self) -> None:
         with OneRunner() as runner:
-            runner.give(b'{"job":1,"words":["' + b"x" * 5_000_000 + b"\n")
+            runner.send(b'{"job":1,"words":["' + b"x" * 5_000_000 + b"\n")
             self.assertEqual(runner.results(1), [{"error": "the line is no job"}])
-            (result,) = runner.ran({"job": 2, "words": ["/bin/sh", "-c", "echo fine"] + 100 * [1_000 * "x"], "limit": 9})
+            (result,) = runner.results_of({"job": 2, "words": ["/bin/sh", "-c", "echo fine"] + 100 * [1_000 * "x"], "limit": 9})
             self.assertEqual(result["output"], "fine\n")
 
     def test_more_words_than_a_program_can_have(self) -> None:
         with OneRunner() as runner:
-            (result,) = runner.ran({"job": 1, "words": ["true", 900_000 * "x"], "limit": 9})
+            (result,) = runner.results_of({"job": 1, "words": ["true", 900_000 * "x"], "limit": 9})
         self.assertEqual((result["end"], result["output"]), ("failed", "true: Argument list too long"))
 
     def test_damaged_lines(self) -> None:
@@ -84,10 +84,10 @@ class Lines(unittest.TestCase):
             lines.append(bytes(line).replace(b"\n", b" ") + b"\n")
         with OneRunner(program=self.program) as runner:
             for place in range(0, len(lines), 100):
-                results = runner.ran(*lines[place : place + 100])
+                results = runner.results_of(*lines[place : place + 100])
                 self.assertEqual(len(results), 100)
                 self.assertLessEqual({it.get("end", "lost") for it in results}, {"failed", "lost"})
-            self.assertEqual(runner.ran(shell(2, "echo fine"))[0]["output"], "fine\n")
+            self.assertEqual(runner.results_of(shell(2, "echo fine"))[0]["output"], "fine\n")
             self.assertEqual(runner.end(), 0)
 
     def test_more_results_than_it_can_keep(self) -> None:
@@ -96,11 +96,14 @@ class Lines(unittest.TestCase):
             fcntl.fcntl(runner.process.stdout or 0, F_SETPIPE_SZ, 1 << 20)
             go = pathlib.Path(folder, "go")
             os.mkfifo(go)
-            runner.give(*(shell(number, f"read line < {go}; head -c 4096 /dev/zero | tee /dev/stderr", 600) for number in range(150)))
-            self.assertTrue(comes(lambda: len(children_of(runner.process.pid)) == 151))
+            # Kept open, so that a plugin that opens it late finds its line.
+            lines = os.open(go, os.O_RDWR)
+            self.addCleanup(os.close, lines)
+            runner.send(*(shell(number, f"read line < {go}; head -c 4096 /dev/zero | tee /dev/stderr", 600) for number in range(150)))
+            self.assertTrue(becomes_true(lambda: len(children_of(runner.process.pid)) == 151))
             runner.process.send_signal(signal.SIGSTOP)
-            go.write_text(150 * "go\n")
-            self.assertTrue(comes(lambda: all(is_zombie(child) for child in children_of(runner.process.pid)[1:])))
+            os.write(lines, 150 * b"go\n")
+            self.assertTrue(becomes_true(lambda: all(is_zombie(child) for child in children_of(runner.process.pid)[1:])))
             runner.process.send_signal(signal.SIGCONT)
             results = runner.results(150)
         self.assertEqual([(it["job"], len(it["output"]), len(it["stderr"])) for it in results], [(number, MOST_KEPT, MOST_KEPT) for number in range(150)])
@@ -116,7 +119,7 @@ class Lines(unittest.TestCase):
             time.sleep(5)
             os.set_blocking(runner._jobs.fileno(), True)
             self.assertFalse(late.exists())
-            runner.give(lines[sent:])
+            runner.send(lines[sent:])
             results = runner.results(401)
         self.assertEqual([it["job"] for it in results], list(range(401)))
         self.assertEqual([it["end"] for it in results], 400 * ["exited"] + ["limit"])
@@ -134,7 +137,7 @@ class Only(unittest.TestCase):
         """For each command line, whether it was run."""
         self.file.write_text(patterns)
         with OneRunner("--only", str(self.file)) as runner:
-            results = runner.ran(*({"job": number, "words": words, "limit": 9} for number, words in enumerate(lines)))
+            results = runner.results_of(*({"job": number, "words": words, "limit": 9} for number, words in enumerate(lines)))
         refused = "this machine's --only file doesn't allow this command line"
         return [(it["end"], it["output"]) != ("failed", refused) for it in results]
 

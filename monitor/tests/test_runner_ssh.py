@@ -5,16 +5,16 @@ import time
 import unittest
 
 from .one_runner import OneRunner
-from .ssh_server import SshServer, missing
+from .ssh_server import SshServer, missing_program
 from .test_runner import living
-from .waiting import comes
+from .waiting import becomes_true
 
 # How often the connection is cut. Manually: CUTS=20 python3 -m unittest tests.test_runner_ssh
 CUTS = int(os.environ.get("CUTS", "4"))
 RATE, SECONDS = 100, 0.5
 
 
-@unittest.skipIf(missing() is not None, f"{missing()} isn't here")
+@unittest.skipIf(missing_program() is not None, f"{missing_program()} isn't here")
 class OverSsh(unittest.TestCase):
     def begin(self, patterns: str) -> SshServer:
         server = SshServer()
@@ -30,7 +30,7 @@ class OverSsh(unittest.TestCase):
     def test_what_the_machine_allows(self) -> None:
         server = self.begin("echo fine\n")
         with self.runner(server) as runner:
-            results = runner.ran({"job": 1, "words": ["echo", "fine"], "limit": 9}, {"job": 2, "words": ["id"], "limit": 9})
+            results = runner.results_of({"job": 1, "words": ["echo", "fine"], "limit": 9}, {"job": 2, "words": ["id"], "limit": 9})
             self.assertEqual(runner.end(), 0)
         self.assertEqual([(it["end"], it["output"]) for it in results],
                          [("exited", "fine\n"), ("failed", "this machine's --only file doesn't allow this command line")])
@@ -42,14 +42,14 @@ class OverSsh(unittest.TestCase):
         server = self.begin(f"true\n/bin/sh -c 'sleep {seconds}; true'\n")
         for _ in range(CUTS):
             with self.runner(server) as runner:
-                self.assertEqual(runner.ran({"job": 0, "words": ["true"], "limit": 60})[0]["end"], "exited")
-                runner.give({"job": 1, "words": ["/bin/sh", "-c", f"sleep {seconds}; true"], "limit": 600})
-                self.assertTrue(comes(lambda: bool(living(seconds))))
+                self.assertEqual(runner.results_of({"job": 0, "words": ["true"], "limit": 60})[0]["end"], "exited")
+                runner.send({"job": 1, "words": ["/bin/sh", "-c", f"sleep {seconds}; true"], "limit": 600})
+                self.assertTrue(becomes_true(lambda: bool(living(seconds))))
                 count = int(RATE * SECONDS)
                 for number in range(2, 2 + count):
-                    runner.give({"job": number, "words": ["true"], "limit": 60})
+                    runner.send({"job": number, "words": ["true"], "limit": 60})
                     time.sleep(1 / RATE)
                 results = runner.results(count, chance.random() * 0.2)
                 runner.process.kill()
             self.assertEqual(len({it["job"] for it in results}), len(results))
-            self.assertTrue(comes(lambda: not living(seconds)))
+            self.assertTrue(becomes_true(lambda: not living(seconds)))

@@ -11,11 +11,11 @@ import unittest
 from typing import Any, Callable, Dict, List
 from unittest import mock
 
-from nagsched_monitor.run.jobs import Finished, Gone, Job, Lost
-from nagsched_monitor.run.runners import RunnerProcesses
+from nagsched_monitor.run.jobs import Job, JobFinished, JobLost, StuckJobEnded
+from nagsched_monitor.run.runners import RunnerPools
 from nagsched_monitor.site.runner_file import LOCAL
 
-from .waiting import LONG, comes
+from .waiting import LONG, becomes_true
 
 
 class ManyRunners(unittest.TestCase):
@@ -23,7 +23,7 @@ class ManyRunners(unittest.TestCase):
         self.lines: List[str] = []
         self.files: Dict[int, Callable[[int], None]] = {}
         self.passed = 0.0
-        self.runners = RunnerProcesses(2, self.lines.append, self.files.__setitem__, self.files.__delitem__, lambda: time.monotonic() + self.passed)
+        self.runners = RunnerPools(2, self.lines.append, self.files.__setitem__, self.files.__delitem__, lambda: time.monotonic() + self.passed)
         self.addCleanup(self.runners.close)
 
     def wait(self, count: int) -> List[Any]:
@@ -36,14 +36,14 @@ class ManyRunners(unittest.TestCase):
             events.extend(self.runners.events())
             return len(events) >= count
 
-        comes(came)
+        becomes_true(came)
         return events
 
     def test_jobs_come_back(self) -> None:
         for run in range(20):
             self.runners.start(Job("web", run, ["/bin/sh", "-c", f"exit {run % 4}"], 10))
         events = self.wait(20)
-        self.assertEqual(sorted((it.job.run, it.code) for it in events if isinstance(it, Finished)), [(run, run % 4) for run in range(20)])
+        self.assertEqual(sorted((it.job.run, it.code) for it in events if isinstance(it, JobFinished)), [(run, run % 4) for run in range(20)])
 
     def test_a_runner_that_is_killed(self) -> None:
         for run in range(4):
@@ -52,7 +52,7 @@ class ManyRunners(unittest.TestCase):
         self.passed = 10
         os.kill(self.runners.process_ids()[0], signal.SIGKILL)
         events = self.wait(2)
-        self.assertEqual([type(event) for event in events], [Lost, Lost])
+        self.assertEqual([type(event) for event in events], [JobLost, JobLost])
         self.assertEqual(len(self.runners.process_ids()), 2)
         self.assertIn("2 checks with it", self.lines[0])
         self.runners.start(Job("db", 9, ["true"], 10))
@@ -67,10 +67,10 @@ class ManyRunners(unittest.TestCase):
         for job in jobs:
             self.runners.start(job)
         self.runners.flush()
-        self.assertTrue(all(id(job) in self.runners.jobs() for job in jobs))
+        self.assertTrue(all(id(job) in self.runners.job_ids() for job in jobs))
         self.assertTrue(self.runners.kill(jobs[0]))
-        self.assertEqual([type(event) for event in self.wait(2)], [Lost, Lost])
-        self.assertEqual([id(job) in self.runners.jobs() for job in jobs], [False, True, False, True])
+        self.assertEqual([type(event) for event in self.wait(2)], [JobLost, JobLost])
+        self.assertEqual([id(job) in self.runners.job_ids() for job in jobs], [False, True, False, True])
         self.assertFalse(self.runners.kill(jobs[0]))
         self.assertTrue(self.runners.kill(jobs[1]))
         self.assertFalse(set(stopped) & set(self.runners.process_ids()))
@@ -99,13 +99,13 @@ class ManyRunners(unittest.TestCase):
         with mock.patch.object(subprocess, "Popen", side_effect=BlockingIOError(11, "no room")):
             for process, left in ((first, [second]), (second, [])):
                 os.kill(process, signal.SIGKILL)
-                self.assertTrue(comes(lambda: self.wait(0) == [] and self.runners.process_ids() == left))
+                self.assertTrue(becomes_true(lambda: self.wait(0) == [] and self.runners.process_ids() == left))
             job = Job("web", 1, ["true"], 10)
             self.runners.start(job)
-            self.assertEqual((self.wait(0), id(job) in self.runners.jobs()), ([], True))
+            self.assertEqual((self.wait(0), id(job) in self.runners.job_ids()), ([], True))
         self.assertEqual([line for line in self.lines if "no room" in line], ["a runner can't be started: [Errno 11] no room; it is tried again"])
         self.passed = 20
-        self.assertEqual([type(event) for event in self.wait(1)], [Finished])
+        self.assertEqual([type(event) for event in self.wait(1)], [JobFinished])
         self.assertEqual(len(self.runners.process_ids()), 2)
 
 
@@ -116,7 +116,7 @@ class Pauses(unittest.TestCase):
         files: Dict[int, Callable[[int], None]] = {}
         now = [0.0]
         with mock.patch.dict(os.environ, {"NAGSCHED_RUNNER": "/bin/false"}):
-            made = RunnerProcesses(1, lines.append, files.__setitem__, files.__delitem__, lambda: now[0])
+            made = RunnerPools(1, lines.append, files.__setitem__, files.__delitem__, lambda: now[0])
         self.addCleanup(made.close)
         for _ in range(600):
             now[0] += 0.1
@@ -141,7 +141,7 @@ class StandIn(unittest.TestCase):
         self.lines: List[str] = []
         files: Dict[int, Callable[[int], None]] = {}
         with mock.patch.dict(os.environ, {"NAGSCHED_RUNNER": str(runner)}):
-            made = RunnerProcesses(1, self.lines.append, files.__setitem__, files.__delitem__)
+            made = RunnerPools(1, self.lines.append, files.__setitem__, files.__delitem__)
         self.addCleanup(made.close)
         self.jobs = [Job("web", run, ["true"], 10) for run in (1, 2)]
         for job in self.jobs:
@@ -155,21 +155,21 @@ class StandIn(unittest.TestCase):
             events.extend(made.events())
             return len(events) >= count
 
-        self.assertTrue(comes(came))
+        self.assertTrue(becomes_true(came))
         return events
 
     def test_half_a_character(self) -> None:
         """JSON may have it, but no database accepts it: it is replaced in a worker's answers."""
         events = self.events('{"job":1,"code":0,"end":"exited","output":"half \\ud800"}', '{"job":2,"lost":"\\udfff gone"}', count=2)
-        self.assertEqual(events, [Finished(self.jobs[0], "exited", 0, "half ?"), Lost(self.jobs[1], "? gone", True)])
+        self.assertEqual(events, [JobFinished(self.jobs[0], "exited", 0, "half ?"), JobLost(self.jobs[1], "? gone", True)])
 
     def test_both_streams(self) -> None:
         (event,) = self.events('{"job":1,"code":1,"end":"exited","output":"one\\ntwo","stderr":"said"}')
-        self.assertEqual(event, Finished(self.jobs[0], "exited", 1, "one\ntwo", "said"))
+        self.assertEqual(event, JobFinished(self.jobs[0], "exited", 1, "one\ntwo", "said"))
 
     def test_a_plugin_that_cant_be_killed(self) -> None:
         events = self.events('{"job":1,"code":0,"end":"limit","output":"","stuck":true}', '{"job":1,"gone":true}', '{"job":1,"gone":true}', count=2)
-        self.assertEqual(events, [Finished(self.jobs[0], "limit", 0, "", "", True), Gone(self.jobs[0])])
+        self.assertEqual(events, [JobFinished(self.jobs[0], "limit", 0, "", "", True), StuckJobEnded(self.jobs[0])])
 
     def test_bad_lines(self) -> None:
         """None ends the monitor: each is logged, and the check that it is about is made again."""
@@ -181,6 +181,6 @@ class StandIn(unittest.TestCase):
                               ('{"job":1,"end":"fine","code":0,"output":""}', True), ('{"job":1,"end":"exited","code":0,"output":7}', True)):
             with self.subTest(line[:60]):
                 events = self.events(line, '{"job":2,"end":"exited","code":0,"output":""}', count=2 if is_read else 1)
-                self.assertEqual([type(event) for event in events], [Lost, Finished] if is_read else [Finished])
+                self.assertEqual([type(event) for event in events], [JobLost, JobFinished] if is_read else [JobFinished])
                 self.assertEqual(len(self.lines), 1)
                 self.assertTrue(self.lines[0].isprintable())

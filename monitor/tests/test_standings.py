@@ -4,7 +4,7 @@ import sqlite3
 from typing import Dict, Tuple
 
 from nagsched_monitor.site.site import read_site
-from nagsched_monitor.store.rows import KeptStanding
+from nagsched_monitor.store.rows import StoredStanding
 
 from .simulated import BEGIN, PROGRAM, SimulatedMonitor, SiteTest, fine
 
@@ -20,11 +20,11 @@ def outage(name: str, moment: int) -> Tuple[int, int, str]:
     return 500, 0, "fine"
 
 
-def table(folder: pathlib.Path) -> Dict[str, KeptStanding]:
+def table(folder: pathlib.Path) -> Dict[str, StoredStanding]:
     """The standings as another process reads them."""
     with sqlite3.connect(f"file:{folder}/monitor.db?mode=ro", uri=True) as database:
-        rows = database.execute(f"SELECT {', '.join(KeptStanding._fields)} FROM standings").fetchall()
-    return {row[0]: KeptStanding(*row) for row in rows}
+        rows = database.execute(f"SELECT {', '.join(StoredStanding._fields)} FROM standings").fetchall()
+    return {row[0]: StoredStanding(*row) for row in rows}
 
 
 class Table(SiteTest):
@@ -35,17 +35,17 @@ class Table(SiteTest):
     def wall(self, seconds: float) -> float:
         return BEGIN / 1000 + seconds
 
-    def assert_same(self, monitor: SimulatedMonitor) -> Dict[str, KeptStanding]:
+    def assert_same(self, monitor: SimulatedMonitor) -> Dict[str, StoredStanding]:
         """The table agrees with the answer to a request, except for changes within the last second."""
         kept = table(self.folder)
-        objects = monitor.scheduling.known.objects
+        objects = monitor.scheduling.states.objects
         self.assertEqual(set(kept), set(objects))
-        for name, known in objects.items():
-            row, standing = kept[name], known.standing
+        for name, obj in objects.items():
+            row, standing = kept[name], obj.standing
             assert standing is not None
             self.assertEqual((row.state, row.kind, row.attempt, bool(row.flapping)), (standing.state, standing.kind, standing.attempt, standing.flapping))
-            self.assertEqual((bool(row.is_on), row.words, row.out_since is None), (known.on, known.words, known.run is None))
-            self.assertEqual(row.next_check, None if known.next is None else known.next / 1000)
+            self.assertEqual((bool(row.is_on), row.words, row.out_since is None), (obj.on, obj.output, obj.run is None))
+            self.assertEqual(row.next_check, None if obj.next is None else obj.next / 1000)
         return kept
 
     def test_a_site_in_an_outage(self) -> None:
@@ -95,7 +95,7 @@ class Table(SiteTest):
                 before = self.assert_same(monitor)
                 monitor.close()
                 again = self.monitor(outage, monitor.clock)
-                self.assertEqual({name: known.words for name, known in again.scheduling.known.objects.items()},
+                self.assertEqual({name: obj.output for name, obj in again.scheduling.states.objects.items()},
                                  {"db": "fine", "web": "no answer|rta=0", "web;http": "no answer|rta=0"})
                 again.run(0.1)
                 after = self.assert_same(again)

@@ -3,17 +3,17 @@ import sqlite3
 from typing import List
 
 from nagsched_monitor.faults import DamagedRow, MonitorFault, NotStored
-from nagsched_monitor.store.rows import FOR_PEOPLE, TABLES, VERSION, Generation, KeptChange, KeptStanding, checksum_of
+from nagsched_monitor.store.rows import FOR_PEOPLE, TABLES, VERSION, Generation, StoredChange, StoredStanding, checksum_of
 from nagsched_monitor.store.store import Store
 from nagsched_monitor.store.writes import (
-    begin_generation, drop_changes_before, drop_standings, keep_calls, keep_change, keep_figures, keep_request, keep_result, keep_standings, set_aside,
+    begin_generation, drop_changes_before, drop_standings, store_calls, store_change, store_figures, store_request, store_result, store_standings, set_aside,
     set_switch,
 )
 
 from .simulated import SiteTest
 
-STANDING = KeptStanding("web", "DOWN", "HARD", 3, False, 990.5, 1000.5, 1000.25, 1060.0, True, None, 0.5, 0.0, "no answer", 60_000)
-CHANGE = KeptChange(2, 1000.5, "web", "DOWN", "HARD", 3, False, "no answer")
+STANDING = StoredStanding("web", "DOWN", "HARD", 3, False, 990.5, 1000.5, 1000.25, 1060.0, True, None, 0.5, 0.0, "no answer", 60_000)
+CHANGE = StoredChange(2, 1000.5, "web", "DOWN", "HARD", 3, False, "no answer")
 
 
 class Database(SiteTest):
@@ -23,13 +23,13 @@ class Database(SiteTest):
         self.addCleanup(store.close)
         store.write(
             begin_generation(Generation(0, b"{}", 7, b'{"format":1}', 0, frozenset({"gateway"}))),
-            keep_calls([(0, '["take",8]', None), (0, '["report","web",1,2]', "no answer")]),
+            store_calls([(0, '["take",8]', None), (0, '["report","web",1,2]', "no answer")]),
             set_switch("web", False),
-            keep_result("web", 1, "slow"),
-            keep_change(CHANGE, '{"name":"web"}'),
-            keep_standings([STANDING]),
-            keep_figures({"saves": 3.0}),
-            keep_request("a-1", "{}"),
+            store_result("web", 1, "slow"),
+            store_change(CHANGE, '{"name":"web"}'),
+            store_standings([STANDING]),
+            store_figures({"saves": 3.0}),
+            store_request("a-1", "{}"),
             set_aside(1, 0, '["take",8]'),
         )
         return store
@@ -39,21 +39,21 @@ class Database(SiteTest):
         store = Store(self.folder)
         self.addCleanup(store.close)
         self.assertEqual([call.line for call in store.calls_since(0, 0)], ['["report","web",1,2]'])
-        self.assertEqual((store.switches(), [result.words for result in store.waiting()]), ({"web": False}, ["slow"]))
+        self.assertEqual((store.switches(), [result.words for result in store.waiting_results()]), ({"web": False}, ["slow"]))
         self.assertEqual((store.generations()[0].saved, store.last_call, store.changes_after(0), store.last_moment()), (b'{"format":1}', 2, {2}, 8))
         self.assertEqual(store.requests(), {"a-1": "{}"})
         self.assertEqual(store.generations()[0].mirrors, {"gateway"})
         self.assertEqual((store.outbox(), store.figures()), ([(1, '{"name":"web"}')], {"saves": 3.0}))
         self.assertEqual(store.standings(), [STANDING])
-        store.write(keep_figures({"moment": 9.0}))
+        store.write(store_figures({"moment": 9.0}))
         self.assertEqual(store.last_moment(), 9)
         store.write(drop_standings(["web"]))
         self.assertEqual(store.standings(), [])
 
     def test_figures_are_replaced(self) -> None:
         store = self.filled()
-        store.write(keep_figures({"calls": 7.0, "saves": 4.0}))
-        store.write(keep_figures({"calls": 8.0, "late.sum": 0.25}))
+        store.write(store_figures({"calls": 7.0, "saves": 4.0}))
+        store.write(store_figures({"calls": 8.0, "late.sum": 0.25}))
         self.assertEqual(store.figures(), {"saves": 4.0, "calls": 8.0, "late.sum": 0.25})
         store.close()
         Store(self.folder).close()
@@ -134,7 +134,7 @@ class Database(SiteTest):
 
     def test_a_call_that_is_gone(self) -> None:
         store = self.filled()
-        store.write(keep_calls([(0, '["take",9]', None)]))
+        store.write(store_calls([(0, '["take",9]', None)]))
         store.close()
         with sqlite3.connect(self.folder / "monitor.db") as database:
             database.execute("DELETE FROM calls WHERE id = 2")
@@ -156,10 +156,10 @@ class Database(SiteTest):
         (pages,) = store._database.execute("PRAGMA page_count").fetchone()
         store._database.execute(f"PRAGMA max_page_count = {pages}")
         with self.assertRaises(NotStored):
-            store.write(set_switch("db", True), keep_calls([(0, '["take",%d]' % number, None) for number in range(2000)]))
+            store.write(set_switch("db", True), store_calls([(0, '["take",%d]' % number, None) for number in range(2000)]))
         self.assertEqual((store.last_call, store.switches()), (2, {"web": False}))
         store._database.execute("PRAGMA max_page_count = 100000")
-        store.write(keep_calls([(0, '["take",10]', None)]))
+        store.write(store_calls([(0, '["take",10]', None)]))
         self.assertEqual([call.id for call in store.calls_since(0, 0)], [2, 3])
 
     def test_a_write_that_fails_behind_others(self) -> None:
@@ -169,16 +169,16 @@ class Database(SiteTest):
 
         store = self.filled()
         with self.assertRaises(NotStored):
-            store.write(keep_calls([(0, '["take",9]', None)]), failing)
+            store.write(store_calls([(0, '["take",9]', None)]), failing)
         self.assertEqual((store.last_call, [call.id for call in store.calls_since(0, 0)]), (2, [2]))
 
     def test_a_saved_state_lets_go_of_the_calls_before(self) -> None:
         store = self.filled()
-        store.write(begin_generation(Generation(0, b"{}", 7, b"{}", 2)), keep_calls([(0, '["take",11]', None)]))
+        store.write(begin_generation(Generation(0, b"{}", 7, b"{}", 2)), store_calls([(0, '["take",11]', None)]))
         self.assertEqual([call.line for call in store.calls_since(0, 2)], ['["take",11]'])
         self.assertEqual(len(list(store.calls_since(0, 0))), 1)
 
     def test_old_changes_go(self) -> None:
         store = self.filled()
-        store.write(keep_change(KeptChange(3, 2000.0, "web", "UP", "HARD", 1, False, ""), None), drop_changes_before(1500.0))
+        store.write(store_change(StoredChange(3, 2000.0, "web", "UP", "HARD", 1, False, ""), None), drop_changes_before(1500.0))
         self.assertEqual(store._database.execute("SELECT id FROM changes").fetchall(), [(3,)])

@@ -6,8 +6,8 @@ from typing import List, Tuple
 from unittest import mock
 
 from nagsched_monitor.core.clock import SystemClock
-from nagsched_monitor.core.object_state import Due
-from nagsched_monitor.program.turn_timer import BETWEEN_TURNS, MOST_SHARED, FilePoller, Pace, turn_at
+from nagsched_monitor.core.object_state import DueQueue
+from nagsched_monitor.program.turn_timer import BETWEEN_TURNS, MOST_SHARED, FilePoller, TurnTimer, next_turn_time
 
 INTERVAL = 10.0
 
@@ -18,7 +18,7 @@ def turns(a_second: int, seconds: float) -> Tuple[List[float], List[float]]:
     begun, late = [0.0], []
     while begun[-1] < seconds:
         first, second = heapq.nsmallest(2, waiting)
-        now = turn_at(begun[-1], first, second)
+        now = next_turn_time(begun[-1], first, second)
         # The results of this turn have a turn of their own if the next one is far off.
         begun.append(begun[-1] + BETWEEN_TURNS if now is None else now)
         if now is None:
@@ -46,22 +46,22 @@ class Turns(unittest.TestCase):
         self.assertEqual(len([each for each in begun if 20 <= each < 29.9]), 89)
 
     def test_a_turn_isn_t_begun_before_the_last_one_is_rested(self) -> None:
-        self.assertEqual(turn_at(1.0, 1.01, None), 1.0 + BETWEEN_TURNS)
-        self.assertEqual(turn_at(1.0, 1.01, 1.04), 1.0 + BETWEEN_TURNS)
-        self.assertIsNone(turn_at(1.0, 2.0, 2.01))
+        self.assertEqual(next_turn_time(1.0, 1.01, None), 1.0 + BETWEEN_TURNS)
+        self.assertEqual(next_turn_time(1.0, 1.01, 1.04), 1.0 + BETWEEN_TURNS)
+        self.assertIsNone(next_turn_time(1.0, 2.0, 2.01))
 
 
 class Second(unittest.TestCase):
     def test_the_time_behind_the_first_one(self) -> None:
-        due = Due()
-        self.assertIsNone(due.second())
+        due = DueQueue()
+        self.assertIsNone(due.second_time())
         for name, at in (("a", 5), ("b", 7), ("c", 9)):
-            due.set(name, at)
-        self.assertEqual((due.first(), due.second()), (5, 7))
-        due.set("b", None)
-        self.assertEqual((due.first(), due.second()), (5, 9))
-        due.set("d", 5)
-        self.assertEqual((due.first(), due.second()), (5, 5))
+            due.set_time(name, at)
+        self.assertEqual((due.first_time(), due.second_time()), (5, 7))
+        due.set_time("b", None)
+        self.assertEqual((due.first_time(), due.second_time()), (5, 9))
+        due.set_time("d", 5)
+        self.assertEqual((due.first_time(), due.second_time()), (5, 5))
 
 
 class Waiting(unittest.TestCase):
@@ -73,18 +73,18 @@ class Waiting(unittest.TestCase):
         self.poller = FilePoller()
         self.poller.watch(self.there, lambda file: self.read.append(os.read(file, 10)))
         self.clock = SystemClock()
-        self.pace = Pace(self.clock, self.poller)
+        self.timer = TurnTimer(self.clock, self.poller)
 
     def test_what_came_since_the_last_turn_has_a_turn_at_once(self) -> None:
         os.write(self.back, b"x")
         begun = self.clock.moment()
-        self.pace.rest(begun, begun + 60_000, None)
+        self.timer.wait(begun, begun + 60_000, None)
         self.assertLess(self.clock.moment() - begun, 10_000)
         self.assertEqual(self.read, [b"x"])
 
     def test_a_turn_that_is_wanted_begins_with_nothing_to_read(self) -> None:
         begun = self.clock.moment()
-        self.pace.rest(begun, begun + 300, None)
+        self.timer.wait(begun, begun + 300, None)
         self.assertGreaterEqual(self.clock.moment() - begun, 299)
         self.assertEqual(self.read, [])
 
@@ -92,12 +92,12 @@ class Waiting(unittest.TestCase):
         """There is no rest before it, and available input is read."""
         os.write(self.back, b"x")
         with mock.patch.object(self.poller, "sleep", side_effect=AssertionError):
-            self.pace.rest(self.clock.moment(), 0, None)
+            self.timer.wait(self.clock.moment(), 0, None)
         self.assertEqual(self.read, [b"x"])
 
     def test_a_file_that_isn_t_watched_any_more(self) -> None:
         self.poller.unwatch(self.there)
         os.write(self.back, b"x")
         begun = self.clock.moment()
-        self.pace.rest(begun, begun, None)
+        self.timer.wait(begun, begun, None)
         self.assertEqual(self.read, [])

@@ -3,13 +3,13 @@ import unittest
 from typing import Tuple
 
 from nagsched_monitor.core.verdict import verdict
-from nagsched_monitor.run.jobs import Finished, Job
+from nagsched_monitor.run.jobs import Job, JobFinished
 
 WARNING, CRITICAL, UNKNOWN = 1, 2, 3
 
 
 def judged(end: str, code: int, output: str = "", stderr: str = "", is_host: bool = False) -> Tuple[int, str]:
-    return verdict(Finished(Job("web", 1, ["x"], 30), end, code, output, stderr), is_host, UNKNOWN)
+    return verdict(JobFinished(Job("web", 1, ["x"], 30), end, code, output, stderr), is_host, UNKNOWN)
 
 
 class Ends(unittest.TestCase):

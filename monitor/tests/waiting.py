@@ -6,7 +6,7 @@ from typing import Callable
 LONG = 90.0
 
 
-def comes(what: Callable[[], bool], seconds: float = LONG) -> bool:
+def becomes_true(what: Callable[[], bool], seconds: float = LONG) -> bool:
     """Whether it holds within this many seconds. It is tested every 50 milliseconds."""
     end = time.monotonic() + seconds
     while not what():

@@ -71,7 +71,7 @@ def calls(desk):
     raises(Wrong, mine.glance, 2)
     is_so("a moment that is refused", mine.take(LATEST + 1).kind == ReplyKind.TIME_RANGE)
     is_so("no such object", mine.status(2).kind == ReplyKind.UNKNOWN_OBJECT)
-    held = mine._busy
+    held = mine._call_lock
     with held:
         raises(Wrong, mine.take, 0)
         raises(Wrong, mine.free)
@@ -101,7 +101,7 @@ def savings(book):
     raises(Wrong, book.running, -1)
     raises(TypeError, book.running, "h")
     saved, setup = book.save(), nagsched.Setup(SETUP)
-    with book._busy:
+    with book._call_lock:
         raises(Wrong, book.save)
     raises(Wrong, setup.resume, saved, -1)
     raises(Wrong, setup.resume, saved, LATEST + 1)
@@ -162,7 +162,7 @@ def interrupted():
             return answers.pop(0)
 
         try:
-            desk.passes[0]._made(attempt, 0)
+            desk.passes[0]._make_call(attempt, 0)
         except KeyboardInterrupt as raised:
             came = raised
         with desk.close() as book:

@@ -8,19 +8,19 @@ import time
 import typing
 
 from .errors import Missing, Wrong
-from .library import (LIBRARY, U32, U64, EntryStruct, HandleStruct, RefusalStruct, ReplyStruct, StandingStruct, entry_of, must, refused,
+from .library import (LIBRARY, U32, U64, EntryStruct, HandleStruct, RefusalStruct, ReplyStruct, StandingStruct, check_status, entry_of, refusal_error,
                       reply_of, standing_of, struct_of_call, struct_of_reply, u32, u64, written_bytes, written_text)
 from .kinds import Code, ReplyKind, Result
 from .records import Call, Entry, Reply, Run, Standing
 
-_Self = typing.TypeVar("_Self", bound="_Owner")
+_Self = typing.TypeVar("_Self", bound="_HandleOwner")
 
 
-class _Owner:
+class _HandleOwner:
     """An object with a handle of the library, which it frees at the end of a `with`, or when Python deletes the object."""
 
     def __init__(self, handle: HandleStruct):
-        self._handle, self._busy = handle, threading.Lock()
+        self._handle, self._call_lock = handle, threading.Lock()
 
     def __enter__(self: _Self) -> _Self:
         return self
@@ -38,16 +38,16 @@ class _Owner:
 
     def _call(self, function: typing.Callable[..., int], what: str, *given: object) -> None:
         """One call with the handle, whose status has to be OK."""
-        with _Alone(self._busy):
-            must(function(self._handle, *given), what)
+        with _ExclusiveCall(self._call_lock):
+            check_status(function(self._handle, *given), what)
 
-    def _got(self, out: typing.Any, function: typing.Callable[..., int], what: str, *given: object) -> typing.Any:
+    def _result(self, out: typing.Any, function: typing.Callable[..., int], what: str, *given: object) -> typing.Any:
         """The result of one call with the handle."""
         self._call(function, what, *given, ctypes.byref(out))
         return out
 
 
-class _Alone:
+class _ExclusiveCall:
     """Reserves an object for one call of one thread. It is wrong use if another thread is in a call with it."""
 
     def __init__(self, lock: threading.Lock):
@@ -61,7 +61,7 @@ class _Alone:
         self._lock.release()
 
 
-class _Named(_Owner):
+class _ObjectNames(_HandleOwner):
     """The objects of a setup: hosts first, then services, each in the order of their names."""
 
     @property
@@ -82,29 +82,29 @@ class _Named(_Owner):
     def number(self, name: str) -> int:
         """The number of the object with a full name, HOST or HOST;DESCRIPTION. Raises Missing if there is no such object."""
         written = name.encode()
-        return int(self._got(U32(), LIBRARY.number, f"no object {name!r}", written, len(written)).value)
+        return int(self._result(U32(), LIBRARY.number, f"no object {name!r}", written, len(written)).value)
 
     def name(self, number: int) -> str:
         """The full name of an object."""
-        with _Alone(self._busy):
+        with _ExclusiveCall(self._call_lock):
             return written_text(LIBRARY.name, self._handle, u32(number))
 
     def host_of(self, number: int) -> int | None:
         """The number of a service's host; None for a host."""
         try:
-            return int(self._got(U32(), LIBRARY.host_of, f"no object {number}", u32(number)).value)
+            return int(self._result(U32(), LIBRARY.host_of, f"no object {number}", u32(number)).value)
         except Missing:
             return None
 
     def text(self, told: Entry | tuple[Call, Reply]) -> str:
         """An entry as `nagsched drill` writes it, or the reply to a call as `nagsched run` writes it, with the line feed."""
-        with _Alone(self._busy):
+        with _ExclusiveCall(self._call_lock):
             if isinstance(told, Entry):
                 return written_text(LIBRARY.entry_text, self._handle, EntryStruct(u64(told.pass_number), struct_of_call(told.call), struct_of_reply(told.reply)))
             call, reply = told
             return written_text(LIBRARY.reply_text, self._handle, struct_of_call(call), struct_of_reply(reply))
 
-    def _opened(self, start: int, room: int, passes: int, calls: int | None) -> Desk:
+    def _open_desk(self, start: int, room: int, passes: int, calls: int | None) -> Desk:
         """A desk on this object, which is empty afterwards."""
         if not 1 <= passes <= 1024:
             raise Wrong(f"a desk has 1 to 1,024 passes, not {passes}")
@@ -116,7 +116,7 @@ class _Named(_Owner):
         return Desk([Pass(handle) for handle in handles])
 
 
-class Setup(_Named):
+class Setup(_ObjectNames):
     """A setup, read from a JSON document (docs/setup.md). Raises Refused, with the refusal, if the document breaks a rule."""
 
     def __init__(self, document: str | bytes):
@@ -124,15 +124,15 @@ class Setup(_Named):
         handle, refusal = HandleStruct(), RefusalStruct()
         status = LIBRARY.read(written, len(written), handle, refusal)
         if status == Result.REFUSED:
-            raise refused(refusal)
-        must(status, "the setup wasn't read")
+            raise refusal_error(refusal)
+        check_status(status, "the setup wasn't read")
         super().__init__(handle)
 
     def open(self, passes: int = 1, *, start: int = 0, room: int = 1000, calls: int | None = None) -> Desk:
         """Opens a desk with this number of passes. The desk takes over the setup. Scheduling starts at the moment `start`, in
         milliseconds. The desk has memory for `room` entries, and takes more when it needs it. Each pass has `calls` calls; the default is
         2**32 - 1."""
-        return self._opened(start, room, passes, calls)
+        return self._open_desk(start, room, passes, calls)
 
     def resume(self, saved: str | bytes, start: int, room: int = 1000) -> Book:
         """A book that resumes the text from `Book.save`, over this setup, which may differ from the setup of the saved book. The book
@@ -144,15 +144,15 @@ class Setup(_Named):
         use or was used up. In each case the setup stays as it is. Other threads of Python continue meanwhile."""
         written = saved.encode() if isinstance(saved, str) else bytes(memoryview(saved))
         handle, refusal = HandleStruct(), RefusalStruct()
-        with _Alone(self._busy):
+        with _ExclusiveCall(self._call_lock):
             status = LIBRARY.resume(self._handle, written, len(written), u64(start), u64(room), handle, refusal)
         if status == Result.REFUSED:
-            raise refused(refusal)
-        must(status, "no book goes on")
+            raise refusal_error(refusal)
+        check_status(status, "no book goes on")
         return Book(handle)
 
 
-class Pass(_Named):
+class Pass(_ObjectNames):
     """A thread's access to a desk, used by one thread at a time: it makes the six calls, and glances."""
 
     def take(self, now: int) -> Reply:
@@ -164,39 +164,39 @@ class Pass(_Named):
         AT_LIMIT    a service is due, but the limit of running checks is reached: take again after a report
         TIME_RANGE, RUNS_SPENT    the call is refused, and changes nothing
         """
-        return self._made(LIBRARY.try_take, u64(now))
+        return self._make_call(LIBRARY.try_take, u64(now))
 
     def report(self, object: int, run: int, code: Code | int) -> Reply:
         """Reports that the check of an object under this run returned a code. STANDING: the object's standing, whether its state changed, and
         its next check. NOT_RUNNING and WRONG_RUN: the result comes too late, and changes nothing."""
-        return self._made(LIBRARY.try_report, u32(object), u64(run), u32(code))
+        return self._make_call(LIBRARY.try_report, u32(object), u64(run), u32(code))
 
     def abandon(self, object: int, run: int, now: int) -> Reply:
         """Abandons the check of an object under this run: no result will come. FREED, with its next check. With NOT_RUNNING, WRONG_RUN or
         TIME_RANGE nothing changes."""
-        return self._made(LIBRARY.try_abandon, u32(object), u64(run), u64(now))
+        return self._make_call(LIBRARY.try_abandon, u32(object), u64(run), u64(now))
 
     def reschedule(self, object: int, time: int, forced: bool = False) -> Reply:
         """Sets the next check of an object; forced: even if its checks are off or a dependency forbids it. DONE, or TIME_RANGE."""
-        return self._made(LIBRARY.try_reschedule, u32(object), u64(time), int(bool(forced)))
+        return self._make_call(LIBRARY.try_reschedule, u32(object), u64(time), int(bool(forced)))
 
     def enable(self, object: int, on: bool) -> Reply:
         """Switches the active checks of an object on or off. DONE."""
-        return self._made(LIBRARY.try_enable, u32(object), int(bool(on)))
+        return self._make_call(LIBRARY.try_enable, u32(object), int(bool(on)))
 
     def status(self, object: int) -> Reply:
         """Asks for an object's standing, and when it is checked next. STANDING, and nothing changes."""
-        return self._made(LIBRARY.try_status, u32(object))
+        return self._make_call(LIBRARY.try_status, u32(object))
 
     def glance(self, object: int) -> Standing:
         """Reads an object's standing without a call: it never waits for another call. The standing is at least as new as all that this pass
         has seen, including its own reports."""
-        return standing_of(self._got(StandingStruct(), LIBRARY.glance, f"no object {object}", u32(object)))
+        return standing_of(self._result(StandingStruct(), LIBRARY.glance, f"no object {object}", u32(object)))
 
-    def _made(self, attempt: typing.Callable[..., int], *given: int) -> Reply:
+    def _make_call(self, attempt: typing.Callable[..., int], *given: int) -> Reply:
         """Makes one of the six calls. An interrupt that comes meanwhile is raised when the call has its reply: if the call stopped before,
         its turn would stop every other pass."""
-        with _Alone(self._busy):
+        with _ExclusiveCall(self._call_lock):
             reply, unanswered, status, interrupt = ReplyStruct(kind=len(ReplyKind)), len(ReplyKind), None, None
             while status is None:
                 try:
@@ -206,21 +206,21 @@ class Pass(_Named):
                     status, interrupt = None if reply.kind == unanswered else Result.OK, raised
             if interrupt is not None:
                 raise interrupt
-            must(status, "the call wasn't made")
+            check_status(status, "the call wasn't made")
             return reply_of(reply)
 
 
-class _Entries(_Owner):
+class _Entries(_HandleOwner):
     """An object with entries: their number by len, one by its index, all of them in a loop."""
 
     def __len__(self) -> int:
-        return int(self._got(U64(), LIBRARY.entries, "it has no entries now").value)
+        return int(self._result(U64(), LIBRARY.entries, "it has no entries now").value)
 
     def __getitem__(self, index: int) -> Entry:
         count, at = len(self), operator.index(index)
         if not -count <= at < count:
             raise IndexError(f"no entry {at}")
-        return entry_of(self._got(EntryStruct(), LIBRARY.entry, f"no entry {at}", at % count))
+        return entry_of(self._result(EntryStruct(), LIBRARY.entry, f"no entry {at}", at % count))
 
     def __iter__(self) -> typing.Iterator[Entry]:
         return (self[at] for at in range(len(self)))
@@ -230,13 +230,13 @@ class History(_Entries):
     """The entries of a generation that has ended."""
 
 
-class Book(_Named, _Entries):
+class Book(_ObjectNames, _Entries):
     """A closed desk's scheduler with its history."""
 
     @property
     def refused(self) -> int:
         """The number of calls that weren't made because the book was out of memory."""
-        return int(self._got(U64(), LIBRARY.refused, "it is no book now").value)
+        return int(self._result(U64(), LIBRARY.refused, "it is no book now").value)
 
     def renew(self, room: int = 1000) -> History:
         """Hands the entries out, and continues without entries: a new generation, for which `open` opens a desk."""
@@ -250,7 +250,7 @@ class Book(_Named, _Entries):
 
         Raises NoMemory, and Wrong if the book is in use or was used up. Other threads of Python continue meanwhile."""
         room = 512 * (self.objects + 1)
-        with _Alone(self._busy):
+        with _ExclusiveCall(self._call_lock):
             return written_bytes(room, LIBRARY.save, self._handle)
 
     def running(self, object: int) -> Run | None:
@@ -269,7 +269,7 @@ class Book(_Named, _Entries):
 
     def open(self, passes: int = 1, *, calls: int | None = None) -> Desk:
         """Opens a desk on a book without entries."""
-        return self._opened(0, 0, passes, calls)
+        return self._open_desk(0, 0, passes, calls)
 
 
 class Desk:
@@ -277,7 +277,7 @@ class Desk:
 
     def __init__(self, passes: list[Pass]):
         self.passes = tuple(passes)
-        self._apart = passes[1:]
+        self._open_passes = passes[1:]
 
     def __enter__(self) -> Desk:
         return self
@@ -289,11 +289,11 @@ class Desk:
     def close(self) -> Book:
         """Gathers all passes, when their threads have ended, and returns the book with the history."""
         first = self.passes[0]
-        while self._apart:
-            other = self._apart[-1]
-            with _Alone(other._busy):
+        while self._open_passes:
+            other = self._open_passes[-1]
+            with _ExclusiveCall(other._call_lock):
                 first._call(LIBRARY.gather, "a pass can't be gathered now", other._handle)
-            self._apart.pop()
+            self._open_passes.pop()
         first._call(LIBRARY.close, "the desk can't be closed now")
         handle, first._handle = first._handle, HandleStruct()
         return Book(handle)

@@ -112,7 +112,7 @@ FUNCTIONS = {
 
 
 # The functions whose time depends on the size of their arguments: other threads of Python continue meanwhile.
-LONG = ("read", "save", "resume")
+WITHOUT_GIL = ("read", "save", "resume")
 
 
 class Library:
@@ -125,9 +125,9 @@ class Library:
         beside = pathlib.Path(__file__).resolve().with_name("libnagsched.so")
         path = os.environ.get("NAGSCHED_LIBRARY") or (str(beside) if beside.exists() else f"libnagsched.so.{VERSION}")
         try:
-            self._keeping, self._releasing = ctypes.PyDLL(path), ctypes.CDLL(path)
+            self._with_gil, self._without_gil = ctypes.PyDLL(path), ctypes.CDLL(path)
             for name, arguments in FUNCTIONS.items():
-                function = getattr(self._releasing if name in LONG else self._keeping, f"nagsched_{name}")
+                function = getattr(self._without_gil if name in WITHOUT_GIL else self._with_gil, f"nagsched_{name}")
                 function.argtypes, function.restype = arguments, ctypes.c_uint32
                 setattr(self, name, function)
         except (OSError, AttributeError) as why:
@@ -140,7 +140,7 @@ class Library:
 LIBRARY = Library()
 
 
-def must(status: int, what: str) -> None:
+def check_status(status: int, what: str) -> None:
     """Raises the error of a status, unless it is OK."""
     if status != Result.OK:
         raise ERRORS[Result(status)](what)
@@ -155,7 +155,7 @@ def written_bytes(room: int, function: typing.Callable[..., int], *given: object
         if status == Result.WRONG and length.value > room:
             room = length.value
             continue
-        must(status, "no such text")
+        check_status(status, "no such text")
         return buffer.raw[: length.value]
 
 
@@ -164,7 +164,7 @@ def written_text(function: typing.Callable[..., int], *given: object) -> str:
     return written_bytes(1024, function, *given).decode()
 
 
-def refused(refusal: RefusalStruct) -> Refused:
+def refusal_error(refusal: RefusalStruct) -> Refused:
     """The error of a refusal, with its line."""
     index = refusal.index if refusal.has_index else None
     line = written_text(LIBRARY.refusal_text, refusal).rstrip("\n")

@@ -3,15 +3,15 @@ use Rattle.std.proofs.Common.{◌≡◌, ℕ, ◌<◌, ◌≤◌, Bool, true, Li
 use Rattle.std.specs.Prelude.{slice_get, slice_index}
 use Rattle.std.specs.Option.{option_map_or}
 use Rattle.std.proofs.lemmas.Bool.Decides.{nat_tests}
-use Rattle.ticket_steps.specs.declared.kept.Entry.{Entry}
+use Rattle.ticket_steps.specs.declared.books.Entry.{Entry}
 use Rattle.ticket_steps.specs.History.{replay}
-use Rattle.check_objects.specs.Configuration.{Configuration, Named, IsSetup, object_count, objects_of}
+use Rattle.check_objects.specs.Configuration.{Configuration, NamedObject, IsSetup, object_count, objects_of}
 use Rattle.check_rules.specs.declared.standing.Kind.{Kind}
 use Rattle.check_rules.specs.declared.standing.Kind.TheVariants as kind
 use Rattle.check_rules.specs.declared.standing.Standing.{Standing}
 use Rattle.check_rules.specs.declared.state.State as rules
 use Rattle.check_rules.specs.declared.state.State.TheVariants as state
-use Rattle.check_rules.specs.Board.{encoded, decoded}
+use Rattle.check_rules.specs.Board.{word_of_standing, standing_of_word}
 use Rattle.check_rules.specs.Standing.{is_lawful}
 use Rattle.check_rules.proofs.BoardLemmas.{coded_back}
 use Rattle.check_sched.specs.declared.call.Call.{Call}
@@ -48,22 +48,22 @@ lawful_few checked flapping state.Down last kind.Hard attempt max h = grind (ari
 lawful_few checked flapping state.Unreachable last kind.Soft attempt max h = grind (arith, nat_tests, h)
 lawful_few checked flapping state.Unreachable last kind.Hard attempt max h = grind (arith, nat_tests, h)
 
-few_by : (setup : Configuration) (n : ℕ) (found : Option Named) → IsSetup setup → slice_get (objects_of setup) n ≡ found
+few_by : (setup : Configuration) (n : ℕ) (found : Option NamedObject) → IsSetup setup → slice_get (objects_of setup) n ≡ found
     → option_map_or (λ o. o.object.max_check_attempts) found 1 ≤ 255
 few_by setup n None h e = omega arith
 few_by setup n (Some o) h e = let within = object_in_range setup n o h e in grind (arith, nat_tests, within)
 
 -- a maximum of attempts is at most 255
-few_attempts : (setup : Configuration) (n : ℕ) → IsSetup setup → max_attempts_of setup n ≤ 255
-few_attempts setup n h = few_by setup n (slice_get (objects_of setup) n) h refl
+bounded_attempts : (setup : Configuration) (n : ℕ) → IsSetup setup → max_attempts_of setup n ≤ 255
+bounded_attempts setup n h = few_by setup n (slice_get (objects_of setup) n) h refl
 
 -- so the word of a lawful standing is read as that standing
 lawful_read : (setup : Configuration) (n : ℕ) (t : Standing) → IsSetup setup → is_lawful t (max_attempts_of setup n) ≡ true
-    → decoded (encoded t) ≡ Some t
+    → standing_of_word (word_of_standing t) ≡ Some t
 lawful_read setup n t h lawful =
-    let few = lawful_few t.checked t.flapping t.state t.last_hard t.kind t.attempt (max_attempts_of setup n) lawful in
-    let most = few_attempts setup n h in
-    coded_back t (omega (arith, few, most))
+    let bounded = lawful_few t.checked t.flapping t.state t.last_hard t.kind t.attempt (max_attempts_of setup n) lawful in
+    let most = bounded_attempts setup n h in
+    coded_back t (omega (arith, bounded, most))
 
 -- ---- a book
 
@@ -77,7 +77,7 @@ read_by : (opened : BookState) (history : List (Entry Call Reply)) (object : ℕ
     → length opened.sched.objects ≡ object_count opened.sched.setup
     → is_lawful (standing_at (replay step opened.sched history).standings object) (max_attempts_of opened.sched.setup object) ≡ true
     → object < object_count opened.sched.setup
-    → decoded (slice_index (book_board (replay book_step opened history)) object)
+    → standing_of_word (slice_index (book_board (replay book_step opened history)) object)
     ≡ Some (standing_at (replay book_step opened history).sched.standings object)
 read_by opened history object h each lawful there =
     let s = (replay book_step opened history).sched in
@@ -85,7 +85,7 @@ read_by opened history object h each lawful there =
     subst (λ (t : State). is_lawful (standing_at t.standings object) (max_attempts_of opened.sched.setup object) ≡ true)
     (sym (book_sched opened history)) lawful in
     let count = objects_from opened history in
-    ap decoded (word_at s object (omega (arith, there, count, each)))
+    ap standing_of_word (word_at s object (omega (arith, there, count, each)))
     ∙ lawful_read opened.sched.setup object (standing_at s.standings object) h here
 
 -- The board has a word for each object of the setup, whatever the state that the book opened in.
@@ -95,7 +95,7 @@ state_words opened history h = length-board_of (replay book_step opened history)
 
 -- Each word is read as the standing of its object.
 pub state_read : (opened : BookState) (history : List (Entry Call Reply)) (object : ℕ) → IsState opened.sched → object < object_count opened.sched.setup
-    → decoded (slice_index (book_board (replay book_step opened history)) object)
+    → standing_of_word (slice_index (book_board (replay book_step opened history)) object)
     ≡ Some (standing_at (replay book_step opened history).sched.standings object)
 state_read opened history object h there =
     read_by opened history object h.valid_setup h.one_each (state_standing opened.sched history object h there).lawful there
@@ -108,7 +108,7 @@ opened_words setup start room history =
     length-board_of (replay book_step opened history).sched ∙ objects_from opened history ∙ opening_count setup start
 
 pub opened_read : (setup : Configuration) (start room : ℕ) (history : List (Entry Call Reply)) (object : ℕ) → IsSetup setup → object < object_count setup
-    → decoded (slice_index (book_board (replay book_step (book_opening setup start room) history)) object)
+    → standing_of_word (slice_index (book_board (replay book_step (book_opening setup start room) history)) object)
     ≡ Some (standing_at (replay book_step (book_opening setup start room) history).sched.standings object)
 opened_read setup start room history object h there =
     read_by (book_opening setup start room) history object h (opening_count setup start) (opened_standing setup start history object h there).lawful there
@@ -119,5 +119,5 @@ few_words book =
     let opened = opening_of book in
     let words = ap (λ s. length (book_board s)) book.replayed ∙ state_words opened (entries_of book) book.opened in
     let count = count_is opened.sched.setup in
-    let few = book.opened.valid_setup.few in
-    omega (arith, words, count, few)
+    let bounded = book.opened.valid_setup.bounded in
+    omega (arith, words, count, bounded)

@@ -1,6 +1,6 @@
 -- A book after one entry more.
 use Rattle.std.proofs.Common.{◌≡◌, ℕ, List, [], ◌∷◌, ◌++◌, sym, ap, subst, ◌∙◌}
-use Rattle.ticket_steps.specs.declared.kept.Entry.{Entry}
+use Rattle.ticket_steps.specs.declared.books.Entry.{Entry}
 use Rattle.ticket_steps.specs.History.{entry, replay, IsLegal}
 use Rattle.ticket_steps.proofs.Histories.{replay-last, legal-last}
 use Rattle.check_sched.specs.declared.call.Call.{Call}

@@ -1,6 +1,6 @@
 -- Histories that go on from one book to the next, renewed or resumed.
 use Rattle.std.proofs.Common.{◌≡◌, ℕ, List, [], ◌∷◌, ◌++◌, refl, sym, ap, subst, ◌∙◌}
-use Rattle.ticket_steps.specs.declared.kept.Entry.{Entry}
+use Rattle.ticket_steps.specs.declared.books.Entry.{Entry}
 use Rattle.ticket_steps.specs.History.{replay, IsLegal}
 use Rattle.check_sched.specs.declared.call.Call.{Call}
 use Rattle.check_sched.specs.declared.call.Reply.{Reply}
@@ -14,7 +14,7 @@ pub use Rattle.check_sched.proofs.StateLaws.{joined_legal}
 use Rattle.check_book.specs.declared.book.Book.{Book}
 use Rattle.check_book.specs.Books.{entries_of, opening_of, sched_of}
 use Rattle.check_book.specs.BookState.{BookState, book_at, book_step}
-use Rattle.check_book.specs.Resumed.{resumed_from}
+use Rattle.check_book.specs.Resumed.{state_after_save_and_resume}
 use Rattle.check_book.proofs.HistoryLaws.{book_is_legal, book_sched}
 
 pub joined_state : (opened : State) (earlier later : List (Entry Call Reply))
@@ -44,15 +44,15 @@ replay_started start s (e ∷ h) =
     ap (λ (a : State × Reply). replay step a.0 h) (step_started start s e.call) ∙ replay_started start (step s e.call).0 h
 
 pub resumed_book : (opened : State) (start room : ℕ) (earlier later : List (Entry Call Reply)) → IsState opened → IsLegal step opened earlier
-    → IsLegal book_step (book_at (resumed_from (replay step opened earlier) start) room) later → IsLegal step opened (earlier ++ later)
+    → IsLegal book_step (book_at (state_after_save_and_resume (replay step opened earlier) start) room) later → IsLegal step opened (earlier ++ later)
 resumed_book opened start room earlier later is legal goes_on =
-    legal_joined opened earlier later start is legal (book_is_legal (resumed_from (replay step opened earlier) start) room later goes_on)
+    legal_joined opened earlier later start is legal (book_is_legal (state_after_save_and_resume (replay step opened earlier) start) room later goes_on)
 
 pub resumed_book_state : (opened : State) (start room : ℕ) (earlier later : List (Entry Call Reply)) → IsState opened
-    → (replay book_step (book_at (resumed_from (replay step opened earlier) start) room) later).sched ≡ started start (replay step opened (earlier ++ later))
+    → (replay book_step (book_at (state_after_save_and_resume (replay step opened earlier) start) room) later).sched ≡ started start (replay step opened (earlier ++ later))
 resumed_book_state opened start room earlier later is =
     let left = replay step opened earlier in
-    book_sched (book_at (resumed_from left start) room) later
+    book_sched (book_at (state_after_save_and_resume left start) room) later
     ∙ ap (λ t. replay step t later) (resumed_same left start (replay_is_state opened earlier is))
     ∙ replay_started start left later ∙ ap (started start) (sym (joined_state opened earlier later))
 

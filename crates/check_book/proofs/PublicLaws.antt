@@ -1,6 +1,6 @@
 -- The laws of `laws.rt` as lemmas, for the proofs of crates above; above each line stands the law whose clauses they are.
 
--- board_shows_standings: few, read, read_from, state, words, words_from
+-- board_shows_standings: bounded, read, read_from, state, words, words_from
 pub use Rattle.check_book.proofs.BoardLaws.{few_words, opened_read, opened_words, state_read, state_words}
 pub use Rattle.check_book.proofs.GenerationLaws.{book_is_state}
 -- histories: books

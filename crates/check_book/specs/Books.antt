@@ -1,6 +1,6 @@
 -- The parts of a book that clauses see.
 use Rattle.std.specs.Prelude.{ℕ, List, vec_capacity}
-use Rattle.ticket_steps.specs.declared.kept.Entry.{Entry}
+use Rattle.ticket_steps.specs.declared.books.Entry.{Entry}
 use Rattle.check_sched.specs.declared.call.Call.{Call}
 use Rattle.check_sched.specs.declared.call.Reply.{Reply}
 use Rattle.check_sched.specs.State.{State}

@@ -3,14 +3,14 @@
 ghost use Rattle.std.specs.Prelude.{◌≡◌, ◌+◌, ◌^◌, ◌<◌, ◌≤◌, [], ◌∷◌, ◌++◌, length};
 ghost use Rattle.std.specs.Prelude.{IfOk, IfErr, OnOk, OnErr, vec_capacity, vec_len};
 ghost use Rattle.check_objects.specs.Configuration.{IsSetup};
-ghost use Rattle.check_sched.specs.Saved.{resumed, saved_of};
+ghost use Rattle.check_sched.specs.Saved.{state_after_resume, saved_of};
 ghost use Rattle.check_sched.specs.State.{IsState, opening};
 ghost use Rattle.check_sched.specs.Step.{step};
 ghost use Rattle.check_sched.proofs.BoardLaws.{step_posted, step_unposted, step_within};
-ghost use Rattle.check_sched.proofs.PropLaws.{IsSetup-prop, IsState-prop};
+ghost use Rattle.check_sched.proofs.UniquenessLaws.{IsSetup-prop, IsState-prop};
 ghost use Rattle.check_book.specs.BookState.{BookState, book_at, book_opening, book_step};
 ghost use Rattle.check_book.specs.Logs.{log_opening, log_state};
-ghost use Rattle.check_book.specs.Board.{book_board, book_place};
+ghost use Rattle.check_book.specs.Board.{book_board, book_slot};
 ghost use Rattle.std.proofs.Props.{props};
 ghost use Rattle.ticket_steps.specs.History.{entry, replay, IsLegal, IsLegal-prop};
 
@@ -55,7 +55,7 @@ struct Log {
 impl Log {
     /// Begins again in the scheduler's present state, with an empty list of entries and its room. Returns
     /// the entries so far.
-    fn begin_anew(
+    fn start_over(
         &mut self,
         entries: Vec<Entry<Call, Reply>>,
         room: usize,
@@ -94,7 +94,7 @@ impl Book {
             return Err(setup);
         };
         let sched = Sched::new(alloc, setup, start)?;
-        Book::over(alloc, sched, entries, room)
+        Book::with_sched(alloc, sched, entries, room)
     }
 
     /// A book without entries over a scheduler that resumes the saved state of another ([`Sched::resume`]),
@@ -112,22 +112,22 @@ impl Book {
     ) -> Result<Book, Setup>
         requires { start ≤ LAST_MOMENT }
         ensures empty { IfOk result (λ book. (entries_of book ≡ []) × (refused_of book ≡ 0)) }
-        ensures sched { IfOk result (λ book. sched_of book ≡ resumed setup saved.now start) }
+        ensures sched { IfOk result (λ book. sched_of book ≡ state_after_resume setup saved.now start) }
         ensures room { IfOk result (λ book. room_of book ≡ room) }
         ensures opening { IfOk result (λ book.
-            opening_of book ≡ book_at (resumed setup saved.now start) room) }
+            opening_of book ≡ book_at (state_after_resume setup saved.now start) room) }
         ensures err { IfErr result (λ handed_back. handed_back ≡ setup) }
     {
         let Ok(entries) = Vec::with_capacity(alloc, room) else {
             return Err(setup);
         };
         let sched = Sched::resume(alloc, setup, saved, start)?;
-        Book::over(alloc, sched, entries, room)
+        Book::with_sched(alloc, sched, entries, room)
     }
 
     /// A book over this scheduler, which opens in the scheduler's present state, with an empty list of
     /// entries and its room. An Err means out of memory, and returns the setup.
-    fn over(
+    fn with_sched(
         alloc: Global,
         sched: Sched,
         entries: Vec<Entry<Call, Reply>>,
@@ -182,7 +182,7 @@ impl Book {
             return Err(self);
         };
         let Book { mut log } = self;
-        let earlier = (*log).begin_anew(entries, room);
+        let earlier = (*log).start_over(entries, room);
         Ok((Book { log }, earlier))
     }
 
@@ -222,7 +222,7 @@ impl Kept for Book {
 
     ghost board = { book_board };
 
-    ghost posts_at = { book_place };
+    ghost posts_at = { book_slot };
 
     ghost opening = { opening_of };
 
@@ -293,7 +293,7 @@ impl Kept for Book {
     /// The object's number, for a report of the run under which the object is being checked. No other call is
     /// posted: neither a report that will be refused, nor a call that changes no standing.
     fn posts(&self, call: Call) -> Option<u32> {
-        self.log.sched.place_of(call)
+        self.log.sched.slot_of_call(call)
     }
 }
 

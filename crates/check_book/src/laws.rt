@@ -1,10 +1,10 @@
 //! Laws of the definitions. Each is the contract of a function without parameters and code.
 
 ghost use Rattle.std.specs.Prelude.{ℕ, ◌≡◌, ◌<◌, ◌≤◌, List, ◌∷◌, ◌++◌, [], Some, length, slice_index};
-ghost use Rattle.ticket_steps.specs.declared.kept.Entry.{Entry};
+ghost use Rattle.ticket_steps.specs.declared.books.Entry.{Entry};
 ghost use Rattle.ticket_steps.specs.History.{entry, replay, IsLegal};
 ghost use Rattle.check_objects.specs.Configuration.{Configuration, IsSetup, object_count};
-ghost use Rattle.check_rules.specs.Board.{decoded};
+ghost use Rattle.check_rules.specs.Board.{standing_of_word};
 ghost use Rattle.check_rules.specs.declared.state.Code.{Code};
 ghost use Rattle.check_sched.specs.declared.call.Call.{Call};
 ghost use Rattle.check_sched.specs.declared.call.Call.TheVariants as call;
@@ -17,7 +17,7 @@ ghost use Rattle.check_book.specs.declared.book.Book.{Book};
 ghost use Rattle.check_book.specs.Board.{book_board};
 ghost use Rattle.check_book.specs.Books.{opening_of, sched_of, state_of};
 ghost use Rattle.check_book.specs.BookState.{BookState, book_at, book_opening, book_step};
-ghost use Rattle.check_book.specs.Resumed.{resumed_from};
+ghost use Rattle.check_book.specs.Resumed.{state_after_save_and_resume};
 
 /// The history of a book is a history of its scheduler (`books`). So
 /// [`runs_once`](check_sched::laws::runs_once) and [`flaps_by_history`](check_sched::laws::flaps_by_history)
@@ -54,7 +54,7 @@ pub fn replies()
 /// object with that number (`read`). This holds from every state that a scheduler can be in (`words_from`,
 /// `read_from`). Each book opens in such a state (`opened`), and so does a renewed book. A book is in such a
 /// state at any time (`state`). Each book is over a setup like those of [`Setup`](check_objects::Setup)
-/// (`books`), so its board has at most 4,096 words (`few`).
+/// (`books`), so its board has at most 4,096 words (`bounded`).
 pub fn board_shows_standings()
     ensures words { (setup : Configuration) → (start room : ℕ)
         → (history : List (Entry Call Reply))
@@ -63,19 +63,19 @@ pub fn board_shows_standings()
     ensures read { (setup : Configuration) → (start room : ℕ)
         → (history : List (Entry Call Reply)) → (object : ℕ)
         → IsSetup setup → object < object_count setup
-        → decoded (slice_index (book_board (replay book_step (book_opening setup start room) history)) object)
+        → standing_of_word (slice_index (book_board (replay book_step (book_opening setup start room) history)) object)
         ≡ Some (standing_at (replay book_step (book_opening setup start room) history).sched.standings object) }
     ensures words_from { (opened : BookState) → (history : List (Entry Call Reply))
         → IsState opened.sched
         → length (book_board (replay book_step opened history)) ≡ object_count opened.sched.setup }
     ensures read_from { (opened : BookState) → (history : List (Entry Call Reply)) → (object : ℕ)
         → IsState opened.sched → object < object_count opened.sched.setup
-        → decoded (slice_index (book_board (replay book_step opened history)) object)
+        → standing_of_word (slice_index (book_board (replay book_step opened history)) object)
         ≡ Some (standing_at (replay book_step opened history).sched.standings object) }
     ensures opened { (book : Book) → IsState (opening_of book).sched }
     ensures state { (book : Book) → IsState (sched_of book) }
     ensures books { (book : Book) → IsSetup (sched_of book).setup }
-    ensures few { (book : Book) → length (book_board (state_of book)) ≤ 4096 }
+    ensures bounded { (book : Book) → length (book_board (state_of book)) ≤ 4096 }
 {}
 
 /// Histories continue from one book to the next. Let `earlier` be legal from a state, for example from a
@@ -104,10 +104,10 @@ pub fn generations()
         → (replay book_step opened later).sched.setup ≡ opened.sched.setup }
     ensures resumed { (opened : State) → (start room : ℕ) → (earlier later : List (Entry Call Reply))
         → IsState opened → IsLegal step opened earlier
-        → IsLegal book_step (book_at (resumed_from (replay step opened earlier) start) room) later
+        → IsLegal book_step (book_at (state_after_save_and_resume (replay step opened earlier) start) room) later
         → IsLegal step opened (earlier ++ later) }
     ensures resumed_state { (opened : State) → (start room : ℕ)
         → (earlier later : List (Entry Call Reply)) → IsState opened
-        → (replay book_step (book_at (resumed_from (replay step opened earlier) start) room) later).sched
+        → (replay book_step (book_at (state_after_save_and_resume (replay step opened earlier) start) room) later).sched
         ≡ record (replay step opened (earlier ++ later)) { start = start } }
 {}

@@ -4,7 +4,7 @@ use Rattle.check_objects.specs.Configuration.{object_count}
 use Rattle.check_sched.specs.declared.call.Call.{Call}
 use Rattle.check_sched.proofs.BoardLaws.{step_within}
 use Rattle.check_book.specs.declared.book.Book.{Book}
-use Rattle.check_book.specs.Board.{book_board, book_place}
+use Rattle.check_book.specs.Board.{book_board, book_slot}
 use Rattle.check_book.specs.BookState.{BookState}
 use Rattle.check_book.specs.Books.{entries_of, opening_of, state_of}
 use Rattle.check_book.proofs.PublicLaws.{state_words}
@@ -20,7 +20,7 @@ pub words_opened : (book : Book) → length (book_board (opening_of book)) ≡ o
 words_opened book = let opened = opening_of book in state_words opened [] book.opened
 
 -- a call is posted at the number of an object of that setup
-pub place_within : (book : Book) (opened : BookState) (call : Call) (place : Option ℕ) → place ≡ book_place (state_of book) call
+pub place_within : (book : Book) (opened : BookState) (call : Call) (place : Option ℕ) → place ≡ book_slot (state_of book) call
     → opening_of book ≡ opened → IfSome place (λ at. at < object_count opened.sched.setup)
 place_within book opened call None is opening = tt
 place_within book opened call (Some at) is opening =

@@ -5,10 +5,10 @@ use Rattle.std.specs.List.{All}
 use Rattle.std.proofs.lemmas.List.Elements.{All-cons, All-nil}
 use mathlib.Core.Logic.{dite}
 use native.Mathlib.Decide.{dec_le}
-use Rattle.ticket_steps.specs.declared.kept.Entry.{Entry}
+use Rattle.ticket_steps.specs.declared.books.Entry.{Entry}
 use Rattle.ticket_steps.specs.History.{of}
-use Rattle.ticket_steps.specs.Sums.{counted, times}
-use Rattle.ticket_lock.specs.Callers.{Caller, caller, keeping, given}
+use Rattle.ticket_steps.specs.Sums.{counted, occurrences}
+use Rattle.ticket_lock.specs.Callers.{Caller, caller, caller_after_split, split_part}
 use Rattle.ticket_lock.proofs.SeatLaws as seat
 use Rattle.check_sched.specs.declared.call.Call.{Call}
 use Rattle.check_sched.specs.declared.call.Reply.{Reply}
@@ -46,7 +46,7 @@ rest_size calls n count rest e = ap (λ r. length r.numbers) e ∙ length-counte
 
 -- the seat of one pass, split off the beginning of the rest
 pub own_is : (calls n count : ℕ) (rest : Caller Call Reply) → 1 < count → rest ≡ rest_from calls n count
-    → keeping calls (length rest.numbers - 1) rest ≡ new_pass_with calls n
+    → caller_after_split calls (length rest.numbers - 1) rest ≡ new_pass_with calls n
 own_is calls n zero rest h e = absurd (omega arith)
 own_is calls n (suc k) rest h e =
     let size : length (counted (n + 1) k) ≡ k = length-counted (n + 1) k in
@@ -56,7 +56,7 @@ own_is calls n (suc k) rest h e =
 
 -- and what is left
 pub more_is : (calls n count : ℕ) (rest : Caller Call Reply) → 1 < count → rest ≡ rest_from calls n count
-    → given calls (length rest.numbers - 1) rest ≡ rest_from calls (n + 1) (count - 1)
+    → split_part calls (length rest.numbers - 1) rest ≡ rest_from calls (n + 1) (count - 1)
 more_is calls n zero rest h e = absurd (omega arith)
 more_is calls n (suc k) rest h e =
     let size : length (counted (n + 1) k) ≡ k = length-counted (n + 1) k in
@@ -86,22 +86,22 @@ new_last calls desk n (q ∷ ps) p h = new_last calls desk (n + 1) ps p h.2
 -- ---- what each pass is known to have
 
 -- it has made fewer than 2^42 calls
-pub few_calls : (pass : Pass) → (pass_of pass).calls < 2 ^ 42
-few_calls pass = seat.few_calls pass.seat
+pub bounded_calls : (pass : Pass) → (pass_of pass).calls < 2 ^ 42
+bounded_calls pass = seat.bounded_calls pass.seat
 
 -- what it has seen is a history of its desk
 pub seen_history : (desk : Desk) (pass : Pass) → IsPassOf desk pass → IsHistoryOf desk (pass_of pass).seen
 seen_history desk pass is = seat.legal_history desk.lock pass.seat is
 
 -- it answers for its own number, for at least one, and for at most 1,024
-pub own_number : (pass : Pass) → 0 < times (pass_of pass).own (pass_of pass).numbers
+pub own_number : (pass : Pass) → 0 < occurrences (pass_of pass).own (pass_of pass).numbers
 own_number pass = seat.own_number pass.seat
 
-pub some_number : (pass : Pass) → 0 < length (pass_of pass).numbers
-some_number pass = seat.some_number pass.seat
+pub nonempty_numbers : (pass : Pass) → 0 < length (pass_of pass).numbers
+nonempty_numbers pass = seat.nonempty_numbers pass.seat
 
-pub few_numbers : (pass : Pass) → length (pass_of pass).numbers ≤ 1024
-few_numbers pass = seat.few_numbers pass.seat
+pub bounded_numbers : (pass : Pass) → length (pass_of pass).numbers ≤ 1024
+bounded_numbers pass = seat.bounded_numbers pass.seat
 
 -- ---- histories all of whose numbers were given out
 

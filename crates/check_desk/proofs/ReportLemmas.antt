@@ -1,9 +1,10 @@
 -- A report whose call has returned: it stands in what its pass has seen, and what is glanced of its object goes on from it.
-use Rattle.std.proofs.Common.{◌≡◌, ◌≢◌, ℕ, zero, suc, ◌+◌, ◌<◌, List, [], ◌∷◌, ◌++◌, length, Bool, true, false, Option, Some, None, refl, sym, ap, ◌∙◌, subst, arith}
+use Rattle.std.proofs.Common.{◌≡◌, ◌≢◌, ℕ, zero, suc, ◌+◌, ◌<◌, List, [], ◌∷◌, ◌++◌, length, Bool, true, false, Option, Some, None, refl, sym, ap, ◌∙◌, subst}
+use Rattle.std.proofs.Common.{arith}
 use Rattle.std.specs.Prelude.{unwrap_or}
 use Rattle.std.proofs.lemmas.List.{append_assoc}
 use mathlib.Core.List.{IsPrefix}
-use Rattle.ticket_steps.specs.declared.kept.Entry.{Entry}
+use Rattle.ticket_steps.specs.declared.books.Entry.{Entry}
 use Rattle.ticket_steps.specs.History.{entry, replay, IsLegal}
 use Rattle.ticket_lock.specs.Callers.{Caller}
 use Rattle.ticket_lock.specs.Tokens.{start_of}
@@ -14,17 +15,17 @@ use Rattle.check_sched.specs.declared.call.Call.{Call}
 use Rattle.check_sched.specs.declared.call.Call.TheVariants as call
 use Rattle.check_sched.specs.declared.call.Reply.{Reply}
 use Rattle.check_sched.specs.declared.call.Reply.TheVariants as reply
-use Rattle.check_sched.specs.Board.{place_by}
+use Rattle.check_sched.specs.Board.{slot_of_reply}
 use Rattle.check_sched.proofs.UpdateLaws.{length-update_at, update_at_apart}
 use Rattle.check_sched.specs.State.{State, standing_at}
-use Rattle.check_sched.specs.Step.{found_in, judged_in, step, update_at}
+use Rattle.check_sched.specs.Step.{state_found_in, new_standing_in, step, update_at}
 use Rattle.check_sched.proofs.OperatorLaws.{abandon_cases, enable_cases, reschedule_cases, status_cases}
 use Rattle.check_sched.proofs.ReportLaws.{report_cases}
 use Rattle.check_sched.proofs.TakeLaws.{take_cases}
 use Rattle.check_book.specs.BookState.{BookState, book_step}
 use Rattle.check_desk.specs.declared.desk.Desk.{Desk}
-use Rattle.check_desk.specs.Desks.{IsHistoryOf, objects_of, opened_with, standing_after}
-use Rattle.check_desk.specs.Reports.{HasNoReport, HasSeen, IsAfter}
+use Rattle.check_desk.specs.Desks.{IsHistoryOf, objects_of, desk_opening, standing_after}
+use Rattle.check_desk.specs.Reports.{HasNoReport, HasSeen, IsStandingAfter}
 
 -- ---- what was seen
 
@@ -37,7 +38,7 @@ seen_later e c later more h = record {
 }
 
 pub glanced_after : (desk : Desk) (e : Entry Call Reply) (c later : Caller Call Reply) (object : ℕ) (standing : Option Standing) → HasSeen e c
-    → IsPrefix c.seen later.seen → IsHistoryOf desk later.seen → standing ≡ Some (standing_after desk later.seen object) → IsAfter desk e object standing
+    → IsPrefix c.seen later.seen → IsHistoryOf desk later.seen → standing ≡ Some (standing_after desk later.seen object) → IsStandingAfter desk e object standing
 glanced_after desk e c later object standing h more legal shown =
     let now = seen_later e c later more h in record {
       before = now.before;
@@ -78,9 +79,9 @@ as_many s (call.Enable n on) = ap length (kept_enable n on s)
 as_many s (call.Status n) = ap length (kept_status n s)
 
 -- no call but a report of the object changes its standing
-as_before : (s : State) (c : Call) (object : ℕ) → (place_by c (step s c).1 ≢ Some object) → standing_at (step s c).0.standings object ≡ standing_at s.standings object
+as_before : (s : State) (c : Call) (object : ℕ) → (slot_of_reply c (step s c).1 ≢ Some object) → standing_at (step s c).0.standings object ≡ standing_at s.standings object
 as_before s (call.Report n run code) object =
-    report_cases (λ a. (place_by (call.Report n run code) a.1 ≢ Some object) → standing_at a.0.standings object ≡ standing_at s.standings object) n run code s
+    report_cases (λ a. (slot_of_reply (call.Report n run code) a.1 ≢ Some object) → standing_at a.0.standings object ≡ standing_at s.standings object) n run code s
     (λ why other. refl)
     (λ o r f g other. ap (λ found. unwrap_or found (pending_standing true)) (update_at_apart n object _ s.standings (λ e. other (ap Some e))))
 as_before s (call.Take now) object = λ other. ap (λ l. standing_at l object) (kept_take now s)
@@ -102,7 +103,7 @@ as_told s n run code standing changed next below =
     report_cases (λ a. reply.Standing standing changed next ≡ a.1 → standing_at a.0.standings n ≡ standing) n run code s
     (λ why e. absurd (cc))
     (λ o r f g e.
-    let made = judged_in s n (found_in s n code) in
+    let made = new_standing_in s n (state_found_in s n code) in
     let same : made ≡ standing = cc in
     put_there n made s.standings below ∙ same)
 
@@ -113,7 +114,7 @@ lasting : (s : BookState) (since : List (Entry Call Reply)) (object : ℕ) → I
 lasting s [] object legal quiet = refl
 lasting s (e ∷ es) object legal quiet =
     lasting (book_step s e.call).0 es object legal.1 quiet.1
-    ∙ as_before s.sched e.call object (λ at. quiet.0 (ap (place_by e.call) legal.0 ∙ at))
+    ∙ as_before s.sched e.call object (λ at. quiet.0 (ap (slot_of_reply e.call) legal.0 ∙ at))
 
 told_last : (s : BookState) (before since : List (Entry Call Reply)) (own object run : ℕ) (code : Code) (standing : Standing) (changed : Bool) (next : Option ℕ)
     → object < length s.sched.standings
@@ -134,4 +135,4 @@ pub last_told : (desk : Desk) (before since : List (Entry Call Reply)) (own obje
     → standing_after desk (before ++ entry own (call.Report object run code) (reply.Standing standing changed next) ∷ since) object ≡ standing
 last_told desk before since own object run code standing changed next there legal quiet =
     let each = ((start_of desk.lock).book).opened.one_standing_each in
-    told_last (opened_with desk) before since own object run code standing changed next (omega (arith, there, each)) legal quiet
+    told_last (desk_opening desk) before since own object run code standing changed next (omega (arith, there, each)) legal quiet

@@ -2,12 +2,12 @@
 use Rattle.std.proofs.Common.{◌≡◌, ℕ, ◌+◌, List, [], ◌∷◌, ◌++◌, length, refl, ap, ◌∙◌, arith, subst}
 use mathlib.Core.Option.{some}
 use lib.ListN.{get_elem?}
-use Rattle.ticket_steps.specs.declared.kept.Entry.{Entry}
+use Rattle.ticket_steps.specs.declared.books.Entry.{Entry}
 use Rattle.ticket_steps.specs.declared.seats.CoreSeat.{CoreSeat}
-use Rattle.ticket_steps.specs.Books.{calls_taken, IsLawfulBook}
+use Rattle.ticket_steps.specs.Books.{calls_handled, IsLawfulBook}
 use Rattle.ticket_steps.specs.History.{replay, IsLegal}
 use Rattle.ticket_steps.specs.Schedules.{Schedule, IsSchedule}
-use Rattle.ticket_steps.specs.Seats.{posted_one}
+use Rattle.ticket_steps.specs.Seats.{poster_count_of}
 use Rattle.ticket_steps.proofs.ScheduleLemmas.{schedule_book, schedule_lawful}
 use Rattle.ticket_steps.proofs.SeatLemmas.{alone, posts, unnumbered_calls, unnumbered_posts}
 use Rattle.check_objects.specs.Configuration.{Configuration}
@@ -71,7 +71,7 @@ module _ (opened : BookState) (s : Schedule BookState Call Reply) (is : IsSchedu
 
 -- Where one seat stands for all numbers, the calls that it counts are all, and one more while it has posted a call.
 pub taken_by_one : (s : Schedule BookState Call Reply) → IsSchedule kept_book s → (i : ℕ) (p : CoreSeat) → get_elem? s.end.seats i ≡ some p
-    → length p.numbers ≡ s.numbers → calls_taken s.end.book ≡ p.calls + posted_one p.phase
+    → length p.numbers ≡ s.numbers → calls_handled s.end.book ≡ p.calls + poster_count_of p.phase
 taken_by_one s is i p at stands_for_all =
     let l = schedule_lawful kept_book s is in
     omega (

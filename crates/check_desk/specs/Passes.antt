@@ -13,19 +13,19 @@ use Rattle.check_desk.specs.declared.passes.Hold.{Hold}
 abbrev pub pass_of : Pass → Caller Call Reply
 pass_of pass = seat_of pass.seat
 
-abbrev pub waiting_of : Turn → Caller Call Reply
-waiting_of turn = turn_of turn.turn
+abbrev pub turn_caller : Turn → Caller Call Reply
+turn_caller turn = turn_of turn.turn
 
-abbrev pub holder_of : Hold → Caller Call Reply
-holder_of hold = hold_of hold.hold
+abbrev pub hold_caller : Hold → Caller Call Reply
+hold_caller hold = hold_of hold.hold
 
 -- the ticket with which a turn waits: the number of calls that end before its own
 abbrev pub drawn_ticket : Turn → ℕ
 drawn_ticket turn = ticket_of turn.turn
 
 -- the book that a holder has
-abbrev pub book_in_hand : Hold → Book
-book_in_hand hold = hold.book
+abbrev pub held_book : Hold → Book
+held_book hold = hold.book
 
 -- the number of calls that each pass brings if the program names no other number, and the most that it can bring
 abbrev pub opening_calls : ℕ

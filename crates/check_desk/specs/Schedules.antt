@@ -1,6 +1,6 @@
 -- The schedules of a desk's lock: the steps of any callers, in any order, and the states to which they lead.
 use Rattle.std.specs.Prelude.{◌≡◌, ℕ, List}
-use Rattle.ticket_steps.specs.declared.kept.Entry.{Entry}
+use Rattle.ticket_steps.specs.declared.books.Entry.{Entry}
 use Rattle.ticket_steps.specs.History.{replay, IsLegal}
 use Rattle.ticket_steps.specs.Schedules.{Schedule, IsSchedule}
 use Rattle.check_objects.specs.Configuration.{Configuration}

@@ -4,8 +4,8 @@ ghost use Rattle.std.specs.Prelude.{⊤, ◌≡◌, ◌↔◌, ℕ, ◌+◌, ◌
 ghost use Rattle.std.specs.List.{All};
 ghost use Rattle.ticket_steps.specs.History.{of};
 ghost use Rattle.ticket_steps.specs.Books.{book_state, IsLawfulBook};
-ghost use Rattle.ticket_lock.specs.Callers.{Caller, drawn, ended, first_caller, having_seen, joined};
-ghost use Rattle.ticket_lock.specs.Steps.{Returns};
+ghost use Rattle.ticket_lock.specs.Callers.{Caller, caller_after_draw, caller_after_call, first_caller, caller_with_history, gathered_caller};
+ghost use Rattle.ticket_lock.specs.Steps.{IsBookAfterCall};
 ghost use Rattle.ticket_lock.specs.Tokens.{has_posted, hold_of, refused_before, seat_of, start_of, IsHoldOf, IsSeatOf};
 ghost use Rattle.ticket_lock.specs.Views.{Follows};
 ghost use Rattle.check_objects.specs.Configuration.{object_count};
@@ -63,8 +63,8 @@ pub enum Answer {
 
 impl Desk {
     ghost use Rattle.check_desk.specs.Desks.{AreNewPasses, HasNoMemory, HasRecorded, IsHistoryOf, IsHolderAt, IsPassOf, IsWaitingAt, MatchAnswer};
-    ghost use Rattle.check_desk.specs.Desks.{AreNewPassesWith, MatchPoll, calls_of, objects_of, opened_with, passes_of, recorded, standing_after};
-    ghost use Rattle.check_desk.specs.Passes.{book_in_hand, drawn_ticket, holder_of, pass_of, waiting_of};
+    ghost use Rattle.check_desk.specs.Desks.{AreNewPassesWith, MatchPoll, calls_of, objects_of, desk_opening, passes_of, caller_after_reply, standing_after};
+    ghost use Rattle.check_desk.specs.Passes.{held_book, drawn_ticket, hold_caller, pass_of, turn_caller};
 
     /// A desk over the book, and its passes in the order of their numbers, from 0. Each pass has 2^32 - 1
     /// calls, the most that [`Desk::open_with`] gives. It answers only for itself, and has made no call and
@@ -75,7 +75,7 @@ impl Desk {
     pub fn open(alloc: Global, book: Book, passes: u32) -> Result<(Desk, Vec<Pass>), Book>
         requires passes { (0 < passes) × (passes ≤ 1024) }
         requires empty { (entries_of book ≡ []) × (refused_of book ≡ 0) }
-        ensures opening { IfOk result (λ made. opened_with made.0 ≡ opening_of book) }
+        ensures opening { IfOk result (λ made. desk_opening made.0 ≡ opening_of book) }
         ensures passes { IfOk result (λ made. passes_of made.0 ≡ passes) }
         ensures list { IfOk result (λ made. length made.1.items ≡ passes) }
         ensures new { IfOk result (λ made. AreNewPasses made.0 0 made.1.items) }
@@ -99,7 +99,7 @@ impl Desk {
         requires passes { (0 < passes) × (passes ≤ 1024) }
         requires calls { 0 < calls }
         requires empty { (entries_of book ≡ []) × (refused_of book ≡ 0) }
-        ensures opening { IfOk result (λ made. opened_with made.0 ≡ opening_of book) }
+        ensures opening { IfOk result (λ made. desk_opening made.0 ≡ opening_of book) }
         ensures passes { IfOk result (λ made. passes_of made.0 ≡ passes) }
         ensures list { IfOk result (λ made. length made.1.items ≡ passes) }
         ensures new { IfOk result (λ made. AreNewPassesWith calls made.0 0 made.1.items) }
@@ -128,7 +128,7 @@ impl Desk {
     fn hand_out(&self, seat: Seat<Book>, list: &mut Vec<Pass>)
         requires desk { IsSeatOf self.now.lock seat }
         requires all { seat_of seat ≡ first_caller (passes_of self.now) (calls_of self.now) }
-        requires some { 0 < passes_of self.now }
+        requires nonempty { 0 < passes_of self.now }
         requires empty { list.old.items ≡ [] }
         requires room { passes_of self.now ≤ vec_capacity list.old }
         ensures list { length list.new.items ≡ passes_of self.now }
@@ -150,9 +150,9 @@ impl Desk {
     pub fn begin(&self, pass: Pass) -> Result<Turn, Pass>
         requires { IsPassOf self.now pass }
         ensures spent { IsErr result ↔ ((pass_of pass).left ≡ 0) }
-        ensures back { IfErr result (λ back. back ≡ pass) }
+        ensures err { IfErr result (λ back. back ≡ pass) }
         ensures desk { IfOk result (λ turn. IsWaitingAt self.now turn) }
-        ensures drawn { IfOk result (λ turn. waiting_of turn ≡ drawn (pass_of pass)) }
+        ensures caller_after_draw { IfOk result (λ turn. turn_caller turn ≡ caller_after_draw (pass_of pass)) }
     {
         match self.lock.draw(pass.seat) {
             Ok(turn) => Ok(Turn { turn }),
@@ -170,19 +170,19 @@ impl Desk {
         ensures desk { MatchPoll result (λ hold. IsHolderAt self.now hold)
             (λ back. IsWaitingAt self.now back) }
         ensures follows { MatchPoll result
-            (λ hold. Follows (waiting_of turn).numbers (waiting_of turn).seen (holder_of hold).seen)
-            (λ back. waiting_of back ≡ waiting_of turn) }
+            (λ hold. Follows (turn_caller turn).numbers (turn_caller turn).seen (hold_caller hold).seen)
+            (λ back. turn_caller back ≡ turn_caller turn) }
         ensures legal { MatchPoll result
-            (λ hold. IsHistoryOf self.now (holder_of hold).seen) (λ back. ⊤) }
+            (λ hold. IsHistoryOf self.now (hold_caller hold).seen) (λ back. ⊤) }
         ensures caller { MatchPoll result
-            (λ hold. holder_of hold ≡ having_seen (holder_of hold).seen (waiting_of turn))
-            (λ back. length (waiting_of turn).numbers < passes_of self.now) }
+            (λ hold. hold_caller hold ≡ caller_with_history (hold_caller hold).seen (turn_caller turn))
+            (λ back. length (turn_caller turn).numbers < passes_of self.now) }
         ensures ticket { MatchPoll result
-            (λ hold. length (holder_of hold).seen + refused_of (book_in_hand hold)
+            (λ hold. length (hold_caller hold).seen + refused_of (held_book hold)
             ≡ drawn_ticket turn)
             (λ back. drawn_ticket back ≡ drawn_ticket turn) }
         ensures seen { MatchPoll result
-            (λ hold. (holder_of hold).seen ≡ entries_of (book_in_hand hold)) (λ back. ⊤) }
+            (λ hold. (hold_caller hold).seen ≡ entries_of (held_book hold)) (λ back. ⊤) }
     {
         let Turn { turn } = turn;
         match self.lock.look(turn) {
@@ -199,11 +199,11 @@ impl Desk {
         requires { IsHolderAt self.now hold }
         ensures desk { IsPassOf self.now result.0 }
         ensures caller { MatchAnswer result.1
-            (λ reply. pass_of result.0 ≡ recorded call reply (holder_of hold).seen (holder_of hold))
-            (pass_of result.0 ≡ ended (holder_of hold).seen (holder_of hold)) ⊥ }
+            (λ reply. pass_of result.0 ≡ caller_after_reply call reply (hold_caller hold).seen (hold_caller hold))
+            (pass_of result.0 ≡ caller_after_call (hold_caller hold).seen (hold_caller hold)) ⊥ }
         ensures legal { IsHistoryOf self.now (pass_of result.0).seen }
         ensures full { MatchAnswer result.1 (λ reply. ⊤)
-            ((opened_with self.now).room ≤ length (holder_of hold).seen) ⊤ }
+            ((desk_opening self.now).room ≤ length (hold_caller hold).seen) ⊤ }
     {
         let Hold { hold, mut book } = hold;
         let place = book.posts(call);
@@ -221,11 +221,11 @@ impl Desk {
     fn leave(&self, hold: ticket_lock::Hold<Book>, book: Book, place: Option<u32>) -> Seat<Book>
         requires desk { IsHoldOf self.now.lock hold }
         requires unposted { has_posted hold ≡ false }
-        requires book { Returns kept_book (start_of self.now.lock) (hold_of hold).own
+        requires book { IsBookAfterCall kept_book (start_of self.now.lock) (hold_of hold).own
             (hold_of hold).seen (refused_before hold) place book }
         requires place { IfSome place (λ at. at < objects_of self.now) }
         ensures desk { IsSeatOf self.now.lock result }
-        ensures ended { seat_of result ≡ ended (entries_of book) (hold_of hold) }
+        ensures caller_after_call { seat_of result ≡ caller_after_call (entries_of book) (hold_of hold) }
     {
         match place {
             Some(place) => {
@@ -246,7 +246,7 @@ impl Desk {
         ensures desk { IsPassOf self.now result.0 }
         ensures answer { MatchAnswer result.1
             (λ reply. HasRecorded call reply (pass_of pass) (pass_of result.0))
-            (HasNoMemory (opened_with self.now).room (pass_of pass) (pass_of result.0))
+            (HasNoMemory (desk_opening self.now).room (pass_of pass) (pass_of result.0))
             (((pass_of pass).left ≡ 0) × (result.0 ≡ pass)) }
         ensures legal { IsHistoryOf self.now (pass_of result.0).seen }
     {
@@ -264,10 +264,10 @@ impl Desk {
     fn wait(&self, rt: &impl Wait, turn: Turn) -> Hold
         requires { IsWaitingAt self.now turn }
         ensures desk { IsHolderAt self.now result }
-        ensures follows { Follows (waiting_of turn).numbers (waiting_of turn).seen
-            (holder_of result).seen }
-        ensures caller { holder_of result
-            ≡ having_seen (holder_of result).seen (waiting_of turn) }
+        ensures follows { Follows (turn_caller turn).numbers (turn_caller turn).seen
+            (hold_caller result).seen }
+        ensures caller { hold_caller result
+            ≡ caller_with_history (hold_caller result).seen (turn_caller turn) }
     {
         let backoff = Backoff::new();
         let mut pauses = 0u32;
@@ -299,7 +299,7 @@ impl Desk {
         ensures desk { IsPassOf self.now result.0 }
         ensures missing { (result.1 ≡ None) ↔ (objects_of self.now ≤ object) }
         ensures same { objects_of self.now ≤ object → result.0 ≡ pass }
-        ensures caller { pass_of result.0 ≡ having_seen (pass_of result.0).seen (pass_of pass) }
+        ensures caller { pass_of result.0 ≡ caller_with_history (pass_of result.0).seen (pass_of pass) }
         ensures seen { Follows (pass_of pass).numbers (pass_of pass).seen (pass_of result.0).seen }
         ensures legal { IsHistoryOf self.now (pass_of result.0).seen }
         ensures standing { object < objects_of self.now
@@ -319,7 +319,7 @@ impl Desk {
     pub fn gather(&self, pass: Pass, other: Pass) -> Pass
         requires { IsPassOf self.now pass × IsPassOf self.now other }
         ensures desk { IsPassOf self.now result }
-        ensures joined { pass_of result ≡ joined (pass_of pass) (pass_of other) }
+        ensures gathered_caller { pass_of result ≡ gathered_caller (pass_of pass) (pass_of other) }
         ensures legal { IsHistoryOf self.now (pass_of result).seen }
         ensures seen { Follows (pass_of pass).numbers (pass_of pass).seen (pass_of result).seen }
         ensures seen_by_other { Follows (pass_of other).numbers (pass_of other).seen
@@ -338,8 +338,8 @@ impl Desk {
     pub fn close(self, pass: Pass) -> Result<Book, (Desk, Pass)>
         requires { IsPassOf self pass }
         ensures missing { IsErr result ↔ (length (pass_of pass).numbers < passes_of self) }
-        ensures back { IfErr result (λ back. (back.0 ≡ self) × (back.1 ≡ pass)) }
-        ensures opening { IfOk result (λ book. opening_of book ≡ opened_with self) }
+        ensures err { IfErr result (λ back. (back.0 ≡ self) × (back.1 ≡ pass)) }
+        ensures opening { IfOk result (λ book. opening_of book ≡ desk_opening self) }
         ensures history { IfOk result (λ book. entries_of book ≡ (pass_of pass).seen) }
         ensures calls { IfOk result (λ book.
             length (entries_of book) + refused_of book ≡ (pass_of pass).calls) }

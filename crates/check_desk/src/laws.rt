@@ -4,15 +4,15 @@ ghost use Rattle.std.specs.Prelude.{ℕ, ◌≡◌, ◌+◌, ◌<◌, ◌≤◌,
 ghost use Rattle.std.specs.List.{All, list_any};
 ghost use mathlib.Core.Option.{some};
 ghost use lib.ListN.{get_elem?};
-ghost use Rattle.ticket_steps.specs.declared.kept.Entry.{Entry};
+ghost use Rattle.ticket_steps.specs.declared.books.Entry.{Entry};
 ghost use Rattle.ticket_steps.specs.declared.seats.CoreSeat.{CoreSeat};
-ghost use Rattle.ticket_steps.specs.Books.{calls_taken};
+ghost use Rattle.ticket_steps.specs.Books.{calls_handled};
 ghost use Rattle.ticket_steps.specs.Happenings.{calls_made, recorded_by};
 ghost use Rattle.ticket_steps.specs.History.{entry, of, replay, IsLegal};
 ghost use Rattle.ticket_steps.specs.Schedules.{Schedule};
-ghost use Rattle.ticket_steps.specs.Seats.{posted_one};
-ghost use Rattle.ticket_steps.specs.Sums.{times};
-ghost use Rattle.ticket_lock.specs.Callers.{Caller, drawn};
+ghost use Rattle.ticket_steps.specs.Seats.{poster_count_of};
+ghost use Rattle.ticket_steps.specs.Sums.{occurrences};
+ghost use Rattle.ticket_lock.specs.Callers.{Caller, caller_after_draw};
 ghost use Rattle.ticket_lock.specs.Views.{Follows};
 ghost use Rattle.check_objects.specs.Configuration.{Configuration};
 ghost use Rattle.check_rules.specs.declared.standing.Standing.{Standing};
@@ -29,9 +29,9 @@ ghost use Rattle.check_desk.specs.declared.desk.Desk.{Desk};
 ghost use Rattle.check_desk.specs.declared.passes.Hold.{Hold};
 ghost use Rattle.check_desk.specs.declared.passes.Pass.{Pass};
 ghost use Rattle.check_desk.specs.declared.passes.Turn.{Turn};
-ghost use Rattle.check_desk.specs.Desks.{AreNewPasses, HasRecorded, IsHistoryOf, IsPassOf, objects_of, recorded, standing_after};
-ghost use Rattle.check_desk.specs.Passes.{holder_of, pass_of, waiting_of};
-ghost use Rattle.check_desk.specs.Reports.{HasNoReport, HasSeen, IsAfter};
+ghost use Rattle.check_desk.specs.Desks.{AreNewPasses, HasRecorded, IsHistoryOf, IsPassOf, objects_of, caller_after_reply, standing_after};
+ghost use Rattle.check_desk.specs.Passes.{hold_caller, pass_of, turn_caller};
+ghost use Rattle.check_desk.specs.Reports.{HasNoReport, HasSeen, IsStandingAfter};
 ghost use Rattle.check_desk.specs.Schedules.{IsScheduleAfter, IsScheduleFrom, IsScheduleOver};
 
 /// A law without code. The history that all callers share is that of one thread. This holds for all their
@@ -79,17 +79,17 @@ pub fn headline()
         → run ≡ runs_begun front + 1 }
     ensures entries { (setup : Configuration) (start room : ℕ) (s : Schedule BookState Call Reply)
         → IsScheduleOver setup start room s
-        → (number : ℕ) → of number s.end.book.entries ≡ recorded_by number s.happened }
+        → (number : ℕ) → of number s.end.book.entries ≡ recorded_by number s.happenings }
     ensures strangers { (setup : Configuration) (start room : ℕ) (s : Schedule BookState Call Reply)
         → IsScheduleOver setup start room s
         → (number : ℕ) → s.numbers ≤ number → of number s.end.book.entries ≡ [] }
     ensures made { (setup : Configuration) (start room : ℕ) (s : Schedule BookState Call Reply)
-        → IsScheduleOver setup start room s → calls_taken s.end.book ≡ calls_made s.happened }
+        → IsScheduleOver setup start room s → calls_handled s.end.book ≡ calls_made s.happenings }
     ensures all { (setup : Configuration) (start room : ℕ) (s : Schedule BookState Call Reply)
         → IsScheduleOver setup start room s
         → (i : ℕ) (p : CoreSeat) → get_elem? s.end.seats i ≡ some p
         → length p.numbers ≡ s.numbers
-        → calls_taken s.end.book ≡ p.calls + posted_one p.phase }
+        → calls_handled s.end.book ≡ p.calls + poster_count_of p.phase }
     ensures joined_legal { (setup : Configuration) (start : ℕ) (earlier : List (Entry Call Reply)) (room : ℕ)
         → (s : Schedule BookState Call Reply) → IsScheduleAfter setup start earlier room s
         → IsLegal step (opening setup start) (earlier ++ s.end.book.entries) }
@@ -109,18 +109,18 @@ pub fn headline()
         → run ≡ runs_begun front + 1 }
     ensures later_entries { (setup : Configuration) (start : ℕ) (earlier : List (Entry Call Reply)) (room : ℕ)
         → (s : Schedule BookState Call Reply) → IsScheduleAfter setup start earlier room s
-        → (number : ℕ) → of number s.end.book.entries ≡ recorded_by number s.happened }
+        → (number : ℕ) → of number s.end.book.entries ≡ recorded_by number s.happenings }
     ensures later_strangers { (setup : Configuration) (start : ℕ) (earlier : List (Entry Call Reply)) (room : ℕ)
         → (s : Schedule BookState Call Reply) → IsScheduleAfter setup start earlier room s
         → (number : ℕ) → s.numbers ≤ number → of number s.end.book.entries ≡ [] }
     ensures later_made { (setup : Configuration) (start : ℕ) (earlier : List (Entry Call Reply)) (room : ℕ)
         → (s : Schedule BookState Call Reply) → IsScheduleAfter setup start earlier room s
-        → calls_taken s.end.book ≡ calls_made s.happened }
+        → calls_handled s.end.book ≡ calls_made s.happenings }
     ensures later_all { (setup : Configuration) (start : ℕ) (earlier : List (Entry Call Reply)) (room : ℕ)
         → (s : Schedule BookState Call Reply) → IsScheduleAfter setup start earlier room s
         → (i : ℕ) (p : CoreSeat) → get_elem? s.end.seats i ≡ some p
         → length p.numbers ≡ s.numbers
-        → calls_taken s.end.book ≡ p.calls + posted_one p.phase }
+        → calls_handled s.end.book ≡ p.calls + poster_count_of p.phase }
 {}
 
 /// The same as [`headline`], for a book that opens in any state. A book that was
@@ -151,29 +151,29 @@ pub fn headline_from_any_state()
         → s.end.book.entries ≡ front ++ e ∷ back → begins object run e ≡ true
         → run ≡ opened.sched.runs + runs_begun front + 1 }
     ensures entries { (opened : BookState) (s : Schedule BookState Call Reply) → IsScheduleFrom opened s
-        → (number : ℕ) → of number s.end.book.entries ≡ recorded_by number s.happened }
+        → (number : ℕ) → of number s.end.book.entries ≡ recorded_by number s.happenings }
     ensures strangers { (opened : BookState) (s : Schedule BookState Call Reply) → IsScheduleFrom opened s
         → (number : ℕ) → s.numbers ≤ number → of number s.end.book.entries ≡ [] }
     ensures made { (opened : BookState) (s : Schedule BookState Call Reply) → IsScheduleFrom opened s
-        → calls_taken s.end.book ≡ calls_made s.happened }
+        → calls_handled s.end.book ≡ calls_made s.happenings }
     ensures all { (opened : BookState) (s : Schedule BookState Call Reply) → IsScheduleFrom opened s
         → (i : ℕ) (p : CoreSeat) → get_elem? s.end.seats i ≡ some p
         → length p.numbers ≡ s.numbers
-        → calls_taken s.end.book ≡ p.calls + posted_one p.phase }
+        → calls_handled s.end.book ≡ p.calls + poster_count_of p.phase }
 {}
 
 /// A law of every pass, at any time.
 ///
 /// A pass has seen a history of its desk (`legal`). It answers for its own number (`own`), for at least one
-/// number (`some`) and for at most 1,024 (`few`). It has made fewer than 2^42 calls (`few_calls`). New passes
+/// number (`nonempty`) and for at most 1,024 (`bounded`). It has made fewer than 2^42 calls (`bounded_calls`). New passes
 /// are of their desk (`new`).
 pub fn every_pass()
     ensures legal { (desk : Desk) → (pass : Pass) → IsPassOf desk pass
         → IsHistoryOf desk (pass_of pass).seen }
-    ensures own { (pass : Pass) → 0 < times (pass_of pass).own (pass_of pass).numbers }
-    ensures some { (pass : Pass) → 0 < length (pass_of pass).numbers }
-    ensures few { (pass : Pass) → length (pass_of pass).numbers ≤ 1024 }
-    ensures few_calls { (pass : Pass) → (pass_of pass).calls < 2 ^ 42 }
+    ensures own { (pass : Pass) → 0 < occurrences (pass_of pass).own (pass_of pass).numbers }
+    ensures nonempty { (pass : Pass) → 0 < length (pass_of pass).numbers }
+    ensures bounded { (pass : Pass) → length (pass_of pass).numbers ≤ 1024 }
+    ensures bounded_calls { (pass : Pass) → (pass_of pass).calls < 2 ^ 42 }
     ensures new { (desk : Desk) → (number : ℕ) → (passes : List Pass)
         → AreNewPasses desk number passes → All (IsPassOf desk) passes }
 {}
@@ -186,20 +186,20 @@ pub fn every_pass()
 /// (`later`). This includes the histories that the pass sees by later polls, calls and glances, and those of
 /// passes that have gathered it. So the standing that such a pass sees at a glance is the standing after a
 /// history of the desk that contains the call (`glanced`). Let the call be a report whose reply was the
-/// object's standing, with no such report after it. Then the glance shows that very standing (`told`).
+/// object's standing, with no such report after it. Then the glance shows that very standing (`same_standing`).
 ///
 /// No clause says this of other passes: as far as contracts know, they may see the standing before the
 /// report. The report is posted before its turn ends because of the order of operations on the atomic word.
 pub fn returned_reports()
     ensures finished { (call : Call) → (reply : Reply) → (hold : Hold) → (pass : Pass)
-        → pass_of pass ≡ recorded call reply (holder_of hold).seen (holder_of hold)
-        → HasSeen (entry (holder_of hold).own call reply) (pass_of pass) }
+        → pass_of pass ≡ caller_after_reply call reply (hold_caller hold).seen (hold_caller hold)
+        → HasSeen (entry (hold_caller hold).own call reply) (pass_of pass) }
     ensures asked { (call : Call) → (reply : Reply) → (before after : Pass)
         → HasRecorded call reply (pass_of before) (pass_of after)
         → HasSeen (entry (pass_of before).own call reply) (pass_of after) }
     ensures waiting { (e : Entry Call Reply) → (pass : Pass) → (turn : Turn)
-        → waiting_of turn ≡ drawn (pass_of pass) → HasSeen e (pass_of pass)
-        → HasSeen e (waiting_of turn) }
+        → turn_caller turn ≡ caller_after_draw (pass_of pass) → HasSeen e (pass_of pass)
+        → HasSeen e (turn_caller turn) }
     ensures later { (e : Entry Call Reply) → (caller after : Caller Call Reply)
         → Follows caller.numbers caller.seen after.seen → HasSeen e caller → HasSeen e after }
     ensures glanced { (desk : Desk) → (e : Entry Call Reply) → (before after : Pass) → (object : ℕ)
@@ -207,8 +207,8 @@ pub fn returned_reports()
         → Follows (pass_of before).numbers (pass_of before).seen (pass_of after).seen
         → IsHistoryOf desk (pass_of after).seen
         → standing ≡ Some (standing_after desk (pass_of after).seen object)
-        → IsAfter desk e object standing }
-    ensures told { (desk : Desk) → (before since : List (Entry Call Reply))
+        → IsStandingAfter desk e object standing }
+    ensures same_standing { (desk : Desk) → (before since : List (Entry Call Reply))
         → (own object run : ℕ) → (code : Code) → (standing : Standing) → (changed : Bool)
         → (next : Option ℕ) → object < objects_of desk
         → IsHistoryOf desk (before

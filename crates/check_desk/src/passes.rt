@@ -4,7 +4,7 @@
 //! in contracts. It is always a first part of the one history.
 
 ghost use Rattle.std.specs.Prelude.{◌≡◌, ◌+◌, ◌<◌, ◌≤◌, ◌^◌, false, length};
-ghost use Rattle.ticket_steps.specs.Sums.{times};
+ghost use Rattle.ticket_steps.specs.Sums.{occurrences};
 ghost use Rattle.check_book.specs.Books.{entries_of, refused_of};
 ghost use Rattle.ticket_lock.specs.Tokens.{has_posted, held_ticket_of, hold_of, refused_before};
 
@@ -37,7 +37,7 @@ pub struct Hold {
     ghost seen: { (hold_of hold).seen ≡ entries_of book },
     ghost refused: { refused_before hold ≡ refused_of book },
     ghost counted: { length (entries_of book) + refused_of book ≡ held_ticket_of hold },
-    ghost few: { held_ticket_of hold < 2 ^ 42 },
+    ghost bounded: { held_ticket_of hold < 2 ^ 42 },
     ghost unposted: { has_posted hold ≡ false },
 }
 
@@ -48,7 +48,7 @@ impl Pass {
     /// answers.
     pub fn number(&self) -> u32
         ensures own { result ≡ (pass_of self.now).own }
-        ensures among { 0 < times result (pass_of self.now).numbers }
+        ensures among { 0 < occurrences result (pass_of self.now).numbers }
     {
         self.seat.number()
     }
@@ -56,8 +56,8 @@ impl Pass {
     /// The number of passes for which it answers, including itself.
     pub fn gathered(&self) -> u32
         ensures numbers { result ≡ length (pass_of self.now).numbers }
-        ensures some { 0 < result }
-        ensures few { result ≤ 1024 }
+        ensures nonempty { 0 < result }
+        ensures bounded { result ≤ 1024 }
     {
         self.seat.count()
     }
@@ -73,7 +73,7 @@ impl Pass {
     /// their entry.
     pub fn calls(&self) -> u64
         ensures calls { result ≡ (pass_of self.now).calls }
-        ensures few { result < 2 ^ 42 }
+        ensures bounded { result < 2 ^ 42 }
     {
         self.seat.calls()
     }

@@ -6,7 +6,7 @@ use Rattle.std.specs.List.Sorted.{IsPermutation}
 use Rattle.std.proofs.lemmas.Bool.Decides.{nat_tests}
 use Rattle.std.proofs.lemmas.List.Sorted.{IsPermutation-refl, IsPermutation-sym, IsPermutation-trans, IsPermutation-cons, IsPermutation-middle}
 use Rattle.std.proofs.lemmas.List.Sorted.{IsPermutation-append_right}
-use Rattle.link_order.proofs.TestLemmas.{and_first, and_second}
+use Rattle.setup_order.proofs.TestLemmas.{and_first, and_second}
 
 module _ {A : Type 0} (number : A → ℕ) where
   abbrev pub bucket : List A → ℕ → List A

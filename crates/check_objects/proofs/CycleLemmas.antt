@@ -1,13 +1,13 @@
 -- The refusals of cycles: one of dependencies before one of parents.
 use Rattle.std.proofs.Common.{◌≡◌, true, false, cond, Option, Some, None, Ok, Err, ap, ◌∙◌}
-use Rattle.check_drafts.specs.declared.error.LoadError.TheVariants as errors
-use Rattle.check_drafts.specs.Agreement.{◌>>=◌}
-use Rattle.check_drafts.specs.Draft.{Drafts}
-use Rattle.check_drafts.specs.Fault as fault
-use Rattle.check_drafts.specs.Fault.{Fault, but_memory}
-use Rattle.check_numbers.specs.Configuration.{Configuration, masters_of, parents_by_host}
-use Rattle.check_numbers.specs.Numbering.{configuration}
-use Rattle.link_order.specs.Cycles.{has_cycle}
+use Rattle.setup_model.specs.declared.error.LoadError.TheVariants as errors
+use Rattle.setup_model.specs.Agreement.{◌>>=◌}
+use Rattle.setup_model.specs.ParsedSetup.{ParsedSetup}
+use Rattle.setup_model.specs.Fault as fault
+use Rattle.setup_model.specs.Fault.{Fault}
+use Rattle.check_objects.specs.Configuration.{Configuration, masters_of, parents_by_host}
+use Rattle.check_objects.specs.Numbering.{configuration}
+use Rattle.setup_order.specs.Cycles.{has_cycle}
 use Rattle.check_objects.specs.Setup.{without_parent_cycle, without_cycles, AreRefusedFor, IsParentFault}
 
 after_dependencies : (c : Configuration) → has_cycle (masters_of c) ≡ false → without_cycles c ≡ without_parent_cycle c
@@ -22,8 +22,8 @@ cyclic_dependencies c cyclic = ap (λ b. cond b (Err errors.DependencyCycle) (Ok
 cyclic_parents : (c : Configuration) → has_cycle (masters_of c) ≡ false → has_cycle (parents_by_host c) ≡ true → without_cycles c ≡ Err errors.ParentCycle
 cyclic_parents c free cyclic = after_dependencies c free ∙ ap (λ b. cond b (Err errors.ParentCycle) (Ok c)) cyclic
 
--- a cycle of parents refuses drafts whose dependencies have none
-pub parents_refuse : (ds : Drafts) (o : Option Fault) → has_cycle (masters_of (configuration ds)) ≡ false → IsParentFault ds o → AreRefusedFor ds o
+-- a cycle of parents refuses a parsed setup whose dependencies have none
+pub parents_refuse : (ds : ParsedSetup) (o : Option Fault) → has_cycle (masters_of (configuration ds)) ≡ false → IsParentFault ds o → AreRefusedFor ds o
 parents_refuse ds None free is = tt
 parents_refuse ds (Some (fault.parent_cycle cycle)) free is = ((free, is.1), cyclic_parents (configuration ds) free is.0)
 parents_refuse ds (Some fault.too_long) free is = absurd is
@@ -38,20 +38,3 @@ parents_refuse ds (Some (fault.unknown_end p w)) free is = absurd is
 parents_refuse ds (Some (fault.range p w)) free is = absurd is
 parents_refuse ds (Some (fault.dependency_cycle p cycle)) free is = absurd is
 parents_refuse ds (Some fault.memory) free is = absurd is
-
--- ---- what is known of a fault is known of an error that isn't that memory ran out
-
-pub seen_error : (P : Option Fault → Type 0) → P None → (f : Fault) → P (Some f) → P (but_memory f)
-seen_error P none fault.memory is = none
-seen_error P none fault.too_long is = is
-seen_error P none fault.not_json is = is
-seen_error P none (fault.shape p w) is = is
-seen_error P none (fault.too_many c n) is = is
-seen_error P none (fault.bad_name p w) is = is
-seen_error P none (fault.duplicate p i) is = is
-seen_error P none (fault.unknown_parent h i) is = is
-seen_error P none (fault.unknown_host s) is = is
-seen_error P none (fault.unknown_end p w) is = is
-seen_error P none (fault.range p w) is = is
-seen_error P none (fault.dependency_cycle p cycle) is = is
-seen_error P none (fault.parent_cycle cycle) is = is

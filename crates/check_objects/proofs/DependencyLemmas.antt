@@ -10,12 +10,12 @@ use Rattle.std.proofs.lemmas.Bool.Decides.{nat_tests}
 use Rattle.std.proofs.lemmas.List.{take_more, ext_get_or, get_or-set_same, get_or-set_other, length-set, map-append}
 use Rattle.std.proofs.lemmas.List.Elements.{filter-append}
 use Rattle.std.proofs.lemmas.List.FromFn.{length-map-range_with_len, get_or-map-range_with_len}
-use Rattle.check_drafts.specs.declared.dependency.Dependency.{Dependency}
-use Rattle.link_order.specs.Cycles.{are_within}
-use Rattle.check_numbers.specs.Configuration.{Named, masters_in, number_among}
-use Rattle.check_drafts.specs.Draft.{DependencyDraft}
-use Rattle.check_numbers.specs.Numbering.{numbered_dependency, dependencies_among, dependency_lists}
-use Rattle.link_order.proofs.TestLemmas.{and_first, and_second, and_both}
+use Rattle.setup_model.specs.declared.dependency.Dependency.{Dependency}
+use Rattle.setup_order.specs.Cycles.{are_within}
+use Rattle.check_objects.specs.Configuration.{NamedObject, masters_in, number_among}
+use Rattle.setup_model.specs.ParsedSetup.{ParsedDependency}
+use Rattle.check_objects.specs.Numbering.{numbered_dependency, dependencies_among, dependency_lists}
+use Rattle.setup_order.proofs.TestLemmas.{and_first, and_second, and_both}
 
 -- ---- one dependency after another
 
@@ -75,16 +75,16 @@ found_below : (b : Bool) (i n : ℕ) → nat_lt i n ≡ b → 0 < n → nat_lt (
 found_below true i n e h = e
 found_below false i n e h = grind (arith, nat_tests, h)
 
-pub number_below : (objects : List Named) (name : List ℕ) → 0 < length objects → nat_lt (unwrap_or (number_among objects name) 0) (length objects) ≡ true
+pub number_below : (objects : List NamedObject) (name : List ℕ) → 0 < length objects → nat_lt (unwrap_or (number_among objects name) 0) (length objects) ≡ true
 number_below objects name h = found_below _ _ (length objects) refl h
 
-pub dependents_below : (objects : List Named) (ds : List DependencyDraft) → (0 < length ds → 0 < length objects)
+pub dependents_below : (objects : List NamedObject) (ds : List ParsedDependency) → (0 < length ds → 0 < length objects)
     → list_all (λ d. nat_lt d.0 (length objects)) (map (numbered_dependency objects) ds) ≡ true
 dependents_below objects [] some = refl
 dependents_below objects (d ∷ ds) some =
     and_both _ _ (number_below objects d.dependent (some (omega arith))) (dependents_below objects ds (λ h. some (omega arith)))
 
-pub masters_below : (objects : List Named) (ds : List DependencyDraft) → 0 < length objects
+pub masters_below : (objects : List NamedObject) (ds : List ParsedDependency) → 0 < length objects
     → list_all (λ d. nat_lt d.1.master (length objects)) (map (numbered_dependency objects) ds) ≡ true
 masters_below objects [] h = refl
 masters_below objects (d ∷ ds) h = and_both _ _ (number_below objects d.master h) (masters_below objects ds h)

@@ -2,20 +2,20 @@
 use Rattle.std.proofs.Common.{◌≡◌, ℕ, Bool, true, false, List, map, String, Global, bytes_eq, string_bytes, sym, ap, ◌∙◌, ◌&&◌, Ok}
 use Rattle.std.specs.List.{list_any, list_all}
 use Rattle.std.proofs.lemmas.Slice.Eq.{bytes_eq-Decides}
-use Rattle.check_drafts.specs.Draft.{DependencyDraft, Drafts, ServiceDraft}
-use Rattle.check_drafts.specs.Ends.{is_known, full_names}
-use Rattle.check_drafts.specs.Keys.{names_of, key_of}
-use Rattle.check_drafts.specs.Name.{full_name}
-use Rattle.check_drafts.proofs.ListLemmas.{list_any-map}
-use Rattle.check_faults.specs.Verification.{is_faultless}
-use Rattle.check_faults.proofs.FaultlessLemmas.{faultless}
-use Rattle.check_drafts.proofs.RefusalLemmas.{have_known_ends}
-use Rattle.check_numbers.specs.declared.numbering.Host.{Host}
-use Rattle.check_numbers.specs.declared.numbering.Service.{Service}
-use Rattle.check_numbers.specs.Configuration as spec
-use Rattle.check_numbers.specs.Entries.{host_entry, service_entry, names_in}
-use Rattle.check_numbers.specs.Numbering.{configuration, numbered_host, hosts_in_order, services_in_order, names_in_order, body_of, object_of}
-use Rattle.check_numbers.proofs.NameLemmas.{found, no_host_has}
+use Rattle.setup_model.specs.ParsedSetup.{ParsedDependency, ParsedSetup, ParsedService}
+use Rattle.setup_model.specs.Ends.{is_known, full_names}
+use Rattle.setup_model.specs.Keys.{names_of, key_of}
+use Rattle.setup_model.specs.Name.{full_name}
+use Rattle.setup_model.proofs.ListLemmas.{list_any-map}
+use Rattle.setup_reader.specs.Verification.{verification}
+use Rattle.setup_reader.proofs.FaultlessLemmas.{faultless}
+use Rattle.setup_model.proofs.RefusalLemmas.{have_known_ends}
+use Rattle.check_objects.specs.declared.object_index.Host.{Host}
+use Rattle.check_objects.specs.declared.object_index.Service.{Service}
+use Rattle.check_objects.specs.Configuration as spec
+use Rattle.check_objects.specs.Entries.{host_entry, service_entry, names_in}
+use Rattle.check_objects.specs.Numbering.{configuration, numbered_host, hosts_in_order, services_in_order, names_in_order, host_body, object_of}
+use Rattle.check_objects.proofs.NameLemmas.{found, no_host_has}
 use Rattle.check_objects.proofs.NumberedLemmas.{known_in_order, full_name_in_order}
 use Rattle.check_objects.proofs.OrderLemmas.{hosts_all, services_all}
 use Rattle.check_objects.proofs.SetupLemmas.{parted_hosts}
@@ -34,25 +34,25 @@ service_entry_known entries services are name =
     list_any-map (bytes_eq name) (λ e. string_bytes e.0) entries ∙ sym (list_any-map (λ s. bytes_eq name s.name) service_entry entries)
     ∙ ap (list_any (λ s. bytes_eq name s.name)) are
 
-ends_alike : (names others : List (List ℕ)) → ((name : List ℕ) → is_known names name ≡ is_known others name) → (ds : List DependencyDraft)
+ends_alike : (names others : List (List ℕ)) → ((name : List ℕ) → is_known names name ≡ is_known others name) → (ds : List ParsedDependency)
     → have_known_ends others ds ≡ have_known_ends names ds
 ends_alike names others same ds =
     let alike : is_known others ≡ is_known names = λ i name. sym (same name) i in
     ap (λ (known : List ℕ → Bool). list_all (λ d. known d.dependent && known d.master) ds) alike
 
-module _ (ds : Drafts) (e : is_faultless ds ≡ Ok tt) (hosts : List (String Global × Host)) (hosts_are : map host_entry hosts ≡ (configuration ds).hosts) where
+module _ (ds : ParsedSetup) (e : verification ds ≡ Ok tt) (hosts : List (String Global × Host)) (hosts_are : map host_entry hosts ≡ (configuration ds).hosts) where
   -- a name is in the map of hosts where it is a host's of the document
   pub host_known : (name : List ℕ) → is_known (names_in hosts) name ≡ is_known (names_of ds.hosts) name
   host_known name =
       let hs = hosts_in_order ds.hosts in
       host_entry_known hosts (configuration ds).hosts hosts_are name
       ∙ list_any-map (λ h. bytes_eq name h.name) (numbered_host (names_in_order ds.hosts)) hs ∙ sym (list_any-map (bytes_eq name) (λ h. h.0) hs)
-      ∙ sym (known_in_order ds.hosts body_of hs (hosts_all ds e) name)
+      ∙ sym (known_in_order ds.hosts host_body hs (hosts_all ds e) name)
 
   pub host_ends : have_known_ends (names_in hosts) ds.host_dependencies ≡ true
   host_ends = ends_alike (names_of ds.hosts) (names_in hosts) (λ name. sym (host_known name)) ds.host_dependencies ∙ (faultless ds e).host_ends
 
-module _ (ds : Drafts) (e : is_faultless ds ≡ Ok tt) (hosts : List (String Global × Host)) (services : List (String Global × Service))
+module _ (ds : ParsedSetup) (e : verification ds ≡ Ok tt) (hosts : List (String Global × Host)) (services : List (String Global × Service))
     (hosts_are : map host_entry hosts ≡ (configuration ds).hosts) (services_are : map service_entry services ≡ (configuration ds).services) where
   -- a name is in the map of services where it is a full name of the document
   pub service_known : (name : List ℕ) → is_known (names_in services) name ≡ is_known (full_names ds.services) name
@@ -63,7 +63,7 @@ module _ (ds : Drafts) (e : is_faultless ds ≡ Ok tt) (hosts : List (String Glo
   -- no name is in both maps
   pub names_apart : (name : List ℕ) → is_known (names_in services) name ≡ true → is_known (names_in hosts) name ≡ false
   names_apart name known =
-      let of = found (λ (s : ServiceDraft). bytes_eq name (full_name (key_of s))) ds.services
+      let of = found (λ (s : ParsedService). bytes_eq name (full_name (key_of s))) ds.services
       (sym (list_any-map (bytes_eq name) (λ s. full_name (key_of s)) ds.services) ∙ sym (service_known name) ∙ known) in
       host_entry_known hosts (configuration ds).hosts hosts_are name
       ∙ no_host_has (λ h. h.name) name (key_of of.item) (configuration ds).hosts

@@ -7,11 +7,11 @@ use Rattle.std.proofs.lemmas.List.{length-map, map-append, get_or-map}
 use Rattle.std.proofs.lemmas.List.Elements.{All-weaker}
 use Rattle.std.proofs.lemmas.Bool.{ltb-true}
 use Rattle.std.proofs.lemmas.List.Sums.{AllPass-from_list_all}
-use Rattle.check_drafts.specs.declared.dependency.Dependency.{Dependency}
-use Rattle.check_numbers.specs.declared.numbering.Host.{Host}
-use Rattle.check_numbers.specs.Configuration.{Configuration, IsSetup, masters_in, dependencies_of, object_count}
-use Rattle.check_numbers.specs.Entries.{host_entry}
-use Rattle.link_order.proofs.TestLemmas.{both_true}
+use Rattle.setup_model.specs.declared.dependency.Dependency.{Dependency}
+use Rattle.check_objects.specs.declared.object_index.Host.{Host}
+use Rattle.check_objects.specs.Configuration.{Configuration, IsSetup, masters_in, dependencies_of, object_count}
+use Rattle.check_objects.specs.Entries.{host_entry}
+use Rattle.setup_order.proofs.TestLemmas.{both_true}
 use Rattle.std.proofs.lemmas.List.Folds.{list_all-map}
 
 pub all_at : {A : Type 0} (p : A → Bool) (xs : List A) (i : ℕ) (x : A) → list_all p xs ≡ true → slice_get xs i ≡ Some x → p x ≡ true
@@ -32,12 +32,12 @@ pub masters_below : (c : Configuration) (k : ℕ) → IsSetup c → All (λ d. d
 masters_below c k is =
     let n = object_count c in
     All-weaker (λ d. nat_lt d.master n ≡ true) (λ d. d.master < n) (λ d e. ltb-true d.master n e) (dependencies_of c k)
-    (AllPass-from_list_all (λ d. nat_lt d.master n) (dependencies_of c k) (masters_at n c.dependencies k is.mastered))
+    (AllPass-from_list_all (λ d. nat_lt d.master n) (dependencies_of c k) (masters_at n c.dependencies k is.masters_in_range))
 
 pub dependencies_at : {L : Type 0} (items : L → List Dependency) (lists : List L) (c : Configuration) (k : ℕ) (list : L) → IsSetup c
     → map items lists ≡ c.dependencies → k < object_count c → list ≡ get_or lists k list → items list ≡ dependencies_of c k
 dependencies_at items lists c k list is are below at =
-    let within : k < length lists = omega (arith, below, is.listed, ap length are, length-map lists items) in
+    let within : k < length lists = omega (arith, below, is.one_list_each, ap length are, length-map lists items) in
     ap items at ∙ sym (get_or-map items lists k list [] within) ∙ ap (λ ls. slice_index_or ls k []) are
 
 -- ---- links, host by host

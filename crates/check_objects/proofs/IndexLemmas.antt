@@ -1,5 +1,6 @@
 -- Indices of names: a map that has one for each name, and the indices for a list of numbers.
-use Rattle.std.proofs.Common.{◌≡◌, ℕ, ◌+◌, ◌-◌, ◌<◌, ◌||◌, Bool, true, false, cond, Bor, List, [], ◌∷◌, ◌++◌, get_or, map, take, length, Option, Some, None}
+use Rattle.std.proofs.Common.{◌≡◌, ℕ, ◌+◌, ◌-◌, ◌<◌, ◌≤◌, ◌||◌, Bool, true, false, cond, Bor, List, [], ◌∷◌, ◌++◌, get_or, map, take, length, Option, Some}
+use Rattle.std.proofs.Common.{None}
 use Rattle.std.proofs.Common.{String, Global, bytes_eq, string_bytes, option_map, refl, sym, ap, subst, ◌∙◌, inl, inr, arith}
 use Rattle.std.specs.Prelude.{is_some, slice_get, unwrap_or}
 use Rattle.std.specs.Option.{option_copied}
@@ -8,10 +9,10 @@ use Rattle.std.proofs.lemmas.List.{get_or_append_left, get_or-append_right, get_
 use Rattle.std.proofs.lemmas.List.Folds.{list_any-append}
 use Rattle.std.proofs.lemmas.Option.{slice_get-map, unwrap_or-slice_get}
 use Rattle.std.proofs.lemmas.Slice.Eq.{bytes_eq-Decides}
-use Rattle.check_drafts.specs.Ends.{is_known}
-use Rattle.check_drafts.proofs.ListLemmas.{mapped_next}
-use Rattle.check_numbers.specs.Entries.{names_in}
-use Rattle.link_order.proofs.TestLemmas.{or_cases}
+use Rattle.setup_model.specs.Ends.{is_known}
+use Rattle.setup_model.proofs.ListLemmas.{mapped_next}
+use Rattle.check_objects.specs.Entries.{names_in}
+use Rattle.setup_order.proofs.TestLemmas.{or_cases}
 use Rattle.check_objects.specs.Indices.{AreIndices, HasIndex, IsIndex}
 
 -- ---- a map that has an index for each name so far
@@ -60,9 +61,6 @@ entry_named entries k x at =
 
 -- ---- the indices for a list of numbers
 
-pub no_indices : (name : ℕ → List ℕ) (names : List (List ℕ)) (numbers indices : List ℕ) → indices ≡ [] → AreIndices name names (take 0 numbers) indices
-no_indices name names numbers indices none = record { size = ap length none; each = λ place h. absurd (omega (arith, h)) }
-
 pub indices_next : (name : ℕ → List ℕ) (names : List (List ℕ)) (numbers : List ℕ) (i number : ℕ) (old new : List ℕ) (index : ℕ) → i < length numbers
     → AreIndices name names (take i numbers) old → number ≡ get_or numbers i 0 → IsIndex names (name number) index → new ≡ old ++ index ∷ []
     → AreIndices name names (take (i + 1) numbers) new
@@ -91,3 +89,15 @@ indices_next name names numbers i number old new index below before is here long
             subst (λ k. IsIndex names (name k) (get_or new place 0)) (sym number_is) (subst (IsIndex names (name number)) (sym index_at) here)
       ];
     }
+
+-- ---- the name of a number
+
+-- the place of a number after these others
+pub place_below : (number others count : ℕ) → others ≤ number → number < others + count → number - others < count
+place_below number others count low high = omega (arith, low, high)
+
+-- the name of an entry is known where those of all entries are
+pub entry_known : {T : Type 0} (entries : List (String Global × T)) (names : List (List ℕ)) (k : ℕ) (name : List ℕ)
+    → ((index : ℕ) → index < length entries → is_known names (get_or (names_in entries) index []) ≡ true) → k < length entries
+    → name ≡ get_or (names_in entries) k [] → is_known names name ≡ true
+entry_known entries names k name known below is = ap (is_known names) is ∙ known k below

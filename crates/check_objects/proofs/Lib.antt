@@ -1,3 +1,12 @@
+pub mod NumberingLemmas
+pub mod ObjectLemmas
+pub mod NameLemmas
+pub mod InsertionLemmas
+pub mod BucketLemmas
+pub mod RankLemmas
+pub mod NumberLaws
+pub mod DependencyLemmas
+pub mod DependencyEndLemmas
 pub mod OrderLemmas
 pub mod SetupLemmas
 pub mod GetterLemmas

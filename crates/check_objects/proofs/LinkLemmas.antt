@@ -8,24 +8,24 @@ use Rattle.std.proofs.lemmas.Bool.{eqb-true, eq-eqb}
 use Rattle.std.proofs.lemmas.List.Folds.{list_any-append, list_all-append}
 use Rattle.std.proofs.lemmas.List.Sorted.{IsPermutation-map}
 use Rattle.std.proofs.lemmas.Slice.Eq.{bytes_eq-Decides}
-use Rattle.check_numbers.specs.Configuration.{Configuration, named_host, named_service, objects_of, object_count, number_of, name_of}
-use Rattle.check_drafts.specs.Draft.{Drafts, HostDraft, DependencyDraft}
-use Rattle.check_drafts.specs.Ends.{full_names, has_known_ends, is_known}
-use Rattle.check_faults.specs.Verification.{is_faultless}
-use Rattle.check_drafts.specs.Keys.{names_of}
+use Rattle.check_objects.specs.Configuration.{Configuration, named_host, named_service, objects_of, object_count, number_by_name, name_of}
+use Rattle.setup_model.specs.ParsedSetup.{ParsedSetup, ParsedHost, ParsedDependency}
+use Rattle.setup_model.specs.Ends.{full_names, has_known_ends, is_known}
+use Rattle.setup_reader.specs.Verification.{verification}
+use Rattle.setup_model.specs.Keys.{names_of}
 use Rattle.check_objects.specs.Links.{named_parents, named_dependency, named_dependencies, all_named_dependencies}
-use Rattle.check_numbers.specs.Numbering.{number_in, numbered_host, numbered_dependency, all_dependencies, dependencies_among, body_of, object_of}
-use Rattle.check_numbers.specs.Numbering.{hosts_in_order, services_in_order, names_in_order, configuration}
+use Rattle.check_objects.specs.Numbering.{index_of_name, numbered_host, numbered_dependency, all_dependencies, dependencies_among, host_body, object_of}
+use Rattle.check_objects.specs.Numbering.{hosts_in_order, services_in_order, names_in_order, configuration}
 use Rattle.std.proofs.lemmas.List.Folds.{list_all-map}
-use Rattle.check_drafts.proofs.ListLemmas.{list_any-map}
-use Rattle.check_numbers.proofs.BucketLemmas.{bucket, in_buckets, joined_same}
-use Rattle.link_order.proofs.TestLemmas.{and_first, and_second, and_both, or_second, or_first}
-use Rattle.check_numbers.proofs.DependencyLemmas.{list_of_object}
-use Rattle.check_numbers.proofs.NameLemmas.{HasNames, found, name_leads_back, all_moved}
+use Rattle.setup_model.proofs.ListLemmas.{list_any-map}
+use Rattle.check_objects.proofs.BucketLemmas.{bucket, in_buckets, joined_same}
+use Rattle.setup_order.proofs.TestLemmas.{and_first, and_second, and_both, or_second, or_first}
+use Rattle.check_objects.proofs.DependencyLemmas.{list_of_object}
+use Rattle.check_objects.proofs.NameLemmas.{HasNames, found, name_leads_back, all_moved}
 use Rattle.check_objects.proofs.OrderLemmas.{hosts_all, services_all}
 use Rattle.check_objects.proofs.NumberedLemmas.{HostEntry, host_names_are, host_named, known_in_order, full_name_in_order}
-use Rattle.check_numbers.proofs.NumberingLemmas.{map_twice}
-use Rattle.check_faults.proofs.FaultlessLemmas.{faultless}
+use Rattle.check_objects.proofs.NumberingLemmas.{map_twice}
+use Rattle.setup_reader.proofs.FaultlessLemmas.{faultless}
 use Rattle.check_objects.proofs.SetupLemmas.{names_of_document, dependents_within}
 
 -- ---- names of objects
@@ -36,7 +36,7 @@ is_object c name = list_any (λ o. bytes_eq name o.name) (objects_of c)
 
 -- the number that dependencies are listed under
 abbrev pub number_or_none : Configuration → List ℕ → ℕ
-number_or_none c name = unwrap_or (number_of c name) 0
+number_or_none c name = unwrap_or (number_by_name c name) 0
 
 -- the object with a name's number has the name
 pub back_to_name : (c : Configuration) (name : List ℕ) → is_object c name ≡ true → name_of c (number_or_none c name) ≡ name
@@ -58,17 +58,17 @@ number_is_name c names name n below known = same_by (number_or_none c name == n)
     (λ e. eq-eqb (number_or_none c name) n (ap (number_or_none c) ((bytes_eq-Decides name (name_of c n)).0 e)
     ∙ ap (λ o. unwrap_or o 0) (name_leads_back c names n below)))
 
-host_is_object : (ds : Drafts) → is_faultless ds ≡ Ok tt → (name : List ℕ) → is_known (names_of ds.hosts) name ≡ true → is_object (configuration ds) name ≡ true
+host_is_object : (ds : ParsedSetup) → verification ds ≡ Ok tt → (name : List ℕ) → is_known (names_of ds.hosts) name ≡ true → is_object (configuration ds) name ≡ true
 host_is_object ds e name known =
     let c = configuration ds in
     let hs = hosts_in_order ds.hosts in
     let ns = names_in_order ds.hosts in
     let there : list_any (λ o. bytes_eq name o.name) (map named_host c.hosts) ≡ true =
     list_any-map (λ o. bytes_eq name o.name) named_host c.hosts ∙ sym (list_any-map (bytes_eq name) (λ h. h.name) c.hosts)
-    ∙ ap (λ l. is_known l name) (host_names_are ns hs) ∙ sym (known_in_order ds.hosts body_of hs (hosts_all ds e) name) ∙ known in
+    ∙ ap (λ l. is_known l name) (host_names_are ns hs) ∙ sym (known_in_order ds.hosts host_body hs (hosts_all ds e) name) ∙ known in
     list_any-append (λ o. bytes_eq name o.name) (map named_host c.hosts) (map named_service c.services) ∙ or_first _ _ there
 
-service_is_object : (ds : Drafts) → is_faultless ds ≡ Ok tt → (name : List ℕ) → is_known (full_names ds.services) name ≡ true
+service_is_object : (ds : ParsedSetup) → verification ds ≡ Ok tt → (name : List ℕ) → is_known (full_names ds.services) name ≡ true
     → is_object (configuration ds) name ≡ true
 service_is_object ds e name known =
     let c = configuration ds in
@@ -79,18 +79,18 @@ service_is_object ds e name known =
     list_any-append (λ o. bytes_eq name o.name) (map named_host c.hosts) (map named_service c.services) ∙ or_second _ _ there
 
 -- both ends of the dependency are objects
-abbrev pub has_ends : Configuration → DependencyDraft → Bool
+abbrev pub has_ends : Configuration → ParsedDependency → Bool
 has_ends c d = is_object c d.dependent && is_object c d.master
 
 ends_are_objects : (c : Configuration) (names : List (List ℕ)) → ((name : List ℕ) → is_known names name ≡ true → is_object c name ≡ true)
-    → (ds : List DependencyDraft) → list_all (has_known_ends names) ds ≡ true → list_all (has_ends c) ds ≡ true
+    → (ds : List ParsedDependency) → list_all (has_known_ends names) ds ≡ true → list_all (has_ends c) ds ≡ true
 ends_are_objects c names known [] h = refl
 ends_are_objects c names known (d ∷ ds) h =
     let here = and_first _ _ h in
     and_both _ _ (and_both _ _ (known d.dependent (and_first _ _ here)) (known d.master (and_second _ _ here)))
     (ends_are_objects c names known ds (and_second _ _ h))
 
-pub all_have_ends : (ds : Drafts) → is_faultless ds ≡ Ok tt → list_all (has_ends (configuration ds)) (all_dependencies ds) ≡ true
+pub all_have_ends : (ds : ParsedSetup) → verification ds ≡ Ok tt → list_all (has_ends (configuration ds)) (all_dependencies ds) ≡ true
 all_have_ends ds e =
     let c = configuration ds in
     let f = faultless ds e in
@@ -101,14 +101,14 @@ all_have_ends ds e =
 -- ---- dependencies
 
 module _ (c : Configuration) where
-  there_and_back : (d : DependencyDraft) (n : ℕ) → has_ends c d ≡ true → number_or_none c d.dependent ≡ n
+  there_and_back : (d : ParsedDependency) (n : ℕ) → has_ends c d ≡ true → number_or_none c d.dependent ≡ n
       → named_dependency c n (numbered_dependency (objects_of c) d).1 ≡ d
   there_and_back d n h is =
       let dependent = ap (name_of c) (sym is) ∙ back_to_name c d.dependent (and_first _ _ h) in
       let master = back_to_name c d.master (and_second _ _ h) in
       λ i. record { dependent = dependent i; master = master i; criteria = d.criteria; inherits = d.inherits }
 
-  listed_by : (d : DependencyDraft) (ds : List DependencyDraft) (n : ℕ) (b : Bool) → (number_or_none c d.dependent == n) ≡ b → has_ends c d ≡ true
+  listed_by : (d : ParsedDependency) (ds : List ParsedDependency) (n : ℕ) (b : Bool) → (number_or_none c d.dependent == n) ≡ b → has_ends c d ≡ true
       → map (named_dependency c n) (dependencies_among (map (numbered_dependency (objects_of c)) ds) n) ≡ filter (λ x. number_or_none c x.dependent == n) ds
       → map (named_dependency c n) (map (λ x. x.1)
       (cond b (numbered_dependency (objects_of c) d ∷ filter (λ x. x.0 == n) (map (numbered_dependency (objects_of c)) ds))
@@ -117,12 +117,12 @@ module _ (c : Configuration) where
   listed_by d ds n true e h more = let here = there_and_back d n h (eqb-true (number_or_none c d.dependent) n e) in λ i. here i ∷ more i
   listed_by d ds n false e h more = more
 
-  pub listed_back : (n : ℕ) (ds : List DependencyDraft) → list_all (has_ends c) ds ≡ true
+  pub listed_back : (n : ℕ) (ds : List ParsedDependency) → list_all (has_ends c) ds ≡ true
       → map (named_dependency c n) (dependencies_among (map (numbered_dependency (objects_of c)) ds) n) ≡ filter (λ x. number_or_none c x.dependent == n) ds
   listed_back n [] h = refl
   listed_back n (d ∷ ds) h = listed_by d ds n (number_or_none c d.dependent == n) refl (and_first _ _ h) (listed_back n ds (and_second _ _ h))
 
-  pub by_name : HasNames c → (n : ℕ) → n < object_count c → (ds : List DependencyDraft) → list_all (has_ends c) ds ≡ true
+  pub by_name : HasNames c → (n : ℕ) → n < object_count c → (ds : List ParsedDependency) → list_all (has_ends c) ds ≡ true
       → filter (λ x. number_or_none c x.dependent == n) ds ≡ filter (λ x. bytes_eq x.dependent (name_of c n)) ds
   by_name names n below [] h = refl
   by_name names n below (d ∷ ds) h =
@@ -130,7 +130,7 @@ module _ (c : Configuration) where
       let more = by_name names n below ds (and_second _ _ h) in
       λ i. cond (test i) (d ∷ more i) (more i)
 
-named_at : (ds : Drafts) → is_faultless ds ≡ Ok tt → (n : ℕ) → n < object_count (configuration ds)
+named_at : (ds : ParsedSetup) → verification ds ≡ Ok tt → (n : ℕ) → n < object_count (configuration ds)
     → named_dependencies (configuration ds) n ≡ filter (λ x. number_or_none (configuration ds) x.dependent == n) (all_dependencies ds)
 named_at ds e n below =
     let c = configuration ds in
@@ -138,16 +138,16 @@ named_at ds e n below =
     ∙ listed_back c n (all_dependencies ds) (all_have_ends ds e)
 
 -- the dependencies of an object are those of the document with its name, in the same order
-pub dependencies_by_name : (ds : Drafts) (n : ℕ) → is_faultless ds ≡ Ok tt → n < object_count (configuration ds)
+pub dependencies_by_name : (ds : ParsedSetup) (n : ℕ) → verification ds ≡ Ok tt → n < object_count (configuration ds)
     → named_dependencies (configuration ds) n ≡ filter (λ d. bytes_eq d.dependent (name_of (configuration ds) n)) (all_dependencies ds)
 dependencies_by_name ds n e below =
     named_at ds e n below ∙ by_name (configuration ds) (names_of_document ds e) n below (all_dependencies ds) (all_have_ends ds e)
 
 -- and all of them are the document's
-pub dependencies_together : (ds : Drafts) → is_faultless ds ≡ Ok tt → IsPermutation (all_dependencies ds) (all_named_dependencies (configuration ds))
+pub dependencies_together : (ds : ParsedSetup) → verification ds ≡ Ok tt → IsPermutation (all_dependencies ds) (all_named_dependencies (configuration ds))
 dependencies_together ds e =
     let c = configuration ds in
-    let number = λ (d : DependencyDraft). number_or_none c d.dependent in
+    let number = λ (d : ParsedDependency). number_or_none c d.dependent in
     let below : list_all (λ d. nat_lt (number d) (object_count c)) (all_dependencies ds) ≡ true =
     sym (list_all-map (λ d. nat_lt d.0 (object_count c)) (numbered_dependency (objects_of c)) (all_dependencies ds)) ∙ dependents_within ds e in
     subst (IsPermutation (all_dependencies ds)) (joined_same (bucket number (all_dependencies ds)) (named_dependencies c) 0 (object_count c)
@@ -157,7 +157,7 @@ dependencies_together ds e =
 -- ---- parents
 
 parents_named : (c : Configuration) (hs : List HostEntry) → c.hosts ≡ map (numbered_host (map (λ h. h.0) hs)) hs → (ps : List (List ℕ))
-    → list_all (is_known (map (λ h. h.0) hs)) ps ≡ true → map (name_of c) (map (number_in (map (λ h. h.0) hs)) ps) ≡ ps
+    → list_all (is_known (map (λ h. h.0) hs)) ps ≡ true → map (name_of c) (map (index_of_name (map (λ h. h.0) hs)) ps) ≡ ps
 parents_named c hs are [] h = refl
 parents_named c hs are (p ∷ ps) h =
     let here = host_named c (map (λ x. x.0) hs) hs are p (and_first _ _ h) in
@@ -174,17 +174,17 @@ hosts_named c all are (e ∷ hs) h =
     λ i. (e.0, here i) ∷ more i
 
 -- the hosts and their parents are the document's
-pub parents_together : (ds : Drafts) → is_faultless ds ≡ Ok tt
+pub parents_together : (ds : ParsedSetup) → verification ds ≡ Ok tt
     → IsPermutation (map (λ h. (h.name, h.parents)) ds.hosts) (map (named_parents (configuration ds)) (configuration ds).hosts)
 parents_together ds e =
     let c = configuration ds in
     let hs = hosts_in_order ds.hosts in
-    let agree : is_known (names_of ds.hosts) ≡ is_known (map (λ h. h.0) hs) = λ i name. known_in_order ds.hosts body_of hs (hosts_all ds e) name i in
+    let agree : is_known (names_of ds.hosts) ≡ is_known (map (λ h. h.0) hs) = λ i name. known_in_order ds.hosts host_body hs (hosts_all ds e) name i in
     let known : list_all (λ x. list_all (is_known (map (λ h. h.0) hs)) x.1.1) hs ≡ true =
-    all_moved (λ (x : HostEntry). list_all (is_known (map (λ h. h.0) hs)) x.1.1) (map (λ h. (h.name, body_of h)) ds.hosts) hs (hosts_all ds e)
-    (list_all-map (λ (x : HostEntry). list_all (is_known (map (λ h. h.0) hs)) x.1.1) (λ (h : HostDraft). (h.name, body_of h)) ds.hosts
+    all_moved (λ (x : HostEntry). list_all (is_known (map (λ h. h.0) hs)) x.1.1) (map (λ h. (h.name, host_body h)) ds.hosts) hs (hosts_all ds e)
+    (list_all-map (λ (x : HostEntry). list_all (is_known (map (λ h. h.0) hs)) x.1.1) (λ (h : ParsedHost). (h.name, host_body h)) ds.hosts
     ∙ ap (λ k. list_all (λ h. list_all k h.parents) ds.hosts) (sym agree) ∙ (faultless ds e).parented) in
-    let moved = IsPermutation-map (λ (x : HostEntry). (x.0, x.1.1)) (map (λ h. (h.name, body_of h)) ds.hosts) hs (hosts_all ds e) in
+    let moved = IsPermutation-map (λ (x : HostEntry). (x.0, x.1.1)) (map (λ h. (h.name, host_body h)) ds.hosts) hs (hosts_all ds e) in
     subst (IsPermutation (map (λ h. (h.name, h.parents)) ds.hosts)) (sym (hosts_named c hs refl hs known))
     (subst (λ l. IsPermutation l (map (λ x. (x.0, x.1.1)) hs)) (sym
-    (map_twice (λ (x : HostEntry). (x.0, x.1.1)) (λ (h : HostDraft). (h.name, body_of h)) ds.hosts)) moved)
+    (map_twice (λ (x : HostEntry). (x.0, x.1.1)) (λ (h : ParsedHost). (h.name, host_body h)) ds.hosts)) moved)

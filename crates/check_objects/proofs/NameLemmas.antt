@@ -12,13 +12,13 @@ use Rattle.std.proofs.lemmas.List.Sorted.{All-permutation}
 use Rattle.std.proofs.lemmas.List.Sums.{AllPass-from_list_all, list_all-from_AllPass}
 use Rattle.std.proofs.lemmas.Option.{slice_get-map}
 use Rattle.std.proofs.lemmas.Slice.Eq.{bytes_eq-Decides}
-use Rattle.check_numbers.specs.Configuration.{Configuration, Host, Service, IsSetup, named_host, named_service, object_count, host_count, number_of}
-use Rattle.check_numbers.specs.Configuration.{name_of, pair_of}
-use Rattle.check_drafts.specs.Name.{full_name, is_name, is_name_byte, text_order, pair_order, is_host_name}
-use Rattle.check_drafts.proofs.ListLemmas.{position-map, position-front, position-back, one_found, one_missed}
-use Rattle.check_numbers.proofs.ObjectLemmas.{slice_get-front, slice_get-back}
-use Rattle.check_numbers.proofs.NumberingLemmas.{new_by_order, texts_apart, names_apart, all_good}
-use Rattle.link_order.proofs.TestLemmas.{and_first, and_second, and_both}
+use Rattle.check_objects.specs.Configuration.{Configuration, Host, Service, IsSetup, named_host, named_service, object_count, host_count, number_by_name}
+use Rattle.check_objects.specs.Configuration.{name_of, pair_of}
+use Rattle.setup_model.specs.Name.{full_name, is_name, is_name_byte, text_order, pair_order, is_host_name}
+use Rattle.setup_model.proofs.ListLemmas.{position-map, position-front, position-back, one_found, one_missed}
+use Rattle.check_objects.proofs.ObjectLemmas.{slice_get-front, slice_get-back}
+use Rattle.check_objects.proofs.NumberingLemmas.{new_by_order, texts_apart, names_apart, all_good}
+use Rattle.setup_order.proofs.TestLemmas.{and_first, and_second, and_both}
 
 -- ---- places
 
@@ -152,11 +152,11 @@ pub record HasNames (c : Configuration) : Type 0 where
   pub full_names : All (λ s. s.name ≡ full_name (pair_of c s)) c.services
   pub hosts_ascend : IsStrictlySortedBy text_order (map (λ h. h.name) c.hosts)
   pub services_ascend : IsStrictlySortedBy pair_order (map (pair_of c) c.services)
-  pub hosted : list_all (λ s. nat_lt s.host (length c.hosts)) c.services ≡ true
+  pub hosts_in_range : list_all (λ s. nat_lt s.host (length c.hosts)) c.services ≡ true
 
 pub names_of_setup : (c : Configuration) → IsSetup c → HasNames c
 names_of_setup c is =
-    record { host_names = is.host_names; full_names = is.full_names; hosts_ascend = is.hosts_ascend; services_ascend = is.services_ascend; hosted = is.hosted }
+    record { host_names = is.host_names; full_names = is.full_names; hosts_ascend = is.hosts_ascend; services_ascend = is.services_ascend; hosts_in_range = is.hosts_in_range }
 
 good_hosts : (c : Configuration) → HasNames c → list_all (λ h. is_host_name h.name) c.hosts ≡ true
 good_hosts c is =
@@ -164,7 +164,7 @@ good_hosts c is =
     (AllPass-from_list_all (λ h. is_name h.name) c.hosts is.host_names k d below))
 
 module _ (c : Configuration) (is : HasNames c) where
-  host_number : (n : ℕ) → n < host_count c → number_of c (name_of c n) ≡ Some n
+  host_number : (n : ℕ) → n < host_count c → number_by_name c (name_of c n) ≡ Some n
   host_number n below =
       let i = item_at c.hosts n below in
       let h = i.item in
@@ -174,7 +174,7 @@ module _ (c : Configuration) (is : HasNames c) where
       (drop (suc n) c.hosts) sorted (all_good (take n c.hosts ++ h ∷ drop (suc n) c.hosts)) in
       let place : position (λ o. bytes_eq h.name o.name) (map named_host c.hosts) ≡ Some n =
       position-map (λ o. bytes_eq h.name o.name) named_host c.hosts ∙ first_at (λ x. bytes_eq h.name x.name) c.hosts n h i.at (same_text h.name) new in
-      ap (number_of c) (name_of_host c n h i.at) ∙ position-front (λ o. bytes_eq h.name o.name) (map named_host c.hosts) (map named_service c.services) n place
+      ap (number_by_name c) (name_of_host c n h i.at) ∙ position-front (λ o. bytes_eq h.name o.name) (map named_host c.hosts) (map named_service c.services) n place
 
   host_of_service : (s : Service) → nat_lt s.host (length c.hosts) ≡ true → is_host_name (pair_of c s).0 ≡ true
   host_of_service s below =
@@ -203,13 +203,13 @@ module _ (c : Configuration) (is : HasNames c) where
       ap (λ a. bytes_eq a s.name) (named_after t q) ∙ ap (bytes_eq (full_name (pair_of c t))) (named_after s p)
       ∙ names_apart (pair_of c s) (pair_of c t) (and_first _ _ p) (and_first _ _ q) less
 
-  service_number : (j : ℕ) → j < length c.services → number_of c (name_of c (host_count c + j)) ≡ Some (host_count c + j)
+  service_number : (j : ℕ) → j < length c.services → number_by_name c (name_of c (host_count c + j)) ≡ Some (host_count c + j)
   service_number j below =
       let i = item_at c.services j below in
       let s = i.item in
       let named = recursion_from_All (λ t. t.name ≡ full_name (pair_of c t)) c.services is.full_names in
       let good : list_all is_named (take j c.services ++ s ∷ drop (suc j) c.services) ≡ true = ap (list_all is_named) (sym i.split)
-      ∙ all_named c.services is.hosted named in
+      ∙ all_named c.services is.hosts_in_range named in
       let sorted = subst (λ l. IsStrictlySortedBy pair_order (map (pair_of c) l)) i.split is.services_ascend in
       let new : list_any (λ x. bytes_eq s.name x.name) (take j c.services) ≡ false =
       new_by_order pair_order (pair_of c) (λ x. x.name) is_named services_apart (take j c.services) s (drop (suc j) c.services) sorted good in
@@ -219,13 +219,13 @@ module _ (c : Configuration) (is : HasNames c) where
       position-map (λ o. bytes_eq s.name o.name) named_host c.hosts
       ∙ nowhere (λ h. bytes_eq s.name h.name) c.hosts (no_host_has (λ h. h.name) s.name (pair_of c s) c.hosts
       (all_holds (λ t. t.name ≡ full_name (pair_of c t)) c.services j s named i.at) (good_hosts c is)) in
-      ap (number_of c) (name_of_service c j s i.at)
+      ap (number_by_name c) (name_of_service c j s i.at)
       ∙ position-back (λ o. bytes_eq s.name o.name) (map named_host c.hosts) (map named_service c.services) no_host
       ∙ ap (option_map (λ k. length (map named_host c.hosts) + k)) place
       ∙ ap (λ k. Some (k + j)) (length-map c.hosts named_host)
 
   -- the name of an object leads back to it
-  pub name_leads_back : (n : ℕ) → n < object_count c → number_of c (name_of c n) ≡ Some n
+  pub name_leads_back : (n : ℕ) → n < object_count c → number_by_name c (name_of c n) ≡ Some n
   name_leads_back n below = elim (cases_lt n (host_count c)) [
     | inl l ↦ host_number n l
     | inr l ↦ let j = n - host_count c in
@@ -239,5 +239,5 @@ module _ (c : Configuration) (is : HasNames c) where
           length-map c.hosts named_host,
           length-map c.services named_service,
         ) in
-        ap (λ k. number_of c (name_of c k)) whole ∙ service_number j within ∙ ap Some (sym whole)
+        ap (λ k. number_by_name c (name_of c k)) whole ∙ service_number j within ∙ ap Some (sym whole)
   ]

@@ -10,27 +10,28 @@ use Rattle.std.proofs.lemmas.List.Folds.{list_any-append}
 use Rattle.std.proofs.lemmas.List.Sorted.{list_any-IsPermutation}
 use Rattle.std.proofs.lemmas.Option.{get_or_from_slice_get, slice_get-map, unwrap_or-slice_get}
 use Rattle.std.proofs.lemmas.Slice.Eq.{bytes_eq-Decides}
-use Rattle.check_drafts.specs.declared.dependency.Dependency.{Dependency}
-use Rattle.check_drafts.specs.Draft.{Drafts, DependencyDraft, HostDraft}
-use Rattle.check_drafts.specs.Ends.{full_names, is_known}
-use Rattle.check_drafts.specs.Keys.{key_of, names_of}
-use Rattle.check_drafts.specs.Name.{full_name}
-use Rattle.check_drafts.proofs.ListLemmas.{list_any-map}
-use Rattle.check_drafts.proofs.RefusalLemmas.{have_known_ends}
-use Rattle.check_faults.specs.Verification.{is_faultless}
-use Rattle.check_faults.proofs.FaultlessLemmas.{faultless}
-use Rattle.check_numbers.specs.declared.numbering.Host.{Host}
-use Rattle.check_numbers.specs.declared.numbering.Service.{Service}
-use Rattle.check_numbers.specs.Configuration as spec
-use Rattle.check_numbers.specs.Configuration.{Configuration, IsSameSort, dependencies_of, host_count, masters_in, masters_of, name_of, named_host, named_service, number_of, object_count, objects_of, parents_by_host}
-use Rattle.check_numbers.specs.Entries.{host_entry, names_in, service_entry}
-use Rattle.check_numbers.specs.Numbering.{all_dependencies, configuration}
-use Rattle.check_numbers.proofs.NameLemmas.{found, item_at, name_leads_back, name_of_host}
-use Rattle.link_order.specs.Cycles.{links_of}
-use Rattle.link_order.specs.Ordering.{follower, IsCycle}
-use Rattle.link_order.specs.Orders.{is_among}
-use Rattle.link_order.proofs.TestLemmas.{and_first, and_second, and_both, below_is, is_below, or_cases, or_first, or_second}
-use Rattle.check_objects.specs.Cycles.{depends, has_dependency, has_parent, is_child, IsRound}
+use Rattle.setup_model.specs.declared.dependency.Dependency.{Dependency}
+use Rattle.setup_model.specs.ParsedSetup.{ParsedSetup, ParsedDependency, ParsedHost}
+use Rattle.setup_model.specs.Ends.{full_names, is_known}
+use Rattle.setup_model.specs.Keys.{key_of, names_of}
+use Rattle.setup_model.specs.Name.{full_name}
+use Rattle.setup_model.proofs.ListLemmas.{list_any-map}
+use Rattle.setup_model.proofs.RefusalLemmas.{have_known_ends}
+use Rattle.setup_reader.specs.Verification.{verification}
+use Rattle.setup_reader.proofs.FaultlessLemmas.{faultless}
+use Rattle.check_objects.specs.declared.object_index.Host.{Host}
+use Rattle.check_objects.specs.declared.object_index.Service.{Service}
+use Rattle.check_objects.specs.Configuration as spec
+use Rattle.check_objects.specs.Configuration.{Configuration, IsSameSort, dependencies_of, host_count, masters_in, masters_of, name_of, named_host}
+use Rattle.check_objects.specs.Configuration.{named_service, number_by_name, object_count, objects_of, parents_by_host}
+use Rattle.check_objects.specs.Entries.{host_entry, names_in, service_entry}
+use Rattle.check_objects.specs.Numbering.{all_dependencies, configuration}
+use Rattle.check_objects.proofs.NameLemmas.{found, item_at, name_leads_back, name_of_host}
+use Rattle.setup_order.specs.Cycles.{links_of}
+use Rattle.setup_order.specs.Results.{successor, IsCycle}
+use Rattle.setup_order.specs.Orders.{is_among}
+use Rattle.setup_order.proofs.TestLemmas.{and_first, and_second, and_both, below_is, is_below, or_cases, or_first, or_second}
+use Rattle.check_objects.specs.Cycles.{depends, has_dependency, has_parent, is_child, IsCanonicalCycle}
 use Rattle.check_objects.specs.Indices.{AreIndices, BeginsWithLeast}
 use Rattle.check_objects.specs.Links.{named_dependency, named_dependencies, named_parents}
 use Rattle.check_objects.proofs.EndLemmas.{host_known, names_apart, service_known}
@@ -56,7 +57,7 @@ named_services (s ∷ services) = ap (λ l. string_bytes s.0 ∷ l) (named_servi
 
 name_got : (c : Configuration) (n : ℕ) → name_of c n ≡ get_or (map (λ o. o.name) (objects_of c)) n []
 name_got c n =
-    ap (λ o. unwrap_or o []) (sym (slice_get-map (λ (o : spec.Named). o.name) (objects_of c) n)) ∙ unwrap_or-slice_get (map (λ o. o.name) (objects_of c)) n []
+    ap (λ o. unwrap_or o []) (sym (slice_get-map (λ (o : spec.NamedObject). o.name) (objects_of c) n)) ∙ unwrap_or-slice_get (map (λ o. o.name) (objects_of c)) n []
 
 -- some name is at each index of a list of them
 pub known_at : (names : List (List ℕ)) (i : ℕ) → i < length names → is_known names (get_or names i []) ≡ true
@@ -68,8 +69,8 @@ module _ (c : Configuration) (hosts : List (String Global × Host)) (services : 
     (hosts_are : map host_entry hosts ≡ c.hosts) (services_are : map service_entry services ≡ c.services) where
   names_are : map (λ o. o.name) (objects_of c) ≡ names_in hosts ++ names_in services
   names_are =
-      (λ i. map (λ (o : spec.Named). o.name) (map named_host (sym hosts_are i) ++ map named_service (sym services_are i)))
-      ∙ map-append (λ (o : spec.Named). o.name) (map named_host (map host_entry hosts)) (map named_service (map service_entry services))
+      (λ i. map (λ (o : spec.NamedObject). o.name) (map named_host (sym hosts_are i) ++ map named_service (sym services_are i)))
+      ∙ map-append (λ (o : spec.NamedObject). o.name) (map named_host (map host_entry hosts)) (map named_service (map service_entry services))
       ∙ (λ i. named_hosts hosts i ++ named_services services i)
 
   pub service_name_at : (n : ℕ) → length hosts ≤ n → get_or (names_in services) (n - length hosts) [] ≡ name_of c n
@@ -110,7 +111,7 @@ among_named c n m (d ∷ ls) h = elim (or_cases (d.master == m) (is_among (maste
   | inr there ↦ or_second _ _ (among_named c n m ls there)
 ]
 
-dependent_known : (names : List (List ℕ)) (ds : List DependencyDraft) (a b : List ℕ) → have_known_ends names ds ≡ true → has_dependency ds a b ≡ true
+dependent_known : (names : List (List ℕ)) (ds : List ParsedDependency) (a b : List ℕ) → have_known_ends names ds ≡ true → has_dependency ds a b ≡ true
     → is_known names a ≡ true
 dependent_known names [] a b known h = cc
 dependent_known names (d ∷ ds) a b known h = elim (or_cases (bytes_eq d.dependent a && bytes_eq d.master b) (has_dependency ds a b) h) [
@@ -129,7 +130,7 @@ not_below first n hosts count same sort past =
     let none : nat_lt first hosts ≡ false = grind (arith, nat_tests, same, past) in
     let low : nat_lt n hosts ≡ false = sort ∙ none in grind (arith, nat_tests, low, same)
 
-module _ (ds : Drafts) (e : is_faultless ds ≡ Ok tt) where
+module _ (ds : ParsedSetup) (e : verification ds ≡ Ok tt) where
   dependency_named : (n m : ℕ) → n < object_count (configuration ds) → is_among (links_of (masters_of (configuration ds)) n) m ≡ true
       → has_dependency (all_dependencies ds) (name_of (configuration ds) n) (name_of (configuration ds) m) ≡ true
   dependency_named n m below among =
@@ -147,7 +148,7 @@ module _ (ds : Drafts) (e : is_faultless ds ≡ Ok tt) where
       → name_of (configuration ds) m ≡ name_of (configuration ds) n → m ≡ n
   numbers_apart m n h k same =
       let names = names_of_document ds e in
-      let one : Some m ≡ Some n = sym (name_leads_back (configuration ds) names m h) ∙ ap (number_of (configuration ds)) same
+      let one : Some m ≡ Some n = sym (name_leads_back (configuration ds) names m h) ∙ ap (number_by_name (configuration ds)) same
       ∙ name_leads_back (configuration ds) names n k in cc
 
   -- a cycle of numbers whose names are such, told by indices from the least on
@@ -157,7 +158,7 @@ module _ (ds : Drafts) (e : is_faultless ds ≡ Ok tt) where
       → ((i : ℕ) → i < length numbers → get_or numbers i 0 < object_count (configuration ds))
       → ((i m : ℕ) → i < length numbers → is_among (links_of links (get_or numbers i 0)) m ≡ true
       → says (name_of (configuration ds) (get_or numbers i 0)) (name_of (configuration ds) m) ≡ true)
-      → IsRound (length names) (λ a b. says (get_or names a []) (get_or names b [])) new
+      → IsCanonicalCycle (length names) (λ a b. says (get_or names a []) (get_or names b [])) new
   round_by links numbers cycle name names old new are begins says named below linked =
       told_round old new begins links numbers cycle name names are says (λ i j h k same.
       numbers_apart (get_or numbers i 0) (get_or numbers j 0) (below i h) (below j k) (sym (named i h) ∙ same ∙ named j k)) (λ i h.
@@ -182,9 +183,9 @@ module _ (ds : Drafts) (e : is_faultless ds ≡ Ok tt) where
   pub cycle_below : (numbers : List ℕ) → IsCycle (masters_of (configuration ds)) numbers → (i : ℕ) → i < length numbers
       → get_or numbers i 0 < object_count (configuration ds)
   cycle_below numbers cycle i h =
-      omega (arith, cycle.within i h, length-map (configuration ds).dependencies masters_in, (has_lists ds e).listed)
+      omega (arith, cycle.within i h, length-map (configuration ds).dependencies masters_in, (has_lists ds e).one_list_each)
 
-  follows_at : (numbers : List ℕ) (i : ℕ) → suc i < length numbers → follower numbers i ≡ get_or numbers (suc i) 0
+  follows_at : (numbers : List ℕ) (i : ℕ) → suc i < length numbers → successor numbers i ≡ get_or numbers (suc i) 0
   follows_at numbers i h =
       let test : nat_lt (i + 1) (length numbers) ≡ true = grind (arith, nat_tests, h) in
       let one : i + 1 ≡ suc i = omega arith in
@@ -208,7 +209,7 @@ name_at [] n h at = cc
 name_at (x ∷ hs) zero h at = let same : x ≡ h = cc in ap (λ y. y.name) same
 name_at (x ∷ hs) (suc n) h at = name_at hs n h at
 
-module _ (ds : Drafts) (e : is_faultless ds ≡ Ok tt) (hosts : List (String Global × Host)) (hosts_are : map host_entry hosts ≡ (configuration ds).hosts) where
+module _ (ds : ParsedSetup) (e : verification ds ≡ Ok tt) (hosts : List (String Global × Host)) (hosts_are : map host_entry hosts ≡ (configuration ds).hosts) where
   pub host_count_is : length hosts ≡ host_count (configuration ds)
   host_count_is = sym (length-map hosts host_entry) ∙ ap length hosts_are
 
@@ -258,21 +259,21 @@ module _ (ds : Drafts) (e : is_faultless ds ≡ Ok tt) (hosts : List (String Glo
       let parents = among_known item.item.parents m (ap (λ l. is_among l m) (sym (parents_at conf.hosts n item.item item.at)) ∙ among) in
       let there = any_at test (map (named_parents conf) conf.hosts) n (named_parents conf item.item)
       (slice_get-map (named_parents conf) conf.hosts n ∙ ap (option_map (named_parents conf)) item.at) (and_both _ _ name parents) in
-      sym (list_any-map test (λ (h : HostDraft). (h.name, h.parents)) ds.hosts)
+      sym (list_any-map test (λ (h : ParsedHost). (h.name, h.parents)) ds.hosts)
       ∙ list_any-IsPermutation test (map (λ h. (h.name, h.parents)) ds.hosts) (map (named_parents conf) conf.hosts) (parents_together ds e) ∙ there
 
   pub parent_round : (numbers : List ℕ) → IsCycle (parents_by_host (configuration ds)) numbers → ((i : ℕ) → i < length numbers → get_or numbers i 0 < length hosts)
       → (names : List (List ℕ)) (old new : List ℕ) → names ≡ names_of ds.hosts
       → AreIndices (λ n. get_or (names_in hosts) (n - 0) []) names numbers old → BeginsWithLeast old new
-      → IsRound (length ds.hosts) (is_child ds) new
+      → IsCanonicalCycle (length ds.hosts) (is_child ds) new
   parent_round numbers cycle below names old new are indices begins =
       let round = round_by ds e (parents_by_host (configuration ds)) numbers cycle (λ n. get_or (names_in hosts) (n - 0) []) names old new indices begins (has_parent ds) (λ i h.
       ap (λ n. get_or (names_in hosts) n []) (less_none (get_or numbers i 0)) ∙ host_name_at (get_or numbers i 0) (below i h))
       (λ i h. host_below (get_or numbers i 0) (below i h)) (λ i m h among. parent_named (get_or numbers i 0) m (below i h) among) in
-      subst (λ n. IsRound n (is_child ds) new) (length-map ds.hosts (λ h. h.name))
-      (subst (λ l. IsRound (length l) (λ a b. has_parent ds (get_or l a []) (get_or l b [])) new) are round)
+      subst (λ n. IsCanonicalCycle n (is_child ds) new) (length-map ds.hosts (λ h. h.name))
+      (subst (λ l. IsCanonicalCycle (length l) (λ a b. has_parent ds (get_or l a []) (get_or l b [])) new) are round)
 
-module _ (ds : Drafts) (e : is_faultless ds ≡ Ok tt) (hosts : List (String Global × Host)) (services : List (String Global × Service))
+module _ (ds : ParsedSetup) (e : verification ds ≡ Ok tt) (hosts : List (String Global × Host)) (services : List (String Global × Service))
     (hosts_are : map host_entry hosts ≡ (configuration ds).hosts) (services_are : map service_entry services ≡ (configuration ds).services) where
   apart : (name : List ℕ) → is_known (full_names ds.services) name ≡ true → is_known (names_of ds.hosts) name ≡ true → ⊥
   apart name service host =
@@ -319,7 +320,7 @@ module _ (ds : Drafts) (e : is_faultless ds ≡ Ok tt) (hosts : List (String Glo
   pub host_round : (numbers : List ℕ) → IsCycle (masters_of (configuration ds)) numbers → ((i : ℕ) → i < length numbers → get_or numbers i 0 < length hosts)
       → (names : List (List ℕ)) (old new : List ℕ) → names ≡ names_of ds.hosts
       → AreIndices (λ n. get_or (names_in hosts) (n - 0) []) names numbers old → BeginsWithLeast old new
-      → IsRound (length ds.hosts) (depends ds.host_dependencies (names_of ds.hosts)) new
+      → IsCanonicalCycle (length ds.hosts) (depends ds.host_dependencies (names_of ds.hosts)) new
   host_round numbers cycle below names old new are indices begins =
       let round = round_by ds e (masters_of (configuration ds)) numbers cycle (λ n. get_or (names_in hosts) (n - 0) []) names old new indices begins
       (has_dependency ds.host_dependencies) (λ i h.
@@ -327,15 +328,15 @@ module _ (ds : Drafts) (e : is_faultless ds ≡ Ok tt) (hosts : List (String Glo
       (λ i h. omega (arith, below i h, object_count_is)) (λ i m h among.
       host_dependency (name_of (configuration ds) (get_or numbers i 0)) (name_of (configuration ds) m) (hosts_known ds e hosts hosts_are (get_or numbers i 0) (below i h))
       (dependency_named ds e (get_or numbers i 0) m (omega (arith, below i h, object_count_is)) among)) in
-      subst (λ n. IsRound n (depends ds.host_dependencies (names_of ds.hosts)) new) (length-map ds.hosts (λ h. h.name))
-      (subst (λ l. IsRound (length l) (depends ds.host_dependencies l) new) are round)
+      subst (λ n. IsCanonicalCycle n (depends ds.host_dependencies (names_of ds.hosts)) new) (length-map ds.hosts (λ h. h.name))
+      (subst (λ l. IsCanonicalCycle (length l) (depends ds.host_dependencies l) new) are round)
 
   pub service_round : (others : ℕ) (numbers : List ℕ) → others ≡ length hosts → IsCycle (masters_of (configuration ds)) numbers
       → ((i : ℕ) → i < length numbers → others ≤ get_or numbers i 0)
       → ((i : ℕ) → i < length numbers → get_or numbers i 0 < others + length services)
       → (names : List (List ℕ)) (old new : List ℕ) → names ≡ full_names ds.services
       → AreIndices (λ n. get_or (names_in services) (n - others) []) names numbers old → BeginsWithLeast old new
-      → IsRound (length ds.services) (depends ds.service_dependencies (full_names ds.services)) new
+      → IsCanonicalCycle (length ds.services) (depends ds.service_dependencies (full_names ds.services)) new
   service_round others numbers count cycle low high names old new are indices begins =
       let round = round_by ds e (masters_of (configuration ds)) numbers cycle (λ n. get_or (names_in services) (n - others) []) names old new indices begins
       (has_dependency ds.service_dependencies) (λ i h.
@@ -345,8 +346,8 @@ module _ (ds : Drafts) (e : is_faultless ds ≡ Ok tt) (hosts : List (String Glo
       service_dependency (name_of (configuration ds) (get_or numbers i 0)) (name_of (configuration ds) m)
       (services_known (get_or numbers i 0) (omega (arith, low i h, count)) (omega (arith, high i h, count)))
       (dependency_named ds e (get_or numbers i 0) m (omega (arith, high i h, count, object_count_is)) among)) in
-      subst (λ n. IsRound n (depends ds.service_dependencies (full_names ds.services)) new) (length-map ds.services (λ s. full_name (key_of s)))
-      (subst (λ l. IsRound (length l) (depends ds.service_dependencies l) new) are round)
+      subst (λ n. IsCanonicalCycle n (depends ds.service_dependencies (full_names ds.services)) new) (length-map ds.services (λ s. full_name (key_of s)))
+      (subst (λ l. IsCanonicalCycle (length l) (depends ds.service_dependencies l) new) are round)
 
   -- ---- all objects of a cycle are of one sort
 

@@ -13,16 +13,16 @@ use Rattle.std.proofs.lemmas.List.Folds.{list_any-append, list_all-map}
 use Rattle.std.proofs.lemmas.List.Sorted.{IsPermutation-refl, IsPermutation-sym, IsPermutation-trans, IsPermutation-cons, IsPermutation-middle}
 use Rattle.std.proofs.lemmas.List.Sorted.{IsPermutation-append_left, length_permutation}
 use Rattle.std.proofs.lemmas.Map.Text.{is_eq-slice_cmp}
-use Rattle.check_drafts.specs.declared.object.Object.{Object}
-use Rattle.check_drafts.specs.Draft.{HostDraft, ServiceDraft}
-use Rattle.check_drafts.specs.Keys.{names_of, first_repeat, same_key, key_of}
-use Rattle.check_drafts.specs.Drafted.{texts}
-use Rattle.check_numbers.specs.Numbering.{body_of, object_of, hosts_in_order, services_in_order}
-use Rattle.check_drafts.specs.Name.{is_host_name, text_order, pair_order}
-use Rattle.check_numbers.proofs.RankLemmas.{ascending_is_in_order, in_order_all}
-use Rattle.check_numbers.proofs.NameLemmas.{all_moved}
-use Rattle.check_drafts.proofs.RepeatLemmas.{first_repeat_is, repeat_after}
-use Rattle.check_numbers.proofs.Placed.{placed}
+use Rattle.setup_model.specs.declared.parsed_setup.Object.{Object}
+use Rattle.setup_model.specs.ParsedSetup.{ParsedHost, ParsedService}
+use Rattle.setup_model.specs.Keys.{names_of, first_repeat, is_same_key, key_of}
+use Rattle.setup_model.specs.ParsedViews.{texts}
+use Rattle.check_objects.specs.Numbering.{host_body, object_of, hosts_in_order, services_in_order}
+use Rattle.setup_model.specs.Name.{is_host_name, text_order, pair_order}
+use Rattle.check_objects.proofs.RankLemmas.{ascending_is_in_order, in_order_all}
+use Rattle.check_objects.proofs.NameLemmas.{all_moved}
+use Rattle.setup_model.proofs.RepeatLemmas.{first_repeat_is, repeat_after}
+use Rattle.check_objects.proofs.InsertionLemmas.{placed}
 
 or_swap : (a b c : Bool) → (a || (b || c)) ≡ (b || (a || c))
 or_swap true true c = refl
@@ -153,45 +153,45 @@ is_eq-then Less b = refl
 is_eq-then Equal b = refl
 is_eq-then Greater b = refl
 
-pub pairs_agree : (p q : List ℕ × List ℕ) → same_key p q ≡ is_eq (pair_order p q)
+pub pairs_agree : (p q : List ℕ × List ℕ) → is_same_key p q ≡ is_eq (pair_order p q)
 pairs_agree p q =
     ap (λ b. b && bytes_eq p.1 q.1) (texts_agree p.0 q.0) ∙ ap (λ b. is_eq (text_order p.0 q.0) && b) (texts_agree p.1 q.1)
     ∙ sym (is_eq-then (text_order p.0 q.0) (text_order p.1 q.1))
 
 -- the hosts put in one after another, where no name comes twice
-pub hosts_placed : (hosts : List HostDraft) → first_repeat bytes_eq (names_of hosts) ≡ None
-    → placed text_order (λ h. h.name) body_of [] hosts ≡ hosts_in_order hosts
+pub hosts_placed : (hosts : List ParsedHost) → first_repeat bytes_eq (names_of hosts) ≡ None
+    → placed text_order (λ h. h.name) host_body [] hosts ≡ hosts_in_order hosts
 unfolding IsStrictlySortedBy
 hosts_placed hosts apart =
-    ascending_is_in_order text_order texts_total (λ h. h.name) body_of hosts (placed text_order (λ h. h.name) body_of [] hosts)
+    ascending_is_in_order text_order texts_total (λ h. h.name) host_body hosts (placed text_order (λ h. h.name) host_body [] hosts)
     (placed_all text_order texts_total bytes_eq texts_agree
-    (λ h. h.name) body_of [] [] 0 hosts (λ q. refl) (sym (first_repeat_is bytes_eq (names_of hosts)) ∙ apart))
-    (placed_ascending text_order texts_total (λ h. h.name) body_of [] hosts tt)
+    (λ h. h.name) host_body [] [] 0 hosts (λ q. refl) (sym (first_repeat_is bytes_eq (names_of hosts)) ∙ apart))
+    (placed_ascending text_order texts_total (λ h. h.name) host_body [] hosts tt)
 
 -- the services put in one after another, where no pair comes twice
-pub services_placed : (services : List ServiceDraft) → first_repeat same_key (map key_of services) ≡ None
+pub services_placed : (services : List ParsedService) → first_repeat is_same_key (map key_of services) ≡ None
     → placed pair_order key_of (λ s. object_of s.check) [] services ≡ services_in_order services
 unfolding IsStrictlySortedBy
 services_placed services apart =
     ascending_is_in_order pair_order pairs_total key_of (λ s. object_of s.check) services (placed pair_order key_of (λ s. object_of s.check) [] services)
-    (placed_all pair_order pairs_total same_key pairs_agree key_of
-    (λ s. object_of s.check) [] [] 0 services (λ q. refl) (sym (first_repeat_is same_key (map key_of services)) ∙ apart))
+    (placed_all pair_order pairs_total is_same_key pairs_agree key_of
+    (λ s. object_of s.check) [] [] 0 services (λ q. refl) (sym (first_repeat_is is_same_key (map key_of services)) ∙ apart))
     (placed_ascending pair_order pairs_total key_of (λ s. object_of s.check) [] services tt)
 
-pub every_host : (hosts : List HostDraft) → IsPermutation (map (λ h. (h.name, body_of h)) hosts) (hosts_in_order hosts)
-every_host hosts = in_order_all text_order texts_total (λ h. h.name) body_of hosts
+pub every_host : (hosts : List ParsedHost) → IsPermutation (map (λ h. (h.name, host_body h)) hosts) (hosts_in_order hosts)
+every_host hosts = in_order_all text_order texts_total (λ h. h.name) host_body hosts
 
-pub every_service : (services : List ServiceDraft) → IsPermutation (map (λ s. (key_of s, object_of s.check)) services) (services_in_order services)
+pub every_service : (services : List ParsedService) → IsPermutation (map (λ s. (key_of s, object_of s.check)) services) (services_in_order services)
 every_service services = in_order_all pair_order pairs_total key_of (λ s. object_of s.check) services
 
-pub apart_hosts_ascend : (hosts : List HostDraft) → first_repeat bytes_eq (names_of hosts) ≡ None
+pub apart_hosts_ascend : (hosts : List ParsedHost) → first_repeat bytes_eq (names_of hosts) ≡ None
     → IsStrictlySortedBy text_order (map (λ e. e.0) (hosts_in_order hosts))
 unfolding IsStrictlySortedBy
 apart_hosts_ascend hosts apart =
     subst (λ l. IsStrictlySortedBy text_order (map (λ e. e.0) l)) (hosts_placed hosts apart)
-    (placed_ascending text_order texts_total (λ h. h.name) body_of [] hosts tt)
+    (placed_ascending text_order texts_total (λ h. h.name) host_body [] hosts tt)
 
-pub apart_services_ascend : (services : List ServiceDraft) → first_repeat same_key (map key_of services) ≡ None
+pub apart_services_ascend : (services : List ParsedService) → first_repeat is_same_key (map key_of services) ≡ None
     → IsStrictlySortedBy pair_order (map (λ e. e.0) (services_in_order services))
 unfolding IsStrictlySortedBy
 apart_services_ascend services apart =
@@ -201,23 +201,23 @@ apart_services_ascend services apart =
 -- ---- counts and names, in order
 
 -- as many hosts in order as there are
-pub hosts_counted : (hosts : List HostDraft) → length (hosts_in_order hosts) ≡ length hosts
+pub hosts_counted : (hosts : List ParsedHost) → length (hosts_in_order hosts) ≡ length hosts
 hosts_counted hosts =
-    length_permutation (map (λ h. (h.name, body_of h)) hosts) (hosts_in_order hosts) (every_host hosts)
-    ∙ length-map hosts (λ (h : HostDraft). (h.name, body_of h))
+    length_permutation (map (λ h. (h.name, host_body h)) hosts) (hosts_in_order hosts) (every_host hosts)
+    ∙ length-map hosts (λ (h : ParsedHost). (h.name, host_body h))
 
 -- as many services in order as there are
-pub services_counted : (services : List ServiceDraft) → length (services_in_order services) ≡ length services
+pub services_counted : (services : List ParsedService) → length (services_in_order services) ≡ length services
 services_counted services =
     length_permutation (map (λ s. (key_of s, object_of s.check)) services) (services_in_order services) (every_service services)
-    ∙ length-map services (λ (s : ServiceDraft). (key_of s, object_of s.check))
+    ∙ length-map services (λ (s : ParsedService). (key_of s, object_of s.check))
 
 -- where no service's host has a semicolon in its name, none in order has
-pub parted_in_order : (services : List ServiceDraft) → list_all (λ s. is_host_name s.host) services ≡ true
+pub parted_in_order : (services : List ParsedService) → list_all (λ s. is_host_name s.host) services ≡ true
     → list_all (λ e. is_host_name e.0.0) (services_in_order services) ≡ true
-parted_in_order services parted =
+parted_in_order services without_semicolon =
     all_moved (λ x. is_host_name x.0.0) (map (λ s. (key_of s, object_of s.check)) services) (services_in_order services) (every_service services)
-    (list_all-map (λ x. is_host_name x.0.0) (λ (s : ServiceDraft). (key_of s, object_of s.check)) services ∙ parted)
+    (list_all-map (λ x. is_host_name x.0.0) (λ (s : ParsedService). (key_of s, object_of s.check)) services ∙ without_semicolon)
 
 -- the names of few hosts are few
 pub few_names : (keys : List (Bor (List ℕ))) (sorted ordered : List (List ℕ × (Object × List (List ℕ)))) → texts keys ≡ map (λ e. e.0) sorted

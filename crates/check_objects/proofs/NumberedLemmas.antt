@@ -11,18 +11,19 @@ use Rattle.std.proofs.lemmas.List.Sorted.{IsPermutation-map, list_any-IsPermutat
 use Rattle.std.proofs.lemmas.List.Sums.{sum_by-cons}
 use Rattle.std.proofs.lemmas.Option.{slice_get-map}
 use Rattle.std.proofs.lemmas.Slice.Eq.{bytes_eq-Decides}
-use Rattle.check_drafts.specs.declared.dependency.Dependency.{Dependency}
-use Rattle.check_drafts.specs.declared.object.Object.{Object}
-use Rattle.check_numbers.specs.Configuration.{Configuration, Host, Service, Named, named_host, named_service, host_count, number_of, name_of, pair_of}
-use Rattle.check_drafts.specs.Name.{full_name, is_host_name}
-use Rattle.check_drafts.specs.Draft.{HostDraft, ServiceDraft, DependencyDraft}
-use Rattle.check_drafts.specs.Ends.{full_names, has_known_ends, is_known}
-use Rattle.check_drafts.specs.Keys.{names_of, key_of}
-use Rattle.check_numbers.specs.Numbering.{number_in, numbered_host, numbered_service, numbered_dependency, dependencies_among, dependency_lists}
-use Rattle.check_drafts.proofs.ListLemmas.{list_any-map, position-map, sum_by-map, position-front, position-back}
-use Rattle.check_numbers.proofs.NumberingLemmas.{map_twice}
-use Rattle.link_order.proofs.TestLemmas.{and_first, and_second}
-use Rattle.check_numbers.proofs.NameLemmas.{found, nowhere, no_host_has, name_of_host}
+use Rattle.setup_model.specs.declared.dependency.Dependency.{Dependency}
+use Rattle.setup_model.specs.declared.parsed_setup.Object.{Object}
+use Rattle.check_objects.specs.Configuration.{Configuration, Host, Service, NamedObject, named_host, named_service, host_count, number_by_name, name_of}
+use Rattle.check_objects.specs.Configuration.{pair_of}
+use Rattle.setup_model.specs.Name.{full_name, is_host_name}
+use Rattle.setup_model.specs.ParsedSetup.{ParsedHost, ParsedService, ParsedDependency}
+use Rattle.setup_model.specs.Ends.{full_names, has_known_ends, is_known}
+use Rattle.setup_model.specs.Keys.{names_of, key_of}
+use Rattle.check_objects.specs.Numbering.{index_of_name, numbered_host, numbered_service, numbered_dependency, dependencies_among, dependency_lists}
+use Rattle.setup_model.proofs.ListLemmas.{list_any-map, position-map, sum_by-map, position-front, position-back}
+use Rattle.check_objects.proofs.NumberingLemmas.{map_twice}
+use Rattle.setup_order.proofs.TestLemmas.{and_first, and_second}
+use Rattle.check_objects.proofs.NameLemmas.{found, nowhere, no_host_has, name_of_host}
 
 -- what is kept of a host, and of a service
 abbrev pub HostEntry : Type 0
@@ -39,10 +40,10 @@ host_names_are ns (h ∷ hs) = ap (λ l. h.0 ∷ l) (host_names_are ns hs)
 
 module _ (c : Configuration) (ns : List (List ℕ)) (hs : List HostEntry) (are : c.hosts ≡ map (numbered_host ns) hs) where
   -- the host with the number of a name has that name
-  pub host_named : (name : List ℕ) → is_known (map (λ h. h.0) hs) name ≡ true → name_of c (number_in (map (λ h. h.0) hs) name) ≡ name
+  pub host_named : (name : List ℕ) → is_known (map (λ h. h.0) hs) name ≡ true → name_of c (index_of_name (map (λ h. h.0) hs) name) ≡ name
   host_named name known =
       let f = found (λ (h : HostEntry). bytes_eq name h.0) hs (sym (list_any-map (bytes_eq name) (λ h. h.0) hs) ∙ known) in
-      let number : number_in (map (λ h. h.0) hs) name ≡ f.index = ap (λ o. unwrap_or o 0) (position-map (bytes_eq name) (λ h. h.0) hs ∙ f.place) in
+      let number : index_of_name (map (λ h. h.0) hs) name ≡ f.index = ap (λ o. unwrap_or o 0) (position-map (bytes_eq name) (λ h. h.0) hs ∙ f.place) in
       let at : slice_get c.hosts f.index ≡ Some (numbered_host ns f.item) = ap
       (λ l. slice_get l f.index) are ∙ slice_get-map (numbered_host ns) hs f.index ∙ ap (option_map (numbered_host ns)) f.at in
       ap (name_of c) number ∙ name_of_host c f.index (numbered_host ns f.item) at ∙ sym ((bytes_eq-Decides name f.item.0).0 f.passes)
@@ -64,16 +65,16 @@ module _ (c : Configuration) (ns : List (List ℕ)) (hs : List HostEntry) (are :
 
 -- ---- the names of a document among those in order
 
-module _ (hosts : List HostDraft) (body : HostDraft → Object × List (List ℕ)) (hs : List HostEntry)
+module _ (hosts : List ParsedHost) (body : ParsedHost → Object × List (List ℕ)) (hs : List HostEntry)
     (moved : IsPermutation (map (λ h. (h.name, body h)) hosts) hs) where
   -- a name is a host's of the document where it is one's of those in order
   pub known_in_order : (name : List ℕ) → is_known (names_of hosts) name ≡ is_known (map (λ h. h.0) hs) name
   known_in_order name =
-      ap (list_any (bytes_eq name)) (map_twice (λ (e : HostEntry). e.0) (λ (h : HostDraft). (h.name, body h)) hosts)
+      ap (list_any (bytes_eq name)) (map_twice (λ (e : HostEntry). e.0) (λ (h : ParsedHost). (h.name, body h)) hosts)
       ∙ list_any-IsPermutation (bytes_eq name) (map (λ e. e.0) (map (λ h. (h.name, body h)) hosts)) (map (λ e. e.0) hs)
       (IsPermutation-map (λ (e : HostEntry). e.0) (map (λ h. (h.name, body h)) hosts) hs moved)
 
-module _ (services : List ServiceDraft) (body : ServiceDraft → Object) (ss : List ServiceEntry)
+module _ (services : List ParsedService) (body : ParsedService → Object) (ss : List ServiceEntry)
     (moved : IsPermutation (map (λ s. (key_of s, body s)) services) ss) where
   -- a full name is a service's of those in order where it is one's of the document
   pub full_name_in_order : (ns : List (List ℕ)) (name : List ℕ)
@@ -81,20 +82,20 @@ module _ (services : List ServiceDraft) (body : ServiceDraft → Object) (ss : L
   full_name_in_order ns name =
       list_any-map (λ s. bytes_eq name s.name) (numbered_service ns) ss
       ∙ sym (list_any-IsPermutation (λ (e : ServiceEntry). bytes_eq name (full_name e.0)) (map (λ s. (key_of s, body s)) services) ss moved)
-      ∙ list_any-map (λ (e : ServiceEntry). bytes_eq name (full_name e.0)) (λ (s : ServiceDraft). (key_of s, body s)) services
+      ∙ list_any-map (λ (e : ServiceEntry). bytes_eq name (full_name e.0)) (λ (s : ParsedService). (key_of s, body s)) services
       ∙ sym (list_any-map (bytes_eq name) (λ s. full_name (key_of s)) services)
 
 -- ---- counts
 
 -- as many parents by number as by name
-pub parents_counted : (hosts : List HostDraft) (object : HostDraft → Object) (hs : List HostEntry) (ns : List (List ℕ))
+pub parents_counted : (hosts : List ParsedHost) (object : ParsedHost → Object) (hs : List HostEntry) (ns : List (List ℕ))
     → IsPermutation (map (λ h. (h.name, (object h, h.parents))) hosts) hs
     → sum_by (λ h. length h.parents) (map (numbered_host ns) hs) ≡ sum_by (λ h. length h.parents) hosts
 parents_counted hosts object hs ns moved =
-    let sizes : (λ (e : HostEntry). length (map (number_in ns) e.1.1)) ≡ (λ e. length e.1.1) = λ i e. length-map e.1.1 (number_in ns) i in
+    let sizes : (λ (e : HostEntry). length (map (index_of_name ns) e.1.1)) ≡ (λ e. length e.1.1) = λ i e. length-map e.1.1 (index_of_name ns) i in
     sum_by-map (λ h. length h.parents) (numbered_host ns) hs ∙ ap (λ f. sum_by f hs) sizes
     ∙ sum_by-IsPermutation (λ (e : HostEntry). length e.1.1) (map (λ h. (h.name, (object h, h.parents))) hosts) hs moved
-    ∙ sum_by-map (λ (e : HostEntry). length e.1.1) (λ (h : HostDraft). (h.name, (object h, h.parents))) hosts
+    ∙ sum_by-map (λ (e : HostEntry). length e.1.1) (λ (h : ParsedHost). (h.name, (object h, h.parents))) hosts
 
 -- how many of these dependencies are in the lists of these objects
 abbrev pub listed_from : ℕ → ℕ → List (ℕ × Dependency) → ℕ
@@ -147,7 +148,7 @@ past n k = grind (arith, nat_tests)
 
 module _ (c : Configuration) where
   -- a host's name has a host's number
-  pub host_end : (name : List ℕ) → is_known (map (λ h. h.name) c.hosts) name ≡ true → nat_lt (unwrap_or (number_of c name) 0) (host_count c) ≡ true
+  pub host_end : (name : List ℕ) → is_known (map (λ h. h.name) c.hosts) name ≡ true → nat_lt (unwrap_or (number_by_name c name) 0) (host_count c) ≡ true
   host_end name known =
       let f = found (λ (h : Host). bytes_eq name h.name) c.hosts (sym (list_any-map (bytes_eq name) (λ h. h.name) c.hosts) ∙ known) in
       let place = position-front (λ o. bytes_eq name o.name) (map named_host c.hosts) (map named_service c.services) f.index
@@ -158,13 +159,13 @@ module _ (c : Configuration) where
   -- a service's full name has a service's number
   pub service_end : (name : List ℕ) (key : List ℕ × List ℕ) → name ≡ full_name key → list_all (λ h. is_host_name h.name) c.hosts ≡ true
       → list_any (λ s. bytes_eq name s.name) c.services ≡ true
-      → nat_lt (unwrap_or (number_of c name) 0) (host_count c) ≡ false
+      → nat_lt (unwrap_or (number_by_name c name) 0) (host_count c) ≡ false
   service_end name key is good known =
       let f = found (λ (s : Service). bytes_eq name s.name) c.services known in
       let no_host : position (λ o. bytes_eq name o.name) (map named_host c.hosts) ≡ None =
       position-map (λ o. bytes_eq name o.name) named_host c.hosts ∙ nowhere (λ (h : Host). bytes_eq name h.name) c.hosts
       (no_host_has (λ h. h.name) name key c.hosts is good) in
-      let place : number_of c name ≡ Some (host_count c + f.index) =
+      let place : number_by_name c name ≡ Some (host_count c + f.index) =
       position-back (λ o. bytes_eq name o.name) (map named_host c.hosts) (map named_service c.services) no_host
       ∙ ap (option_map (λ k. length (map named_host c.hosts) + k)) (position-map (λ o. bytes_eq name o.name) named_service c.services ∙ f.place)
       ∙ ap (λ k. Some (k + f.index)) (length-map c.hosts named_host) in
@@ -175,9 +176,9 @@ abbrev pub AreAlike : ℕ → ℕ × Dependency → Type 0
 AreAlike n d = nat_lt d.1.master n ≡ nat_lt d.0 n
 
 -- where the ends of each dependency are among names whose numbers are all below n, or all aren't, the numbers are alike
-pub ends_alike : (objects : List Named) (names : List (List ℕ)) (n : ℕ) (b : Bool)
+pub ends_alike : (objects : List NamedObject) (names : List (List ℕ)) (n : ℕ) (b : Bool)
     → ((name : List ℕ) → is_known names name ≡ true → nat_lt (unwrap_or (position (λ o. bytes_eq name o.name) objects) 0) n ≡ b)
-    → (ds : List DependencyDraft) → list_all (has_known_ends names) ds ≡ true
+    → (ds : List ParsedDependency) → list_all (has_known_ends names) ds ≡ true
     → AllByRecursion (AreAlike n) (map (numbered_dependency objects) ds)
 ends_alike objects names n b number [] h = tt
 ends_alike objects names n b number (d ∷ ds) h =

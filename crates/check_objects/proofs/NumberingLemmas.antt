@@ -15,12 +15,12 @@ use Rattle.indexmap.specs.IndexMap.{insert_entry as insert_entry_by}
 use Rattle.std.specs.BTreeMap.{insert_entry}
 use Rattle.std.specs.Ordering.{match_ordering, ordering_reverse, ordering_then}
 use Rattle.serde_json.specs.declared.value.Value.{Value}
-use Rattle.check_drafts.specs.declared.object.Object.{Object}
-use Rattle.check_numbers.specs.Entries.{sorted_host, description_in}
-use Rattle.link_order.proofs.TestLemmas.{both_true, not_true}
-use Rattle.check_drafts.proofs.ListLemmas.{list_any-map}
-use Rattle.check_drafts.specs.Name.{full_name, is_host_name, text_order, pair_order}
-use Rattle.check_numbers.proofs.Placed.{placed}
+use Rattle.setup_model.specs.declared.parsed_setup.Object.{Object}
+use Rattle.check_objects.specs.Entries.{sorted_host, description_in}
+use Rattle.setup_order.proofs.TestLemmas.{both_true, not_true}
+use Rattle.setup_model.proofs.ListLemmas.{list_any-map}
+use Rattle.setup_model.specs.Name.{full_name, is_host_name, text_order, pair_order}
+use Rattle.check_objects.proofs.InsertionLemmas.{placed}
 
 map_match : {A B : Type 0} (f : A → B) (o : Ordering) (a b c : List A) → map f (match_ordering o a b c) ≡ match_ordering o (map f a) (map f b) (map f c)
 map_match f Less a b c = refl
@@ -40,15 +40,15 @@ module _ {K L X Y : Type 0} (order : K → K → Ordering) (order' : L → L →
       (view e ∷ map view (insert_entry order es k v))) (agree k e.0)
       ∙ ap (λ l. match_ordering (order' (f k) (f e.0)) (view (k, v) ∷ view e ∷ map view es) ((f e.0, g v) ∷ map view es) (view e ∷ l)) (map-insert es k v)
 
-  -- a loop's step: what is kept of the draft d goes into the map behind its key
+  -- a loop's step: what is kept of the item d goes into the map behind its key
   pub placed_next : {D E : Type 0} (key : E → L) (value : E → Y) (drafts : List D → List E) (one : D → E)
       (step : (d : D) (ds : List D) → drafts (d ∷ ds) ≡ one d ∷ drafts ds)
       (old new : List (K × X)) (k : K) (v : X) (ds : List D) (i : ℕ) (d : D) → drop i ds ≡ d ∷ drop (i + 1) ds → new ≡ insert_entry order old k v → f k
       ≡ key (one d) → g v ≡ value (one d)
       → placed order' key value (map view old) (drafts (drop i ds)) ≡ placed order' key value (map view new) (drafts (drop (i + 1) ds))
-  placed_next key value drafts one step old new k v ds i d e put same_key same_value =
+  placed_next key value drafts one step old new k v ds i d e put is_same_key same_value =
       let m : map view new ≡ insert_entry order' (map view old) (key (one d)) (value (one d)) =
-      ap (map view) put ∙ map-insert old k v ∙ ap (λ x. insert_entry order' (map view old) x (g v)) same_key
+      ap (map view) put ∙ map-insert old k v ∙ ap (λ x. insert_entry order' (map view old) x (g v)) is_same_key
       ∙ ap (λ x. insert_entry order' (map view old) (key (one d)) x) same_value in
       ap (λ l. placed order' key value (map view old) (drafts l)) e ∙ ap (λ l. placed order' key value (map view old) l) (step d (drop (i + 1) ds))
       ∙ ap (λ m. placed order' key value m (drafts (drop (i + 1) ds))) (sym m)

@@ -6,11 +6,11 @@ use Rattle.std.specs.List.{position}
 use Rattle.std.specs.Map.{keys_of}
 use Rattle.std.proofs.lemmas.List.{length-map}
 use Rattle.std.proofs.lemmas.Option.{slice_get-map}
-use Rattle.check_numbers.specs.declared.numbering.Host.{Host}
-use Rattle.check_numbers.specs.declared.numbering.Service.{Service}
-use Rattle.check_numbers.specs.Configuration.{Named, named_host, named_service}
-use Rattle.check_numbers.specs.Entries.{host_entry, service_entry}
-use Rattle.check_drafts.proofs.ListLemmas.{position-map, position-front, position-back}
+use Rattle.check_objects.specs.declared.object_index.Host.{Host}
+use Rattle.check_objects.specs.declared.object_index.Service.{Service}
+use Rattle.check_objects.specs.Configuration.{NamedObject, named_host, named_service}
+use Rattle.check_objects.specs.Entries.{host_entry, service_entry}
+use Rattle.setup_model.proofs.ListLemmas.{position-map, position-front, position-back}
 
 -- ---- two lists, one behind the other
 
@@ -27,7 +27,7 @@ slice_get-back (z ∷ xs) ys (suc i) j e = slice_get-back xs ys i j (omega arith
 -- ---- the objects of the two maps
 
 module _ (hosts : List (String Global × Host)) (services : List (String Global × Service)) where
-  abbrev pub objects : List Named
+  abbrev pub objects : List NamedObject
   objects = map named_host (map host_entry hosts) ++ map named_service (map service_entry services)
 
   pub object_front : (n : ℕ) (e : String Global × Host) → slice_get hosts n ≡ Some e → slice_get objects n ≡ Some (named_host (host_entry e))

@@ -15,11 +15,11 @@ use Rattle.std.proofs.lemmas.List.FromFn.{get_or-range_with_len}
 use Rattle.std.proofs.lemmas.List.Sorted.{All-permutation, IsPermutation-map, IsPermutation-sym, length_permutation, sum_by-IsPermutation}
 use Rattle.std.proofs.lemmas.List.Sums.{sum_by-append, sum_by-cons, count_by-le-length, length-filter}
 use Rattle.std.proofs.lemmas.Option.{slice_get-get_or}
-use Rattle.check_numbers.specs.Numbering.{smaller_among, at_place, in_order}
-use Rattle.check_numbers.proofs.BucketLemmas.{bucket, buckets, in_buckets}
-use Rattle.link_order.proofs.TestLemmas.{and_both}
-use Rattle.check_drafts.proofs.ListLemmas.{sum_by-map}
-use Rattle.check_numbers.proofs.NumberingLemmas.{map_twice}
+use Rattle.check_objects.specs.Numbering.{smaller_count, entries_at_rank, sorted_entries}
+use Rattle.check_objects.proofs.BucketLemmas.{bucket, buckets, in_buckets}
+use Rattle.setup_order.proofs.TestLemmas.{and_both}
+use Rattle.setup_model.proofs.ListLemmas.{sum_by-map}
+use Rattle.check_objects.proofs.NumberingLemmas.{map_twice}
 
 -- ---- counts in a range
 
@@ -56,32 +56,32 @@ module _ {K : Type 0} (order : K → K → Ordering) (total : IsTotalOrder order
   greater : (x y : K) → order x y ≡ Less → is_lt (order y x) ≡ false
   greater x y h = ap is_lt (total.antisymm y x ∙ ap ordering_reverse h)
 
-  none_smaller : (x : K) (ys : List K) → AllByRecursion (λ y. order x y ≡ Less) ys → smaller_among order ys x ≡ 0
+  none_smaller : (x : K) (ys : List K) → AllByRecursion (λ y. order x y ≡ Less) ys → smaller_count order ys x ≡ 0
   none_smaller x [] h = refl
   none_smaller x (y ∷ ys) h = counted (λ k. is_lt (order k x)) y ys false (greater x y h.0) ∙ (let e = none_smaller x ys h.1 in omega (arith, e))
 
   raised : (k : K) (all ys : List K) → AllByRecursion (λ y. order k y ≡ Less) ys
-      → map (smaller_among order (k ∷ all)) ys ≡ map (λ n. 1 + n) (map (smaller_among order all) ys)
+      → map (smaller_count order (k ∷ all)) ys ≡ map (λ n. 1 + n) (map (smaller_count order all) ys)
   raised k all [] h = refl
   raised k all (y ∷ ys) h =
-      let here : smaller_among order (k ∷ all) y ≡ 1 + smaller_among order all y = counted (λ x. is_lt (order x y)) k all true (ap is_lt h.0) in
+      let here : smaller_count order (k ∷ all) y ≡ 1 + smaller_count order all y = counted (λ x. is_lt (order x y)) k all true (ap is_lt h.0) in
       let more = raised k all ys h.1 in
       λ i. here i ∷ more i
 
   -- the keys by their numbers are 0, 1, 2 and on
-  pub ranks : (ks : List K) → IsStrictlySortedBy order ks → map (smaller_among order ks) ks ≡ range_with_len 0 (length ks)
+  pub ranks : (ks : List K) → IsStrictlySortedBy order ks → map (smaller_count order ks) ks ≡ range_with_len 0 (length ks)
   unfolding IsStrictlySortedBy
   ranks [] s = refl
   ranks (k ∷ ks) s =
-      let here : smaller_among order (k ∷ ks) k ≡ 0 = counted
+      let here : smaller_count order (k ∷ ks) k ≡ 0 = counted
       (λ x. is_lt (order x k)) k ks false (ap is_lt (tied_itself total k)) ∙ (let e = none_smaller k ks s.0 in omega (arith, e)) in
       let more = raised k ks ks s.0 ∙ ap (map (λ n. 1 + n)) (ranks ks s.1) ∙ shifted 0 (length ks) in
       λ i. here i ∷ more i
 
   -- the key at a place has that many smaller ones
-  pub rank_at : (ks : List K) (n : ℕ) (d : K) → IsStrictlySortedBy order ks → n < length ks → smaller_among order ks (get_or ks n d) ≡ n
+  pub rank_at : (ks : List K) (n : ℕ) (d : K) → IsStrictlySortedBy order ks → n < length ks → smaller_count order ks (get_or ks n d) ≡ n
   rank_at ks n d s below =
-      sym (get_or-map (smaller_among order ks) ks n d 0 below) ∙ ap
+      sym (get_or-map (smaller_count order ks) ks n d 0 below) ∙ ap
       (λ l. get_or l n 0) (ranks ks s) ∙ get_or-range_with_len 0 (length ks) n 0 below ∙ (let e : 0 + n ≡ n = omega arith in e)
 
 one_item : {A : Type 0} (xs : List A) → length xs ≡ 1 → (x : A) × (xs ≡ x ∷ [])
@@ -115,17 +115,17 @@ module _ {K V A : Type 0} (order : K → K → Ordering) (total : IsTotalOrder o
   entries = map (λ x. (key x, value x)) xs
 
   abbrev pub rank : K × V → ℕ
-  rank e = smaller_among order (map (λ x. x.0) es) e.0
+  rank e = smaller_count order (map (λ x. x.0) es) e.0
 
-  same_rank : (k : K) → smaller_among order (map key xs) k ≡ smaller_among order (map (λ e. e.0) es) k
+  same_rank : (k : K) → smaller_count order (map key xs) k ≡ smaller_count order (map (λ e. e.0) es) k
   same_rank k =
-      ap (λ l. smaller_among order l k) (map_twice (λ (e : K × V). e.0) (λ (x : A). (key x, value x)) xs)
+      ap (λ l. smaller_count order l k) (map_twice (λ (e : K × V). e.0) (λ (x : A). (key x, value x)) xs)
       ∙ sym (sum_by-IsPermutation (λ y. cond (is_lt (order y k)) 1 0) (map (λ e. e.0) entries) (map (λ e. e.0) es)
       (IsPermutation-map (λ (e : K × V). e.0) entries es moved))
 
   at_rank : (k : ℕ) (d : K × V) → k < length es → rank (get_or es k d) ≡ k
   at_rank k d below =
-      ap (smaller_among order (map (λ e. e.0) es)) (sym (get_or-map (λ (e : K × V). e.0) es k d d.0 below))
+      ap (smaller_count order (map (λ e. e.0) es)) (sym (get_or-map (λ (e : K × V). e.0) es k d d.0 below))
       ∙ rank_at order total (map (λ e. e.0) es) k d.0 sorted (omega (arith, below, length-map es (λ (e : K × V). e.0)))
 
   stands : All (λ e. slice_get es (rank e) ≡ Some e) entries
@@ -134,7 +134,7 @@ module _ {K V A : Type 0} (order : K → K → Ordering) (total : IsTotalOrder o
 
   ranks_here : map rank es ≡ range_with_len 0 (length es)
   ranks_here =
-      map_twice (smaller_among order (map (λ e. e.0) es)) (λ (e : K × V). e.0) es ∙ ranks order total (map (λ e. e.0) es) sorted
+      map_twice (smaller_count order (map (λ e. e.0) es)) (λ (e : K × V). e.0) es ∙ ranks order total (map (λ e. e.0) es) sorted
       ∙ ap (range_with_len 0) (length-map es (λ (e : K × V). e.0))
 
   -- one entry has each number
@@ -153,19 +153,19 @@ module _ {K V A : Type 0} (order : K → K → Ordering) (total : IsTotalOrder o
       let passes = All-head (λ e. (rank e == n) ≡ true) one.0 [] (subst (All (λ e. (rank e == n) ≡ true)) one.1 (filter_passes (λ e. rank e == n) entries)) in
       (one.0, one.1, ap (slice_get es) (sym (eqb-true (rank one.0) n passes)) ∙ at)
 
-  here : (n : ℕ) → at_place order key value xs n ≡ filter (λ e. rank e == n) entries
+  here : (n : ℕ) → entries_at_rank order key value xs n ≡ filter (λ e. rank e == n) entries
   here n =
       (λ i. map (λ x. (key x, value x)) (filter (λ x. same_rank (key x) i == n) xs))
       ∙ filtered_map (λ x. (key x, value x)) (λ e. rank e == n) xs
 
   -- an ascending list of the items is the items in order
-  pub ascending_is_in_order : es ≡ in_order order key value xs
+  pub ascending_is_in_order : es ≡ sorted_entries order key value xs
   ascending_is_in_order =
       let size : length es ≡ length xs = length_permutation entries es moved ∙ length-map xs (λ x. (key x, value x)) in
-      sym (joined (at_place order key value xs) es 0 (λ n below.
+      sym (joined (entries_at_rank order key value xs) es 0 (λ n below.
       let w = with_rank n below in
-      (w.0, ap (at_place order key value xs) (let e : 0 + n ≡ n = omega arith in e) ∙ here n ∙ w.1, w.2)))
-      ∙ ap (λ n. flat_map (at_place order key value xs) (range_with_len 0 n)) size
+      (w.0, ap (entries_at_rank order key value xs) (let e : 0 + n ≡ n = omega arith in e) ∙ here n ∙ w.1, w.2)))
+      ∙ ap (λ n. flat_map (entries_at_rank order key value xs) (range_with_len 0 n)) size
 
 -- ---- in any list the items by their numbers are all of them
 
@@ -185,16 +185,16 @@ is_below : (a b : ℕ) → a < b → nat_lt a b ≡ true
 is_below a b h = grind (arith, nat_tests, h)
 
 module _ {K A : Type 0} (order : K → K → Ordering) (total : IsTotalOrder order) (key : A → K) where
-  ranked : (done rest : List A) → list_all (λ x. nat_lt (smaller_among order (map key (done ++ rest)) (key x)) (length (done ++ rest))) rest ≡ true
+  ranked : (done rest : List A) → list_all (λ x. nat_lt (smaller_count order (map key (done ++ rest)) (key x)) (length (done ++ rest))) rest ≡ true
   ranked done [] = refl
   ranked done (x ∷ more) =
       let keys : map key (done ++ x ∷ more) ≡ map key done ++ key x ∷ map key more = map-append key done (x ∷ more) in
       let below = count_below (λ k. is_lt (order k (key x))) (map key done) (key x) (map key more) (ap is_lt (tied_itself total (key x))) in
       let size : length (map key done ++ key x ∷ map key more) ≡ length (done ++ x ∷ more) = ap length (sym keys) ∙ length-map (done ++ x ∷ more) key in
-      let counts : smaller_among order (map key (done ++ x ∷ more)) (key x) < length (done ++ x ∷ more) = omega
-      (arith, below, size, ap (λ l. smaller_among order l (key x)) keys) in
-      let here = is_below (smaller_among order (map key (done ++ x ∷ more)) (key x)) (length (done ++ x ∷ more)) counts in
-      let later = subst (λ l. list_all (λ y. nat_lt (smaller_among order (map key l) (key y)) (length l)) more ≡ true) (append_assoc done (x ∷ []) more)
+      let counts : smaller_count order (map key (done ++ x ∷ more)) (key x) < length (done ++ x ∷ more) = omega
+      (arith, below, size, ap (λ l. smaller_count order l (key x)) keys) in
+      let here = is_below (smaller_count order (map key (done ++ x ∷ more)) (key x)) (length (done ++ x ∷ more)) counts in
+      let later = subst (λ l. list_all (λ y. nat_lt (smaller_count order (map key l) (key y)) (length l)) more ≡ true) (append_assoc done (x ∷ []) more)
       (ranked (done ++ x ∷ []) more) in
       and_both _ _ here later
 
@@ -203,9 +203,9 @@ joined_map f g [] = refl
 joined_map f g (n ∷ ns) = map-append f (g n) (flat_map g ns) ∙ ap (λ l. map f (g n) ++ l) (joined_map f g ns)
 
 pub in_order_all : {K V A : Type 0} (order : K → K → Ordering) (total : IsTotalOrder order) (key : A → K) (value : A → V) (xs : List A)
-    → IsPermutation (map (λ x. (key x, value x)) xs) (in_order order key value xs)
+    → IsPermutation (map (λ x. (key x, value x)) xs) (sorted_entries order key value xs)
 in_order_all {A = A} order total key value xs =
-    let number : A → ℕ = λ x. smaller_among order (map key xs) (key x) in
+    let number : A → ℕ = λ x. smaller_count order (map key xs) (key x) in
     let moved = in_buckets number (length xs) xs (ranked order total key [] xs) in
     subst (IsPermutation (map (λ x. (key x, value x)) xs)) (joined_map (λ x. (key x, value x)) (bucket number xs) (range_with_len 0 (length xs)))
     (IsPermutation-map (λ x. (key x, value x)) xs (buckets number xs 0 (length xs)) moved)

@@ -4,9 +4,9 @@ use Rattle.std.specs.Prelude.{nat_lt}
 use Rattle.std.proofs.lemmas.Bool.Decides.{nat_tests}
 use Rattle.std.proofs.lemmas.List.{get_or-append_right, get_or-drop, get_or-take, get_or_append_left, get_or_past, length-append, length-drop, length-take}
 use Rattle.std.proofs.lemmas.Option.{unwrap_or-slice_get}
-use Rattle.check_faults.proofs.VerificationLemmas.{get_or_same}
-use Rattle.link_order.specs.Ordering.{follower, IsCycle}
-use Rattle.check_objects.specs.Cycles.{IsRound}
+use Rattle.setup_reader.proofs.VerificationLemmas.{get_or_same}
+use Rattle.setup_order.specs.Results.{successor, IsCycle}
+use Rattle.check_objects.specs.Cycles.{IsCanonicalCycle}
 use Rattle.check_objects.specs.Indices.{AreIndices, BeginsWithLeast}
 
 -- the place after this one of so many: after the last the first
@@ -17,7 +17,7 @@ follower_by : (xs : List ℕ) (j : ℕ) (b : Bool) → nat_lt (j + 1) (length xs
 follower_by xs j true e = get_or_same xs (j + 1) (get_or xs 0 0) 0 (grind (arith, nat_tests, e))
 follower_by xs j false e = get_or_past xs (j + 1) (get_or xs 0 0) (grind (arith, nat_tests, e))
 
-pub follower_at : (xs : List ℕ) (j : ℕ) → follower xs j ≡ get_or xs (next_place (length xs) j) 0
+pub follower_at : (xs : List ℕ) (j : ℕ) → successor xs j ≡ get_or xs (next_place (length xs) j) 0
 follower_at xs j = unwrap_or-slice_get xs (j + 1) (get_or xs 0 0) ∙ follower_by xs j (nat_lt (j + 1) (length xs)) refl
 
 next_by : (n j : ℕ) (b : Bool) → nat_lt (j + 1) n ≡ b → j < n → cond b (j + 1) 0 < n
@@ -102,7 +102,7 @@ module _ (old new : List ℕ) (begins : BeginsWithLeast old new) where
   turned_size =
       omega (
         arith,
-        ap length begins.turned,
+        ap length begins.rotation,
         length-append (drop begins.place old) (take begins.place old),
         length-drop begins.place old,
         length-take begins.place old,
@@ -123,14 +123,14 @@ module _ (old new : List ℕ) (begins : BeginsWithLeast old new) where
       ∙ ap (λ i. get_or old i 0) left
 
   pub turned_get : (j : ℕ) → j < length old → get_or new j 0 ≡ get_or old (turn begins.place (length old) j) 0
-  turned_get j h = ap (λ l. get_or l j 0) begins.turned ∙ turned_get_by j (nat_lt (begins.place + j) (length old)) refl h
+  turned_get j h = ap (λ l. get_or l j 0) begins.rotation ∙ turned_get_by j (nat_lt (begins.place + j) (length old)) refl h
 
   -- ---- a cycle of numbers, told by indices
 
   module _ (links : List (List ℕ)) (numbers : List ℕ) (cycle : IsCycle links numbers) (name : ℕ → List ℕ) (names : List (List ℕ))
       (are : AreIndices name names numbers old) (says : List ℕ → List ℕ → Bool)
       (apart : (i j : ℕ) → i < length numbers → j < length numbers → name (get_or numbers i 0) ≡ name (get_or numbers j 0) → get_or numbers i 0 ≡ get_or numbers j 0)
-      (said : (i : ℕ) → i < length numbers → says (name (get_or numbers i 0)) (name (follower numbers i)) ≡ true) where
+      (said : (i : ℕ) → i < length numbers → says (name (get_or numbers i 0)) (name (successor numbers i)) ≡ true) where
     count : length new ≡ length numbers
     count = turned_size ∙ are.size
 
@@ -143,20 +143,20 @@ module _ (old new : List ℕ) (begins : BeginsWithLeast old new) where
     named_at : (j : ℕ) (h : j < length new) → get_or names (get_or new j 0) [] ≡ name (get_or numbers (turn begins.place (length old) j) 0)
     named_at j h = ap (λ i. get_or names i []) (got j h) ∙ (are.each (turn begins.place (length old) j) (at j h)).1
 
-    named_after : (j : ℕ) (h : j < length new) → get_or names (follower new j) [] ≡ name (follower numbers (turn begins.place (length old) j))
+    named_after : (j : ℕ) (h : j < length new) → get_or names (successor new j) [] ≡ name (successor numbers (turn begins.place (length old) j))
     named_after j h =
         let k = next_place (length new) j in
         let below = next_below (length new) j h in
-        let turned : turn begins.place (length old) k ≡ next_place (length old) (turn begins.place (length old) j) =
+        let rotation : turn begins.place (length old) k ≡ next_place (length old) (turn begins.place (length old) j) =
         ap (λ n. turn begins.place (length old) (next_place n j)) turned_size
         ∙ turned_next begins.place (length old) j begins.within (omega (arith, h, turned_size)) in
         ap (λ i. get_or names i []) (follower_at new j) ∙ named_at k below
-        ∙ ap (λ i. name (get_or numbers i 0)) (turned ∙ ap (λ n. next_place n (turn begins.place (length old) j)) are.size)
+        ∙ ap (λ i. name (get_or numbers i 0)) (rotation ∙ ap (λ n. next_place n (turn begins.place (length old) j)) are.size)
         ∙ ap name (sym (follower_at numbers (turn begins.place (length old) j)))
 
-    pub told_round : IsRound (length names) (λ a b. says (get_or names a []) (get_or names b [])) new
+    pub told_round : IsCanonicalCycle (length names) (λ a b. says (get_or names a []) (get_or names b [])) new
     told_round = record {
-      some = omega (arith, count, cycle.some);
+      nonempty = omega (arith, count, cycle.nonempty);
       within = λ j h. subst (λ i. i < length names) (sym (got j h)) (are.each (turn begins.place (length old) j) (at j h)).0;
       each = λ j h. (λ i. says (named_at j h i) (named_after j h i)) ∙ said (turn begins.place (length old) j) (at j h);
       distinct = λ i j h k same.

@@ -3,18 +3,18 @@ use Rattle.std.specs.Prelude.{◌≡◌, ℕ, ◌+◌, ◌-◌, ◌<◌, ◌≤�
 use Rattle.std.specs.Prelude.{slice_index_or, sum_by, All, option_map, unwrap_or, nat_lt, Option, None, false, if◌then◌else◌}
 use Rattle.std.specs.List.{list_all}
 use Rattle.std.specs.List.Sorted.{IsStrictlySortedBy}
-use Rattle.check_drafts.specs.declared.dependency.Dependency.{Dependency}
-use Rattle.check_drafts.specs.declared.object.Object.{Object}
-use Rattle.check_drafts.specs.declared.options.DelayMethod.{DelayMethod}
-use Rattle.check_drafts.specs.declared.options.DelayMethod.TheVariants as method
-use Rattle.check_drafts.specs.declared.options.InterleaveFactor.{InterleaveFactor}
-use Rattle.check_drafts.specs.declared.options.InterleaveFactor.TheVariants as factor
-use Rattle.check_drafts.specs.declared.options.Options.{Options}
-use Rattle.link_order.specs.Cycles.{are_within, has_cycle}
-use Rattle.check_drafts.specs.Name.{full_name, is_name, text_order, pair_order}
+use Rattle.setup_model.specs.declared.dependency.Dependency.{Dependency}
+use Rattle.setup_model.specs.declared.parsed_setup.Object.{Object}
+use Rattle.setup_model.specs.declared.options.DelayMethod.{DelayMethod}
+use Rattle.setup_model.specs.declared.options.DelayMethod.TheVariants as method
+use Rattle.setup_model.specs.declared.options.InterleaveFactor.{InterleaveFactor}
+use Rattle.setup_model.specs.declared.options.InterleaveFactor.TheVariants as factor
+use Rattle.setup_model.specs.declared.options.Options.{Options}
+use Rattle.setup_order.specs.Cycles.{are_within, has_cycle}
+use Rattle.setup_model.specs.Name.{full_name, is_name, text_order, pair_order}
 
 -- an object and its full name
-pub record Named : Type 0 where
+pub record NamedObject : Type 0 where
   pub name : List ℕ
   pub object : Object
 
@@ -41,14 +41,14 @@ pub record Configuration : Type 0 where
   -- for each object by number its dependencies, in the document's order
   pub dependencies : List (List Dependency)
 
-abbrev pub named_host : Host → Named
+abbrev pub named_host : Host → NamedObject
 named_host h = record { name = h.name; object = h.object }
 
-abbrev pub named_service : Service → Named
+abbrev pub named_service : Service → NamedObject
 named_service s = record { name = s.name; object = s.object }
 
 -- all objects, by number: the hosts first
-abbrev pub objects_of : Configuration → List Named
+abbrev pub objects_of : Configuration → List NamedObject
 objects_of c = map named_host c.hosts ++ map named_service c.services
 
 -- the number of hosts; each host's number is below it
@@ -60,12 +60,12 @@ abbrev pub object_count : Configuration → ℕ
 object_count c = length (objects_of c)
 
 -- the place of a full name among these objects
-abbrev pub number_among : List Named → List ℕ → Option ℕ
+abbrev pub number_among : List NamedObject → List ℕ → Option ℕ
 number_among objects name = position (λ n. bytes_eq name n.name) objects
 
 -- the number of a full name
-abbrev pub number_of : Configuration → List ℕ → Option ℕ
-number_of c name = number_among (objects_of c) name
+abbrev pub number_by_name : Configuration → List ℕ → Option ℕ
+number_by_name c name = number_among (objects_of c) name
 
 -- the full name of the object with this number
 abbrev pub name_of : Configuration → ℕ → List ℕ
@@ -125,24 +125,24 @@ IsFactorInRange (factor.Fixed n) = IsWithin 1 4096 n
 -- and both ascend, so no two objects have the same full name. Its parents and its services' hosts are hosts. Its dependencies are between objects of
 -- one sort. No object depends on itself, and no host is its own parent, through one link or more. Its numbers are within their limits.
 pub record IsSetup (c : Configuration) : Type 0 where
-  pub few : length c.hosts + length c.services ≤ 4096
-  pub few_parents : sum_by (λ h. length h.parents) c.hosts ≤ 16384
-  pub few_dependencies : sum_by (λ ds. length ds) c.dependencies ≤ 16384
+  pub bounded : length c.hosts + length c.services ≤ 4096
+  pub parents_bounded : sum_by (λ h. length h.parents) c.hosts ≤ 16384
+  pub dependencies_bounded : sum_by (λ ds. length ds) c.dependencies ≤ 16384
   pub host_names : list_all (λ h. is_name h.name) c.hosts ≡ true
   pub descriptions : list_all (λ s. is_name s.description) c.services ≡ true
   pub full_names : All (λ s. s.name ≡ full_name (pair_of c s)) c.services
   pub hosts_ascend : IsStrictlySortedBy text_order (map (λ h. h.name) c.hosts)
   pub services_ascend : IsStrictlySortedBy pair_order (map (pair_of c) c.services)
   pub linked : list_all (λ h. list_all (λ p. nat_lt p (length c.hosts)) h.parents) c.hosts ≡ true
-  pub hosted : list_all (λ s. nat_lt s.host (length c.hosts)) c.services ≡ true
+  pub hosts_in_range : list_all (λ s. nat_lt s.host (length c.hosts)) c.services ≡ true
   -- one list of dependencies for each object
-  pub listed : length c.dependencies ≡ object_count c
-  pub mastered : are_within (object_count c) (masters_of c) ≡ true
+  pub one_list_each : length c.dependencies ≡ object_count c
+  pub masters_in_range : are_within (object_count c) (masters_of c) ≡ true
   pub same_sorts : (n : ℕ) → n < object_count c → All (λ d. IsSameSort c d.master n) (dependencies_of c n)
   pub acyclic : has_cycle (masters_of c) ≡ false
   pub no_parent_cycle : has_cycle (parents_by_host c) ≡ false
   pub interval_length : c.options.interval_length ≤ 86400
-  pub some_interval_length : 1 ≤ c.options.interval_length
+  pub interval_length_positive : 1 ≤ c.options.interval_length
   pub service_delay : IsDelayInRange c.options.service_inter_check_delay_method
   pub service_spread : IsWithin 1 525600 c.options.max_service_check_spread
   pub service_factor : IsFactorInRange c.options.service_interleave_factor

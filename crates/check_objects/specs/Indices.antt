@@ -18,5 +18,5 @@ pub record AreIndices (name : ℕ → List ℕ) (names : List (List ℕ)) (numbe
 pub record BeginsWithLeast (old new : List ℕ) : Type 0 where
   pub place : ℕ
   pub within : place < length old
-  pub turned : new ≡ drop place old ++ take place old
+  pub rotation : new ≡ drop place old ++ take place old
   pub least : (i : ℕ) → i < length old → get_or old place 0 ≤ get_or old i 0

@@ -4,64 +4,64 @@ use Rattle.std.specs.Prelude.{ℕ, ◌+◌, ◌==◌, List, [], ◌++◌, map, p
 use Rattle.std.specs.List.{count_by, filter, flat_map, range_with_len}
 use Rattle.std.specs.declared.cmp.Ordering.{Ordering}
 use Rattle.std.specs.Ordering.{is_lt}
-use Rattle.check_drafts.specs.declared.dependency.Dependency.{Dependency}
-use Rattle.check_drafts.specs.declared.draft.CheckDraft.{CheckDraft}
-use Rattle.check_drafts.specs.declared.object.Object.{Object}
-use Rattle.check_numbers.specs.Configuration.{Named, Host, Service, Configuration, objects_of, number_among}
-use Rattle.check_drafts.specs.Name.{full_name, text_order, pair_order}
-use Rattle.check_drafts.specs.Draft.{HostDraft, ServiceDraft, DependencyDraft, Drafts}
-use Rattle.check_drafts.specs.Keys.{key_of}
+use Rattle.setup_model.specs.declared.dependency.Dependency.{Dependency}
+use Rattle.setup_model.specs.declared.parsed_setup.ParsedCheck.{ParsedCheck}
+use Rattle.setup_model.specs.declared.parsed_setup.Object.{Object}
+use Rattle.check_objects.specs.Configuration.{NamedObject, Host, Service, Configuration, objects_of, number_among}
+use Rattle.setup_model.specs.Name.{full_name, text_order, pair_order}
+use Rattle.setup_model.specs.ParsedSetup.{ParsedHost, ParsedService, ParsedDependency, ParsedSetup}
+use Rattle.setup_model.specs.Keys.{key_of}
 
 -- ---- the order
 
 -- the number of these keys that are smaller
-abbrev pub smaller_among : {K : Type 0} → (K → K → Ordering) → List K → K → ℕ
-smaller_among order keys key = count_by (λ k. is_lt (order k key)) keys
+abbrev pub smaller_count : {K : Type 0} → (K → K → Ordering) → List K → K → ℕ
+smaller_count order keys key = count_by (λ k. is_lt (order k key)) keys
 
 -- the items at this place, each as its key and its value: the place is the number of keys that are smaller
-abbrev pub at_place : {K V A : Type 0} → (K → K → Ordering) → (A → K) → (A → V) → List A → ℕ → List (K × V)
-at_place order key value xs n = map (λ x. (key x, value x)) (filter (λ x. smaller_among order (map key xs) (key x) == n) xs)
+abbrev pub entries_at_rank : {K V A : Type 0} → (K → K → Ordering) → (A → K) → (A → V) → List A → ℕ → List (K × V)
+entries_at_rank order key value xs n = map (λ x. (key x, value x)) (filter (λ x. smaller_count order (map key xs) (key x) == n) xs)
 
 -- The items by their places. `numbers_follow_names` states the result: all items, in ascending order if no two keys are equal.
-abbrev pub in_order : {K V A : Type 0} → (K → K → Ordering) → (A → K) → (A → V) → List A → List (K × V)
-in_order order key value xs = flat_map (at_place order key value xs) (range_with_len 0 (length xs))
+abbrev pub sorted_entries : {K V A : Type 0} → (K → K → Ordering) → (A → K) → (A → V) → List A → List (K × V)
+sorted_entries order key value xs = flat_map (entries_at_rank order key value xs) (range_with_len 0 (length xs))
 
-abbrev pub object_of : CheckDraft → Object
+abbrev pub object_of : ParsedCheck → Object
 object_of c = record { check_interval = c.check_interval; retry_interval = c.retry_interval; max_check_attempts = c.max_check_attempts; enabled = c.enabled }
 
 -- a host as it is stored under its name: the object, and its parents' names
-abbrev pub body_of : HostDraft → Object × List (List ℕ)
-body_of h = (object_of h.check, h.parents)
+abbrev pub host_body : ParsedHost → Object × List (List ℕ)
+host_body h = (object_of h.check, h.parents)
 
 -- the hosts by name
-abbrev pub hosts_in_order : List HostDraft → List (List ℕ × (Object × List (List ℕ)))
-hosts_in_order hosts = in_order text_order (λ h. h.name) body_of hosts
+abbrev pub hosts_in_order : List ParsedHost → List (List ℕ × (Object × List (List ℕ)))
+hosts_in_order hosts = sorted_entries text_order (λ h. h.name) host_body hosts
 
 -- the services by host and description
-abbrev pub services_in_order : List ServiceDraft → List ((List ℕ × List ℕ) × Object)
-services_in_order services = in_order pair_order key_of (λ s. object_of s.check) services
+abbrev pub services_in_order : List ParsedService → List ((List ℕ × List ℕ) × Object)
+services_in_order services = sorted_entries pair_order key_of (λ s. object_of s.check) services
 
 -- ---- the numbers
 
 -- the place of a name among these
-abbrev pub number_in : List (List ℕ) → List ℕ → ℕ
-number_in names name = unwrap_or (position (bytes_eq name) names) 0
+abbrev pub index_of_name : List (List ℕ) → List ℕ → ℕ
+index_of_name names name = unwrap_or (position (bytes_eq name) names) 0
 
 -- a host with its parents by number
 abbrev pub numbered_host : List (List ℕ) → List ℕ × (Object × List (List ℕ)) → Host
-numbered_host names h = record { name = h.0; object = h.1.0; parents = map (number_in names) h.1.1 }
+numbered_host names h = record { name = h.0; object = h.1.0; parents = map (index_of_name names) h.1.1 }
 
 -- a service with its host by number
 abbrev pub numbered_service : List (List ℕ) → (List ℕ × List ℕ) × Object → Service
-numbered_service names s = record { name = full_name s.0; description = s.0.1; object = s.1; host = number_in names s.0.0 }
+numbered_service names s = record { name = full_name s.0; description = s.0.1; object = s.1; host = index_of_name names s.0.0 }
 
 -- the names of hosts in order
-abbrev pub names_in_order : List HostDraft → List (List ℕ)
+abbrev pub names_in_order : List ParsedHost → List (List ℕ)
 names_in_order hosts = map (λ h. h.0) (hosts_in_order hosts)
 
--- the hosts and services of drafts without a fault, by number
-abbrev pub numbered : Drafts → Configuration
-numbered drafts = record {
+-- the hosts and services of a parsed setup without a fault, by number
+abbrev pub configuration_of_objects : ParsedSetup → Configuration
+configuration_of_objects drafts = record {
   options = drafts.options;
   hosts = map (numbered_host (names_in_order drafts.hosts)) (hosts_in_order drafts.hosts);
   services = map (numbered_service (names_in_order drafts.hosts)) (services_in_order drafts.services);
@@ -69,17 +69,17 @@ numbered drafts = record {
 }
 
 -- the number of a dependency's dependent, and the dependency by number
-abbrev pub numbered_dependency : List Named → DependencyDraft → ℕ × Dependency
+abbrev pub numbered_dependency : List NamedObject → ParsedDependency → ℕ × Dependency
 numbered_dependency objects d = (
   unwrap_or (number_among objects d.dependent) 0,
   record { master = unwrap_or (number_among objects d.master) 0; criteria = d.criteria; inherits = d.inherits },
 )
 
 -- a dependency by the places of its ends among these names; this many other objects come before them
-abbrev pub numbered_behind : ℕ → List (List ℕ) → DependencyDraft → ℕ × Dependency
-numbered_behind others names d = (
-  others + number_in names d.dependent,
-  record { master = others + number_in names d.master; criteria = d.criteria; inherits = d.inherits },
+abbrev pub offset_dependency : ℕ → List (List ℕ) → ParsedDependency → ℕ × Dependency
+offset_dependency others names d = (
+  others + index_of_name names d.dependent,
+  record { master = others + index_of_name names d.master; criteria = d.criteria; inherits = d.inherits },
 )
 
 -- the dependencies of the object with this number, in the same order
@@ -91,17 +91,17 @@ abbrev pub dependency_lists : ℕ → List (ℕ × Dependency) → List (List De
 dependency_lists count ds = map (dependencies_among ds) (range_with_len 0 count)
 
 -- the dependencies of both sorts
-abbrev pub all_dependencies : Drafts → List DependencyDraft
+abbrev pub all_dependencies : ParsedSetup → List ParsedDependency
 all_dependencies drafts = drafts.service_dependencies ++ drafts.host_dependencies
 
 -- for each of these objects its dependencies, in the document's order
-abbrev pub dependencies_by_number : List Named → Drafts → List (List Dependency)
+abbrev pub dependencies_by_number : List NamedObject → ParsedSetup → List (List Dependency)
 dependencies_by_number objects drafts = dependency_lists (length objects) (map (numbered_dependency objects) (all_dependencies drafts))
 
--- the setup of drafts without a fault
-abbrev pub configuration : Drafts → Configuration
+-- the setup of a parsed setup without a fault
+abbrev pub configuration : ParsedSetup → Configuration
 configuration drafts =
-    let c = numbered drafts in record {
+    let c = configuration_of_objects drafts in record {
       options = c.options;
       hosts = c.hosts;
       services = c.services;

@@ -1,28 +1,28 @@
--- The setup of a document, or the document's first refusal. The tests follow the tree, its drafts and the numbers; no object depends on itself, and
+-- The setup of a document, or the document's first refusal. The tests follow the tree, its items and the numbers; no object depends on itself, and
 -- no host is its own parent. The fault has the same refusal, and also the details that the failed test has found.
 use Rattle.std.specs.Prelude.{◌≡◌, ℕ, true, List, length, Option, Some, None, Result, Ok, Err, ok_or, nat_lt, if◌then◌else◌}
 use Rattle.serde_json.specs.Data.{Data}
-use Rattle.check_drafts.specs.declared.error.LoadError.{LoadError}
-use Rattle.check_drafts.specs.declared.error.LoadError.TheVariants as errors
-use Rattle.check_numbers.specs.Configuration.{Configuration, masters_of, parents_by_host}
-use Rattle.link_order.specs.Cycles.{has_cycle}
-use Rattle.check_drafts.specs.Agreement.{◌>>=◌, refused_as}
-use Rattle.check_drafts.specs.Draft.{Drafts}
-use Rattle.check_drafts.specs.Fault as faults
-use Rattle.check_drafts.specs.Fault.{Fault, load_error}
-use Rattle.check_documents.specs.Tree.{tree_of}
-use Rattle.check_documents.specs.Reading.{drafts_of}
-use Rattle.check_faults.specs.Verification.{is_faultless}
-use Rattle.check_numbers.specs.Numbering.{configuration}
+use Rattle.setup_model.specs.declared.error.LoadError.{LoadError}
+use Rattle.setup_model.specs.declared.error.LoadError.TheVariants as errors
+use Rattle.check_objects.specs.Configuration.{Configuration, masters_of, parents_by_host}
+use Rattle.setup_order.specs.Cycles.{has_cycle}
+use Rattle.setup_model.specs.Agreement.{◌>>=◌, with_error}
+use Rattle.setup_model.specs.ParsedSetup.{ParsedSetup}
+use Rattle.setup_model.specs.Fault as faults
+use Rattle.setup_model.specs.Fault.{Fault, load_error}
+use Rattle.setup_reader.specs.JsonTree.{tree_of}
+use Rattle.setup_reader.specs.Reading.{parsed_setup}
+use Rattle.setup_reader.specs.Verification.{verification}
+use Rattle.check_objects.specs.Numbering.{configuration}
 use Rattle.check_objects.specs.Cycles.{IsCycleFault, IsParentCycle}
 
 -- the tree of a document's bytes
-abbrev pub document_of : List ℕ → Result Data Fault
-document_of bytes = if nat_lt 16777216 (length bytes) then Err faults.too_long else ok_or (tree_of bytes) faults.not_json
+abbrev pub document_tree : List ℕ → Result Data Fault
+document_tree bytes = if nat_lt 16777216 (length bytes) then Err faults.too_long else ok_or (tree_of bytes) faults.not_json
 
--- the drafts of a tree, if they have no fault except for cycles
-abbrev pub faultless_drafts : Data → Result Drafts Fault
-faultless_drafts d = drafts_of d >>= λ drafts. (is_faultless drafts >>= λ _. Ok drafts)
+-- the parsed setup of a tree, if it has no fault except for cycles
+abbrev pub verified_setup : Data → Result ParsedSetup Fault
+verified_setup d = parsed_setup d >>= λ drafts. (verification drafts >>= λ _. Ok drafts)
 
 -- ---- the setup, or the refusal
 
@@ -40,21 +40,21 @@ without_cycles c = without_dependency_cycle c >>= without_parent_cycle
 
 -- the setup of a tree
 unfoldable pub setup_of_tree : Data → Result Configuration LoadError
-setup_of_tree d = refused_as load_error (faultless_drafts d) >>= λ drafts. without_cycles (configuration drafts)
+setup_of_tree d = with_error load_error (verified_setup d) >>= λ drafts. without_cycles (configuration drafts)
 
 -- the setup of a document's bytes
 unfoldable pub setup_of : List ℕ → Result Configuration LoadError
-setup_of bytes = refused_as load_error (document_of bytes) >>= setup_of_tree
+setup_of bytes = with_error load_error (document_tree bytes) >>= setup_of_tree
 
 -- ---- the fault
 
--- the fault of a tree: the first one of its drafts; if they have no fault except for cycles, one of the cycles
-abbrev pub IsFaultBy : Result Drafts Fault → Fault → Type 0
+-- the fault of a tree: the first one of its parsed setup; if that has no fault except for cycles, one of the cycles
+abbrev pub IsFaultBy : Result ParsedSetup Fault → Fault → Type 0
 IsFaultBy (Err e) f = f ≡ e
 IsFaultBy (Ok drafts) f = IsCycleFault drafts f
 
 abbrev pub IsFaultOfTree : Data → Fault → Type 0
-IsFaultOfTree d f = IsFaultBy (faultless_drafts d) f
+IsFaultOfTree d f = IsFaultBy (verified_setup d) f
 
 abbrev pub IsFaultIn : Result Data Fault → Fault → Type 0
 IsFaultIn (Err e) f = f ≡ e
@@ -62,15 +62,15 @@ IsFaultIn (Ok d) f = IsFaultOfTree d f
 
 -- the fault of a document's bytes
 abbrev pub IsFaultOf : List ℕ → Fault → Type 0
-IsFaultOf bytes f = IsFaultIn (document_of bytes) f
+IsFaultOf bytes f = IsFaultIn (document_tree bytes) f
 
--- The drafts are refused for this fault. None means that the code is out of memory, and says nothing.
-abbrev pub AreRefusedFor : Drafts → Option Fault → Type 0
+-- The parsed setup is refused for this fault. None means that the code is out of memory, and says nothing.
+abbrev pub AreRefusedFor : ParsedSetup → Option Fault → Type 0
 AreRefusedFor ds None = Unit {0}
 AreRefusedFor ds (Some f) = IsCycleFault ds f × (without_cycles (configuration ds) ≡ Err (load_error f))
 
 -- the fault is a cycle of parents
-abbrev pub IsParentFault : Drafts → Option Fault → Type 0
+abbrev pub IsParentFault : ParsedSetup → Option Fault → Type 0
 IsParentFault ds None = Unit {0}
 IsParentFault ds (Some (faults.parent_cycle cycle)) = (has_cycle (parents_by_host (configuration ds)) ≡ true) × IsParentCycle ds cycle
 IsParentFault ds (Some other) = ⊥

@@ -1,8 +1,8 @@
 -- The setup of the code, as contracts see it.
 use Rattle.std.specs.Prelude.{map}
-use Rattle.check_numbers.specs.Configuration.{Configuration, IsSetup, masters_of}
-use Rattle.link_order.specs.Orders.{IsOrder}
-use Rattle.check_numbers.specs.Entries.{host_entry, service_entry}
+use Rattle.check_objects.specs.Configuration.{Configuration, IsSetup, masters_of}
+use Rattle.setup_order.specs.Orders.{IsOrder}
+use Rattle.check_objects.specs.Entries.{host_entry, service_entry}
 use Rattle.check_objects.specs.declared.setup.Setup.TheInside.{Inside}
 
 abbrev pub configuration_of : Inside → Configuration
@@ -16,6 +16,6 @@ configuration_of s =
     }
 
 -- a setup, and an order that agrees with its dependencies
-pub record IsKept (s : Inside) : Type 0 where
+pub record IsWellFormed (s : Inside) : Type 0 where
   pub setup : IsSetup (configuration_of s)
   pub order : IsOrder (masters_of (configuration_of s)) s.order.items

@@ -1,42 +1,43 @@
 //! Cycles of a document: converts the numbers of their objects to the indices of the document's lists.
+
 ghost use Rattle.std.specs.Prelude.{◌≡◌, ◌<◌, ◌≤◌, ◌+◌, ◌-◌, ℕ, List, [], IfOk, Ok, Some, bytes_eq, get_or, length, map, string_bytes, true};
-ghost use Rattle.check_drafts.specs.Drafted.{drafts_view, host};
-ghost use Rattle.check_drafts.specs.Ends.{is_known};
-ghost use Rattle.check_drafts.specs.Fault.{seen};
-ghost use Rattle.check_drafts.specs.Keys.{names_of};
-ghost use Rattle.check_faults.specs.Verification.{is_faultless};
-ghost use Rattle.check_numbers.specs.Configuration.{masters_of, parents_by_host};
-ghost use Rattle.check_numbers.specs.Entries.{host_entry, names_in, service_entry};
-ghost use Rattle.check_numbers.specs.Numbering.{configuration};
+ghost use Rattle.setup_model.specs.ParsedViews.{parsed_view, host};
+ghost use Rattle.setup_model.specs.Ends.{is_known};
+ghost use Rattle.setup_model.specs.Fault.{view_of};
+ghost use Rattle.setup_model.specs.Keys.{names_of};
+ghost use Rattle.setup_reader.specs.Verification.{verification};
+ghost use Rattle.check_objects.specs.Configuration.{masters_of, parents_by_host};
+ghost use Rattle.check_objects.specs.Entries.{host_entry, names_in, service_entry};
+ghost use Rattle.check_objects.specs.Numbering.{configuration};
 ghost use Rattle.check_objects.specs.Setup.{AreRefusedFor, IsParentFault};
 ghost use Rattle.check_objects.specs.Indices.{AreIndices, BeginsWithLeast, HasIndex};
 ghost use Rattle.std.specs.Borrow.{Bor};
 ghost use Rattle.indexmap.specs.IndexMap.{get};
-ghost use Rattle.link_order.specs.Cycles.{has_cycle};
-ghost use Rattle.link_order.specs.Ordering.{IsCycle};
+ghost use Rattle.setup_order.specs.Cycles.{has_cycle};
+ghost use Rattle.setup_order.specs.Results.{IsCycle};
 
-use check_drafts::{Drafts, Fault, HostDraft, Part};
-use check_faults::full_names;
-use check_numbers::{Host, Service};
+use crate::object_index::{Host, Service};
 use indexmap::IndexMap;
+use setup_model::{Fault, ParsedHost, ParsedSetup, Part};
+use setup_reader::full_names;
 use std::alloc::{AllocError, Global};
 
 /// A cycle of dependencies as a fault, from its objects' numbers. An Err means out of memory.
 pub(crate) fn dependency_cycle(
     alloc: Global,
-    drafts: &Drafts<'_>,
+    drafts: &ParsedSetup<'_>,
     hosts: &IndexMap<String, Host>,
     services: &IndexMap<String, Service>,
     cycle: &[u32],
 ) -> Result<Fault, AllocError>
-    requires faultless { is_faultless (drafts_view drafts.now) ≡ Ok tt }
+    requires faultless { verification (parsed_view drafts.now) ≡ Ok tt }
     requires hosts { map host_entry hosts.now.entries
-        ≡ (configuration (drafts_view drafts.now)).hosts }
+        ≡ (configuration (parsed_view drafts.now)).hosts }
     requires services { map service_entry services.now.entries
-        ≡ (configuration (drafts_view drafts.now)).services }
-    requires cyclic { has_cycle (masters_of (configuration (drafts_view drafts.now))) ≡ true }
-    requires cycle { IsCycle (masters_of (configuration (drafts_view drafts.now))) cycle.now }
-    ensures { IfOk result (λ fault. AreRefusedFor (drafts_view drafts.now) (Some (seen fault))) }
+        ≡ (configuration (parsed_view drafts.now)).services }
+    requires cyclic { has_cycle (masters_of (configuration (parsed_view drafts.now))) ≡ true }
+    requires cycle { IsCycle (masters_of (configuration (parsed_view drafts.now))) cycle.now }
+    ensures { IfOk result (λ fault. AreRefusedFor (parsed_view drafts.now) (Some (view_of fault))) }
 {
     if (cycle[0] as usize) < hosts.len() {
         let names = host_names(alloc, &drafts.hosts)?;
@@ -55,16 +56,16 @@ pub(crate) fn dependency_cycle(
 /// A cycle of parents as a fault, from its hosts' numbers. An Err means out of memory.
 pub(crate) fn parent_cycle(
     alloc: Global,
-    drafts: &Drafts<'_>,
+    drafts: &ParsedSetup<'_>,
     hosts: &IndexMap<String, Host>,
     cycle: &[u32],
 ) -> Result<Fault, AllocError>
-    requires faultless { is_faultless (drafts_view drafts.now) ≡ Ok tt }
+    requires faultless { verification (parsed_view drafts.now) ≡ Ok tt }
     requires hosts { map host_entry hosts.now.entries
-        ≡ (configuration (drafts_view drafts.now)).hosts }
-    requires cyclic { has_cycle (parents_by_host (configuration (drafts_view drafts.now))) ≡ true }
-    requires cycle { IsCycle (parents_by_host (configuration (drafts_view drafts.now))) cycle.now }
-    ensures { IfOk result (λ fault. IsParentFault (drafts_view drafts.now) (Some (seen fault))) }
+        ≡ (configuration (parsed_view drafts.now)).hosts }
+    requires cyclic { has_cycle (parents_by_host (configuration (parsed_view drafts.now))) ≡ true }
+    requires cycle { IsCycle (parents_by_host (configuration (parsed_view drafts.now))) cycle.now }
+    ensures { IfOk result (λ fault. IsParentFault (parsed_view drafts.now) (Some (view_of fault))) }
 {
     let names = host_names(alloc, &drafts.hosts)?;
     let mut indices = document_indices(alloc, cycle, 0, hosts, &names)?;
@@ -73,7 +74,7 @@ pub(crate) fn parent_cycle(
 }
 
 /// The names of hosts, in the document's order.
-fn host_names(alloc: Global, hosts: &[HostDraft<'_>]) -> Result<Vec<String>, AllocError>
+fn host_names(alloc: Global, hosts: &[ParsedHost<'_>]) -> Result<Vec<String>, AllocError>
     ensures { IfOk result (λ names.
         map string_bytes names.items ≡ names_of (map host hosts.now)) }
 {
@@ -138,12 +139,12 @@ fn begin_with_least(cycle: &mut Vec<usize>)
     requires { 0 < length cycle.old.items }
     ensures { BeginsWithLeast cycle.old.items cycle.new.items }
 {
-    let place = place_of_least(cycle);
+    let place = index_of_least(cycle);
     cycle.rotate_left(place);
 }
 
 /// The place of the least of these indices.
-fn place_of_least(indices: &[usize]) -> usize
+fn index_of_least(indices: &[usize]) -> usize
     requires { 0 < length indices.now }
     ensures within { result < length indices.now }
     ensures least { (place : ℕ) → place < length indices.now

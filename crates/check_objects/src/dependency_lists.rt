@@ -1,19 +1,20 @@
 //! The dependencies of each object by number, and an order of the objects that agrees with them.
+
 ghost use Rattle.std.specs.Prelude.{◌≡◌, ◌≤◌, ◌+◌, ◌++◌, ℕ, List, length, map, nat_lt, true, false, IfOk, OnOk};
 ghost use Rattle.std.specs.List.{list_all};
-ghost use Rattle.link_order.specs.Cycles.{are_within};
-ghost use Rattle.link_order.specs.Ordering.{IsAnswer};
-ghost use Rattle.link_order.specs.Orders.{IsOrder};
-ghost use Rattle.check_numbers.specs.Configuration.{masters_in};
-ghost use Rattle.check_drafts.specs.Drafted.{dependency, drafts_view};
-ghost use Rattle.check_drafts.specs.Ends.{is_known, has_known_ends};
-ghost use Rattle.check_numbers.specs.Entries.{names_in, objects_in};
-ghost use Rattle.check_numbers.specs.Numbering.{number_in, numbered_behind, dependencies_by_number, dependency_lists};
+ghost use Rattle.setup_order.specs.Cycles.{are_within};
+ghost use Rattle.setup_order.specs.Results.{IsOrderOrCycle};
+ghost use Rattle.setup_order.specs.Orders.{IsOrder};
+ghost use Rattle.check_objects.specs.Configuration.{masters_in};
+ghost use Rattle.setup_model.specs.ParsedViews.{dependency, parsed_view};
+ghost use Rattle.setup_model.specs.Ends.{is_known, has_known_ends};
+ghost use Rattle.check_objects.specs.Entries.{names_in, objects_in};
+ghost use Rattle.check_objects.specs.Numbering.{index_of_name, offset_dependency, dependencies_by_number, dependency_lists};
 
-use crate::numbering::{Host, Service};
-use check_drafts::{Dependency, DependencyDraft, Drafts};
+use crate::object_index::{Host, Service};
 use indexmap::IndexMap;
-use link_order::{OrderOrCycle, empty_lists, order_by_links, push_at};
+use setup_model::{Dependency, ParsedDependency, ParsedSetup};
+use setup_order::{OrderOrCycle, empty_lists, push_to_list, topological_order};
 use smallvec::SmallVec;
 use std::alloc::{AllocError, Global};
 
@@ -27,20 +28,20 @@ pub type Dependencies = SmallVec<Dependency, 1>;
 /// means out of memory.
 pub fn list_dependencies(
     alloc: Global,
-    drafts: &Drafts<'_>,
+    drafts: &ParsedSetup<'_>,
     hosts: &IndexMap<String, Host>,
     services: &IndexMap<String, Service>,
 ) -> Result<Vec<Dependencies>, AllocError>
-    requires few { length (objects_in hosts.now.entries services.now.entries) ≤ 4096 }
+    requires bounded { length (objects_in hosts.now.entries services.now.entries) ≤ 4096 }
     requires apart { (name : List ℕ) → is_known (names_in services.now.entries) name ≡ true
         → is_known (names_in hosts.now.entries) name ≡ false }
     requires of_services { list_all (has_known_ends (names_in services.now.entries))
-        (drafts_view drafts.now).service_dependencies ≡ true }
+        (parsed_view drafts.now).service_dependencies ≡ true }
     requires of_hosts { list_all (has_known_ends (names_in hosts.now.entries))
-        (drafts_view drafts.now).host_dependencies ≡ true }
+        (parsed_view drafts.now).host_dependencies ≡ true }
     ensures { IfOk result (λ lists. map (λ list. list.items) lists.items
         ≡ dependencies_by_number (objects_in hosts.now.entries services.now.entries)
-        (drafts_view drafts.now)) }
+        (parsed_view drafts.now)) }
 {
     let mut numbered = Vec::new(alloc);
     let host_count = hosts.len();
@@ -58,15 +59,15 @@ pub fn list_dependencies(
 /// objects come before them. An Err means out of memory.
 fn number_dependencies<T>(
     numbered: &mut Vec<(u32, Dependency)>,
-    drafts: &[DependencyDraft<'_>],
+    drafts: &[ParsedDependency<'_>],
     others: u32,
     objects: &IndexMap<String, T>,
 ) -> Result<(), AllocError>
-    requires few { others + length objects.now.entries ≤ 4096 }
+    requires bounded { others + length objects.now.entries ≤ 4096 }
     requires known { list_all (has_known_ends (names_in objects.now.entries))
         (map dependency drafts.now) ≡ true }
     ensures { OnOk result (numbered.new.items ≡ numbered.old.items
-        ++ map (numbered_behind others (names_in objects.now.entries)) (map dependency drafts.now)) }
+        ++ map (offset_dependency others (names_in objects.now.entries)) (map dependency drafts.now)) }
 {
     for draft in drafts {
         numbered.push(number_dependency(*draft, others, objects))?;
@@ -77,17 +78,17 @@ fn number_dependencies<T>(
 /// The number of a dependency's dependent, and the dependency by number. Both ends are among these objects,
 /// and this many other objects come before them.
 fn number_dependency<T>(
-    draft: DependencyDraft<'_>,
+    draft: ParsedDependency<'_>,
     others: u32,
     objects: &IndexMap<String, T>,
 ) -> (u32, Dependency)
-    requires few { others + length objects.now.entries ≤ 4096 }
+    requires bounded { others + length objects.now.entries ≤ 4096 }
     requires known { has_known_ends (names_in objects.now.entries) (dependency draft) ≡ true }
     ensures { result
-        ≡ numbered_behind others (names_in objects.now.entries) (dependency draft.entry) }
+        ≡ offset_dependency others (names_in objects.now.entries) (dependency draft.entry) }
 {
-    let dependent = number_behind(others, objects, draft.dependent);
-    let master = number_behind(others, objects, draft.master);
+    let dependent = offset_number(others, objects, draft.dependent);
+    let master = offset_number(others, objects, draft.master);
     let dependency = Dependency {
         master,
         criteria: draft.criteria,
@@ -97,10 +98,10 @@ fn number_dependency<T>(
 }
 
 /// The number of the object with this name among these. This many other objects come before them.
-fn number_behind<T>(others: u32, objects: &IndexMap<String, T>, name: &str) -> u32
-    requires few { others + length objects.now.entries ≤ 4096 }
+fn offset_number<T>(others: u32, objects: &IndexMap<String, T>, name: &str) -> u32
+    requires bounded { others + length objects.now.entries ≤ 4096 }
     requires known { is_known (names_in objects.now.entries) name.now ≡ true }
-    ensures { result ≡ others + number_in (names_in objects.now.entries) name.now }
+    ensures { result ≡ others + index_of_name (names_in objects.now.entries) name.now }
 {
     let index = objects.get_index_of(name).unwrap();
     others + index as u32
@@ -119,7 +120,7 @@ fn list_by_dependent(
 {
     let mut lists = empty_lists(alloc, count)?;
     for (dependent, dependency) in numbered {
-        push_at(&mut lists, *dependent, *dependency)?;
+        push_to_list(&mut lists, *dependent, *dependency)?;
     }
     Ok(lists)
 }
@@ -129,18 +130,18 @@ fn list_by_dependent(
 /// The numbers of the objects in an order in which each comes after all that it depends on. If there is no
 /// such order, the objects of a cycle: each depends on the next one, and the last on the first. An Err means
 /// out of memory.
-pub fn order_by_masters(
+pub fn dependency_order(
     alloc: Global,
     dependencies: &[Dependencies],
 ) -> Result<OrderOrCycle, AllocError>
-    requires few { length dependencies.now ≤ 4096 }
+    requires bounded { length dependencies.now ≤ 4096 }
     requires within { are_within (length dependencies.now)
         (map masters_in (map (λ list. list.items) dependencies.now)) ≡ true }
     ensures { IfOk result
-        (IsAnswer (map masters_in (map (λ list. list.items) dependencies.now))) }
+        (IsOrderOrCycle (map masters_in (map (λ list. list.items) dependencies.now))) }
 {
     let links = master_links(alloc, dependencies)?;
-    order_by_links(alloc, &links)
+    topological_order(alloc, &links)
 }
 
 /// The masters of each object, by number, from its dependencies. An Err means out of memory.

@@ -1,18 +1,20 @@
 //! The numbers of objects, and the links between them by number. Hosts come first, in the order of their
 //! names' bytes. Then come services, in the order of their hosts' names and then of their descriptions.
+
 ghost use Rattle.std.specs.Prelude.{◌≡◌, ◌≤◌, ◌<◌, length, map, bytes_eq, IfOk, OnOk, All, None, true, false, [], ◌∷◌, ◌++◌, string_bytes};
 ghost use Rattle.std.specs.List.{list_all, list_any};
-ghost use Rattle.check_numbers.specs.Numbering.{numbered, hosts_in_order, services_in_order, number_in, numbered_host, numbered_service, object_of};
-ghost use Rattle.check_drafts.specs.Name.{is_host_name, full_name};
-ghost use Rattle.check_numbers.specs.Configuration.{number_among};
-ghost use Rattle.check_drafts.specs.Keys.{first_repeat, names_of, key_of, same_key};
-ghost use Rattle.check_drafts.specs.Drafted.{host, service, drafts_view, texts, HasFewAttempts};
-ghost use Rattle.check_numbers.specs.Entries.{objects_in, host_entry, service_entry, sorted_host, sorted_service};
-ghost use Rattle.check_drafts.specs.Text.{text};
+ghost use Rattle.check_objects.specs.Numbering.{configuration_of_objects, hosts_in_order, services_in_order, index_of_name, numbered_host, numbered_service};
+ghost use Rattle.check_objects.specs.Numbering.{object_of};
+ghost use Rattle.setup_model.specs.Name.{is_host_name, full_name};
+ghost use Rattle.check_objects.specs.Configuration.{number_among};
+ghost use Rattle.setup_model.specs.Keys.{first_repeat, names_of, key_of, is_same_key};
+ghost use Rattle.setup_model.specs.ParsedViews.{host, service, parsed_view, texts, HasBoundedAttempts};
+ghost use Rattle.check_objects.specs.Entries.{objects_in, host_entry, service_entry, sorted_host, sorted_service};
+ghost use Rattle.setup_model.specs.Text.{text};
 
-use check_drafts::{CheckDraft, Drafts, HostDraft, Object, ServiceDraft, full_name, text};
 use indexmap::{IndexMap, IndexSet};
 use serde_json::Value;
+use setup_model::{Object, ParsedCheck, ParsedHost, ParsedService, ParsedSetup, full_name, text};
 use smallvec::SmallVec;
 use std::alloc::{AllocError, Global};
 use std::collections::BTreeMap;
@@ -38,23 +40,23 @@ pub struct Service {
     pub host: u32,
 }
 
-/// The hosts and the services of drafts, each at the index that is its number among those of its sort.
+/// The hosts and the services of a parsed setup, each at the index that is its number among those of its sort.
 /// Each has a name of its own, and no service's host has a semicolon in its name. An Err means out of
 /// memory.
 pub fn number_objects(
     alloc: Global,
-    drafts: &Drafts<'_>,
+    drafts: &ParsedSetup<'_>,
 ) -> Result<(IndexMap<String, Host>, IndexMap<String, Service>), AllocError>
-    requires few { length drafts.now.hosts.items ≤ 4096 }
-    requires names { first_repeat bytes_eq (names_of (drafts_view drafts.now).hosts) ≡ None }
-    requires keys { first_repeat same_key (map key_of (drafts_view drafts.now).services) ≡ None }
-    requires parted { list_all (λ s. is_host_name s.host) (drafts_view drafts.now).services ≡ true }
-    requires hosts { All (λ h. HasFewAttempts h.check) drafts.now.hosts.items }
-    requires services { All (λ s. HasFewAttempts s.check) drafts.now.services.items }
+    requires bounded { length drafts.now.hosts.items ≤ 4096 }
+    requires names { first_repeat bytes_eq (names_of (parsed_view drafts.now).hosts) ≡ None }
+    requires keys { first_repeat is_same_key (map key_of (parsed_view drafts.now).services) ≡ None }
+    requires without_semicolon { list_all (λ s. is_host_name s.host) (parsed_view drafts.now).services ≡ true }
+    requires hosts { All (λ h. HasBoundedAttempts h.check) drafts.now.hosts.items }
+    requires services { All (λ s. HasBoundedAttempts s.check) drafts.now.services.items }
     ensures hosts { IfOk result (λ objects.
-        map host_entry objects.0.entries ≡ (numbered (drafts_view drafts.now)).hosts) }
+        map host_entry objects.0.entries ≡ (configuration_of_objects (parsed_view drafts.now)).hosts) }
     ensures services { IfOk result (λ objects.
-        map service_entry objects.1.entries ≡ (numbered (drafts_view drafts.now)).services) }
+        map service_entry objects.1.entries ≡ (configuration_of_objects (parsed_view drafts.now)).services) }
 {
     let hosts = sort_hosts(alloc, &drafts.hosts)?;
     let services = sort_services(alloc, &drafts.services)?;
@@ -70,9 +72,9 @@ pub fn number_objects(
 /// parents' names.
 fn sort_hosts<'v>(
     alloc: Global,
-    drafts: &[HostDraft<'v>],
+    drafts: &[ParsedHost<'v>],
 ) -> Result<BTreeMap<&'v str, (Object, &'v [Value])>, AllocError>
-    requires attempts { All (λ h. HasFewAttempts h.check) drafts.now }
+    requires attempts { All (λ h. HasBoundedAttempts h.check) drafts.now }
     requires distinct { first_repeat bytes_eq (names_of (map host drafts.now)) ≡ None }
     ensures { IfOk result (λ m.
         map sorted_host m.entries ≡ hosts_in_order (map host drafts.now)) }
@@ -88,10 +90,10 @@ fn sort_hosts<'v>(
 /// the same host and the same description.
 fn sort_services<'v>(
     alloc: Global,
-    drafts: &[ServiceDraft<'v>],
+    drafts: &[ParsedService<'v>],
 ) -> Result<BTreeMap<(&'v str, &'v str), Object>, AllocError>
-    requires attempts { All (λ s. HasFewAttempts s.check) drafts.now }
-    requires distinct { first_repeat same_key (map key_of (map service drafts.now)) ≡ None }
+    requires attempts { All (λ s. HasBoundedAttempts s.check) drafts.now }
+    requires distinct { first_repeat is_same_key (map key_of (map service drafts.now)) ≡ None }
     ensures { IfOk result (λ m.
         map sorted_service m.entries ≡ services_in_order (map service drafts.now)) }
 {
@@ -102,8 +104,8 @@ fn sort_services<'v>(
     Ok(sorted)
 }
 
-fn object(check: CheckDraft) -> Object
-    requires { HasFewAttempts check }
+fn object(check: ParsedCheck) -> Object
+    requires { HasBoundedAttempts check }
     ensures { result ≡ object_of check }
 {
     Object {
@@ -133,7 +135,7 @@ fn number_names<'v>(
 /// The number of a host among the names.
 fn number_of(names: &IndexSet<&str>, name: &str) -> u32
     requires { length names.now.keys ≤ 4096 }
-    ensures { result ≡ number_in (texts names.now.keys) name.now }
+    ensures { result ≡ index_of_name (texts names.now.keys) name.now }
 {
     match names.get_index_of(name) {
         Some(index) => index as u32,
@@ -149,7 +151,7 @@ fn number_parents(
 ) -> Result<Parents, AllocError>
     requires { length names.now.keys ≤ 4096 }
     ensures { IfOk result (λ v.
-        v.items ≡ map (number_in (texts names.now.keys)) (map text parents.now)) }
+        v.items ≡ map (index_of_name (texts names.now.keys)) (map text parents.now)) }
 {
     let mut numbers = SmallVec::new(alloc);
     for parent in parents {
@@ -185,8 +187,8 @@ fn index_services(
     sorted: BTreeMap<(&str, &str), Object>,
     names: &IndexSet<&str>,
 ) -> Result<IndexMap<String, Service>, AllocError>
-    requires few { length names.now.keys ≤ 4096 }
-    requires parted { list_all (λ e. is_host_name e.0.0.now) sorted.entries ≡ true }
+    requires bounded { length names.now.keys ≤ 4096 }
+    requires without_semicolon { list_all (λ e. is_host_name e.0.0.now) sorted.entries ≡ true }
     ensures { IfOk result (λ m. map service_entry m.entries
         ≡ map (numbered_service (texts names.now.keys)) (map sorted_service sorted.entry.entries)) }
 {

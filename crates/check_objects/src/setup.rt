@@ -1,30 +1,29 @@
 //! The setup: the objects that are checked, with their names and numbers, and their links.
+
 ghost use Rattle.std.specs.Prelude.{◌≡◌, ◌<◌, ◌≤◌, length, map, Ok, option_map, slice_get, Some, IfSome, IfOk, IfErr, OnOk, Err, ◌==◌, All, false};
-ghost use Rattle.check_numbers.specs.Configuration.{Configuration, object_count, host_count, objects_of, number_of, name_of, host_of, parents_of, dependencies_of, masters_of, parents_by_host, IsSetup};
-ghost use Rattle.link_order.specs.Cycles.{has_cycle};
-ghost use Rattle.link_order.specs.Orders.{IsOrder};
-ghost use Rattle.check_numbers.specs.Numbering.{configuration};
-ghost use Rattle.check_objects.specs.Kept.{configuration_of, IsKept};
+ghost use Rattle.check_objects.specs.Configuration.{Configuration, object_count, host_count, objects_of, number_by_name, name_of, host_of, parents_of};
+ghost use Rattle.check_objects.specs.Configuration.{dependencies_of, masters_of, parents_by_host, IsSetup};
+ghost use Rattle.setup_order.specs.Cycles.{has_cycle};
+ghost use Rattle.setup_order.specs.Orders.{IsOrder};
+ghost use Rattle.check_objects.specs.Numbering.{configuration};
+ghost use Rattle.check_objects.specs.WellFormed.{configuration_of, IsWellFormed};
 ghost use Rattle.check_objects.specs.Setup.{setup_of, setup_of_tree, without_cycles, AreRefusedFor, IsParentFault, IsRefusedFor, IsRefusedTree};
-ghost use Rattle.check_faults.specs.Verification.{is_faultless};
-ghost use Rattle.check_drafts.specs.Drafted.{drafts_view, HasFewAttempts};
-ghost use Rattle.check_numbers.specs.Entries.{host_entry, named, service_entry};
-ghost use Rattle.check_drafts.specs.LoadError.{Gives};
-ghost use Rattle.check_drafts.specs.Fault.{but_memory, seen};
+ghost use Rattle.setup_reader.specs.Verification.{verification};
+ghost use Rattle.setup_model.specs.ParsedViews.{parsed_view, HasBoundedAttempts};
+ghost use Rattle.check_objects.specs.Entries.{host_entry, named_object, service_entry};
+ghost use Rattle.setup_model.specs.LoadError.{IsExpectedResult};
+ghost use Rattle.setup_model.specs.Fault.{non_memory_fault, view_of};
 ghost use Rattle.serde_json.specs.View.{view};
 
 use crate::cycles::{dependency_cycle, parent_cycle};
+use crate::dependency_lists::{Dependencies, dependency_order, list_dependencies, master_links};
 use crate::document::read_document;
-use check_documents::read_drafts;
-use check_drafts::{Dependency, Drafts, Fault, LoadError, Object, Options};
-use check_faults::verify;
-use check_numbers::{
-    Dependencies, Host, Parents, Service, list_dependencies, master_links, number_objects,
-    object_number, order_by_masters,
-};
+use crate::object_index::{Host, Parents, Service, number_objects, object_number};
 use indexmap::IndexMap;
-use link_order::{OrderOrCycle, order_by_links};
 use serde_json::Value;
+use setup_model::{Dependency, Fault, LoadError, Object, Options, ParsedSetup};
+use setup_order::{OrderOrCycle, topological_order};
+use setup_reader::{parse_setup, verify};
 use smallvec::SmallVec;
 use std::alloc::{AllocError, Global};
 use std::marker::Model;
@@ -50,7 +49,7 @@ impl Model for Setup {
 
     ghost view = { configuration_of };
 
-    ghost invariant = { IsKept };
+    ghost invariant = { IsWellFormed };
 }
 
 impl Setup {
@@ -58,12 +57,12 @@ impl Setup {
     ///
     /// The result is the document's setup. Otherwise the error is the document's first fault in the order of
     /// [`LoadError`]. `Memory` can come in place of either. Nothing is made if there is an error. Call
-    /// [`examine`](Setup::examine) for the details of the fault.
+    /// [`read_with_fault`](Setup::read_with_fault) for the details of the fault.
     pub fn read(alloc: Global, bytes: &[u8]) -> Result<Setup, LoadError>
-        ensures exact { Gives (λ s. s) result (setup_of bytes.now) }
+        ensures exact { IsExpectedResult (λ s. s) result (setup_of bytes.now) }
         ensures too_long { 16777216 < length bytes.now → result ≡ Err LoadError.TooLong }
     {
-        match Setup::examine(alloc, bytes) {
+        match Setup::read_with_fault(alloc, bytes) {
             Ok(setup) => Ok(setup),
             Err(fault) => Err(LoadError::from(fault)),
         }
@@ -74,13 +73,13 @@ impl Setup {
     ///
     /// `Memory` can come in place of a setup and of a fault. Nothing is made then.
     #[tactic(auto, unfolding(crate::specs::Setup::setup_of))]
-    pub fn examine(alloc: Global, bytes: &[u8]) -> Result<Setup, Fault>
+    pub fn read_with_fault(alloc: Global, bytes: &[u8]) -> Result<Setup, Fault>
         ensures setup { IfOk result (λ setup. setup_of bytes.now ≡ Ok setup) }
-        ensures refused { IfErr result (λ fault. IsRefusedFor bytes.now (but_memory (seen fault))) }
+        ensures refused { IfErr result (λ fault. IsRefusedFor bytes.now (non_memory_fault (view_of fault))) }
         ensures too_long { 16777216 < length bytes.now → result ≡ Err Fault.TooLong }
     {
         let tree = read_document(alloc, bytes)?;
-        Setup::examine_tree(alloc, &tree)
+        Setup::read_tree_with_fault(alloc, &tree)
     }
 
     /// The setup of a document's tree, as [`read_document`](crate::read_document) returns it. For a refused
@@ -88,54 +87,54 @@ impl Setup {
     ///
     /// `Memory` can come in place of a setup and of a fault. Nothing is made then.
     #[tactic(auto, unfolding(crate::specs::Setup::setup_of_tree))]
-    pub fn examine_tree(alloc: Global, tree: &Value) -> Result<Setup, Fault>
+    pub fn read_tree_with_fault(alloc: Global, tree: &Value) -> Result<Setup, Fault>
         ensures setup { IfOk result (λ setup. setup_of_tree (view tree.now) ≡ Ok setup) }
         ensures refused { IfErr result (λ fault.
-            IsRefusedTree (view tree.now) (but_memory (seen fault))) }
+            IsRefusedTree (view tree.now) (non_memory_fault (view_of fault))) }
     {
-        let drafts = read_drafts(alloc, tree)?;
+        let drafts = parse_setup(alloc, tree)?;
         verify(alloc, &drafts)?;
-        Setup::of_drafts(alloc, &drafts)
+        Setup::from_parsed(alloc, &drafts)
     }
 
-    /// The setup of drafts without a fault. It is refused if some object depends on itself through one
+    /// The setup of a parsed setup without a fault. It is refused if some object depends on itself through one
     /// dependency or more. It is also refused if some host is its own parent through one parent or more.
-    fn of_drafts(alloc: Global, drafts: &Drafts<'_>) -> Result<Setup, Fault>
-        requires faultless { is_faultless (drafts_view drafts.now) ≡ Ok tt }
-        requires hosts { All (λ h. HasFewAttempts h.check) drafts.now.hosts.items }
-        requires services { All (λ s. HasFewAttempts s.check) drafts.now.services.items }
+    fn from_parsed(alloc: Global, drafts: &ParsedSetup<'_>) -> Result<Setup, Fault>
+        requires faultless { verification (parsed_view drafts.now) ≡ Ok tt }
+        requires hosts { All (λ h. HasBoundedAttempts h.check) drafts.now.hosts.items }
+        requires services { All (λ s. HasBoundedAttempts s.check) drafts.now.services.items }
         ensures setup { IfOk result (λ setup.
-            without_cycles (configuration (drafts_view drafts.now)) ≡ Ok setup) }
+            without_cycles (configuration (parsed_view drafts.now)) ≡ Ok setup) }
         ensures refused { IfErr result (λ fault.
-            AreRefusedFor (drafts_view drafts.now) (but_memory (seen fault))) }
+            AreRefusedFor (parsed_view drafts.now) (non_memory_fault (view_of fault))) }
     {
         let (hosts, services) = number_objects(alloc, drafts)?;
         let dependencies = list_dependencies(alloc, drafts, &hosts, &services)?;
         Setup::without_cycles(alloc, drafts, hosts, services, dependencies)
     }
 
-    /// The setup of drafts without a fault, after their objects and dependencies were numbered. It is refused
+    /// The setup of a parsed setup without a fault, after their objects and dependencies were numbered. It is refused
     /// if it has a cycle.
     fn without_cycles(
         alloc: Global,
-        drafts: &Drafts<'_>,
+        drafts: &ParsedSetup<'_>,
         hosts: IndexMap<String, Host>,
         services: IndexMap<String, Service>,
         dependencies: Vec<Dependencies>,
     ) -> Result<Setup, Fault>
-        requires faultless { is_faultless (drafts_view drafts.now) ≡ Ok tt }
+        requires faultless { verification (parsed_view drafts.now) ≡ Ok tt }
         requires hosts { map host_entry hosts.entries
-            ≡ (configuration (drafts_view drafts.now)).hosts }
+            ≡ (configuration (parsed_view drafts.now)).hosts }
         requires services { map service_entry services.entries
-            ≡ (configuration (drafts_view drafts.now)).services }
+            ≡ (configuration (parsed_view drafts.now)).services }
         requires dependencies { map (λ list. list.items) dependencies.items
-            ≡ (configuration (drafts_view drafts.now)).dependencies }
+            ≡ (configuration (parsed_view drafts.now)).dependencies }
         ensures setup { IfOk result (λ setup.
-            without_cycles (configuration (drafts_view drafts.now)) ≡ Ok setup) }
+            without_cycles (configuration (parsed_view drafts.now)) ≡ Ok setup) }
         ensures refused { IfErr result (λ fault.
-            AreRefusedFor (drafts_view drafts.now) (but_memory (seen fault))) }
+            AreRefusedFor (parsed_view drafts.now) (non_memory_fault (view_of fault))) }
     {
-        match order_by_masters(alloc, &dependencies)? {
+        match dependency_order(alloc, &dependencies)? {
             OrderOrCycle::Order(order) => {
                 verify_no_parent_cycle(alloc, drafts, &hosts)?;
                 Ok(Setup {
@@ -158,10 +157,10 @@ impl Setup {
     /// within their limits.
     pub fn len(&self) -> usize
         ensures count { result ≡ object_count self.now }
-        ensures few { result ≤ 4096 }
+        ensures bounded { result ≤ 4096 }
         ensures setup { IsSetup self.now }
     {
-        self.hosts.len() + self.services.len()
+        self.hosts() + self.services.len()
     }
 
     /// Whether there is no object.
@@ -212,7 +211,7 @@ impl Setup {
     fn entry(&self, number: u32) -> (&str, &Object)
         requires { number < object_count self.now }
         ensures { slice_get (objects_of self.now) number
-            ≡ Some (named result.0.now result.1.now) }
+            ≡ Some (named_object result.0.now result.1.now) }
     {
         let index = number as usize;
         if index < self.hosts.len() {
@@ -226,7 +225,7 @@ impl Setup {
 
     /// The number of the object with this full name, or None if there is no such object.
     pub fn number(&self, name: &str) -> Option<u32>
-        ensures { result ≡ number_of self.now name.now }
+        ensures { result ≡ number_by_name self.now name.now }
     {
         object_number(&self.hosts, &self.services, name)
     }
@@ -296,19 +295,19 @@ impl Setup {
 /// Verifies that no host is its own parent, through one parent or more.
 fn verify_no_parent_cycle(
     alloc: Global,
-    drafts: &Drafts<'_>,
+    drafts: &ParsedSetup<'_>,
     hosts: &IndexMap<String, Host>,
 ) -> Result<(), Fault>
-    requires faultless { is_faultless (drafts_view drafts.now) ≡ Ok tt }
+    requires faultless { verification (parsed_view drafts.now) ≡ Ok tt }
     requires hosts { map host_entry hosts.now.entries
-        ≡ (configuration (drafts_view drafts.now)).hosts }
+        ≡ (configuration (parsed_view drafts.now)).hosts }
     ensures none { OnOk result
-        (has_cycle (parents_by_host (configuration (drafts_view drafts.now))) ≡ false) }
+        (has_cycle (parents_by_host (configuration (parsed_view drafts.now))) ≡ false) }
     ensures cycle { IfErr result (λ fault.
-        IsParentFault (drafts_view drafts.now) (but_memory (seen fault))) }
+        IsParentFault (parsed_view drafts.now) (non_memory_fault (view_of fault))) }
 {
     let links = parent_links(alloc, hosts)?;
-    match order_by_links(alloc, &links)? {
+    match topological_order(alloc, &links)? {
         OrderOrCycle::Order(_) => Ok(()),
         OrderOrCycle::Cycle(cycle) => Err(parent_cycle(alloc, drafts, hosts, &cycle)?),
     }

@@ -2,13 +2,14 @@
 use Rattle.std.proofs.Common.{◌≡◌, ℕ, zero, suc, ◌+◌, ◌-◌, ◌*◌, ◌/◌, ◌<◌, ◌≤◌, true, false, List, Option, length, refl, sym, ap, ◌∙◌, ◌≢◌, arith, inl, inr}
 use Rattle.std.proofs.Math.ListN.{set}
 use Rattle.std.proofs.lemmas.Bool.{cases_eq}
-use Rattle.std.proofs.lemmas.List.{length-set}
+use Rattle.std.proofs.lemmas.Grind.{get_or-set_at}
+use Rattle.std.proofs.lemmas.List.{get_or-set_other, length-set}
 use Rattle.check_queue.specs.declared.entry.Entry.{Entry}
-use Rattle.check_queue.specs.Entries.{IsNotBefore, comes_before, entry_at}
-use Rattle.check_queue.specs.Positions.{absent, position_at, times_in, IsOutside}
+use Rattle.check_queue.specs.Entries.{IsNotBefore, is_entry_before, entry_at}
+use Rattle.check_queue.specs.Positions.{absent, position_at, times_in, IsAbsent}
 use Rattle.check_queue.specs.Heap.{IsHeap, IsHeapAround, FitsBelow, HasHole, IsOrdered, IsFirstChild}
 use Rattle.check_queue.proofs.EntryLaws.{by, no_later, not_itself, one_way}
-use Rattle.check_queue.proofs.PositionLaws.{links_close, links_end, links_move, links_shorter, some_position, times_move, unplaced, unwritten, written}
+use Rattle.check_queue.proofs.PositionLaws.{links_close, links_move, nowhere, some_position, times_move}
 
 -- ---- the root
 
@@ -25,80 +26,92 @@ root_first es n h (suc fuel) k a b = elim (cases_eq k 0) [
 
 -- ---- a move of the hole
 
-hole_moves : (es : List Entry) (ps : List ℕ) (n hole q : ℕ) → HasHole es ps n hole → q < n → q ≢ hole
-    → IsHeapAround (set es hole (entry_at es q)) n q → HasHole (set es hole (entry_at es q)) (set ps (entry_at es q).number hole) n q
-hole_moves es ps n hole q h l u around = record { inside = l; around = around; linked = links_move es ps n hole q h.linked h.inside l u }
+-- an entry and its parent after x is written to the hole: x may be the parent, the child, or neither
+pair : (es : List Entry) (hole i j : ℕ) (x : Entry) → hole < length es → i ≢ j → (i ≡ hole → IsNotBefore (entry_at es j) x)
+    → (j ≡ hole → IsNotBefore x (entry_at es i)) → (i ≢ hole → j ≢ hole → IsNotBefore (entry_at es j) (entry_at es i))
+    → IsNotBefore (entry_at (set es hole x) j) (entry_at (set es hole x) i)
+pair es hole i j x inside u parent child neither = elim (cases_eq i hole) [
+  | inl e ↦ by _ _ _ _ (get_or-set_other es hole j x nowhere (omega arith)) (get_or-set_at es hole i x nowhere e inside) (parent e)
+  | inr v ↦ elim (cases_eq j hole) [
+    | inl e ↦ by _ _ _ _ (get_or-set_at es hole j x nowhere e inside) (get_or-set_other es hole i x nowhere v) (child e)
+    | inr w ↦ by _ _ _ _ (get_or-set_other es hole j x nowhere w) (get_or-set_other es hole i x nowhere v) (neither v w)
+  ]
+]
+
+-- what the loop down keeps
+pub record Sinks (es : List Entry) (ps : List ℕ) (n hole : ℕ) (ts : List (Option ℕ)) : Type 0 where
+  pub around : HasHole es ps n hole
+  pub times : times_in es ps ≡ ts
+
+hole_moves : (es : List Entry) (ps : List ℕ) (n hole q : ℕ) (ts : List (Option ℕ)) → Sinks es ps n hole ts → q < n → q ≢ hole
+    → IsHeapAround (set es hole (entry_at es q)) n q → Sinks (set es hole (entry_at es q)) (set ps (entry_at es q).number hole) n q ts
+hole_moves es ps n hole q ts s l u around =
+    let h = s.around in
+    record {
+      around = record { inside = l; around = around; linked = links_move es ps n hole q h.linked h.inside l u };
+      times = times_move es ps n hole q h.linked h.inside l u ∙ s.times;
+    }
 
 -- ---- up
 
 around_up : (es : List Entry) (n hole p : ℕ) → 2 * p + 1 ≤ hole → hole ≤ 2 * p + 2 → hole < n → n ≤ length es → IsHeapAround es n hole
     → IsHeapAround (set es hole (entry_at es p)) n p
-around_up es n hole p from to inside room a = record {
-  order = λ i j u v b c l. elim (cases_eq i hole) [
-    | inl e ↦ by _ _ _ _ (unwritten es hole j _ (omega arith)) (written es hole i _ (omega arith) e) (a.across p j from to (omega arith) (omega arith) l)
-    | inr w ↦ by _ _ _ _ (unwritten es hole j _ (omega arith)) (unwritten es hole i _ w) (a.order i j w (omega arith) b c l)
-  ];
+around_up es n hole p from to inside capacity a = record {
+  order = λ i j u v b c l.
+      pair es hole i j _ (omega arith) (omega arith) (λ e. a.across p j from to (omega arith) (omega arith) l) (λ e. absurd (omega arith))
+      (λ w z. a.order i j w z b c l);
   across = λ i j b c d f l.
       let over = a.order i p (omega arith) (omega arith) b c (omega arith) in
-      let above = unwritten es hole i (entry_at es p) (omega arith) in
-      elim (cases_eq j hole) [
-        | inl e ↦ by _ _ _ _ (written es hole j _ (omega arith) e) above over
-        | inr w ↦ by _ _ _ _ (unwritten es hole j _ w) above (no_later _ _ _ over (a.order p j (omega arith) w d f l))
-      ];
+      pair es hole i j _ (omega arith) (omega arith) (λ e. absurd (omega arith)) (λ e. over)
+      (λ w z. no_later _ _ _ over (a.order p j (omega arith) z d f l));
 }
 
-below_up : (es : List Entry) (n hole p : ℕ) (x : Entry) → 2 * p + 1 ≤ hole → hole < n → n ≤ length es → comes_before x (entry_at es p) ≡ true
+below_up : (es : List Entry) (n hole p : ℕ) (x : Entry) → 2 * p + 1 ≤ hole → hole < n → n ≤ length es → is_entry_before x (entry_at es p) ≡ true
     → IsHeapAround es n hole → FitsBelow (set es hole (entry_at es p)) n p x
-below_up es n hole p x from inside room before a = record {
+below_up es n hole p x from inside capacity before a = record {
   below = λ j b c l. elim (cases_eq j hole) [
-    | inl e ↦ by _ _ _ _ (written es hole j _ (omega arith) e) refl (one_way _ _ before)
-    | inr w ↦ by _ _ _ _ (unwritten es hole j _ w) refl (no_later _ _ _ (one_way _ _ before) (a.order p j (omega arith) w b c l))
+    | inl e ↦ by _ _ _ _ (get_or-set_at es hole j _ nowhere e (omega arith)) refl (one_way _ _ before)
+    | inr w ↦ by _ _ _ _ (get_or-set_other es hole j _ nowhere w) refl (no_later _ _ _ (one_way _ _ before) (a.order p j (omega arith) w b c l))
   ];
 }
 
 -- what the loop up keeps
 pub record Rises (es : List Entry) (ps : List ℕ) (n hole : ℕ) (x : Entry) (ts : List (Option ℕ)) : Type 0 where
-  pub around : HasHole es ps n hole
+  pub kept : Sinks es ps n hole ts
   pub below : FitsBelow es n hole x
-  pub outside : IsOutside ps x.number
-  pub times : times_in es ps ≡ ts
+  pub outside : IsAbsent ps x.number
 
 pub rises : (es : List Entry) (ps : List ℕ) (n hole p : ℕ) (x : Entry) (ts : List (Option ℕ)) → 2 * p + 1 ≤ hole → hole ≤ 2 * p + 2
-    → comes_before x (entry_at es p) ≡ true → Rises es ps n hole x ts → Rises (set es hole (entry_at es p)) (set ps (entry_at es p).number hole) n p x ts
+    → is_entry_before x (entry_at es p) ≡ true → Rises es ps n hole x ts → Rises (set es hole (entry_at es p)) (set ps (entry_at es p).number hole) n p x ts
 rises es ps n hole p x ts from to before r =
-    let h = r.around in let inside = h.inside in let room = h.linked.room in
+    let h = r.kept.around in let inside = h.inside in let capacity = h.linked.capacity in
     let is = h.linked.position p (omega arith) (omega arith) in let sizes = length-set ps (entry_at es p).number hole in
     let under = r.outside.below in
     record {
-      around = hole_moves es ps n hole p h (omega arith) (omega arith) (around_up es n hole p from to inside room h.around);
-      below = below_up es n hole p x from inside room before h.around;
+      kept = hole_moves es ps n hole p ts r.kept (omega arith) (omega arith) (around_up es n hole p from to inside capacity h.around);
+      below = below_up es n hole p x from inside capacity before h.around;
       outside = record {
         below = omega arith;
-        is = unplaced ps _ x.number hole
+        is = get_or-set_other ps _ x.number hole absent
             (λ e. some_position es ps n hole p h.linked (omega arith) (sym is ∙ sym (ap (λ k. position_at ps k) e) ∙ r.outside.is)) ∙ r.outside.is;
       };
-      times = times_move es ps n hole p h.linked inside (omega arith) (omega arith) ∙ r.times;
     }
 
 -- x fits between what is above the hole and what is below
-pub rests : (es : List Entry) (ps : List ℕ) (n hole : ℕ) (x : Entry) → HasHole es ps n hole → FitsBelow es n hole x → IsOutside ps x.number
+pub rests : (es : List Entry) (ps : List ℕ) (n hole : ℕ) (x : Entry) → HasHole es ps n hole → FitsBelow es n hole x → IsAbsent ps x.number
     → ((i : ℕ) → 2 * i + 1 ≤ hole → hole ≤ 2 * i + 2 → IsNotBefore x (entry_at es i)) → IsOrdered (set es hole x) (set ps x.number hole) n
 rests es ps n hole x h under out over =
-    let inside = h.inside in let room = h.linked.room in
+    let inside = h.inside in let capacity = h.linked.capacity in
     record {
       heap = record {
-        order = λ i j b c l. elim (cases_eq i hole) [
-          | inl e ↦ by _ _ _ _ (unwritten es hole j _ (omega arith)) (written es hole i _ (omega arith) e) (under.below j (omega arith) (omega arith) l)
-          | inr w ↦ elim (cases_eq j hole) [
-            | inl e ↦ by _ _ _ _ (written es hole j _ (omega arith) e) (unwritten es hole i _ w) (over i (omega arith) (omega arith))
-            | inr z ↦ by _ _ _ _ (unwritten es hole j _ z) (unwritten es hole i _ w) (h.around.order i j w z b c l)
-          ]
-        ];
+        order = λ i j b c l.
+            pair es hole i j x (omega arith) (omega arith) (λ e. under.below j (omega arith) (omega arith) l) (λ e. over i (omega arith) (omega arith))
+            (λ u v. h.around.order i j u v b c l);
       };
       linked = links_close es ps n hole x h.linked inside out;
     }
 
-pub below_parent : (es : List Entry) (hole p : ℕ) (x : Entry) → 2 * p + 1 ≤ hole → hole ≤ 2 * p + 2 → comes_before x (entry_at es p) ≡ false
+pub below_parent : (es : List Entry) (hole p : ℕ) (x : Entry) → 2 * p + 1 ≤ hole → hole ≤ 2 * p + 2 → is_entry_before x (entry_at es p) ≡ false
     → (i : ℕ) → 2 * i + 1 ≤ hole → hole ≤ 2 * i + 2 → IsNotBefore x (entry_at es i)
 below_parent es hole p x from to before i b c = by _ _ _ _ refl (ap (λ k. entry_at es k) (omega arith)) (record { is = before })
 
@@ -106,49 +119,19 @@ below_parent es hole p x from to before i b c = by _ _ _ _ refl (ap (λ k. entry
 
 around_down : (es : List Entry) (n hole c : ℕ) → IsFirstChild es n hole c → n ≤ length es → IsHeapAround es n hole
     → IsHeapAround (set es hole (entry_at es c)) n c
-around_down es n hole c child room a =
+around_down es n hole c child capacity a =
     let from = child.from in let to = child.to in let inside = child.within in
     record {
-      order = λ i j u v b d l. elim (cases_eq i hole) [
-        | inl e ↦ by _ _ _ _ (unwritten es hole j _ (omega arith)) (written es hole i _ (omega arith) e) (child.first j (omega arith) (omega arith) l)
-        | inr w ↦ elim (cases_eq j hole) [
-          | inl e ↦ by _ _ _ _ (written es hole j _ (omega arith) e) (unwritten es hole i _ w) (a.across i c (omega arith) (omega arith) from to inside)
-          | inr z ↦ by _ _ _ _ (unwritten es hole j _ z) (unwritten es hole i _ w) (a.order i j w z b d l)
-        ]
-      ];
+      order = λ i j u v b d l.
+          pair es hole i j _ (omega arith) (omega arith) (λ e. child.first j (omega arith) (omega arith) l)
+          (λ e. a.across i c (omega arith) (omega arith) from to inside) (λ w z. a.order i j w z b d l);
       across = λ i j b d f g l.
-          by _ _ _ _ (unwritten es hole j _ (omega arith)) (written es hole i _ (omega arith) (omega arith)) (a.order c j (omega arith) (omega arith) f g l);
+          pair es hole i j _ (omega arith) (omega arith) (λ e. a.order c j (omega arith) (omega arith) f g l) (λ e. absurd (omega arith))
+          (λ w z. absurd (omega arith));
     }
-
--- what the loop down keeps
-pub record Sinks (es : List Entry) (ps : List ℕ) (n hole : ℕ) (ts : List (Option ℕ)) : Type 0 where
-  pub around : HasHole es ps n hole
-  pub times : times_in es ps ≡ ts
 
 pub sinks : (es : List Entry) (ps : List ℕ) (n hole c : ℕ) (ts : List (Option ℕ)) → IsFirstChild es n hole c → Sinks es ps n hole ts
     → Sinks (set es hole (entry_at es c)) (set ps (entry_at es c).number hole) n c ts
 sinks es ps n hole c ts child s =
-    let from = child.from in let h = s.around in
-    record {
-      around = hole_moves es ps n hole c h child.within (omega arith) (around_down es n hole c child h.linked.room h.around);
-      times = times_move es ps n hole c h.linked h.inside child.within (omega arith) ∙ s.times;
-    }
-
--- the last entry is taken out
-pub ends : (es : List Entry) (ps : List ℕ) (n m hole : ℕ) → n ≡ m + 1 → hole < m → HasHole es ps n hole
-    → HasHole es (set ps (entry_at es m).number absent) m hole
-ends es ps n m hole e inside h = record {
-  inside = inside;
-  around = record {
-    order = λ i j u v b c l. h.around.order i j u v b c (omega arith);
-    across = λ i j b c d f l. h.around.across i j b c d f (omega arith);
-  };
-  linked = links_end es ps n m hole e inside h.linked;
-}
-
--- the hole is at the end
-pub shorter : (es : List Entry) (ps : List ℕ) (n m : ℕ) → n ≡ m + 1 → HasHole es ps n m → IsOrdered es ps m
-shorter es ps n m e h = record {
-  heap = record { order = λ i j b c l. h.around.order i j (omega arith) (omega arith) b c (omega arith) };
-  linked = links_shorter es ps n m e h.linked;
-}
+    let from = child.from in let linked = s.around.linked in
+    hole_moves es ps n hole c ts s child.within (omega arith) (around_down es n hole c child linked.capacity s.around.around)

@@ -1,13 +1,14 @@
 -- Reads and writes of entries and positions, and the times that they make.
-use Rattle.std.proofs.Common.{◌≡◌, ◌≢◌, ℕ, ◌+◌, ◌<◌, false, ◌==◌, List, length, Some, None, refl, sym, ap, ◌∙◌, arith, inl, inr}
+use Rattle.std.proofs.Common.{◌≡◌, ◌≢◌, ℕ, ◌+◌, ◌<◌, ◌≤◌, false, ◌==◌, List, length, Some, None, refl, sym, ap, ◌∙◌, arith, inl, inr}
 use Rattle.std.specs.Prelude.{option_map}
 use Rattle.std.proofs.Math.ListN.{set, get_or-map}
 use Rattle.std.proofs.lemmas.Bool.{cases_eq, cases_lt}
 use Rattle.std.proofs.lemmas.Bool.Decides.{nat_tests}
-use Rattle.std.proofs.lemmas.List.{ext_get_or, get_or-set_same, get_or-set_other, get_or_past, length-map, length-set, map-set, set-get_or, set-set}
+use Rattle.std.proofs.lemmas.Grind.{get_or-set_at}
+use Rattle.std.proofs.lemmas.List.{ext_get_or, get_or-set_other, get_or_past, length-map, length-set, map-set, set-get_or, set-set}
 use Rattle.check_queue.specs.declared.entry.Entry.{Entry}
 use Rattle.check_queue.specs.Entries.{entry_at}
-use Rattle.check_queue.specs.Positions.{absent, position_at, position_from, time_from, times_in, AreLinked, IsOutside}
+use Rattle.check_queue.specs.Positions.{absent, position_at, position_from, time_from, times_in, AreLinked, IsAbsent}
 use Rattle.check_queue.proofs.TimesLaws.{time_at}
 
 -- what is read past the entries
@@ -15,18 +16,6 @@ abbrev pub nowhere : Entry
 nowhere = record { time = 0; number = 0 }
 
 -- ---- one read
-
-pub written : (es : List Entry) (h i : ℕ) (x : Entry) → h < length es → i ≡ h → entry_at (set es h x) i ≡ x
-written es h i x l e = ap (λ k. entry_at (set es h x) k) e ∙ get_or-set_same es h x _ l
-
-pub unwritten : (es : List Entry) (h i : ℕ) (x : Entry) → i ≢ h → entry_at (set es h x) i ≡ entry_at es i
-unwritten es h i x u = get_or-set_other es h i x _ u
-
-pub placed : (ps : List ℕ) (k j p : ℕ) → k < length ps → j ≡ k → position_at (set ps k p) j ≡ p
-placed ps k j p l e = ap (λ i. position_at (set ps k p) i) e ∙ get_or-set_same ps k p absent l
-
-pub unplaced : (ps : List ℕ) (k j p : ℕ) → j ≢ k → position_at (set ps k p) j ≡ position_at ps j
-unplaced ps k j p u = get_or-set_other ps k j p absent u
 
 -- a number with a position is below the bound
 pub below : (ps : List ℕ) (k p : ℕ) → position_at ps k ≡ p → p < absent → k < length ps
@@ -58,122 +47,132 @@ times_length es ps = length-map ps (time_from es)
 
 -- positions of entries aren't `absent`
 pub some_position : (es : List Entry) (ps : List ℕ) (n hole i : ℕ) → AreLinked es ps n hole → i < n → i ≢ absent
-some_position es ps n hole i a l e = let room = a.room in let few = a.few in absurd (omega (arith, e))
+some_position es ps n hole i a l e = let capacity = a.capacity in let bounded = a.bounded in absurd (omega (arith, e))
 
 -- the number at a position is that of which this is the position
 pub number_there : (es : List Entry) (ps : List ℕ) (n hole i k : ℕ) → AreLinked es ps n hole → i < n → position_at ps k ≡ i → (entry_at es i).number ≡ k
 number_there es ps n hole i k a l e =
     sym (ap (λ p. (entry_at es p).number) e) ∙ (a.entry k (λ f. some_position es ps n hole i a l (sym e ∙ f))).number
 
+-- the time of a number is that of its entry
+pub time_at_entry : (es : List Entry) (ps : List ℕ) (n hole i : ℕ) → AreLinked es ps n hole → i < n → i ≢ hole
+    → time_at (times_in es ps) (entry_at es i).number ≡ Some (entry_at es i).time
+time_at_entry es ps n hole i a l u =
+    time_is es ps _ ∙ ap (λ p. time_from es p) (a.position i l u) ∙ time_there es i (some_position es ps n hole i a l)
+
+put_back : (es : List Entry) (ps : List ℕ) (n hole i : ℕ) → AreLinked es ps n hole → i < n → i ≢ hole
+    → set (times_in es ps) (entry_at es i).number (Some (entry_at es i).time) ≡ times_in es ps
+put_back es ps n hole i a l u =
+    ap (λ o. set (times_in es ps) (entry_at es i).number o) (sym (time_at_entry es ps n hole i a l u)) ∙ set-get_or _ _ None
+
+-- ---- a write to the hole
+
 -- y is written to the hole, which is then at `next`
 write : (es : List Entry) (ps : List ℕ) (n hole next : ℕ) (y : Entry) → AreLinked es ps n hole → hole < n → y.number < length ps → hole ≢ next
     → ((i : ℕ) → i < n → i ≢ hole → i ≢ next → (entry_at es i).number ≢ y.number)
     → ((k : ℕ) → k ≢ y.number → position_at ps k ≢ absent → position_at ps k ≢ next) → AreLinked (set es hole y) (set ps y.number hole) n next
 write es ps n hole next y a inside under u vacant moved =
-    let room = a.room in let few = a.few in let sizes = a.sizes in let size' = length-set es hole y in
+    let capacity = a.capacity in let bounded = a.bounded in let sizes = a.sizes in let size' = length-set es hole y in
     let sizes' = length-set ps y.number hole in
-    let mine = λ (k : ℕ) (e : k ≡ y.number). placed ps y.number k hole under e in
+    let mine = λ (k : ℕ) (e : k ≡ y.number). get_or-set_at ps y.number k hole absent e under in
     record {
-      room = omega arith;
-      few = omega arith;
+      capacity = omega arith;
+      bounded = omega arith;
       sizes = omega arith;
       position = λ i l v. elim (cases_eq i hole) [
-        | inl e ↦ mine _ (ap (λ x. x.number) (written es hole i y (omega arith) e)) ∙ sym e
-        | inr w ↦ ap (λ x. position_at (set ps y.number hole) x.number) (unwritten es hole i y w)
-            ∙ unplaced ps y.number _ hole (vacant i l w v) ∙ a.position i l w
+        | inl e ↦ mine _ (ap (λ x. x.number) (get_or-set_at es hole i y nowhere e (omega arith))) ∙ sym e
+        | inr w ↦ ap (λ x. position_at (set ps y.number hole) x.number) (get_or-set_other es hole i y nowhere w)
+            ∙ get_or-set_other ps y.number _ hole absent (vacant i l w v) ∙ a.position i l w
       ];
       entry = λ k v. elim (cases_eq k y.number) [
-        | inl e ↦ rw (mine k e) (record { within = inside; apart = u; number = ap (λ x. x.number) (written es hole hole y (omega arith) refl) ∙ sym e })
+        | inl e ↦ rw (mine k e) (record {
+          within = inside;
+          not_at_hole = u;
+          number = ap (λ x. x.number) (get_or-set_at es hole hole y nowhere refl (omega arith)) ∙ sym e;
+        })
         | inr w ↦
-            let same = unplaced ps y.number k hole w in
+            let same = get_or-set_other ps y.number k hole absent w in
             let at = a.entry k (λ f. v (same ∙ f)) in
             rw same (record {
               within = at.within;
-              apart = moved k w (λ f. v (same ∙ f));
-              number = ap (λ x. x.number) (unwritten es hole _ y at.apart) ∙ at.number;
+              not_at_hole = moved k w (λ f. v (same ∙ f));
+              number = ap (λ x. x.number) (get_or-set_other es hole _ y nowhere at.not_at_hole) ∙ at.number;
             })
       ];
     }
 
+-- a write of the entry alone changes no time
+times_elsewhere : (es : List Entry) (ps : List ℕ) (n hole : ℕ) (y : Entry) → AreLinked es ps n hole → times_in (set es hole y) ps ≡ times_in es ps
+times_elsewhere es ps n hole y a =
+    let es' = set es hole y in let long = times_length es ps in let long' = times_length es' ps in
+    ext_get_or None _ _ (omega arith) (λ k l. time_is es' ps k ∙ elim (cases_eq (position_at ps k) absent) [
+      | inl e ↦ time_nowhere es' _ e ∙ sym (time_nowhere es _ e)
+      | inr u ↦ time_there es' _ u ∙ ap (λ x. Some x.time) (get_or-set_other es hole _ y nowhere (a.entry k u).not_at_hole) ∙ sym (time_there es _ u)
+    ] ∙ sym (time_is es ps k))
+
 -- and the times are those from before, but for that of y
-pub times_write : (es : List Entry) (ps : List ℕ) (n hole : ℕ) (y : Entry) → AreLinked es ps n hole → hole < n → y.number < length ps
+pub times_write : (es : List Entry) (ps : List ℕ) (n hole : ℕ) (y : Entry) → AreLinked es ps n hole → hole < n
     → times_in (set es hole y) (set ps y.number hole) ≡ set (times_in es ps) y.number (Some y.time)
-times_write es ps n hole y a inside under =
-    let room = a.room in let few = a.few in let es' = set es hole y in let ps' = set ps y.number hole in
-    let long = times_length es ps in let long' = times_length es' ps' in let size = length-set ps y.number hole in
-    let size' = length-set (times_in es ps) y.number (Some y.time) in
-    ext_get_or None _ _ (omega arith) (λ k l. time_is es' ps' k ∙ elim (cases_eq k y.number) [
-      | inl e ↦ ap (λ p. time_from es' p) (placed ps y.number k hole under e) ∙ time_there es' hole (λ f. absurd (omega (arith, f)))
-          ∙ ap (λ x. Some x.time) (written es hole hole y (omega arith) refl)
-          ∙ sym (ap (λ j. time_at (set (times_in es ps) y.number (Some y.time)) j) e ∙ get_or-set_same (times_in es ps) y.number (Some y.time) None (omega arith))
-      | inr u ↦ ap (λ p. time_from es' p) (unplaced ps y.number k hole u) ∙ elim (cases_eq (position_at ps k) absent) [
-        | inl f ↦ time_nowhere _ _ f ∙ sym (time_nowhere _ _ f)
-        | inr v ↦ time_there _ _ v ∙ ap (λ x. Some x.time) (unwritten es hole _ y (a.entry k v).apart) ∙ sym (time_there _ _ v)
-      ] ∙ sym (get_or-set_other (times_in es ps) y.number k (Some y.time) None u ∙ time_is es ps k)
-    ])
+times_write es ps n hole y a inside =
+    let capacity = a.capacity in let es' = set es hole y in
+    let time : time_from es' hole ≡ Some y.time =
+    time_there es' hole (some_position es ps n hole hole a inside) ∙ ap (λ x. Some x.time) (get_or-set_at es hole hole y nowhere refl (omega arith)) in
+    map-set (time_from es') ps y.number hole ∙ (λ i. set (times_elsewhere es ps n hole y a i) y.number (time i))
 
 -- the entry at position q moves into the hole
 pub links_move : (es : List Entry) (ps : List ℕ) (n hole q : ℕ) → AreLinked es ps n hole → hole < n → q < n → q ≢ hole
     → AreLinked (set es hole (entry_at es q)) (set ps (entry_at es q).number hole) n q
 links_move es ps n hole q a inside l u =
-    let room = a.room in let few = a.few in let is = a.position q l u in
+    let capacity = a.capacity in let bounded = a.bounded in let is = a.position q l u in
     write es ps n hole q (entry_at es q) a inside (below ps _ q is (omega arith)) (λ e. u (sym e))
     (λ i m v w e. w (sym (a.position i m v) ∙ ap (λ k. position_at ps k) e ∙ is)) (λ k v w e. v (sym (number_there es ps n hole q k a l e)))
 
 pub times_move : (es : List Entry) (ps : List ℕ) (n hole q : ℕ) → AreLinked es ps n hole → hole < n → q < n → q ≢ hole
     → times_in (set es hole (entry_at es q)) (set ps (entry_at es q).number hole) ≡ times_in es ps
-times_move es ps n hole q a inside l u =
-    let room = a.room in let few = a.few in
-    let e : Entry = entry_at es q in
-    let is = a.position q l u in
-    let time : time_at (times_in es ps) e.number ≡ Some e.time =
-    time_is es ps e.number ∙ ap (λ p. time_from es p) is ∙ time_there es q (some_position es ps n hole q a l) in
-    times_write es ps n hole e a inside (below ps _ q is (omega arith))
-    ∙ ap (λ o. set (times_in es ps) e.number o) (sym time) ∙ set-get_or (times_in es ps) e.number None
+times_move es ps n hole q a inside l u = times_write es ps n hole _ a inside ∙ put_back es ps n hole q a l u
 
 -- the entry that is held is written to the hole
-pub links_close : (es : List Entry) (ps : List ℕ) (n hole : ℕ) (x : Entry) → AreLinked es ps n hole → hole < n → IsOutside ps x.number
+pub links_close : (es : List Entry) (ps : List ℕ) (n hole : ℕ) (x : Entry) → AreLinked es ps n hole → hole < n → IsAbsent ps x.number
     → AreLinked (set es hole x) (set ps x.number hole) n n
 links_close es ps n hole x a inside out =
     write es ps n hole n x a inside out.below (λ e. absurd (omega (arith, e)))
     (λ i m v w e. some_position es ps n hole i a m (sym (a.position i m v) ∙ ap (λ k. position_at ps k) e ∙ out.is))
     (λ k v w e. let at = (a.entry k w).within in absurd (omega (arith, at, e)))
 
--- the last of n entries is taken out
-pub links_end : (es : List Entry) (ps : List ℕ) (n m hole : ℕ) → n ≡ m + 1 → hole < m → AreLinked es ps n hole
-    → AreLinked es (set ps (entry_at es m).number absent) m hole
-links_end es ps n m hole e inside a =
-    let k = (entry_at es m).number in
-    let room = a.room in let few = a.few in let sizes = a.sizes in let sizes' = length-set ps k absent in
-    let last = a.position m (omega arith) (omega arith) in let under = below ps k m last (omega arith) in
+-- ---- a number less, or a position
+
+-- the same links over m positions and another hole
+pub links_over : (es : List Entry) (ps : List ℕ) (n hole m next : ℕ) → AreLinked es ps n hole → m ≤ length es
+    → ((i : ℕ) → i < m → i ≢ next → (i < n) × (i ≢ hole)) → ((i : ℕ) → i < n → i ≢ hole → (i < m) × (i ≢ next)) → AreLinked es ps m next
+links_over es ps n hole m next a capacity to from = record {
+  capacity = capacity;
+  bounded = a.bounded;
+  sizes = a.sizes;
+  position = λ i l u. a.position i (to i l u).0 (to i l u).1;
+  entry = λ k v. let at = a.entry k v in let p = from _ at.within at.not_at_hole in record { within = p.0; not_at_hole = p.1; number = at.number };
+}
+
+-- number k leaves position p
+pub links_without : (es : List Entry) (ps : List ℕ) (n hole m next p k : ℕ) → AreLinked es ps n hole → p < n → position_at ps k ≡ p → m ≤ n
+    → ((i : ℕ) → i < m → i ≢ next → (i ≢ hole) × (i ≢ p)) → ((i : ℕ) → i < n → i ≢ hole → i ≢ p → (i < m) × (i ≢ next))
+    → AreLinked es (set ps k absent) m next
+links_without es ps n hole m next p k a inside is fewer to from =
+    let capacity = a.capacity in let bounded = a.bounded in let sizes = a.sizes in let sizes' = length-set ps k absent in
+    let under = below ps k p is (omega arith) in
     record {
-      room = omega arith;
-      few = few;
+      capacity = omega arith;
+      bounded = bounded;
       sizes = omega arith;
       position = λ i l u.
-          let is = a.position i (omega arith) u in
-          unplaced ps k _ absent (λ f. let g : i ≡ m = sym is ∙ ap (λ j. position_at ps j) f ∙ last in absurd (omega arith)) ∙ is;
+          let not_at_hole = to i l u in let at = a.position i (omega arith) not_at_hole.0 in
+          get_or-set_other ps k _ absent absent (λ e. not_at_hole.1 (sym at ∙ ap (λ j. position_at ps j) e ∙ is)) ∙ at;
       entry = λ j v.
-          let u : j ≢ k = λ f. v (placed ps k j absent under f) in
-          let same = unplaced ps k j absent u in
-          let at = a.entry j (λ f. v (same ∙ f)) in
-          let within = at.within in
-          let other : position_at ps j ≢ m = λ f. u (sym (number_there es ps n hole m j a (omega arith) f)) in
-          rw same (record { within = omega (arith, within, other, e); apart = at.apart; number = at.number });
-    }
-
--- where the hole is the last of n positions, it goes
-pub links_shorter : (es : List Entry) (ps : List ℕ) (n m : ℕ) → n ≡ m + 1 → AreLinked es ps n m → AreLinked es ps m m
-links_shorter es ps n m e a =
-    let room = a.room in
-    record {
-      room = omega arith;
-      few = a.few;
-      sizes = a.sizes;
-      position = λ i l u. a.position i (omega arith) u;
-      entry = λ j v.
-          let at = a.entry j v in let within = at.within in let apart = at.apart in
-          record { within = omega (arith, within, apart, e); apart = apart; number = at.number };
+          let u : j ≢ k = λ e. v (get_or-set_at ps k j absent absent e under) in
+          let same = get_or-set_other ps k j absent absent u in
+          let at = a.entry j (λ e. v (same ∙ e)) in
+          let present = λ (e : position_at ps j ≡ p). u (sym (number_there es ps n hole p j a inside e) ∙ number_there es ps n hole p k a inside is) in
+          let kept = from _ at.within at.not_at_hole present in
+          rw same (record { within = kept.0; not_at_hole = kept.1; number = at.number });
     }
 
 -- a number that is taken out has no time
@@ -185,8 +184,5 @@ pub end_put_back : (es : List Entry) (ps : List ℕ) (n m hole : ℕ) → n ≡ 
     → set (times_in es (set ps (entry_at es m).number absent)) (entry_at es m).number (Some (entry_at es m).time) ≡ times_in es ps
 end_put_back es ps n m hole e inside a =
     let x : Entry = entry_at es m in
-    let ts = times_in es ps in let last = a.position m (omega arith) (omega arith) in
-    let time : time_at ts x.number ≡ Some x.time =
-    time_is es ps x.number ∙ ap (λ p. time_from es p) last ∙ time_there es m (some_position es ps n hole m a (omega arith)) in
-    ap (λ u. set u x.number (Some x.time)) (without es ps x.number) ∙ set-set ts x.number None (Some x.time)
-    ∙ ap (λ o. set ts x.number o) (sym time) ∙ set-get_or ts x.number None
+    ap (λ ts. set ts x.number (Some x.time)) (without es ps x.number) ∙ set-set (times_in es ps) x.number None (Some x.time)
+    ∙ put_back es ps n hole m a (omega arith) (omega arith)

@@ -4,12 +4,12 @@ use Rattle.check_queue.specs.declared.entry.Entry.{Entry}
 use Rattle.check_queue.specs.Order.{is_before}
 
 -- whether entry a comes before entry b
-abbrev pub comes_before : Entry → Entry → Bool
-comes_before a b = is_before (a.time, a.number) (b.time, b.number)
+abbrev pub is_entry_before : Entry → Entry → Bool
+is_entry_before a b = is_before (a.time, a.number) (b.time, b.number)
 
 -- entry a doesn't come before entry b
 pub record IsNotBefore (a b : Entry) : Type 0 where
-  pub is : comes_before a b ≡ false
+  pub is : is_entry_before a b ≡ false
 
 -- the entry at a position
 abbrev pub entry_at : List Entry → ℕ → Entry

@@ -3,4 +3,4 @@ pub mod Times
 pub mod Entries
 pub mod Positions
 pub mod Heap
-pub mod Kept
+pub mod WellFormed

@@ -30,19 +30,19 @@ times_in entries positions = map (time_from entries) positions
 -- number k has its entry at position p, one of the first n and not the hole
 pub record IsAt (entries : List Entry) (n hole k p : ℕ) : Type 0 where
   pub within : p < n
-  pub apart : p ≢ hole
+  pub not_at_hole : p ≢ hole
   pub number : (entry_at entries p).number ≡ k
 
 -- The first n entries, except for the one at the hole, agree with the positions of their numbers. No other number has a position. If there is no
 -- hole, `hole` is n.
 pub record AreLinked (entries : List Entry) (positions : List ℕ) (n hole : ℕ) : Type 0 where
-  pub room : n ≤ length entries
-  pub few : length entries < 2 ^ 32
+  pub capacity : n ≤ length entries
+  pub bounded : length entries < 2 ^ 32
   pub sizes : length positions ≡ length entries
   pub position : (i : ℕ) → i < n → i ≢ hole → position_at positions (entry_at entries i).number ≡ i
   pub entry : (k : ℕ) → position_at positions k ≢ absent → IsAt entries n hole k (position_at positions k)
 
 -- a number below the bound that isn't in the heap
-pub record IsOutside (positions : List ℕ) (number : ℕ) : Type 0 where
+pub record IsAbsent (positions : List ℕ) (number : ℕ) : Type 0 where
   pub below : number < length positions
   pub is : position_at positions number ≡ absent

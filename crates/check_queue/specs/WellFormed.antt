@@ -9,5 +9,5 @@ abbrev pub times_of : Inside → List (Option ℕ)
 times_of q = times_in q.entries.items q.positions.items
 
 -- the facts of the fields of every queue
-abbrev pub IsKept : Inside → Type 0
-IsKept q = IsOrdered q.entries.items q.positions.items q.len
+abbrev pub IsWellFormed : Inside → Type 0
+IsWellFormed q = IsOrdered q.entries.items q.positions.items q.len

@@ -1,7 +1,7 @@
 //! An entry of the queue, and the order of entries.
 
 ghost use Rattle.std.specs.Prelude.{◌≡◌, ◌+◌, ◌*◌, ◌^◌};
-ghost use Rattle.check_queue.specs.Entries.{comes_before};
+ghost use Rattle.check_queue.specs.Entries.{is_entry_before};
 
 /// A number and its time. The number is as wide as the time, so that an entry is two words and moves as two
 /// words.
@@ -13,7 +13,7 @@ pub(crate) struct Entry {
 
 /// Whether `a` comes before `b`: its time is less, or the times are equal and its number is less.
 pub(crate) fn is_before(a: Entry, b: Entry) -> bool
-    ensures { result ≡ comes_before a b }
+    ensures { result ≡ is_entry_before a b }
 {
     rank(a) < rank(b)
 }

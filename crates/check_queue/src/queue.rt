@@ -27,11 +27,11 @@ impl Model for Queue {
 
     ghost Value = { List (Option ℕ) };
 
-    ghost use Rattle.check_queue.specs.Kept.{times_of, IsKept};
+    ghost use Rattle.check_queue.specs.WellFormed.{times_of, IsWellFormed};
 
     ghost view = { times_of };
 
-    ghost invariant = { IsKept };
+    ghost invariant = { IsWellFormed };
 }
 
 impl Queue {
@@ -61,7 +61,7 @@ impl Queue {
     /// The least time and its number. At equal times it is the least number. None if no number has a time.
     pub fn first(&self) -> Option<(u64, u32)>
         ensures least { result ≡ least (pairs_of self.now) }
-        ensures there { MatchOption result
+        ensures present { MatchOption result
             ((number : ℕ) → slice_index_or self.now number None ≡ None)
             (λ first. slice_index_or self.now first.1 None ≡ Some first.0) }
         ensures within { IfSome result (λ first. first.1 < length self.now) }
@@ -91,7 +91,7 @@ impl Queue {
     /// Removes the time of a number, and returns whether it had one. All other numbers stay as they are. If
     /// the number isn't below the bound, the whole queue does.
     pub fn remove(&mut self, number: u32) -> bool
-        ensures had { result ≡ is_some (slice_index_or self.old number None) }
+        ensures was_present { result ≡ is_some (slice_index_or self.old number None) }
         ensures after { self.new ≡ slice_set self.old number None }
     {
         let Some(hole) = position_of(&self.positions, number) else {

@@ -5,7 +5,7 @@
 
 ghost use Rattle.std.specs.Prelude.{◌≡◌, ◌+◌, ◌-◌, ◌*◌, ◌<◌, ◌≤◌, ◌^◌, Some, length, slice_set};
 ghost use Rattle.check_queue.specs.Heap.{FitsBelow, HasHole, IsFirstChild, IsOrdered};
-ghost use Rattle.check_queue.specs.Positions.{IsOutside, times_in};
+ghost use Rattle.check_queue.specs.Positions.{IsAbsent, times_in};
 
 use crate::entry::{Entry, is_before};
 
@@ -17,7 +17,7 @@ pub(crate) const ABSENT: u32 = u32::MAX;
 fn put_at(entries: &mut [Entry], positions: &mut [u32], position: usize, entry: Entry)
     requires position { position < length entries.old }
     requires number { entry.number < length positions.old }
-    requires few { length entries.old < 2 ^ 32 }
+    requires bounded { length entries.old < 2 ^ 32 }
     ensures entries { entries.new ≡ slice_set entries.old position entry }
     ensures positions { positions.new ≡ slice_set positions.old entry.number position }
 {
@@ -27,8 +27,8 @@ fn put_at(entries: &mut [Entry], positions: &mut [u32], position: usize, entry: 
 
 /// The position of the first child of `hole` in the order of entries.
 fn first_child(entries: &[Entry], len: usize, hole: usize) -> usize
-    requires room { len ≤ length entries.now }
-    requires few { length entries.now < 2 ^ 32 }
+    requires capacity { len ≤ length entries.now }
+    requires bounded { length entries.now < 2 ^ 32 }
     requires children { 2 * hole + 2 < len }
     ensures { IsFirstChild entries.now len hole result }
 {
@@ -46,7 +46,7 @@ pub(crate) fn sift_up(
 )
     requires around { HasHole entries.old positions.old len hole }
     requires below { FitsBelow entries.old len hole held }
-    requires outside { IsOutside positions.old held.number }
+    requires outside { IsAbsent positions.old held.number }
     ensures ordered { IsOrdered entries.new positions.new len }
     ensures times { times_in entries.new positions.new ≡ slice_set (times_in entries.old positions.old) held.number (Some held.time) }
 {

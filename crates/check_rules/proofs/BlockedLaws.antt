@@ -4,9 +4,9 @@ use Rattle.std.specs.List.{list_any}
 use Rattle.std.proofs.lemmas.Bool.{cases_lt, or_parts}
 use Rattle.std.proofs.lemmas.List.{length-map}
 use Rattle.std.proofs.Math.ListN.{get_or-map}
-use Rattle.check_drafts.specs.declared.dependency.Dependency.{Dependency}
+use Rattle.setup_model.specs.declared.dependency.Dependency.{Dependency}
 use Rattle.check_objects.specs.Configuration.{Configuration, dependencies_of, masters_in, masters_of, object_count, IsSetup}
-use Rattle.link_order.specs.Cycles.{links_of, deep, any_below, has_cycle}
+use Rattle.setup_order.specs.Cycles.{links_of, deep, any_below, has_cycle}
 use Rattle.check_rules.specs.declared.standing.Standing.{Standing}
 use Rattle.check_rules.specs.Dependencies.{fails, is_met, is_blocked_within, is_blocked}
 
@@ -46,15 +46,15 @@ no_chain links n h l = below_by (λ o. deep links o (length links)) (length link
 -- no chain of as many masters as there are objects begins at an object
 pub short : (c : Configuration) (n : ℕ) → has_cycle (masters_of c) ≡ false → length c.dependencies ≡ object_count c → n < object_count c
     → deep (masters_of c) n (object_count c) ≡ false
-short c n acyclic listed h =
-    let size : length (masters_of c) ≡ object_count c = length-map c.dependencies masters_in ∙ listed in
+short c n acyclic one_list_each h =
+    let size : length (masters_of c) ≡ object_count c = length-map c.dependencies masters_in ∙ one_list_each in
     rw (← size) (no_chain (masters_of c) n acyclic (omega (arith, size, h)))
 
 -- An object is blocked where a master of it is in one of its criteria, or a dependency of it inherits and its master is
 -- blocked.
 pub blocked_by_masters : (c : Configuration) (standings : List Standing) (n : ℕ) → IsSetup c → n < object_count c
     → is_blocked c standings n ≡ list_any (λ d. is_met c standings d || (d.inherits && is_blocked c standings d.master)) (dependencies_of c n)
-blocked_by_masters c standings n is h = sym (deep_enough c standings (object_count c) n (short c n is.acyclic is.listed h))
+blocked_by_masters c standings n is h = sym (deep_enough c standings (object_count c) n (short c n is.acyclic is.one_list_each h))
 
 unblocked_within : (k : ℕ) (c : Configuration) (standings : List Standing) (n : ℕ) → dependencies_of c n ≡ [] → is_blocked_within k c standings n ≡ false
 unblocked_within zero c standings n e = refl
@@ -71,14 +71,14 @@ none_past (d ∷ ds) (suc n) h = none_past ds n (omega arith)
 
 -- a number past the objects has no dependencies
 past : (c : Configuration) (n : ℕ) → length c.dependencies ≡ object_count c → object_count c ≤ n → dependencies_of c n ≡ []
-past c n listed h = none_past c.dependencies n (omega (arith, listed, h))
+past c n one_list_each h = none_past c.dependencies n (omega (arith, one_list_each, h))
 
 -- An object is blocked exactly where some dependency of it fails.
 pub blocked_where : (c : Configuration) (standings : List Standing) → has_cycle (masters_of c) ≡ false → length c.dependencies ≡ object_count c
     → (n : ℕ) → is_blocked c standings n ≡ list_any (fails (is_blocked c standings) c standings) (dependencies_of c n)
-blocked_where c standings acyclic listed n = elim (cases_lt n (object_count c)) [
-  | inl h ↦ sym (deep_enough c standings (object_count c) n (short c n acyclic listed h))
-  | inr g ↦ let none = past c n listed g in sym (unblocked c standings n none) ∙ sym (ap (list_any (fails (is_blocked c standings) c standings)) none)
+blocked_where c standings acyclic one_list_each n = elim (cases_lt n (object_count c)) [
+  | inl h ↦ sym (deep_enough c standings (object_count c) n (short c n acyclic one_list_each h))
+  | inr g ↦ let none = past c n one_list_each g in sym (unblocked c standings n none) ∙ sym (ap (list_any (fails (is_blocked c standings) c standings)) none)
 ]
 
 -- what answers by its own answers for the masters, answers as the definition does where no chain of k masters begins
@@ -93,7 +93,7 @@ alone_within c standings b is (suc k) n h =
 
 pub alone : (c : Configuration) (standings : List Standing) (b : ℕ → Bool) → has_cycle (masters_of c) ≡ false → length c.dependencies ≡ object_count c
     → ((n : ℕ) → b n ≡ list_any (fails b c standings) (dependencies_of c n)) → (n : ℕ) → b n ≡ is_blocked c standings n
-alone c standings b acyclic listed is n = elim (cases_lt n (object_count c)) [
-  | inl h ↦ alone_within c standings b is (object_count c) n (short c n acyclic listed h)
-  | inr g ↦ let none = past c n listed g in is n ∙ ap (list_any (fails b c standings)) none ∙ unblocked c standings n none
+alone c standings b acyclic one_list_each is n = elim (cases_lt n (object_count c)) [
+  | inl h ↦ alone_within c standings b is (object_count c) n (short c n acyclic one_list_each h)
+  | inr g ↦ let none = past c n one_list_each g in is n ∙ ap (list_any (fails b c standings)) none ∙ unblocked c standings n none
 ]

@@ -6,9 +6,9 @@ use Rattle.check_rules.specs.declared.state.State.{State}
 use Rattle.check_rules.specs.declared.standing.Kind.{Kind}
 use Rattle.check_rules.specs.declared.standing.Kind.TheVariants as kind
 use Rattle.check_rules.specs.declared.standing.Standing.{Standing}
-use Rattle.check_rules.specs.Numbers.{kind_number, numbered_state, state_number}
+use Rattle.check_rules.specs.Numbers.{kind_number, state_of_number, state_number}
 use Rattle.check_rules.proofs.Cases.{each_state}
-use Rattle.check_rules.specs.Board.{encoded, flag, decoded}
+use Rattle.check_rules.specs.Board.{word_of_standing, flag, standing_of_word}
 
 module _ (c s k a l f : ℕ) (small_c : c < 2) (small_s : s < 8) (small_k : k < 2) (small_a : a < 256) (small_l : l < 8) (small_f : f < 2) where
   abbrev whole : ℕ
@@ -34,9 +34,9 @@ module _ (c s k a l f : ℕ) (small_c : c < 2) (small_s : s < 8) (small_k : k < 
 -- ---- each digit is read back
 
 -- what each state's number is read as, and that it takes no more than three bits
-number_read : (s : State) → (numbered_state (state_number s) ≡ Some s) × (state_number s < 8)
+number_read : (s : State) → (state_of_number (state_number s) ≡ Some s) × (state_number s < 8)
 number_read =
-    each_state (λ s. (numbered_state (state_number s) ≡ Some s) × (state_number s < 8))
+    each_state (λ s. (state_of_number (state_number s) ≡ Some s) × (state_number s < 8))
     (refl, omega arith) (refl, omega arith) (refl, omega arith) (refl, omega arith) (refl, omega arith) (refl, omega arith) (refl, omega arith)
 
 flag_read : (b : Bool) → (flag b == 1) ≡ b
@@ -56,8 +56,8 @@ small_kind kind.Soft = omega arith
 small_kind kind.Hard = omega arith
 
 -- the word of a standing is read as that standing
-pub coded_back : (s : Standing) → s.attempt < 256 → decoded (encoded s) ≡ Some s
-coded_back s few =
+pub coded_back : (s : Standing) → s.attempt < 256 → standing_of_word (word_of_standing s) ≡ Some s
+coded_back s bounded =
     let c = flag s.checked in
     let n = state_number s.state in
     let k = kind_number s.kind in
@@ -68,8 +68,8 @@ coded_back s few =
     let small_k = small_kind s.kind in
     let small_l = (number_read s.last_hard).1 in
     let small_f = small_flag s.flapping in
-    let below : nat_lt (encoded s) 131072 ≡ true = grind (arith, nat_tests, small_c, small_n, small_k, few, small_l, small_f) in
-    let read = digits c n k s.attempt l f small_c small_n small_k few small_l small_f in
+    let below : nat_lt (word_of_standing s) 131072 ≡ true = grind (arith, nat_tests, small_c, small_n, small_k, bounded, small_l, small_f) in
+    let read = digits c n k s.attempt l f small_c small_n small_k bounded small_l small_f in
     rw (
       below,
       read.second,

@@ -8,9 +8,9 @@ use Rattle.circular_buffer.specs.Buffer.{keep_last}
 use Rattle.check_rules.specs.declared.state.State.{State}
 use Rattle.check_rules.specs.Board.{flag}
 use Rattle.check_rules.specs.Changes.{changes_after, changes_in, last_after, weight_after}
-use Rattle.check_rules.specs.Flapping.{changes_weight, kept_after, percent_of}
+use Rattle.check_rules.specs.Flapping.{changes_weight, results_after, percent_of}
 use Rattle.check_rules.specs.declared.state.State.TheVariants as state
-use Rattle.check_rules.specs.Numbers.{numbered_state, state_number}
+use Rattle.check_rules.specs.Numbers.{state_of_number, state_number}
 use Rattle.check_rules.specs.State.{is_another_state}
 use Rattle.check_rules.proofs.Cases.{each_state}
 use Rattle.check_rules.proofs.FlappingLemmas.{few_changes, in_two, last_read, pairs_are_walked, within_all}
@@ -18,7 +18,7 @@ use Rattle.check_rules.proofs.FlappingLemmas.{few_changes, in_two, last_read, pa
 -- ---- one more result
 
 -- where 21 are there, the oldest goes
-full_kept : (oldest : State) (newer : List State) (found : State) → length newer ≡ 20 → kept_after (oldest ∷ newer) found ≡ newer ++ found ∷ []
+full_kept : (oldest : State) (newer : List State) (found : State) → length newer ≡ 20 → results_after (oldest ∷ newer) found ≡ newer ++ found ∷ []
 full_kept oldest newer found e =
     let all = newer ++ found ∷ [] in
     let long = length-append newer (found ∷ []) in
@@ -26,41 +26,41 @@ full_kept oldest newer found e =
     ap (λ place. drop place (oldest ∷ all)) one
 
 -- no more are kept than can be
-pub few_kept : (results : List State) (found : State) → length (kept_after results found) ≤ 21
+pub few_kept : (results : List State) (found : State) → length (results_after results found) ≤ 21
 few_kept results found =
     let all = results ++ found ∷ [] in
     omega (arith, length-drop (length all - 21) all)
 
 -- up to 21 are all kept
 pub all_kept : (results : List State) → length results ≤ 21 → keep_last 21 results ≡ results
-all_kept results few = let none : length results - 21 ≡ 0 = omega (arith, few) in ap (λ place. drop place results) none
+all_kept results bounded = let none : length results - 21 ≡ 0 = omega (arith, bounded) in ap (λ place. drop place results) none
 
 last_dropped : (n : ℕ) (before : State) (results : List State) (newest : State) → n ≤ length results
     → last_after before (drop n (results ++ newest ∷ [])) ≡ newest
-last_dropped zero before [] newest few = refl
-last_dropped zero before (next ∷ rest) newest few = last_dropped zero next rest newest (omega arith)
-last_dropped (suc n) before [] newest few = absurd (omega (arith, few))
-last_dropped (suc n) before (next ∷ rest) newest few = last_dropped n before rest newest (omega (arith, few))
+last_dropped zero before [] newest bounded = refl
+last_dropped zero before (next ∷ rest) newest bounded = last_dropped zero next rest newest (omega arith)
+last_dropped (suc n) before [] newest bounded = absurd (omega (arith, bounded))
+last_dropped (suc n) before (next ∷ rest) newest bounded = last_dropped n before rest newest (omega (arith, bounded))
 
 -- the last of those that are kept is the new one
-pub last_kept : (before : State) (results : List State) (found : State) → last_after before (kept_after results found) ≡ found
+pub last_kept : (before : State) (results : List State) (found : State) → last_after before (results_after results found) ≡ found
 last_kept before results found =
     let long = length-append results (found ∷ []) in
     last_dropped (length (results ++ found ∷ []) - 21) before results found (omega (arith, long))
 
 -- a full ring hands out its oldest result where it takes one more
-replaced_by : (few : Bool) (results : List State) (found oldest : State) (room : ℕ) → nat_lt (length results) room ≡ few
-    → Some oldest ≡ cond few None (slice_get (results ++ found ∷ []) 0) → length results ≤ room
-    → (length results ≡ room) × (slice_get (results ++ found ∷ []) 0 ≡ Some oldest)
-replaced_by true results found oldest room e out within = cc
-replaced_by false results found oldest room e out within =
-    let most : room ≤ length results = grind (arith, nat_tests, e) in
+replaced_by : (bounded : Bool) (results : List State) (found oldest : State) (capacity : ℕ) → nat_lt (length results) capacity ≡ bounded
+    → Some oldest ≡ cond bounded None (slice_get (results ++ found ∷ []) 0) → length results ≤ capacity
+    → (length results ≡ capacity) × (slice_get (results ++ found ∷ []) 0 ≡ Some oldest)
+replaced_by true results found oldest capacity e out within = cc
+replaced_by false results found oldest capacity e out within =
+    let most : capacity ≤ length results = grind (arith, nat_tests, e) in
     (omega (arith, most, within), sym out)
 
-pub replaced : (results : List State) (found oldest : State) (room : ℕ)
-    → Some oldest ≡ cond (nat_lt (length results) room) None (slice_get (results ++ found ∷ []) 0) → length results ≤ room
-    → (length results ≡ room) × (slice_get (results ++ found ∷ []) 0 ≡ Some oldest)
-replaced results found oldest room out within = replaced_by (nat_lt (length results) room) results found oldest room refl out within
+pub replaced : (results : List State) (found oldest : State) (capacity : ℕ)
+    → Some oldest ≡ cond (nat_lt (length results) capacity) None (slice_get (results ++ found ∷ []) 0) → length results ≤ capacity
+    → (length results ≡ capacity) × (slice_get (results ++ found ∷ []) 0 ≡ Some oldest)
+replaced results found oldest capacity out within = replaced_by (nat_lt (length results) capacity) results found oldest capacity refl out within
 
 -- ---- each 2 more
 
@@ -98,45 +98,45 @@ small_flag true = omega arith
 small_flag false = omega arith
 
 -- What holds of 21 results with one more of them: whether a change goes with the oldest, and whether the new one is a change.
-pub record IsOneLater (results : List State) (found : State) (goes comes : Bool) : Type 0 where
+pub record IsOneLater (results : List State) (found : State) (loses_change gains_change : Bool) : Type 0 where
   pub full : length results ≡ 21
-  pub there : flag goes ≤ changes_in results
-  pub few : changes_in results ≤ 20
-  pub heavy : 57 * flag goes + 2 * (changes_in results - flag goes) ≤ changes_weight results
-  pub light : changes_weight results ≤ 1520
-  pub weight : changes_weight (kept_after results found) + 57 * flag goes + 2 * (changes_in results - flag goes) ≡ changes_weight results + 95 * flag comes
-  pub count : changes_in (kept_after results found) + flag goes ≡ changes_in results + flag comes
-  pub long : length (kept_after results found) ≡ 21
-  pub lighter : changes_weight (kept_after results found) ≤ 1520
+  pub in_range : flag loses_change ≤ changes_in results
+  pub bounded : changes_in results ≤ 20
+  pub lower_bound : 57 * flag loses_change + 2 * (changes_in results - flag loses_change) ≤ changes_weight results
+  pub upper_bound : changes_weight results ≤ 1520
+  pub weight : changes_weight (results_after results found) + 57 * flag loses_change + 2 * (changes_in results - flag loses_change) ≡ changes_weight results + 95 * flag gains_change
+  pub count : changes_in (results_after results found) + flag loses_change ≡ changes_in results + flag gains_change
+  pub long : length (results_after results found) ≡ 21
+  pub lighter : changes_weight (results_after results found) ≤ 1520
 
 one_later_of : (oldest second : State) (rest : List State) (found : State) → length rest ≡ 19
     → IsOneLater (oldest ∷ second ∷ rest) found (is_another_state second oldest) (is_another_state found (last_after second rest))
 one_later_of oldest second rest found e =
-    let goes = is_another_state second oldest in
-    let comes = is_another_state found (last_after second rest) in
+    let loses_change = is_another_state second oldest in
+    let gains_change = is_another_state found (last_after second rest) in
     let stay = changes_after second rest in
     let all = changes_weight (oldest ∷ second ∷ rest) in
-    let kept : kept_after (oldest ∷ second ∷ rest) found ≡ second ∷ (rest ++ found ∷ []) = full_kept oldest (second ∷ rest) found (omega (arith, e)) in
+    let kept : results_after (oldest ∷ second ∷ rest) found ≡ second ∷ (rest ++ found ∷ []) = full_kept oldest (second ∷ rest) found (omega (arith, e)) in
     let more = length-append rest (found ∷ []) in
-    let long : length (kept_after (oldest ∷ second ∷ rest) found) ≡ 21 = ap length kept ∙ omega (arith, more, e) in
-    let old : all ≡ 57 * flag goes + weight_after second rest 59 =
-    weighs goes 57 57 (weight_after second rest 59) all refl (pairs_are_walked 0 oldest (second ∷ rest)) in
+    let long : length (results_after (oldest ∷ second ∷ rest) found) ≡ 21 = ap length kept ∙ omega (arith, more, e) in
+    let old : all ≡ 57 * flag loses_change + weight_after second rest 59 =
+    weighs loses_change 57 57 (weight_after second rest 59) all refl (pairs_are_walked 0 oldest (second ∷ rest)) in
     let heavier : weight_after second rest 59 ≡ weight_after second rest 57 + 2 * stay = each_more second rest 57 in
     let last = last_after second rest in
-    let newest = weighs comes (57 + 2 * length rest) 95 0 (weight_after last (found ∷ []) (57 + 2 * length rest)) (omega (arith, e)) refl in
-    let new : changes_weight (kept_after (oldest ∷ second ∷ rest) found) ≡ weight_after second rest 57 + weight_after last (found ∷ []) (57 + 2 * length rest) =
+    let newest = weighs gains_change (57 + 2 * length rest) 95 0 (weight_after last (found ∷ []) (57 + 2 * length rest)) (omega (arith, e)) refl in
+    let new : changes_weight (results_after (oldest ∷ second ∷ rest) found) ≡ weight_after second rest 57 + weight_after last (found ∷ []) (57 + 2 * length rest) =
     ap changes_weight kept ∙ pairs_are_walked 0 second (rest ++ found ∷ []) ∙ in_two second rest (found ∷ []) 57 in
-    let counted : changes_in (kept_after (oldest ∷ second ∷ rest) found) ≡ stay + flag comes = ap changes_in kept ∙ counted_after second rest found in
+    let counted : changes_in (results_after (oldest ∷ second ∷ rest) found) ≡ stay + flag gains_change = ap changes_in kept ∙ counted_after second rest found in
     let most = few_changes second rest in
-    let small = small_flag goes in
-    let light = within_all (oldest ∷ second ∷ rest) (omega (arith, e)) in
-    let lighter = within_all (kept_after (oldest ∷ second ∷ rest) found) (omega (arith, long)) in
+    let small = small_flag loses_change in
+    let upper_bound = within_all (oldest ∷ second ∷ rest) (omega (arith, e)) in
+    let lighter = within_all (results_after (oldest ∷ second ∷ rest) found) (omega (arith, long)) in
     record {
       full = omega (arith, e);
-      there = omega arith;
-      few = omega (arith, most, small, e);
-      heavy = omega (arith, old, heavier);
-      light = light;
+      in_range = omega arith;
+      bounded = omega (arith, most, small, e);
+      lower_bound = omega (arith, old, heavier);
+      upper_bound = upper_bound;
       weight = omega (arith, old, heavier, newest, new);
       count = omega (arith, counted);
       long = long;
@@ -145,7 +145,7 @@ one_later_of oldest second rest found e =
 
 -- the same by what is read of the results: the oldest, the one that is the oldest then, and the newest
 pub one_later : (results : List State) (found oldest second newest : State) → length results ≡ 21 → slice_get (results ++ found ∷ []) 0 ≡ Some oldest
-    → second ≡ unwrap_or (slice_get (kept_after results found) 0) oldest → last_after newest results ≡ newest
+    → second ≡ unwrap_or (slice_get (results_after results found) 0) oldest → last_after newest results ≡ newest
     → IsOneLater results found (is_another_state second oldest) (is_another_state found newest)
 one_later [] found oldest second newest e front next last = absurd (omega (arith, e))
 one_later (first ∷ []) found oldest second newest e front next last = absurd (omega (arith, e))
@@ -158,7 +158,7 @@ one_later (first ∷ after ∷ rest) found oldest second newest e front next las
 -- ---- no change
 
 abbrev state_numbered : ℕ → State
-state_numbered n = unwrap_or (numbered_state n) state.Ok
+state_numbered n = unwrap_or (state_of_number n) state.Ok
 
 number_read : (s : State) → state_numbered (state_number s) ≡ s
 number_read = each_state (λ s. state_numbered (state_number s) ≡ s) refl refl refl refl refl refl refl
@@ -182,7 +182,7 @@ no_change before (found ∷ rest) e =
 
 -- what is kept of 21 results among which nothing changed, with one more that is no change: as it was, and its percent is 0
 pub record IsSettled (results : List State) (found : State) : Type 0 where
-  pub kept : kept_after results found ≡ results
+  pub kept : results_after results found ≡ results
   pub percent : percent_of results ≡ 0
 
 -- 21 results that are one state

@@ -134,16 +134,16 @@ more_weigh (suc n) k weight =
 
 -- the changes among 21 results weigh at most 1,520, and among fewer no more
 pub within_all : (results : List State) → length results ≤ 21 → changes_weight results ≤ 1520
-within_all [] few = omega arith
-within_all (oldest ∷ rest) few =
+within_all [] bounded = omega arith
+within_all (oldest ∷ rest) bounded =
     let most = at_most_all oldest rest 57 in
     let spare = 20 - length rest in
-    let all : length rest + spare ≡ 20 = omega (arith, few) in
+    let all : length rest + spare ≡ 20 = omega (arith, bounded) in
     let more = more_weigh (length rest) spare 57 in
     let whole : all_after (length rest + spare) 57 ≡ 1520 = ap (λ n. all_after n 57) all in
     rw (pairs_are_walked 0 oldest rest) (omega (arith, most, more, whole))
 
 -- there are fewer changes than results
 pub within_count : (results : List State) → length results ≤ 21 → changes_in results ≤ 20
-within_count [] few = omega arith
-within_count (oldest ∷ rest) few = let most = few_changes oldest rest in omega (arith, most, few)
+within_count [] bounded = omega arith
+within_count (oldest ∷ rest) bounded = let most = few_changes oldest rest in omega (arith, most, bounded)

@@ -1,14 +1,14 @@
 -- The way through dependencies that inherit, where a mark says that an object was asked and isn't blocked.
-use Rattle.std.proofs.Common.{◌≡◌, ℕ, zero, suc, ◌<◌, ◌-◌, ◌&&◌, ◌||◌, Bool, true, false, List, [], ◌∷◌, length, replicate}
+use Rattle.std.proofs.Common.{◌≡◌, ℕ, zero, suc, ◌<◌, ◌-◌, ◌&&◌, ◌||◌, Bool, true, false, List, [], ◌∷◌, length}
 use Rattle.std.proofs.Common.{refl, sym, ap, ◌∙◌, arith, inl, inr}
 use Rattle.std.specs.List.{list_any}
 use Rattle.std.specs.Prelude.{All}
 use Rattle.std.proofs.Math.ListN.{get_or, set}
-use Rattle.std.proofs.lemmas.Bool.{cases_eq, false≢true, or_parts}
+use Rattle.std.proofs.lemmas.Bool.{cases_eq, or_parts}
 use Rattle.std.proofs.lemmas.List.{get_or-set_other}
-use Rattle.check_drafts.specs.declared.dependency.Dependency.{Dependency}
+use Rattle.setup_model.specs.declared.dependency.Dependency.{Dependency}
 use Rattle.check_objects.specs.Configuration.{Configuration, dependencies_of, masters_in, masters_of, object_count, IsSetup}
-use Rattle.link_order.specs.Cycles.{deep}
+use Rattle.setup_order.specs.Cycles.{deep}
 use Rattle.check_rules.specs.declared.standing.Standing.{Standing}
 use Rattle.check_rules.specs.Dependencies.{is_met, is_blocked}
 use Rattle.check_rules.specs.Marks.{AreUnblocked, is_inheriting}
@@ -39,18 +39,18 @@ pub blocked_in_two : (c : Configuration) (standings : List Standing) (n : ℕ) �
 blocked_in_two c standings n valid h =
     blocked_by_masters c standings n valid h ∙ any_either (is_met c standings) (is_inheriting c standings) (dependencies_of c n)
 
-module _ (c : Configuration) (standings : List Standing) (n : ℕ) (valid : IsSetup c) (there : n < object_count c) where
+module _ (c : Configuration) (standings : List Standing) (n : ℕ) (valid : IsSetup c) (in_range : n < object_count c) where
   -- a master in one of its criteria settles it
   pub met_blocks : (ds : List Dependency) (met : Bool) → ds ≡ dependencies_of c n → met ≡ list_any (is_met c standings) ds → met ≡ true
       → true ≡ is_blocked c standings n
-  met_blocks ds met listed is e =
-      sym (blocked_in_two c standings n valid there ∙ rw (← listed, ← is, e) refl)
+  met_blocks ds met one_list_each is e =
+      sym (blocked_in_two c standings n valid in_range ∙ rw (← one_list_each, ← is, e) refl)
 
   -- without one the masters of those that inherit decide
   pub by_masters : (ds : List Dependency) (met inherited : Bool) → ds ≡ dependencies_of c n → met ≡ list_any (is_met c standings) ds → met ≡ false
       → inherited ≡ list_any (is_inheriting c standings) ds → inherited ≡ is_blocked c standings n
-  by_masters ds met inherited listed is e which =
-      sym (blocked_in_two c standings n valid there ∙ rw (← listed, ← is, e, which) refl)
+  by_masters ds met inherited one_list_each is e which =
+      sym (blocked_in_two c standings n valid in_range ∙ rw (← one_list_each, ← is, e, which) refl)
 
 and_none : (a b : Bool) → a ≡ false → (a && b) ≡ false
 and_none a b e = rw e refl
@@ -82,15 +82,6 @@ deeper c n zero h = cc
 deeper c n (suc k) h = (omega arith, rw (less_one k) (deeper_in (masters_of c) k (dependencies_of c n) (rw (← masters_at c n) h)))
 
 -- ---- marks
-
-unmarked : (count x : ℕ) → get_or (replicate count false) x false ≡ false
-unmarked zero x = refl
-unmarked (suc count) zero = refl
-unmarked (suc count) (suc x) = unmarked count x
-
--- where nothing is marked, nothing was asked
-pub none_asked : (c : Configuration) (standings : List Standing) (count : ℕ) → AreUnblocked c standings (replicate count false)
-none_asked c standings count = λ x marked. absurd (false≢true (sym (unmarked count x) ∙ marked))
 
 -- one more that was asked and isn't blocked
 pub one_more : (c : Configuration) (standings : List Standing) (marks : List Bool) (master : ℕ) → master < length marks

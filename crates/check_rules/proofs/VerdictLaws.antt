@@ -4,8 +4,8 @@ use Rattle.std.proofs.lemmas.Bool.Decides.{nat_tests}
 use Rattle.check_rules.specs.declared.state.State.{State}
 use Rattle.check_rules.specs.declared.standing.Kind.{Kind}
 use Rattle.check_rules.specs.declared.standing.Kind.TheVariants as kind
-use Rattle.check_rules.specs.declared.standing.Phase.{Phase}
-use Rattle.check_rules.specs.declared.standing.Phase.TheVariants as phase
+use Rattle.check_rules.specs.declared.standing.ProblemPhase.{ProblemPhase}
+use Rattle.check_rules.specs.declared.standing.ProblemPhase.TheVariants as phase
 use Rattle.check_rules.specs.declared.standing.Standing.{Standing}
 use Rattle.check_rules.specs.State.{is_problem, is_host_state}
 use Rattle.check_rules.specs.Standing.{as_checked, phase_of, is_attempt_of, is_last_hard_of, is_lawful, pending_standing}
@@ -15,27 +15,27 @@ use Rattle.check_rules.specs.Verdict.{kind_and_attempt, kind_at, last_hard_after
 -- ---- service whose host isn't up
 
 -- the kind and the attempt that a result gives
-abbrev answer : Phase → Bool → Bool → ℕ → ℕ → Kind × ℕ
-answer phase.Fine false under attempt max = (kind.Hard, 1)
+abbrev answer : ProblemPhase → Bool → Bool → ℕ → ℕ → Kind × ℕ
+answer phase.NoProblem false under attempt max = (kind.Hard, 1)
 answer phase.SoftProblem false under attempt max = (kind.Soft, attempt + 1)
 answer phase.HardProblem false under attempt max = (kind.Hard, 1)
-answer phase.Fine true true attempt max = (kind.Hard, max)
+answer phase.NoProblem true true attempt max = (kind.Hard, max)
 answer phase.SoftProblem true true attempt max = (kind.Hard, max)
 answer phase.HardProblem true true attempt max = (kind.Hard, max)
-answer phase.Fine true false attempt max = (kind_at 1 max, 1)
+answer phase.NoProblem true false attempt max = (kind_at 1 max, 1)
 answer phase.SoftProblem true false attempt max = (kind_at (attempt + 1) max, attempt + 1)
 answer phase.HardProblem true false attempt max = (kind.Hard, max)
 
-answers : (s : Standing) (found : State) (max : ℕ) (host_up : Bool) (p : Phase) (b under : Bool) → phase_of s ≡ p → is_problem found ≡ b
+answers : (s : Standing) (found : State) (max : ℕ) (host_up : Bool) (p : ProblemPhase) (b under : Bool) → phase_of s ≡ p → is_problem found ≡ b
     → (not (is_host_state found) && not host_up) ≡ under
     → kind_and_attempt s found max host_up ≡ answer p b under s.attempt max
-answers s found max host_up phase.Fine false under e f g = rw (e, f) refl
+answers s found max host_up phase.NoProblem false under e f g = rw (e, f) refl
 answers s found max host_up phase.SoftProblem false under e f g = rw (e, f) refl
 answers s found max host_up phase.HardProblem false under e f g = rw (e, f) refl
-answers s found max host_up phase.Fine true true e f g = rw (e, f, g) refl
+answers s found max host_up phase.NoProblem true true e f g = rw (e, f, g) refl
 answers s found max host_up phase.SoftProblem true true e f g = rw (e, f, g) refl
 answers s found max host_up phase.HardProblem true true e f g = rw (e, f, g) refl
-answers s found max host_up phase.Fine true false e f g = rw (e, f, g) refl
+answers s found max host_up phase.NoProblem true false e f g = rw (e, f, g) refl
 answers s found max host_up phase.SoftProblem true false e f g = rw (e, f, g) refl
 answers s found max host_up phase.HardProblem true false e f g = rw (e, f, g) refl
 
@@ -64,19 +64,19 @@ problem_after : (found last_hard : State) (attempt max : ℕ) → is_problem fou
 problem_after found last_hard attempt max f low high h = problem_by found last_hard attempt max (attempt == max) refl f low high h
 
 -- what a lawful standing in a phase has
-abbrev IsLawfulAt : Phase → ℕ → State → ℕ → Type 0
+abbrev IsLawfulAt : ProblemPhase → ℕ → State → ℕ → Type 0
 IsLawfulAt p attempt last_hard max = (is_attempt_of p attempt max && is_last_hard_of p last_hard) ≡ true
 
-lawful_answer : (found last_hard : State) (attempt max : ℕ) (p : Phase) (b under : Bool) → 1 ≤ max → IsLawfulAt p attempt last_hard max
+lawful_answer : (found last_hard : State) (attempt max : ℕ) (p : ProblemPhase) (b under : Bool) → 1 ≤ max → IsLawfulAt p attempt last_hard max
     → is_problem found ≡ b → is_lawful (steady_after (answer p b under attempt max) found last_hard) max ≡ true
-lawful_answer found last_hard attempt max phase.Fine false under m h f = fine_after found last_hard kind.Hard 1 max f (omega arith) m f
+lawful_answer found last_hard attempt max phase.NoProblem false under m h f = fine_after found last_hard kind.Hard 1 max f (omega arith) m f
 lawful_answer found last_hard attempt max phase.SoftProblem false under m h f =
     fine_after found last_hard kind.Soft (attempt + 1) max f (omega arith) (grind (arith, nat_tests, h)) (grind (arith, nat_tests, h))
 lawful_answer found last_hard attempt max phase.HardProblem false under m h f = fine_after found last_hard kind.Hard 1 max f (omega arith) m f
-lawful_answer found last_hard attempt max phase.Fine true true m h f = hard_after found last_hard max f
+lawful_answer found last_hard attempt max phase.NoProblem true true m h f = hard_after found last_hard max f
 lawful_answer found last_hard attempt max phase.SoftProblem true true m h f = hard_after found last_hard max f
 lawful_answer found last_hard attempt max phase.HardProblem true true m h f = hard_after found last_hard max f
-lawful_answer found last_hard attempt max phase.Fine true false m h f = problem_after found last_hard 1 max f (omega arith) m (grind (arith, nat_tests, h))
+lawful_answer found last_hard attempt max phase.NoProblem true false m h f = problem_after found last_hard 1 max f (omega arith) m (grind (arith, nat_tests, h))
 lawful_answer found last_hard attempt max phase.SoftProblem true false m h f =
     problem_after found last_hard (attempt + 1) max f (omega arith) (grind (arith, nat_tests, h)) (grind (arith, nat_tests, h))
 lawful_answer found last_hard attempt max phase.HardProblem true false m h f = hard_after found last_hard max f

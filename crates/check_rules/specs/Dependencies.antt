@@ -2,8 +2,8 @@
 use Rattle.std.specs.Prelude.{ℕ, zero, suc, Bool, false, ◌&&◌, ◌||◌, List, slice_get, if◌then◌else◌}
 use Rattle.std.specs.List.{list_any}
 use Rattle.std.specs.Option.{option_map_or}
-use Rattle.check_drafts.specs.declared.dependency.Criteria.{Criteria}
-use Rattle.check_drafts.specs.declared.dependency.Dependency.{Dependency}
+use Rattle.setup_model.specs.declared.dependency.Criteria.{Criteria}
+use Rattle.setup_model.specs.declared.dependency.Dependency.{Dependency}
 use Rattle.check_objects.specs.Configuration.{Configuration, dependencies_of, object_count}
 use Rattle.check_rules.specs.declared.state.State.{State}
 use Rattle.check_rules.specs.declared.state.State.TheVariants as state
@@ -20,12 +20,12 @@ is_criterion c state.Down = c.down
 is_criterion c state.Unreachable = c.unknown
 
 -- the state that a dependency reads: the last hard state, or with `soft_state_dependencies` the current state
-abbrev pub state_read : Bool → Standing → State
-state_read reads_soft s = if reads_soft then s.state else s.last_hard
+abbrev pub state_for_dependency : Bool → Standing → State
+state_for_dependency reads_soft s = if reads_soft then s.state else s.last_hard
 
 -- Whether the standing of a master is among the criteria. A master that was never checked meets only `pending`. (Our own profile.)
 abbrev pub meets : Bool → Criteria → Standing → Bool
-meets reads_soft c s = if s.checked then is_criterion c (state_read reads_soft s) else c.pending
+meets reads_soft c s = if s.checked then is_criterion c (state_for_dependency reads_soft s) else c.pending
 
 -- whether the master of a dependency is in one of its criteria
 abbrev pub is_met : Configuration → List Standing → Dependency → Bool

@@ -9,12 +9,12 @@ use Rattle.check_rules.specs.State.{is_another_state, is_of_sort}
 -- ---- the stored results
 
 -- the stored results after one more: the last 21, the oldest first
-abbrev pub kept_after : List State → State → List State
-kept_after results found = keep_last 21 (results ++ found ∷ [])
+abbrev pub results_after : List State → State → List State
+results_after results found = keep_last 21 (results ++ found ∷ [])
 
 -- An object, a host or a service, can have these results: at most 21, each a state of its sort.
 pub record AreResultsFor (host : Bool) (results : List State) : Type 0 where
-  pub few : length results ≤ 21
+  pub bounded : length results ≤ 21
   pub sort : list_all (is_of_sort host) results ≡ true
 
 -- ---- the percent

@@ -6,14 +6,14 @@ use Rattle.check_rules.specs.Changes.{changes_in, last_after}
 use Rattle.check_rules.specs.Flapping.{changes_weight}
 
 -- the stored results, the oldest first
-abbrev pub results_of : Inside → List State
-results_of r = r.kept.items
+abbrev pub results_view : Inside → List State
+results_view r = r.kept.items
 
 -- the facts of the fields of every value
-pub record IsKept (r : Inside) : Type 0 where
+pub record IsWellFormed (r : Inside) : Type 0 where
   -- there is room for 21 results
-  pub room : r.kept.capacity ≡ 21
-  pub few : length r.kept.items ≤ 21
+  pub capacity : r.kept.capacity ≡ 21
+  pub bounded : length r.kept.items ≤ 21
   pub newest : last_after r.newest r.kept.items ≡ r.newest
   -- if there are 21, the weight and the number of the changes among them
   pub weighed : length r.kept.items ≡ 21 → r.changes.weight ≡ changes_weight r.kept.items

@@ -1,7 +1,7 @@
 -- The masters that were asked before, on the way through dependencies that inherit.
 use Rattle.std.specs.Prelude.{ℕ, ◌≡◌, ◌&&◌, Bool, true, false, List}
 use Rattle.std.specs.List.{slice_index_or}
-use Rattle.check_drafts.specs.declared.dependency.Dependency.{Dependency}
+use Rattle.setup_model.specs.declared.dependency.Dependency.{Dependency}
 use Rattle.check_objects.specs.Configuration.{Configuration}
 use Rattle.check_rules.specs.declared.standing.Standing.{Standing}
 use Rattle.check_rules.specs.Dependencies.{is_blocked}

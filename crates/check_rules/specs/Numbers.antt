@@ -15,8 +15,8 @@ code_number code.Critical = 2
 code_number code.Unknown = 3
 
 -- the return code of this number, 0 to 3
-abbrev pub numbered_code : ℕ → Option Code
-numbered_code number = if number == 0 then Some code.Ok else (if number == 1 then Some code.Warning
+abbrev pub code_of_number : ℕ → Option Code
+code_of_number number = if number == 0 then Some code.Ok else (if number == 1 then Some code.Warning
     else (if number == 2 then Some code.Critical else (if number == 3 then Some code.Unknown else None)))
 
 -- each state has a number of its own
@@ -33,8 +33,8 @@ abbrev pub all_states : List State
 all_states = state.Ok ∷ state.Warning ∷ state.Critical ∷ state.Unknown ∷ state.Up ∷ state.Down ∷ state.Unreachable ∷ []
 
 -- the state of this number
-abbrev pub numbered_state : ℕ → Option State
-numbered_state number = find (λ s. state_number s == number) all_states
+abbrev pub state_of_number : ℕ → Option State
+state_of_number number = find (λ s. state_number s == number) all_states
 
 abbrev pub kind_number : Kind → ℕ
 kind_number kind.Soft = 0

@@ -3,19 +3,19 @@ use Rattle.std.specs.Prelude.{ℕ, ◌≡◌, Bool, true, false, not, ◌&&◌, 
 use Rattle.check_rules.specs.declared.state.State.{State}
 use Rattle.check_rules.specs.declared.standing.Kind.{Kind}
 use Rattle.check_rules.specs.declared.standing.Kind.TheVariants as kind
-use Rattle.check_rules.specs.declared.standing.Phase.{Phase}
-use Rattle.check_rules.specs.declared.standing.Phase.TheVariants as phase
+use Rattle.check_rules.specs.declared.standing.ProblemPhase.{ProblemPhase}
+use Rattle.check_rules.specs.declared.standing.ProblemPhase.TheVariants as phase
 use Rattle.check_rules.specs.declared.standing.Standing.{Standing}
-use Rattle.check_rules.specs.State.{is_problem, is_host_state, is_down_state, fine_state}
+use Rattle.check_rules.specs.State.{is_problem, is_host_state, is_down_state, ok_or_up_state}
 
 -- a host or a service that was never checked (our own profile)
 abbrev pub pending_standing : Bool → Standing
 pending_standing is_host = record {
   checked = false;
-  state = fine_state is_host;
+  state = ok_or_up_state is_host;
   kind = kind.Hard;
   attempt = 1;
-  last_hard = fine_state is_host;
+  last_hard = ok_or_up_state is_host;
   flapping = false;
 }
 
@@ -29,16 +29,16 @@ abbrev pub is_down : Standing → Bool
 is_down s = s.checked && is_down_state s.state
 
 -- The phase of a problem, by its kind.
-abbrev pub problem_phase : Kind → Phase
+abbrev pub problem_phase : Kind → ProblemPhase
 problem_phase kind.Soft = phase.SoftProblem
 problem_phase kind.Hard = phase.HardProblem
 
 -- The phase of an object: fine at OK and UP, otherwise a soft or a hard problem. ("State Types".)
-abbrev pub phase_of : Standing → Phase
-phase_of s = if is_problem s.state then problem_phase s.kind else phase.Fine
+abbrev pub phase_of : Standing → ProblemPhase
+phase_of s = if is_problem s.state then problem_phase s.kind else phase.NoProblem
 
-abbrev pub is_soft_problem_phase : Phase → Bool
-is_soft_problem_phase phase.Fine = false
+abbrev pub is_soft_problem_phase : ProblemPhase → Bool
+is_soft_problem_phase phase.NoProblem = false
 is_soft_problem_phase phase.SoftProblem = true
 is_soft_problem_phase phase.HardProblem = false
 
@@ -47,14 +47,14 @@ abbrev pub is_soft_problem : Standing → Bool
 is_soft_problem s = is_soft_problem_phase (phase_of s)
 
 -- The attempts of a phase. A problem is soft before the last attempt and hard at it. ("State Types"; the attempt of OK and UP is our own profile.)
-abbrev pub is_attempt_of : Phase → ℕ → ℕ → Bool
-is_attempt_of phase.Fine attempt max = nat_le 1 attempt && nat_le attempt max
+abbrev pub is_attempt_of : ProblemPhase → ℕ → ℕ → Bool
+is_attempt_of phase.NoProblem attempt max = nat_le 1 attempt && nat_le attempt max
 is_attempt_of phase.SoftProblem attempt max = nat_le 1 attempt && nat_lt attempt max
 is_attempt_of phase.HardProblem attempt max = attempt == max
 
 -- Unless there is a hard problem, the last hard state is OK or UP.
-abbrev pub is_last_hard_of : Phase → State → Bool
-is_last_hard_of phase.Fine last_hard = not (is_problem last_hard)
+abbrev pub is_last_hard_of : ProblemPhase → State → Bool
+is_last_hard_of phase.NoProblem last_hard = not (is_problem last_hard)
 is_last_hard_of phase.SoftProblem last_hard = not (is_problem last_hard)
 is_last_hard_of phase.HardProblem last_hard = true
 

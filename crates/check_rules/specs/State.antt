@@ -32,8 +32,8 @@ is_down_state state.Unreachable = true
 is_down_state s = false
 
 -- UP for a host, OK for a service
-abbrev pub fine_state : Bool → State
-fine_state is_host = if is_host then state.Up else state.Ok
+abbrev pub ok_or_up_state : Bool → State
+ok_or_up_state is_host = if is_host then state.Up else state.Ok
 
 -- The state of a service by the return code of its check. ("Plugin API".)
 abbrev pub service_state_of : Code → State

@@ -3,8 +3,8 @@ use Rattle.std.specs.Prelude.{ℕ, ◌+◌, Bool, true, false, not, ◌&&◌, �
 use Rattle.check_rules.specs.declared.state.State.{State}
 use Rattle.check_rules.specs.declared.standing.Kind.{Kind}
 use Rattle.check_rules.specs.declared.standing.Kind.TheVariants as kind
-use Rattle.check_rules.specs.declared.standing.Phase.{Phase}
-use Rattle.check_rules.specs.declared.standing.Phase.TheVariants as phase
+use Rattle.check_rules.specs.declared.standing.ProblemPhase.{ProblemPhase}
+use Rattle.check_rules.specs.declared.standing.ProblemPhase.TheVariants as phase
 use Rattle.check_rules.specs.declared.standing.Standing.{Standing}
 use Rattle.check_rules.specs.State.{is_problem, is_host_state}
 use Rattle.check_rules.specs.Standing.{phase_of, as_checked}
@@ -67,8 +67,8 @@ is_result Problem found host_up = is_problem found
 is_result ProblemOfServiceWhoseHostIsNotUp found host_up = is_problem found && (not (is_host_state found) && not host_up)
 
 -- whether a phase fits the column
-abbrev pub is_before : Before → Phase → Bool
-is_before WasOkOrUp phase.Fine = true
+abbrev pub is_before : Before → ProblemPhase → Bool
+is_before WasOkOrUp phase.NoProblem = true
 is_before WasSoftProblem phase.SoftProblem = true
 is_before WasHardProblem phase.HardProblem = true
 is_before WasAny any = true
@@ -93,17 +93,17 @@ kind_of HardAtLastAttempt attempt max = kind_at attempt max
 -- ---- the verdict
 
 -- whether the row fits
-abbrev pub fits : Phase → State → Bool → Row → Bool
-fits before found host_up r = is_result r.result found host_up && is_before r.before before
+abbrev pub is_row_for : ProblemPhase → State → Bool → Row → Bool
+is_row_for before found host_up r = is_result r.result found host_up && is_before r.before before
 
 -- the kind and the attempt that a row gives
-abbrev pub given_by : Option Row → Standing → ℕ → Kind × ℕ
-given_by None before max = (before.kind, before.attempt)
-given_by (Some r) before max = (kind_of r.kind_after (attempt_of r.attempt_after before.attempt max) max, attempt_of r.attempt_after before.attempt max)
+abbrev pub row_values : Option Row → Standing → ℕ → Kind × ℕ
+row_values None before max = (before.kind, before.attempt)
+row_values (Some r) before max = (kind_of r.kind_after (attempt_of r.attempt_after before.attempt max) max, attempt_of r.attempt_after before.attempt max)
 
 -- the kind and the attempt of the first row that fits; there always is one
 abbrev pub kind_and_attempt : Standing → State → ℕ → Bool → Kind × ℕ
-kind_and_attempt before found max host_up = given_by (find (fits (phase_of before) found host_up) table) before max
+kind_and_attempt before found max host_up = row_values (find (is_row_for (phase_of before) found host_up) table) before max
 
 -- the last hard state after a result: the result if the kind is hard, otherwise the last hard state before
 abbrev pub last_hard_after : Kind → State → State → State

@@ -18,16 +18,16 @@ state_word state.Down = codes "DOWN"
 state_word state.Unreachable = codes "UNREACHABLE"
 
 -- the state with this word
-abbrev pub worded_state : List ℕ → Option State
-worded_state word = find (λ s. bytes_eq word (state_word s)) all_states
+abbrev pub state_of_word : List ℕ → Option State
+state_of_word word = find (λ s. bytes_eq word (state_word s)) all_states
 
 abbrev pub kind_word : Kind → List ℕ
 kind_word kind.Soft = codes "SOFT"
 kind_word kind.Hard = codes "HARD"
 
 -- the kind with this word
-abbrev pub worded_kind : List ℕ → Option Kind
-worded_kind word = find (λ k. bytes_eq word (kind_word k)) (kind.Soft ∷ kind.Hard ∷ [])
+abbrev pub kind_of_word : List ℕ → Option Kind
+kind_of_word word = find (λ k. bytes_eq word (kind_word k)) (kind.Soft ∷ kind.Hard ∷ [])
 
 -- ---- letters
 
@@ -40,8 +40,8 @@ abbrev pub is_letter : ℕ → Bool
 is_letter b = b == 111 || b == 119 || b == 117 || b == 99 || b == 100
 
 -- The state of a host, or of a service, with this letter. A letter of the other sort is a state of that sort.
-abbrev pub lettered_state : Bool → ℕ → State
-lettered_state host letter =
+abbrev pub state_of_letter : Bool → ℕ → State
+state_of_letter host letter =
     if letter == 111 then (if host then state.Up else state.Ok)
     else if letter == 119 then state.Warning
     else if letter == 117 then (if host then state.Unreachable else state.Unknown)

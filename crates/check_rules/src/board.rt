@@ -1,7 +1,7 @@
 //! A standing as one word, for a board that is read without the lock. (Our own profile.)
 
 ghost use Rattle.std.specs.Prelude.{◌≡◌, ◌<◌, ◌^◌, Some, IfSome};
-ghost use Rattle.check_rules.specs.Board.{decoded, encoded, flag, has_bit};
+ghost use Rattle.check_rules.specs.Board.{standing_of_word, word_of_standing, flag, has_bit};
 
 use crate::standing::{Kind, Standing};
 use crate::state::State;
@@ -11,8 +11,8 @@ use crate::state::State;
 /// 16 says whether the object flaps. OK, WARNING, CRITICAL, UNKNOWN, UP, DOWN, UNREACHABLE are 0 to 6.
 /// [`decode`] reads the word. (Our own profile.)
 pub fn code(standing: Standing) -> u64
-    ensures value { result ≡ encoded standing }
-    ensures read { decoded result ≡ Some standing }
+    ensures value { result ≡ word_of_standing standing }
+    ensures read { standing_of_word result ≡ Some standing }
     ensures within { result < 2 ^ 17 }
 {
     flag(standing.checked)
@@ -26,13 +26,13 @@ pub fn code(standing: Standing) -> u64
 /// The standing with this word. None if no standing has it: one of the two states has the number 7, or
 /// a bit above bit 16 is set. (Our own profile.)
 pub fn decode(word: u64) -> Option<Standing>
-    ensures { result ≡ decoded word }
+    ensures { result ≡ standing_of_word word }
 {
     if word >= 131_072 {
         return None;
     }
-    let state = State::numbered(word / 2 % 8)?;
-    let last_hard = State::numbered(word / 8192 % 8)?;
+    let state = State::from_number(word / 2 % 8)?;
+    let last_hard = State::from_number(word / 8192 % 8)?;
     Some(Standing {
         checked: has_bit(word, 1),
         state,

@@ -6,7 +6,7 @@ ghost use Rattle.check_rules.specs.Board.{flag};
 ghost use Rattle.check_rules.specs.Changes.{changes_after, changes_in, weight_after};
 ghost use Rattle.check_rules.specs.Flapping.{changes_weight};
 
-use crate::flapping::KEPT_RESULTS;
+use crate::flapping::STORED_RESULTS;
 use crate::state::State;
 use circular_buffer::HeapCircularBuffer;
 
@@ -34,7 +34,7 @@ impl Changes {
     /// The changes among these results. The two parts of the ring are scanned one after the other, each from
     /// the result before it. The oldest result counts as its own predecessor.
     pub(crate) fn among(results: &HeapCircularBuffer<State>) -> Changes
-        requires { length results.now.items ≤ KEPT_RESULTS }
+        requires { length results.now.items ≤ STORED_RESULTS }
         ensures weight { result.weight ≡ changes_weight results.now.items }
         ensures count { result.count ≡ changes_in results.now.items }
     {
@@ -55,19 +55,19 @@ impl Changes {
         }
     }
 
-    /// The changes after one more result, which pushes out the oldest of 21. `goes` says whether a change is
-    /// pushed out with the oldest result. `comes` says whether the new result is a change. Each change that
+    /// The changes after one more result, which pushes out the oldest of 21. `loses_change` says whether a change is
+    /// pushed out with the oldest result. `gains_change` says whether the new result is a change. Each change that
     /// stays weighs 2 less.
-    pub(crate) fn after(self, goes: bool, comes: bool) -> Changes
-        requires there { flag goes ≤ self.count }
-        requires few { self.count ≤ 20 }
-        requires heavy { 57 * flag goes + 2 * (self.count - flag goes) ≤ self.weight }
-        requires light { self.weight ≤ 1520 }
-        ensures weight { result.weight + 57 * flag goes + 2 * (self.count - flag goes) ≡ self.weight + 95 * flag comes }
-        ensures count { result.count + flag goes ≡ self.count + flag comes }
+    pub(crate) fn after(self, loses_change: bool, gains_change: bool) -> Changes
+        requires in_range { flag loses_change ≤ self.count }
+        requires bounded { self.count ≤ 20 }
+        requires lower_bound { 57 * flag loses_change + 2 * (self.count - flag loses_change) ≤ self.weight }
+        requires upper_bound { self.weight ≤ 1520 }
+        ensures weight { result.weight + 57 * flag loses_change + 2 * (self.count - flag loses_change) ≡ self.weight + 95 * flag gains_change }
+        ensures count { result.count + flag loses_change ≡ self.count + flag gains_change }
     {
-        let gone = u16::from(goes);
-        let new = u16::from(comes);
+        let gone = u16::from(loses_change);
+        let new = u16::from(gains_change);
         let stay = self.count - gone;
         Changes {
             weight: self.weight - OLDEST_WEIGHT * gone - WEIGHT_STEP * stay + NEWEST_WEIGHT * new,
@@ -88,8 +88,8 @@ impl Changes {
 /// The changes from the result `before` to the last of `results`. A change to the first of `results`
 /// weighs `weight`.
 fn changes_after(before: State, results: &[State], weight: u16) -> Changes
-    requires few { length results.now ≤ KEPT_RESULTS }
-    requires light { weight ≤ 100 }
+    requires bounded { length results.now ≤ STORED_RESULTS }
+    requires upper_bound { weight ≤ 100 }
     ensures weight { result.weight ≡ weight_after before results.now weight }
     ensures count { result.count ≡ changes_after before results.now }
 {

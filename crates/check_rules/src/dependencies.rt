@@ -3,8 +3,8 @@
 ghost use Rattle.std.specs.Prelude.{◌≡◌, ◌<◌, [], false, length, All};
 ghost use Rattle.std.specs.List.{list_any};
 ghost use Rattle.check_objects.specs.Configuration.{IsSetup, dependencies_of, masters_of, object_count};
-ghost use Rattle.link_order.specs.Cycles.{deep};
-ghost use Rattle.check_rules.specs.Dependencies.{is_blocked, is_criterion, is_met, meets, state_read};
+ghost use Rattle.setup_order.specs.Cycles.{deep};
+ghost use Rattle.check_rules.specs.Dependencies.{is_blocked, is_criterion, is_met, meets, state_for_dependency};
 ghost use Rattle.check_rules.specs.Marks.{AreUnblocked, is_inheriting};
 
 use crate::standing::Standing;
@@ -23,7 +23,7 @@ use check_objects::{Criteria, Dependency, Setup};
 /// of the object meets a criterion, or if no dependency of the object inherits. Otherwise it is cleared, and
 /// each master that is reached through inheriting dependencies is examined at most once.
 pub fn blocked(setup: &Setup, standings: &[Standing], marks: &mut [bool], n: u32) -> bool
-    requires there { n < object_count setup.now }
+    requires in_range { n < object_count setup.now }
     requires one_each { length standings.now ≡ object_count setup.now }
     requires scratch { length marks.old ≡ object_count setup.now }
     ensures value { result ≡ is_blocked setup.now standings.now n }
@@ -53,7 +53,7 @@ fn is_any_master_blocked(
     depth: usize,
 ) -> bool
     requires valid { IsSetup setup.now }
-    requires there { All (λ d. d.master < object_count setup.now) dependencies.now }
+    requires in_range { All (λ d. d.master < object_count setup.now) dependencies.now }
     requires shallow { All (λ d. deep (masters_of setup.now) d.master depth ≡ false) dependencies.now }
     requires scratch { length marks.old ≡ object_count setup.now }
     requires asked { AreUnblocked setup.now standings.now marks.old }
@@ -81,7 +81,7 @@ fn is_master_blocked(
     depth: usize,
 ) -> bool
     requires valid { IsSetup setup.now }
-    requires there { master < object_count setup.now }
+    requires in_range { master < object_count setup.now }
     requires shallow { deep (masters_of setup.now) master depth ≡ false }
     requires scratch { length marks.old ≡ object_count setup.now }
     requires asked { AreUnblocked setup.now standings.now marks.old }
@@ -139,11 +139,11 @@ fn meets(reads_soft: bool, criteria: Criteria, master: Standing) -> bool
     if !master.checked {
         return criteria.pending;
     }
-    is_criterion(criteria, state_read(reads_soft, master))
+    is_criterion(criteria, state_for_dependency(reads_soft, master))
 }
 
-fn state_read(reads_soft: bool, master: Standing) -> State
-    ensures { result ≡ state_read reads_soft master }
+fn state_for_dependency(reads_soft: bool, master: Standing) -> State
+    ensures { result ≡ state_for_dependency reads_soft master }
 {
     if reads_soft {
         master.state

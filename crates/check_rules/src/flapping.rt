@@ -10,7 +10,7 @@ use crate::state::State;
 use circular_buffer::HeapCircularBuffer;
 
 /// The number of an object's last results that are stored. There are at most 20 changes among them.
-pub const KEPT_RESULTS: usize = 21;
+pub const STORED_RESULTS: usize = 21;
 
 /// How much the state of an object changed over its last 21 results, in whole percents, rounded down. It is 0
 /// until there are 21 results.
@@ -19,7 +19,7 @@ pub const KEPT_RESULTS: usize = 21;
 /// result i. It weighs 57 + 2i, and all changes together weigh 1,520. (Our own profile, after the manual's
 /// "Detection and Handling of State Flapping".)
 pub fn percent(results: &HeapCircularBuffer<State>) -> u8
-    requires capacity { results.now.capacity ≡ KEPT_RESULTS }
+    requires capacity { results.now.capacity ≡ STORED_RESULTS }
     ensures value { result ≡ percent_of results.now.items }
     ensures within { result ≤ 100 }
 {
@@ -37,7 +37,7 @@ pub fn percent(results: &HeapCircularBuffer<State>) -> u8
 /// With a high threshold of 0 an object flaps from its first result on. (Manual: "Detection and Handling of
 /// State Flapping"; in our own profile flapping starts at a percentage equal to the high threshold too.)
 pub fn flaps(results: &HeapCircularBuffer<State>, was: bool, low: u8, high: u8) -> bool
-    requires { results.now.capacity ≡ KEPT_RESULTS }
+    requires { results.now.capacity ≡ STORED_RESULTS }
     ensures { result ≡ is_flapping results.now.items was low high }
 {
     flaps_at(percent(results), was, low, high)

@@ -2,10 +2,10 @@
 //! of all results.
 
 ghost use Rattle.std.specs.Prelude.{◌≡◌, ◌≤◌, [], IfOk, IsTrue, length};
-ghost use Rattle.check_rules.specs.Flapping.{is_flapping, kept_after, percent_of};
+ghost use Rattle.check_rules.specs.Flapping.{is_flapping, results_after, percent_of};
 
 use crate::changes::Changes;
-use crate::flapping::{KEPT_RESULTS, flaps, flaps_at};
+use crate::flapping::{STORED_RESULTS, flaps, flaps_at};
 use crate::state::State;
 use circular_buffer::HeapCircularBuffer;
 use std::alloc::{AllocError, Global};
@@ -31,16 +31,16 @@ impl Model for LastResults {
 
     ghost Value = { List State };
 
-    ghost use Rattle.check_rules.specs.LastResults.{results_of, IsKept};
+    ghost use Rattle.check_rules.specs.LastResults.{results_view, IsWellFormed};
 
-    ghost view = { results_of };
+    ghost view = { results_view };
 
-    ghost invariant = { IsKept };
+    ghost invariant = { IsWellFormed };
 }
 
 impl LastResults {
     /// No results, with room for all that will be stored. An Err means out of memory.
-    pub fn none(alloc: Global) -> Result<LastResults, AllocError>
+    pub fn empty(alloc: Global) -> Result<LastResults, AllocError>
         ensures { IfOk result (λ results. results ≡ []) }
     {
         LastResults::of(alloc, &[])
@@ -48,10 +48,10 @@ impl LastResults {
 
     /// These results, the oldest first, with room for all that will be stored. An Err means out of memory.
     pub fn of(alloc: Global, results: &[State]) -> Result<LastResults, AllocError>
-        requires { length results.now ≤ KEPT_RESULTS }
+        requires { length results.now ≤ STORED_RESULTS }
         ensures { IfOk result (λ kept. kept ≡ results.now) }
     {
-        let mut kept = HeapCircularBuffer::with_capacity(alloc, KEPT_RESULTS)?;
+        let mut kept = HeapCircularBuffer::with_capacity(alloc, STORED_RESULTS)?;
         kept.extend_from_slice(results);
         let changes = Changes::among(&kept);
         Ok(LastResults {
@@ -72,22 +72,22 @@ impl LastResults {
     /// stored results, as [`flaps`](crate::flaps) does. `was` says whether it flapped before, and `low` and
     /// `high` are the thresholds in percents. The call needs no memory.
     pub fn push(&mut self, found: State, was: bool, low: u8, high: u8) -> bool
-        ensures kept { self.new ≡ kept_after self.old found }
-        ensures flaps { result ≡ is_flapping (kept_after self.old found) was low high }
+        ensures kept { self.new ≡ results_after self.old found }
+        ensures flaps { result ≡ is_flapping (results_after self.old found) was low high }
     {
         if self.are_all(found) {
             flaps_at(0, was, low, high)
         } else {
-            self.keep(found, was, low, high)
+            self.push_and_count(found, was, low, high)
         }
     }
 
     /// Stores one more result, as [`LastResults::push`] does, for any results. It is a separate function, so
     /// that a result that changes nothing costs no more than the test.
     #[inline(never)]
-    fn keep(&mut self, found: State, was: bool, low: u8, high: u8) -> bool
-        ensures kept { self.new ≡ kept_after self.old found }
-        ensures flaps { result ≡ is_flapping (kept_after self.old found) was low high }
+    fn push_and_count(&mut self, found: State, was: bool, low: u8, high: u8) -> bool
+        ensures kept { self.new ≡ results_after self.old found }
+        ensures flaps { result ≡ is_flapping (results_after self.old found) was low high }
     {
         let Some(oldest) = self.kept.push_back(found) else {
             self.newest = found;
@@ -97,9 +97,9 @@ impl LastResults {
             return flaps(&self.kept, was, low, high);
         };
         let second = self.kept.front().copied().unwrap_or(oldest);
-        let goes = second.is_another(oldest);
-        let comes = found.is_another(self.newest);
-        self.changes = self.changes.after(goes, comes);
+        let loses_change = second.is_another(oldest);
+        let gains_change = found.is_another(self.newest);
+        self.changes = self.changes.after(loses_change, gains_change);
         self.newest = found;
         flaps_at(self.changes.percent(), was, low, high)
     }
@@ -107,7 +107,7 @@ impl LastResults {
     /// Whether there are 21 results, and all are this state. Then one more result of this state leaves them
     /// as they are.
     pub fn are_all(&self, found: State) -> bool
-        ensures kept { IsTrue result → kept_after self.now found ≡ self.now }
+        ensures kept { IsTrue result → results_after self.now found ≡ self.now }
         ensures percent { IsTrue result → percent_of self.now ≡ 0 }
     {
         if self.changes.count > 0 || found.is_another(self.newest) {

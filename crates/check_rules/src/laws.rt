@@ -3,9 +3,9 @@
 ghost use Rattle.std.specs.Prelude.{ℕ, ◌≡◌, Bool, false, List, length};
 ghost use Rattle.std.specs.List.{list_any};
 ghost use Rattle.check_objects.specs.Configuration.{Configuration, dependencies_of, masters_of, object_count};
-ghost use Rattle.link_order.specs.Cycles.{has_cycle};
+ghost use Rattle.setup_order.specs.Cycles.{has_cycle};
 ghost use Rattle.check_rules.specs.Dependencies.{fails, is_blocked};
-ghost use Rattle.check_rules.specs.declared.flapping.TheConstants.{KEPT_RESULTS};
+ghost use Rattle.check_rules.specs.declared.flapping.TheConstants.{STORED_RESULTS};
 ghost use Rattle.check_rules.specs.declared.standing.Standing.{Standing};
 
 /// In a setup whose dependencies have no cycle, an object is blocked if and only if some dependency of it
@@ -25,6 +25,6 @@ pub fn blocked_where_a_dependency_fails()
 {}
 
 /// The number of an object's stored results: 21, between which there are 20 changes. (Our own profile.)
-pub fn results_that_are_kept()
-    ensures { KEPT_RESULTS ≡ 21 }
+pub fn stored_results_limit()
+    ensures { STORED_RESULTS ≡ 21 }
 {}

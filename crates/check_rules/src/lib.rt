@@ -7,7 +7,7 @@
 //! "Determining Status and Reachability of Network Hosts", "State Types", "Detection and Handling of State
 //! Flapping" and "Host and Service Dependencies". If the manual leaves a choice, the profile of this project
 //! makes it, and the item says so. A function changes only the values that it gets for that purpose. No
-//! function needs memory, except [`LastResults::none`], [`LastResults::of`] and [`LastResults::to_vec`].
+//! function needs memory, except [`LastResults::empty`], [`LastResults::of`] and [`LastResults::to_vec`].
 //!
 //! The modules:
 //!
@@ -38,7 +38,7 @@ mod words;
 
 pub use board::{code, decode};
 pub use dependencies::blocked;
-pub use flapping::{KEPT_RESULTS, flaps, percent};
+pub use flapping::{STORED_RESULTS, flaps, percent};
 pub use last_results::LastResults;
 pub use reachability::host_state;
 pub use standing::{Kind, Standing, lawful, pending};

@@ -5,7 +5,7 @@ use crate::state::{Code, State};
 
 impl Code {
     ghost use Rattle.std.specs.Prelude.{◌≡◌};
-    ghost use Rattle.check_rules.specs.Numbers.{code_number, numbered_code};
+    ghost use Rattle.check_rules.specs.Numbers.{code_number, code_of_number};
 
     /// The number of the code, 0 to 3. (Manual: "Plugin API", return code.)
     pub fn number(self) -> u32
@@ -20,8 +20,8 @@ impl Code {
     }
 
     /// The code of this number. None for a number above 3. (Manual: "Plugin API", return code.)
-    pub fn numbered(number: u64) -> Option<Code>
-        ensures { result ≡ numbered_code number }
+    pub fn from_number(number: u64) -> Option<Code>
+        ensures { result ≡ code_of_number number }
     {
         match number {
             0 => Some(Code::Ok),
@@ -35,7 +35,7 @@ impl Code {
 
 impl State {
     ghost use Rattle.std.specs.Prelude.{◌≡◌, ◌<◌};
-    ghost use Rattle.check_rules.specs.Numbers.{numbered_state, state_number};
+    ghost use Rattle.check_rules.specs.Numbers.{state_of_number, state_number};
 
     /// The number of the state: OK, WARNING, CRITICAL, UNKNOWN are 0 to 3, UP, DOWN, UNREACHABLE 4 to
     /// 6. (Our own profile.)
@@ -55,8 +55,8 @@ impl State {
     }
 
     /// The state of this number. None for a number above 6. (Our own profile.)
-    pub fn numbered(number: u64) -> Option<State>
-        ensures { result ≡ numbered_state number }
+    pub fn from_number(number: u64) -> Option<State>
+        ensures { result ≡ state_of_number number }
     {
         match number {
             0 => Some(State::Ok),

@@ -32,8 +32,8 @@ pub struct Standing {
 /// The three phases of the manual's "State Types": no problem, a problem that is being retried, a confirmed
 /// problem.
 #[derive(Clone, Copy)]
-pub(crate) enum Phase {
-    Fine,
+pub(crate) enum ProblemPhase {
+    NoProblem,
     SoftProblem,
     HardProblem,
 }
@@ -51,19 +51,19 @@ impl Standing {
     pub fn is_soft_problem(self) -> bool
         ensures { result ≡ is_soft_problem self }
     {
-        matches!(self.phase(), Phase::SoftProblem)
+        matches!(self.phase(), ProblemPhase::SoftProblem)
     }
 
     /// The phase that the object is in.
-    pub(crate) fn phase(self) -> Phase
+    pub(crate) fn phase(self) -> ProblemPhase
         ensures { result ≡ phase_of self }
     {
         if !self.state.is_problem() {
-            return Phase::Fine;
+            return ProblemPhase::NoProblem;
         }
         match self.kind {
-            Kind::Soft => Phase::SoftProblem,
-            Kind::Hard => Phase::HardProblem,
+            Kind::Soft => ProblemPhase::SoftProblem,
+            Kind::Hard => ProblemPhase::HardProblem,
         }
     }
 
@@ -84,7 +84,7 @@ impl Standing {
 pub fn pending(is_host: bool) -> Standing
     ensures { result ≡ pending_standing is_host }
 {
-    let state = State::fine(is_host);
+    let state = State::ok_or_up(is_host);
     Standing {
         checked: false,
         state,
@@ -105,8 +105,8 @@ pub fn lawful(standing: Standing, max: u8) -> bool
     let attempt = standing.attempt;
     let was_fine = !standing.last_hard.is_problem();
     match standing.phase() {
-        Phase::Fine => 1 <= attempt && attempt <= max && was_fine,
-        Phase::SoftProblem => 1 <= attempt && attempt < max && was_fine,
-        Phase::HardProblem => attempt == max,
+        ProblemPhase::NoProblem => 1 <= attempt && attempt <= max && was_fine,
+        ProblemPhase::SoftProblem => 1 <= attempt && attempt < max && was_fine,
+        ProblemPhase::HardProblem => attempt == max,
     }
 }

@@ -28,7 +28,7 @@ pub enum State {
 
 impl State {
     ghost use Rattle.std.specs.Prelude.{◌≡◌};
-    ghost use Rattle.check_rules.specs.State.{fine_state, is_another_state, is_down_state, is_host_state, is_problem};
+    ghost use Rattle.check_rules.specs.State.{ok_or_up_state, is_another_state, is_down_state, is_host_state, is_problem};
 
     /// Whether this is a state of hosts, and not one of services.
     pub fn is_host(self) -> bool
@@ -59,8 +59,8 @@ impl State {
     }
 
     /// `Up` for a host, `Ok` for a service.
-    pub(crate) fn fine(is_host: bool) -> State
-        ensures { result ≡ fine_state is_host }
+    pub(crate) fn ok_or_up(is_host: bool) -> State
+        ensures { result ≡ ok_or_up_state is_host }
     {
         if is_host { State::Up } else { State::Ok }
     }

@@ -5,7 +5,7 @@ ghost use Rattle.check_rules.specs.State.{is_host_state};
 ghost use Rattle.check_rules.specs.Standing.{is_lawful};
 ghost use Rattle.check_rules.specs.Verdict.{kind_and_attempt, kind_at, last_hard_after, verdict_on};
 
-use crate::standing::{Kind, Phase, Standing};
+use crate::standing::{Kind, ProblemPhase, Standing};
 use crate::state::State;
 
 /// The standing of an object after a check whose result is the state `found`.
@@ -60,17 +60,17 @@ fn kind_and_attempt(before: Standing, found: State, max: u8, host_up: bool) -> (
     let phase = before.phase();
     if !found.is_problem() {
         return match phase {
-            Phase::SoftProblem => (Kind::Soft, before.attempt + 1),
-            Phase::Fine | Phase::HardProblem => (Kind::Hard, 1),
+            ProblemPhase::SoftProblem => (Kind::Soft, before.attempt + 1),
+            ProblemPhase::NoProblem | ProblemPhase::HardProblem => (Kind::Hard, 1),
         };
     }
     if !host_up && !found.is_host() {
         return (Kind::Hard, max);
     }
     let attempt = match phase {
-        Phase::Fine => 1,
-        Phase::SoftProblem => before.attempt + 1,
-        Phase::HardProblem => max,
+        ProblemPhase::NoProblem => 1,
+        ProblemPhase::SoftProblem => before.attempt + 1,
+        ProblemPhase::HardProblem => max,
     };
     (kind_at(attempt, max), attempt)
 }

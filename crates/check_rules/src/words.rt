@@ -5,12 +5,12 @@ use crate::state::State;
 
 impl State {
     ghost use Rattle.std.specs.Prelude.{◌≡◌, ◌≤◌, ◌∷◌, [], length};
-    ghost use Rattle.check_rules.specs.Words.{is_letter, lettered_state, state_letter, state_word, worded_state};
+    ghost use Rattle.check_rules.specs.Words.{is_letter, state_of_letter, state_letter, state_word, state_of_word};
 
     /// The word of the state, in capitals: `OK` to `UNREACHABLE`. (Manual: "State Types".)
     pub fn word(self) -> &'static str
         ensures text { result.now ≡ state_word self }
-        ensures few { length result.now ≤ 11 }
+        ensures bounded { length result.now ≤ 11 }
     {
         match self {
             State::Ok => "OK",
@@ -24,8 +24,8 @@ impl State {
     }
 
     /// The state with this word, if there is one. (Manual: "State Types".)
-    pub fn worded(word: &str) -> Option<State>
-        ensures { result ≡ worded_state word.now }
+    pub fn from_word(word: &str) -> Option<State>
+        ensures { result ≡ state_of_word word.now }
     {
         match word {
             "OK" => Some(State::Ok),
@@ -62,8 +62,8 @@ impl State {
 
     /// The state of a host, or of a service, with this letter. A letter of the other sort is a state of that
     /// sort. A byte that isn't a letter counts as the letter of DOWN.
-    pub fn lettered(host: bool, letter: u8) -> State
-        ensures { result ≡ lettered_state host letter }
+    pub fn from_letter(host: bool, letter: u8) -> State
+        ensures { result ≡ state_of_letter host letter }
     {
         match letter {
             b'o' if host => State::Up,
@@ -79,11 +79,11 @@ impl State {
 
 impl Kind {
     ghost use Rattle.std.specs.Prelude.{◌≡◌, ◌≤◌, length};
-    ghost use Rattle.check_rules.specs.Words.{kind_word, worded_kind};
+    ghost use Rattle.check_rules.specs.Words.{kind_word, kind_of_word};
 
     /// The kind with this word, if there is one. (Manual: "State Types".)
-    pub fn worded(word: &str) -> Option<Kind>
-        ensures { result ≡ worded_kind word.now }
+    pub fn from_word(word: &str) -> Option<Kind>
+        ensures { result ≡ kind_of_word word.now }
     {
         match word {
             "SOFT" => Some(Kind::Soft),
@@ -95,7 +95,7 @@ impl Kind {
     /// The word of the kind: `SOFT` or `HARD`. (Manual: "State Types".)
     pub fn word(self) -> &'static str
         ensures text { result.now ≡ kind_word self }
-        ensures few { length result.now ≤ 4 }
+        ensures bounded { length result.now ≤ 4 }
     {
         match self {
             Kind::Soft => "SOFT",

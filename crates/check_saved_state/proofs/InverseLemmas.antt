@@ -9,19 +9,19 @@ use Rattle.check_rules.specs.declared.standing.Kind.{Kind}
 use Rattle.check_rules.specs.declared.standing.Kind.TheVariants as kind
 use Rattle.check_rules.specs.declared.state.State as rules
 use Rattle.check_rules.specs.declared.state.State.TheVariants as state
-use Rattle.check_saved.specs.Members.{is_narrow}
-use Rattle.check_saved.specs.Saved.{IsSaved, IsSavedObject, Saved, SavedObject}
-use Rattle.check_saved.specs.Scheduling.{OpenRun, is_moment, is_time}
-use Rattle.check_saved.specs.Text.{saved_of_text, saved_text}
-use Rattle.check_saved.specs.Tree.{object_tree, objects_tree, run_tree, saved_tree, time_tree}
+use Rattle.check_saved_state.specs.Members.{has_u64_interval}
+use Rattle.check_saved_state.specs.Saved.{IsSaved, IsSavedObject, Saved, SavedObject}
+use Rattle.check_saved_state.specs.Scheduling.{OpenRun, is_moment, is_time}
+use Rattle.check_saved_state.specs.Text.{saved_of_text, saved_text}
+use Rattle.check_saved_state.specs.Tree.{object_tree, objects_tree, run_tree, saved_tree, time_tree}
 use Rattle.check_rules.specs.Words.{kind_word, state_word}
-use Rattle.check_saved.specs.Words.{flapping_word, letters_of}
-use Rattle.check_saved.specs.Written.{IsWritable, IsWritableObject}
-use Rattle.check_saved.proofs.PlainLemmas.{ArePlain, IsPlain, read_compact, text_is_utf8}
-use Rattle.check_saved.proofs.RangeLemmas.{attempt_by}
-use Rattle.check_saved.proofs.SizeLemmas.{text_fits}
-use Rattle.check_saved.proofs.TextLemmas.{text_back}
-use Rattle.check_saved.proofs.TreeLemmas.{letter_fits, saved_depth}
+use Rattle.check_saved_state.specs.Words.{flapping_word, letters_of}
+use Rattle.check_saved_state.specs.Written.{IsWritable, IsWritableObject}
+use Rattle.check_saved_state.proofs.PlainLemmas.{ArePlain, IsPlain, read_compact, text_is_utf8}
+use Rattle.check_saved_state.proofs.RangeLemmas.{attempt_by}
+use Rattle.check_saved_state.proofs.SizeLemmas.{text_fits}
+use Rattle.check_saved_state.proofs.TextLemmas.{text_back}
+use Rattle.check_saved_state.proofs.TreeLemmas.{letter_fits, saved_depth}
 
 word : (s : rules.State) → IsUtf8 (state_word s)
 word state.Ok = IsUtf8-are_ascii (codes "OK") refl
@@ -50,8 +50,8 @@ time_plain (Some time) e = let most : time ≤ 2 ^ 61 = leb-true time (2 ^ 61) e
 
 run_plain : (runs : ℕ) (run : Option OpenRun) → runs ≤ 2 ^ 60 → is_moment run ≡ true
     → ((n : ℕ) → option_map (λ r. r.number) run ≡ Some n → (1 ≤ n) × (n ≤ runs)) → IsPlain (run_tree run)
-run_plain runs None few e numbered = tt
-run_plain runs (Some r) few e numbered =
+run_plain runs None bounded e numbered = tt
+run_plain runs (Some r) bounded e numbered =
     let most : r.start ≤ 2 ^ 60 = leb-true r.start (2 ^ 60) e in
     let number = numbered r.number refl in
     let n : r.number < 2 ^ 64 = omega arith in
@@ -59,10 +59,10 @@ run_plain runs (Some r) few e numbered =
     ((IsUtf8-are_ascii (codes "number") refl, n, (IsUtf8-are_ascii (codes "start") refl, s, tt)), refl)
 
 object_plain : (runs : ℕ) (o : SavedObject) → runs ≤ 2 ^ 60 → IsSavedObject runs o → IsWritableObject o → IsPlain (object_tree o)
-object_plain runs o few saved writable =
+object_plain runs o bounded saved writable =
     let times = and_parts (is_time o.scheduling.next) (is_moment o.scheduling.run) saved.in_time in
-    let attempt = attempt_by o.standing o.max_attempts saved.standing.lawful saved.some_attempts saved.few_attempts in
-    let most = saved.few_attempts in
+    let attempt = attempt_by o.standing o.max_attempts saved.standing.lawful saved.nonzero_attempts saved.bounded_attempts in
+    let most = saved.bounded_attempts in
     let a : o.standing.attempt < 2 ^ 64 = omega arith in
     let m : o.max_attempts < 2 ^ 64 = omega arith in (
       (
@@ -106,7 +106,7 @@ object_plain runs o few saved writable =
                                 IsUtf8-are_ascii (letters_of o.results) (letters_ascii o.results),
                                 (
                                   IsUtf8-are_ascii (codes "run") refl,
-                                  run_plain runs o.scheduling.run few times.1 saved.numbered,
+                                  run_plain runs o.scheduling.run bounded times.1 saved.numbered,
                                   (IsUtf8-are_ascii (codes "state") refl, word o.standing.state, tt),
                                 ),
                               ),
@@ -128,10 +128,10 @@ object_plain runs o few saved writable =
 objects_plain : (runs : ℕ) (objects : List SavedObject) → runs ≤ 2 ^ 60
     → ((place : ℕ) (o : SavedObject) → slice_get objects place ≡ Some o → IsSavedObject runs o)
     → ((place : ℕ) (o : SavedObject) → slice_get objects place ≡ Some o → IsWritableObject o) → ArePlain (objects_tree objects)
-objects_plain runs [] few each writable = tt
-objects_plain runs (o ∷ os) few each writable = (
-  object_plain runs o few (each 0 o refl) (writable 0 o refl),
-  objects_plain runs os few (λ place x is. each (suc place) x is) (λ place x is. writable (suc place) x is),
+objects_plain runs [] bounded each writable = tt
+objects_plain runs (o ∷ os) bounded each writable = (
+  object_plain runs o bounded (each 0 o refl) (writable 0 o refl),
+  objects_plain runs os bounded (λ place x is. each (suc place) x is) (λ place x is. writable (suc place) x is),
 )
 
 saved_plain : (saved : Saved) → IsSaved saved → IsWritable saved → IsPlain (saved_tree saved)
@@ -157,16 +157,16 @@ saved_plain saved is writable =
       refl,
     )
 
-narrow : (objects : List SavedObject) → ((place : ℕ) (o : SavedObject) → slice_get objects place ≡ Some o → IsWritableObject o)
-    → list_all is_narrow objects ≡ true
-narrow [] writable = refl
-narrow (o ∷ os) writable =
+narrow_intervals : (objects : List SavedObject) → ((place : ℕ) (o : SavedObject) → slice_get objects place ≡ Some o → IsWritableObject o)
+    → list_all has_u64_interval objects ≡ true
+narrow_intervals [] writable = refl
+narrow_intervals (o ∷ os) writable =
     let small = (writable 0 o refl).interval in
-    let one : is_narrow o ≡ true = grind (arith, nat_tests, small) in
-    rw one (narrow os (λ place x is. writable (suc place) x is))
+    let one : has_u64_interval o ≡ true = grind (arith, nat_tests, small) in
+    rw one (narrow_intervals os (λ place x is. writable (suc place) x is))
 
 pub fits : (saved : Saved) → IsSaved saved → IsWritable saved → length (saved_text saved) ≤ 16777216
-fits saved is writable = text_fits saved is (narrow saved.objects writable.each)
+fits saved is writable = text_fits saved is (narrow_intervals saved.objects writable.each)
 
 pub inverse : (saved : Saved) → IsSaved saved → IsWritable saved → saved_of_text (saved_text saved) ≡ Ok saved
 inverse saved is writable =

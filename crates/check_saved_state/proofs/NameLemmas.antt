@@ -1,5 +1,5 @@
 -- A name with no semicolon, and one that a semicolon parts.
-use Rattle.std.proofs.Common.{◌≡◌, suc, ◌+◌, ◌<◌, ◌&&◌, Bool, true, false, cond, List, [], ◌∷◌, length, refl, arith}
+use Rattle.std.proofs.Common.{◌≡◌, suc, ◌+◌, ◌&&◌, Bool, true, false, cond, List, [], ◌∷◌, length, refl, arith}
 use Rattle.std.specs.List.{list_all, prefix_len}
 
 all_by : {A : Type 0} (p : A → Bool) (x : A) (xs : List A) (b : Bool) → (prefix_len p xs ≡ length xs → list_all p xs ≡ true)
@@ -11,13 +11,3 @@ all_by p x xs false more e = absurd (omega arith)
 pub all_by_prefix : {A : Type 0} (p : A → Bool) (xs : List A) → prefix_len p xs ≡ length xs → list_all p xs ≡ true
 all_by_prefix p [] e = refl
 all_by_prefix p (x ∷ xs) e = all_by p x xs (p x) (all_by_prefix p xs) e
-
-some_by : {A : Type 0} (p : A → Bool) (x : A) (xs : List A) (b : Bool) → (prefix_len p xs < length xs → list_all p xs ≡ false)
-    → cond b (1 + prefix_len p xs) 0 < suc (length xs) → (b && list_all p xs) ≡ false
-some_by p x xs true more h = more (omega arith)
-some_by p x xs false more h = refl
-
--- where they are not all of them, some fail
-pub some_by_prefix : {A : Type 0} (p : A → Bool) (xs : List A) → prefix_len p xs < length xs → list_all p xs ≡ false
-some_by_prefix p [] h = absurd (omega arith)
-some_by_prefix p (x ∷ xs) h = some_by p x xs (p x) (some_by_prefix p xs) h

@@ -4,7 +4,7 @@ use Rattle.std.specs.Prelude.{nat_le, nat_lt}
 use Rattle.std.specs.List.{list_all}
 use Rattle.std.proofs.lemmas.Bool.{and_parts, eqb-true, leb-true}
 use borrow.Author.Tests.{ltb-true}
-use Rattle.check_drafts.specs.Name.{is_name, is_name_byte}
+use Rattle.setup_model.specs.Name.{is_name, is_name_byte}
 use Rattle.check_rules.specs.declared.standing.Kind.{Kind}
 use Rattle.check_rules.specs.declared.standing.Kind.TheVariants as kind
 use Rattle.check_rules.specs.declared.standing.Standing.{Standing}
@@ -48,7 +48,7 @@ attempt_of c f state.Unreachable l kind.Hard attempt max some e = hard attempt m
 
 -- the attempt of a lawful standing is 1 to 255, where its maximum is
 pub attempt_by : (s : Standing) (max : ℕ) → is_lawful s max ≡ true → 1 ≤ max → max ≤ 255 → (1 ≤ s.attempt) × (s.attempt ≤ 255)
-attempt_by s max e some few =
+attempt_by s max e some bounded =
     let b = attempt_of s.checked s.flapping s.state s.last_hard s.kind s.attempt max some e in
     (b.0, let c = b.1 in omega arith)
 

@@ -4,10 +4,10 @@ use Rattle.std.proofs.Common.{Option, Some, None, refl, sym, ap, ◌∙◌}
 use Rattle.std.specs.List.{list_any}
 use Rattle.std.proofs.lemmas.List.{map-append}
 use Rattle.std.proofs.lemmas.List.Folds.{list_any-append}
-use Rattle.check_drafts.proofs.ListLemmas.{dropped_as, list_any-map, mapped_next}
-use Rattle.check_drafts.proofs.RepeatLemmas.{repeat_after}
-use Rattle.check_saved.specs.Saved.{SavedObject}
-use Rattle.check_saved.specs.Verification.{is_same_run, run_number}
+use Rattle.setup_model.proofs.ListLemmas.{dropped_as, list_any-map, mapped_next}
+use Rattle.setup_model.proofs.RepeatLemmas.{repeat_after}
+use Rattle.check_saved_state.specs.Saved.{SavedObject}
+use Rattle.check_saved_state.specs.Verification.{is_same_run, run_number}
 
 here : {L : Type 0} (same : L → L → Bool) (before : List L) (l : L) (rest : List L) (i : ℕ) → list_any (same l) before ≡ true
     → repeat_after same before i (l ∷ rest) ≡ Some i

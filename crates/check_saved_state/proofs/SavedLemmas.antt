@@ -4,20 +4,20 @@ use Rattle.std.proofs.Common.{map, length, get_or}
 use Rattle.std.proofs.Common.{eq-eqb, Option, Some, None, option_map, subst, Result, Ok, Err, refl, sym, ap, ◌∙◌, arith}
 use Rattle.std.specs.Prelude.{nat_lt, nat_le, ok_or, slice_get}
 use Rattle.serde_json.specs.Data.{Data}
-use Rattle.check_documents.specs.Tree.{tree_of}
-use Rattle.check_saved.specs.Reading.{draft_of, in_this_format}
-use Rattle.check_saved.specs.Text.{saved_of_text, saved_of_tree}
+use Rattle.setup_reader.specs.JsonTree.{tree_of}
+use Rattle.check_saved_state.specs.Reading.{draft_in, format_test}
+use Rattle.check_saved_state.specs.Text.{saved_of_text, saved_of_tree}
 use Rattle.std.specs.List.{after_first, before_first, list_all, list_any, position, position_or_len}
 use Rattle.std.proofs.lemmas.Bool.{and_parts, cases_lt, eqb-true, leb-true}
 use Rattle.std.proofs.lemmas.Bool.Decides.{nat_tests}
 use Rattle.std.proofs.lemmas.List.Folds.{list_any-append}
 use Rattle.std.proofs.lemmas.List.Sums.{passes_at_first, prefix_len-le-length, split_at_first}
 use Rattle.std.proofs.lemmas.Slice.Eq.{bytes_eq-Decides}
-use Rattle.check_drafts.specs.Agreement.{◌>>=◌, refused_at}
-use Rattle.check_drafts.specs.Keys.{first_repeat}
-use Rattle.check_drafts.specs.Name.{is_host_name, is_name}
-use Rattle.check_drafts.proofs.RefusalLemmas.{all_by_position, first_ok, nowhere, rest_ok}
-use Rattle.check_drafts.proofs.RepeatLemmas.{first_repeat_is, repeat_after}
+use Rattle.setup_model.specs.Agreement.{◌>>=◌, error_at}
+use Rattle.setup_model.specs.Keys.{first_repeat}
+use Rattle.setup_model.specs.Name.{is_host_name, is_name}
+use Rattle.setup_model.proofs.RefusalLemmas.{all_by_position, first_ok, nowhere, rest_ok}
+use Rattle.setup_model.proofs.RepeatLemmas.{first_repeat_is, repeat_after}
 use Rattle.check_rules.specs.declared.standing.Kind.{Kind}
 use Rattle.check_rules.specs.declared.standing.Kind.TheVariants as kind
 use Rattle.check_rules.specs.declared.standing.Standing.{Standing}
@@ -25,16 +25,18 @@ use Rattle.check_rules.specs.declared.state.State as rules
 use Rattle.check_rules.specs.declared.state.State.TheVariants as state
 use Rattle.check_rules.specs.Flapping.{AreResultsFor}
 use Rattle.check_rules.specs.Standing.{IsStandingFor, is_lawful, pending_standing}
-use Rattle.check_rules.specs.State.{fine_state, is_host_state, is_of_sort, is_problem}
-use Rattle.check_saved.specs.declared.fault.SavedFault.{SavedFault}
-use Rattle.check_saved.specs.declared.fault.SavedFault.TheVariants as faults
-use Rattle.check_saved.specs.Saved.{IsFullName, IsSaved, IsSavedObject, Saved, SavedObject}
-use Rattle.check_saved.specs.Scheduling.{OpenRun, is_in_time, is_timed_if_forced}
+use Rattle.check_rules.specs.State.{ok_or_up_state, is_host_state, is_of_sort, is_problem}
+use Rattle.check_saved_state.specs.declared.fault.SavedFault.{SavedFault}
+use Rattle.check_saved_state.specs.declared.fault.SavedFault.TheVariants as faults
+use Rattle.check_saved_state.specs.Saved.{IsFullName, IsSaved, IsSavedObject, Saved, SavedObject}
+use Rattle.check_saved_state.specs.Scheduling.{OpenRun, is_in_time, is_timed_if_forced}
 use Rattle.check_spread.specs.Spread.{earlier}
-use Rattle.check_saved.specs.Verification.{can_be, can_have_results, can_stand, distinct_names, few_objects, good_names, is_as_pending, is_attempt}
-use Rattle.check_saved.specs.Verification.{is_full_name, is_hard, is_in_range, is_numbered, is_same_run, is_semicolon, lawful_objects, run_number}
-use Rattle.check_saved.specs.Verification.{tests_of_draft, verified}
-use Rattle.check_saved.proofs.NameLemmas.{all_by_prefix}
+use Rattle.check_saved_state.specs.Verification.{is_possible, are_possible_results, is_possible_standing, distinct_names_test, object_count_test, names_test}
+use Rattle.check_saved_state.specs.Verification.{is_like_pending, is_attempt}
+use Rattle.check_saved_state.specs.Verification.{is_full_name, is_hard, is_in_range, has_valid_run, is_same_run, is_semicolon, possible_objects_test}
+use Rattle.check_saved_state.specs.Verification.{run_number}
+use Rattle.check_saved_state.specs.Verification.{draft_test, verified_saved}
+use Rattle.check_saved_state.proofs.NameLemmas.{all_by_prefix}
 
 -- ---- nothing was refused
 
@@ -42,7 +44,7 @@ few_by : (b : Bool) (n : ℕ) (y : Result (Unit {0}) SavedFault) → y ≡ Ok tt
 few_by true n y o t e = cc
 few_by false n y o t e = grind (arith, nat_tests, t)
 
-ranged_by : (a b : Bool) (o : Option ℕ) → cond (a || b) (Err (faults.Range None)) (refused_at (λ i. faults.Range (Some i)) o) ≡ Ok tt
+ranged_by : (a b : Bool) (o : Option ℕ) → cond (a || b) (Err (faults.Range None)) (error_at (λ i. faults.Range (Some i)) o) ≡ Ok tt
     → (a ≡ false) × (b ≡ false) × (o ≡ None)
 ranged_by true b o e = cc
 ranged_by false true o e = cc
@@ -103,12 +105,12 @@ module _ {K : Type 0} (same : K → K → Bool) where
   apart_by before (key ∷ keys) i zero (suc other) k l none e f s t =
       let is : key ≡ k = cc in
       let no = unmet_last before keys i other key l none f in
-      let same_key : same l key ≡ true = ap (same l) is ∙ t in
+      let is_same_key : same l key ≡ true = ap (same l) is ∙ t in
       cc
   apart_by before (key ∷ keys) i (suc one) zero k l none e f s t =
       let is : key ≡ l = cc in
       let no = unmet_last before keys i one key k none e in
-      let same_key : same k key ≡ true = ap (same k) is ∙ s in
+      let is_same_key : same k key ≡ true = ap (same k) is ∙ s in
       cc
   apart_by before (key ∷ keys) i (suc one) (suc other) k l none e f s t =
       let rest = (unmet_by (list_any (same key) before) i (repeat_after same (before ++ key ∷ []) (i + 1) keys) none).1 in
@@ -156,7 +158,7 @@ sort_by false state.Up e = cc
 sort_by false state.Down e = cc
 sort_by false state.Unreachable e = cc
 
-fine_by : (host : Bool) (s : rules.State) → is_of_sort host s ≡ true → not (is_problem s) ≡ true → s ≡ fine_state host
+fine_by : (host : Bool) (s : rules.State) → is_of_sort host s ≡ true → not (is_problem s) ≡ true → s ≡ ok_or_up_state host
 fine_by true state.Ok e f = cc
 fine_by true state.Warning e f = cc
 fine_by true state.Critical e f = cc
@@ -180,8 +182,8 @@ not_by : (b : Bool) → not b ≡ true → b ≡ false
 not_by true e = cc
 not_by false e = refl
 
-pending_by : (host checked flapping : Bool) (s last_hard : rules.State) (k : Kind) (attempt : ℕ) → checked ≡ false → s ≡ fine_state host → k ≡ kind.Hard
-    → attempt ≡ 1 → last_hard ≡ fine_state host → flapping ≡ false
+pending_by : (host checked flapping : Bool) (s last_hard : rules.State) (k : Kind) (attempt : ℕ) → checked ≡ false → s ≡ ok_or_up_state host → k ≡ kind.Hard
+    → attempt ≡ 1 → last_hard ≡ ok_or_up_state host → flapping ≡ false
     → record { checked = checked; state = s; kind = k; attempt = attempt; last_hard = last_hard; flapping = flapping } ≡ pending_standing host
 pending_by host checked flapping s last_hard k attempt a b c d e f = rw (a, b, c, d, e, f) refl
 
@@ -189,9 +191,9 @@ or_second : (a b : Bool) → (a || b) ≡ true → a ≡ false → b ≡ true
 or_second true b e f = cc
 or_second false b e f = e
 
-pub standing_by : (host : Bool) (max : ℕ) (s : Standing) → can_stand host max s ≡ true → IsStandingFor host max s
+pub standing_by : (host : Bool) (max : ℕ) (s : Standing) → is_possible_standing host max s ≡ true → IsStandingFor host max s
 standing_by host max s e =
-    let a = and_parts (is_lawful s max && is_of_sort host s.state && is_of_sort host s.last_hard) (s.checked || is_as_pending s) e in
+    let a = and_parts (is_lawful s max && is_of_sort host s.state && is_of_sort host s.last_hard) (s.checked || is_like_pending s) e in
     let b = and_parts (is_lawful s max && is_of_sort host s.state) (is_of_sort host s.last_hard) a.0 in
     let c = and_parts (is_lawful s max) (is_of_sort host s.state) b.0 in
     record {
@@ -199,7 +201,7 @@ standing_by host max s e =
       sort = sort_by host s.state c.1;
       last_hard_sort = sort_by host s.last_hard b.1;
       until_checked = λ unchecked.
-          let pending = or_second s.checked (is_as_pending s) a.1 unchecked in
+          let pending = or_second s.checked (is_like_pending s) a.1 unchecked in
           let f = and_parts (not (is_problem s.state) && is_hard s.kind && s.attempt == 1 && not (is_problem s.last_hard)) (not s.flapping) pending in
           let l = and_parts (not (is_problem s.state) && is_hard s.kind && s.attempt == 1) (not (is_problem s.last_hard)) f.0 in
           let n = and_parts (not (is_problem s.state) && is_hard s.kind) (s.attempt == 1) l.0 in
@@ -208,12 +210,12 @@ standing_by host max s e =
           (eqb-true s.attempt 1 n.1) (fine_by host s.last_hard b.1 l.1) (not_by s.flapping f.1);
     }
 
-pub results_by : (host : Bool) (results : List rules.State) → can_have_results host results ≡ true → AreResultsFor host results
+pub results_by : (host : Bool) (results : List rules.State) → are_possible_results host results ≡ true → AreResultsFor host results
 results_by host results e =
     let a = and_parts (nat_le (length results) 21) (list_all (is_of_sort host) results) e in
-    record { few = leb-true (length results) 21 a.0; sort = a.1 }
+    record { bounded = leb-true (length results) 21 a.0; sort = a.1 }
 
-numbered_by : (runs : ℕ) (o : Option OpenRun) → is_numbered runs o ≡ true → (run : ℕ) → option_map (λ r. r.number) o ≡ Some run → (1 ≤ run) × (run ≤ runs)
+numbered_by : (runs : ℕ) (o : Option OpenRun) → has_valid_run runs o ≡ true → (run : ℕ) → option_map (λ r. r.number) o ≡ Some run → (1 ≤ run) × (run ≤ runs)
 numbered_by runs None e run is = cc
 numbered_by runs (Some r) e run is =
     let a = and_parts (nat_le 1 r.number) (nat_le r.number runs) e in
@@ -222,16 +224,16 @@ numbered_by runs (Some r) e run is =
     let same : r.number ≡ run = cc in
     (omega arith, omega arith)
 
-pub object_by : (runs : ℕ) (o : SavedObject) → is_full_name o.name ≡ true → is_in_range o ≡ true → can_be runs o ≡ true → IsSavedObject runs o
+pub object_by : (runs : ℕ) (o : SavedObject) → is_full_name o.name ≡ true → is_in_range o ≡ true → is_possible runs o ≡ true → IsSavedObject runs o
 object_by runs o named ranged lawful =
     let host = is_host_name o.name in
     let a = and_parts (is_attempt o.standing.attempt && is_attempt o.max_attempts) (is_in_time o.scheduling) ranged in
     let b = and_parts (is_attempt o.standing.attempt) (is_attempt o.max_attempts) a.0 in
     let m = and_parts (nat_le 1 o.max_attempts) (nat_le o.max_attempts 255) b.1 in
-    let c = and_parts (can_stand host o.max_attempts o.standing && can_have_results host o.results && is_numbered runs o.scheduling.run)
+    let c = and_parts (is_possible_standing host o.max_attempts o.standing && are_possible_results host o.results && has_valid_run runs o.scheduling.run)
     (is_timed_if_forced o.scheduling) lawful in
-    let d = and_parts (can_stand host o.max_attempts o.standing && can_have_results host o.results) (is_numbered runs o.scheduling.run) c.0 in
-    let e = and_parts (can_stand host o.max_attempts o.standing) (can_have_results host o.results) d.0 in
+    let d = and_parts (is_possible_standing host o.max_attempts o.standing && are_possible_results host o.results) (has_valid_run runs o.scheduling.run) c.0 in
+    let e = and_parts (is_possible_standing host o.max_attempts o.standing) (are_possible_results host o.results) d.0 in
     record {
       name = full_name_by o.name named;
       standing = standing_by host o.max_attempts o.standing e.0;
@@ -239,8 +241,8 @@ object_by runs o named ranged lawful =
       in_time = a.1;
       timed = c.1;
       numbered = numbered_by runs o.scheduling.run d.1;
-      some_attempts = leb-true 1 o.max_attempts m.0;
-      few_attempts = leb-true o.max_attempts 255 m.1;
+      nonzero_attempts = leb-true 1 o.max_attempts m.0;
+      bounded_attempts = leb-true o.max_attempts 255 m.1;
     }
 
 -- ---- all of it
@@ -248,29 +250,29 @@ object_by runs o named ranged lawful =
 same_number : (x y : Option ℕ) (run : ℕ) → x ≡ Some run → y ≡ Some run → is_same_run x y ≡ true
 same_number x y run e f = rw (e, f) (eq-eqb run run refl)
 
-pub saved_by : (saved : Saved) → tests_of_draft saved ≡ Ok tt → lawful_objects saved.runs saved.objects ≡ Ok tt → IsSaved saved
+pub saved_by : (saved : Saved) → draft_test saved ≡ Ok tt → possible_objects_test saved.runs saved.objects ≡ Ok tt → IsSaved saved
 saved_by saved tested lawful =
     let objects = saved.objects in
-    let few = first_ok (few_objects objects) _ tt tested in
-    let after_count = rest_ok (few_objects objects) _ tt tested in
-    let named = first_ok (good_names objects) _ tt after_count in
-    let after_names = rest_ok (good_names objects) _ tt after_count in
-    let distinct = first_ok (distinct_names objects) _ tt after_names in
-    let ranged = rest_ok (distinct_names objects) _ tt after_names in
+    let bounded = first_ok (object_count_test objects) _ tt tested in
+    let after_count = rest_ok (object_count_test objects) _ tt tested in
+    let named = first_ok (names_test objects) _ tt after_count in
+    let after_names = rest_ok (names_test objects) _ tt after_count in
+    let distinct = first_ok (distinct_names_test objects) _ tt after_names in
+    let ranged = rest_ok (distinct_names_test objects) _ tt after_names in
     let ranges = ranged_by (nat_lt (2 ^ 60) saved.start) (nat_lt (2 ^ 60) saved.runs) (position (λ o. not (is_in_range o)) objects) ranged in
-    let places = neither (position (λ o. not (can_be saved.runs o)) objects) (first_repeat is_same_run (map run_number objects))
+    let places = neither (position (λ o. not (is_possible saved.runs o)) objects) (first_repeat is_same_run (map run_number objects))
     (nowhere faults.Unlawful _ lawful) in
     let names = all_by_position (λ o. is_full_name o.name) objects (nowhere faults.BadName _ named) in
     let numbers = all_by_position is_in_range objects ranges.2 in
-    let all_lawful = all_by_position (can_be saved.runs) objects places.0 in
+    let all_lawful = all_by_position (is_possible saved.runs) objects places.0 in
     let once = nowhere faults.Duplicate _ distinct in
     record {
-      few = few_by (nat_lt 4096 (length objects)) (length objects) (Ok tt) refl refl few;
+      bounded = few_by (nat_lt 4096 (length objects)) (length objects) (Ok tt) refl refl bounded;
       start = within saved.start (2 ^ 60) ranges.0;
       runs = within saved.runs (2 ^ 60) ranges.1;
       each = λ place o is.
           object_by saved.runs o (all_at (λ x. is_full_name x.name) objects place o names is) (all_at is_in_range objects place o numbers is)
-          (all_at (can_be saved.runs) objects place o all_lawful is);
+          (all_at (is_possible saved.runs) objects place o all_lawful is);
       apart = λ one other o p e f same.
           apart_keys bytes_eq (map (λ x. x.name) objects) one other o.name p.name once (mapped_at (λ x. x.name) objects one o e)
           (mapped_at (λ x. x.name) objects other p f) ((bytes_eq-Decides o.name p.name).1 same) ((bytes_eq-Decides p.name o.name).1 (sym same));
@@ -287,23 +289,23 @@ next (Ok a) f b P h e = h a refl e
 next (Err x) f b P h e = cc
 
 -- what passes the tests stays as it is
-pub verified_same : (draft saved : Saved) → verified draft ≡ Ok saved → draft ≡ saved
+pub verified_same : (draft saved : Saved) → verified_saved draft ≡ Ok saved → draft ≡ saved
 verified_same draft saved e =
-    let more = rest_ok (tests_of_draft draft) (λ _. lawful_objects draft.runs draft.objects >>= λ _. Ok draft) saved e in
-    let last = rest_ok (lawful_objects draft.runs draft.objects) (λ _. Ok draft) saved more in
+    let more = rest_ok (draft_test draft) (λ _. possible_objects_test draft.runs draft.objects >>= λ _. Ok draft) saved e in
+    let last = rest_ok (possible_objects_test draft.runs draft.objects) (λ _. Ok draft) saved more in
     cc
 
-verified_by : (draft saved : Saved) → verified draft ≡ Ok saved → IsSaved saved
+verified_by : (draft saved : Saved) → verified_saved draft ≡ Ok saved → IsSaved saved
 verified_by draft saved e =
-    let tested = first_ok (tests_of_draft draft) (λ _. lawful_objects draft.runs draft.objects >>= λ _. Ok draft) saved e in
-    let more = rest_ok (tests_of_draft draft) (λ _. lawful_objects draft.runs draft.objects >>= λ _. Ok draft) saved e in
-    let lawful = first_ok (lawful_objects draft.runs draft.objects) (λ _. Ok draft) saved more in
+    let tested = first_ok (draft_test draft) (λ _. possible_objects_test draft.runs draft.objects >>= λ _. Ok draft) saved e in
+    let more = rest_ok (draft_test draft) (λ _. possible_objects_test draft.runs draft.objects >>= λ _. Ok draft) saved e in
+    let lawful = first_ok (possible_objects_test draft.runs draft.objects) (λ _. Ok draft) saved more in
     subst IsSaved (verified_same draft saved e) (saved_by draft tested lawful)
 
 tree_by : (tree : Data) (saved : Saved) → saved_of_tree tree ≡ Ok saved → IsSaved saved
 tree_by tree saved e =
-    next (in_this_format tree) (λ _. draft_of tree >>= verified) saved (IsSaved saved) (λ u f more.
-    next (draft_of tree) verified saved (IsSaved saved) (λ draft d last. verified_by draft saved last) more) e
+    next (format_test tree) (λ _. draft_in tree >>= verified_saved) saved (IsSaved saved) (λ u f more.
+    next (draft_in tree) verified_saved saved (IsSaved saved) (λ draft d last. verified_by draft saved last) more) e
 
 pub short_by : (b : Bool) (r : Result Saved SavedFault) (saved : Saved) → cond b (Err faults.TooLong) r ≡ Ok saved → r ≡ Ok saved
 short_by true r saved e = cc

@@ -1,5 +1,6 @@
 -- How long the text of what is saved is at most.
-use Rattle.std.proofs.Common.{inl, inr, ◌≡◌, ℕ, zero, suc, ◌+◌, ◌*◌, ◌^◌, ◌<◌, ◌≤◌, Bool, true, false, ◌&&◌, List, [], ◌∷◌, length, refl, ap, ◌∙◌, arith, length-append}
+use Rattle.std.proofs.Common.{inl, inr, ◌≡◌, ℕ, zero, suc, ◌+◌, ◌*◌, ◌^◌, ◌<◌, ◌≤◌, Bool, true, false, ◌&&◌, List, [], ◌∷◌, length, refl, ap, ◌∙◌, arith}
+use Rattle.std.proofs.Common.{length-append}
 use Rattle.std.proofs.Common.{Option, Some, None, option_map}
 use Rattle.std.specs.Prelude.{decimal, nat_le, slice_get}
 use Rattle.std.specs.List.{list_all}
@@ -16,14 +17,14 @@ use Rattle.check_rules.specs.declared.standing.Kind.{Kind}
 use Rattle.check_rules.specs.declared.standing.Kind.TheVariants as kind
 use Rattle.check_rules.specs.declared.state.State as rules
 use Rattle.check_rules.specs.declared.state.State.TheVariants as state
-use Rattle.check_saved.specs.Members.{is_narrow}
-use Rattle.check_saved.specs.Saved.{IsFullName, IsSaved, IsSavedObject, Saved, SavedObject}
-use Rattle.check_saved.specs.Scheduling.{OpenRun, is_moment, is_time}
-use Rattle.check_saved.specs.Text.{saved_text}
-use Rattle.check_saved.specs.Tree.{object_tree, objects_tree, run_tree, saved_tree, time_tree}
+use Rattle.check_saved_state.specs.Members.{has_u64_interval}
+use Rattle.check_saved_state.specs.Saved.{IsFullName, IsSaved, IsSavedObject, Saved, SavedObject}
+use Rattle.check_saved_state.specs.Scheduling.{OpenRun, is_moment, is_time}
+use Rattle.check_saved_state.specs.Text.{saved_text}
+use Rattle.check_saved_state.specs.Tree.{object_tree, objects_tree, run_tree, saved_tree, time_tree}
 use Rattle.check_rules.specs.Words.{kind_word, state_letter, state_word}
-use Rattle.check_saved.specs.Words.{flapping_word, letters_of}
-use Rattle.check_saved.proofs.RangeLemmas.{attempt_by, short_name}
+use Rattle.check_saved_state.specs.Words.{flapping_word, letters_of}
+use Rattle.check_saved_state.proofs.RangeLemmas.{attempt_by, short_name}
 
 -- a bound that counts a comma before each item and member
 abbrev mutual
@@ -144,8 +145,8 @@ time_weight (Some time) e =
 run_weight : (runs : ℕ) (run : Option OpenRun) → runs ≤ 2 ^ 60 → is_moment run ≡ true
     → ((n : ℕ) → option_map (λ r. r.number) run ≡ Some n → (1 ≤ n) × (n ≤ runs)) → weight (run_tree run) ≤ 61
 unfolding escape_byte
-run_weight runs None few e numbered = omega arith
-run_weight runs (Some r) few e numbered =
+run_weight runs None bounded e numbered = omega arith
+run_weight runs (Some r) bounded e numbered =
     let most : r.start ≤ 2 ^ 60 = leb-true r.start (2 ^ 60) e in
     let number = numbered r.number refl in
     let a = number_length r.number (omega arith) in
@@ -160,18 +161,18 @@ name_length name (inr (host, description, same, e, f)) =
     let c = ap length same ∙ length-append host (59 ∷ description) in
     omega arith
 
-object_weight : (runs : ℕ) (o : SavedObject) → runs ≤ 2 ^ 60 → IsSavedObject runs o → is_narrow o ≡ true → weight (object_tree o) ≤ 4000
+object_weight : (runs : ℕ) (o : SavedObject) → runs ≤ 2 ^ 60 → IsSavedObject runs o → has_u64_interval o ≡ true → weight (object_tree o) ≤ 4000
 unfolding escape_byte
-object_weight runs o few saved narrow =
+object_weight runs o bounded saved fits =
     let times = and_parts (is_time o.scheduling.next) (is_moment o.scheduling.run) saved.in_time in
-    let attempt = attempt_by o.standing o.max_attempts saved.standing.lawful saved.some_attempts saved.few_attempts in
-    let below : o.interval < 2 ^ 64 = ltb-true o.interval (2 ^ 64) narrow in
-    let most = saved.few_attempts in
+    let attempt = attempt_by o.standing o.max_attempts saved.standing.lawful saved.nonzero_attempts saved.bounded_attempts in
+    let below : o.interval < 2 ^ 64 = ltb-true o.interval (2 ^ 64) fits in
+    let most = saved.bounded_attempts in
     let a = number_length o.standing.attempt (omega arith) in
     let b = number_length o.interval below in
     let c = number_length o.max_attempts (omega arith) in
     let d = time_weight o.scheduling.next times.0 in
-    let e = run_weight runs o.scheduling.run few times.1 saved.numbered in
+    let e = run_weight runs o.scheduling.run bounded times.1 saved.numbered in
     let f = state_length o.standing.state in
     let g = state_length o.standing.last_hard in
     let h = kind_length o.standing.kind in
@@ -180,31 +181,31 @@ object_weight runs o few saved narrow =
     let k = name_length o.name saved.name in
     let l = quoted_length (letters_of o.results) in
     let m = length-map o.results state_letter in
-    let n = saved.results.few in
+    let n = saved.results.bounded in
     omega arith
 
 -- ---- all objects
 
 objects_weight : (runs : ℕ) (objects : List SavedObject) → runs ≤ 2 ^ 60
-    → ((place : ℕ) (o : SavedObject) → slice_get objects place ≡ Some o → IsSavedObject runs o) → list_all is_narrow objects ≡ true
+    → ((place : ℕ) (o : SavedObject) → slice_get objects place ≡ Some o → IsSavedObject runs o) → list_all has_u64_interval objects ≡ true
     → items_weight (objects_tree objects) ≤ 1 + 4001 * length objects
-objects_weight runs [] few each narrow = omega arith
-objects_weight runs (o ∷ os) few each narrow =
-    let p = and_parts (is_narrow o) (list_all is_narrow os) narrow in
-    let one = object_weight runs o few (each 0 o refl) p.0 in
-    let more = objects_weight runs os few (λ place x is. each (suc place) x is) p.1 in
+objects_weight runs [] bounded each fits = omega arith
+objects_weight runs (o ∷ os) bounded each fits =
+    let p = and_parts (has_u64_interval o) (list_all has_u64_interval os) fits in
+    let one = object_weight runs o bounded (each 0 o refl) p.0 in
+    let more = objects_weight runs os bounded (λ place x is. each (suc place) x is) p.1 in
     omega arith
 
 -- what is written has at most 16,777,216 bytes
-pub text_fits : (saved : Saved) → IsSaved saved → list_all is_narrow saved.objects ≡ true → length (saved_text saved) ≤ 16777216
+pub text_fits : (saved : Saved) → IsSaved saved → list_all has_u64_interval saved.objects ≡ true → length (saved_text saved) ≤ 16777216
 unfolding escape_byte
-text_fits saved is narrow =
+text_fits saved is fits =
     let start = is.start in
     let runs = is.runs in
     let a = number_length saved.start (omega arith) in
     let b = number_length saved.runs (omega arith) in
-    let c = objects_weight saved.runs saved.objects is.runs is.each narrow in
-    let d = is.few in
+    let c = objects_weight saved.runs saved.objects is.runs is.each fits in
+    let d = is.bounded in
     let e = text_length (saved_tree saved) in
     let f = number_length 1 (omega arith) in
     omega arith

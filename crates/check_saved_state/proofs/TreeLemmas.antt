@@ -5,8 +5,8 @@ use Rattle.std.specs.List.{list_all}
 use Rattle.std.proofs.lemmas.Bool.{and_parts}
 use Rattle.serde_json.specs.Data.{depth, items_depth}
 use Rattle.serde_json.specs.Written.{has_float, items_have_float}
-use Rattle.check_documents.specs.Tree.{◌>=>◌}
-use Rattle.check_drafts.specs.Name.{is_host_name}
+use Rattle.setup_reader.specs.JsonTree.{◌>=>◌}
+use Rattle.setup_model.specs.Name.{is_host_name}
 use Rattle.check_rules.specs.declared.standing.Kind.{Kind}
 use Rattle.check_rules.specs.declared.standing.Kind.TheVariants as kind
 use Rattle.check_rules.specs.declared.standing.Standing.{Standing}
@@ -14,12 +14,13 @@ use Rattle.check_rules.specs.declared.state.State as rules
 use Rattle.check_rules.specs.declared.state.State.TheVariants as state
 use Rattle.check_rules.proofs.Cases.{each_state}
 use Rattle.check_rules.specs.State.{is_of_sort}
-use Rattle.check_saved.specs.Reading.{draft_of, in_this_format, lettered_object, letters_in, object_of, objects_from, run_of, scheduling_of, standing_of, standing_with, time_of}
-use Rattle.check_saved.specs.Saved.{Saved, SavedObject}
-use Rattle.check_saved.specs.Scheduling.{OpenRun, Scheduling}
-use Rattle.check_saved.specs.Tree.{object_tree, objects_tree, run_tree, saved_tree, time_tree}
-use Rattle.check_rules.specs.Words.{is_letter, kind_word, lettered_state, state_letter, state_word, worded_kind, worded_state}
-use Rattle.check_saved.specs.Words.{are_letters, flapping_of_word, flapping_word, letters_of, results_of_letters}
+use Rattle.check_saved_state.specs.Reading.{draft_in, format_test, object_with_letters, letters_member, object_in, objects_from, optional_run, scheduling_in}
+use Rattle.check_saved_state.specs.Reading.{standing_in, standing_with, optional_time}
+use Rattle.check_saved_state.specs.Saved.{Saved, SavedObject}
+use Rattle.check_saved_state.specs.Scheduling.{OpenRun, Scheduling}
+use Rattle.check_saved_state.specs.Tree.{object_tree, objects_tree, run_tree, saved_tree, time_tree}
+use Rattle.check_rules.specs.Words.{is_letter, kind_word, state_of_letter, state_letter, state_word, kind_of_word, state_of_word}
+use Rattle.check_saved_state.specs.Words.{are_letters, flapping_of_word, flapping_word, letters_of, results_of_letters}
 
 -- ---- no floats
 
@@ -80,10 +81,10 @@ saved_depth saved =
 
 -- ---- what was written is what is read
 
-state_back : (s : rules.State) → worded_state (state_word s) ≡ Some s
-state_back = each_state (λ s. worded_state (state_word s) ≡ Some s) refl refl refl refl refl refl refl
+state_back : (s : rules.State) → state_of_word (state_word s) ≡ Some s
+state_back = each_state (λ s. state_of_word (state_word s) ≡ Some s) refl refl refl refl refl refl refl
 
-kind_back : (k : Kind) → worded_kind (kind_word k) ≡ Some k
+kind_back : (k : Kind) → kind_of_word (kind_word k) ≡ Some k
 kind_back kind.Soft = refl
 kind_back kind.Hard = refl
 
@@ -91,11 +92,11 @@ flapping_back : (b : Bool) → flapping_of_word (flapping_word b) ≡ Some b
 flapping_back true = refl
 flapping_back false = refl
 
-time_back : (time : Option ℕ) → time_of (time_tree time) ≡ Some time
+time_back : (time : Option ℕ) → optional_time (time_tree time) ≡ Some time
 time_back None = refl
 time_back (Some time) = refl
 
-run_back : (run : Option OpenRun) → run_of (run_tree run) ≡ Some run
+run_back : (run : Option OpenRun) → optional_run (run_tree run) ≡ Some run
 run_back None = refl
 run_back (Some run) = refl
 
@@ -109,7 +110,7 @@ letters_are : (results : List rules.State) → are_letters (letters_of results) 
 letters_are [] = refl
 letters_are (s ∷ ss) = rw ((letter_fits s).0) (letters_are ss)
 
-letter_back : (host : Bool) (s : rules.State) → is_of_sort host s ≡ true → lettered_state host (state_letter s) ≡ s
+letter_back : (host : Bool) (s : rules.State) → is_of_sort host s ≡ true → state_of_letter host (state_letter s) ≡ s
 letter_back true state.Ok e = cc
 letter_back true state.Warning e = cc
 letter_back true state.Critical e = cc
@@ -140,11 +141,11 @@ standing_there : (s : Standing) (state last_hard : Option rules.State) (k : Opti
     → last_hard ≡ Some s.last_hard → f ≡ Some s.flapping → standing_from (Some s.checked) state k (Some s.attempt) last_hard f ≡ Some s
 standing_there s state last_hard k f a b c d = rw (a, b, c, d) refl
 
-standing_back : (o : SavedObject) → standing_of (object_tree o) ≡ Some o.standing
-unfolding standing_of
+standing_back : (o : SavedObject) → standing_in (object_tree o) ≡ Some o.standing
+unfolding standing_in
 standing_back o =
     let s = o.standing in
-    standing_there s (worded_state (state_word s.state)) (worded_state (state_word s.last_hard)) (worded_kind (kind_word s.kind))
+    standing_there s (state_of_word (state_word s.state)) (state_of_word (state_word s.last_hard)) (kind_of_word (kind_word s.kind))
     (flapping_of_word (flapping_word s.flapping)) (state_back s.state) (kind_back s.kind) (state_back s.last_hard) (flapping_back s.flapping)
 
 abbrev scheduling_from : Option (Option ℕ) → Option (Option OpenRun) → Bool → Bool → Option Scheduling
@@ -155,32 +156,32 @@ scheduling_there : (s : Scheduling) (next : Option (Option ℕ)) (run : Option (
     → scheduling_from next run s.enabled s.forced ≡ Some s
 scheduling_there s next run a b = rw (a, b) refl
 
-scheduling_back : (o : SavedObject) → scheduling_of (object_tree o) ≡ Some o.scheduling
-unfolding scheduling_of
+scheduling_back : (o : SavedObject) → scheduling_in (object_tree o) ≡ Some o.scheduling
+unfolding scheduling_in
 scheduling_back o =
     let s = o.scheduling in
-    scheduling_there s (time_of (time_tree s.next)) (run_of (run_tree s.run)) (time_back s.next) (run_back s.run)
+    scheduling_there s (optional_time (time_tree s.next)) (optional_run (run_tree s.run)) (time_back s.next) (run_back s.run)
 
 abbrev letters_or_none : List ℕ → Bool → Option (List ℕ)
 letters_or_none letters b = cond b (Some letters) None
 
-letters_there : (o : SavedObject) → letters_in (object_tree o) ≡ Some (letters_of o.results)
+letters_there : (o : SavedObject) → letters_member (object_tree o) ≡ Some (letters_of o.results)
 letters_there o = ap (letters_or_none (letters_of o.results)) (letters_are o.results)
 
 abbrev object_from : List ℕ → Option Standing → Option (List ℕ) → Option Scheduling → ℕ → ℕ → Bool → Option SavedObject
 object_from n s l t i m e =
     Some n >=> λ name. (s >=> λ standing. (l >=> λ letters. (t >=> λ scheduling. (Some i >=> λ interval. (Some m >=> λ max_attempts. (Some e >=> λ setup_enabled.
-    Some (lettered_object name standing letters scheduling interval max_attempts setup_enabled)))))))
+    Some (object_with_letters name standing letters scheduling interval max_attempts setup_enabled)))))))
 
 object_there : (o : SavedObject) (s : Option Standing) (l : Option (List ℕ)) (t : Option Scheduling) → s ≡ Some o.standing → l ≡ Some (letters_of o.results)
     → t ≡ Some o.scheduling → results_of_letters (is_host_name o.name) (letters_of o.results) ≡ o.results
     → object_from o.name s l t o.interval o.max_attempts o.setup_enabled ≡ Some o
 object_there o s l t a b c d = rw (a, b, c) (ap (λ r. Some (record o { results = r })) d)
 
-object_back : (o : SavedObject) → list_all (is_of_sort (is_host_name o.name)) o.results ≡ true → object_of (object_tree o) ≡ Some o
-unfolding object_of
+object_back : (o : SavedObject) → list_all (is_of_sort (is_host_name o.name)) o.results ≡ true → object_in (object_tree o) ≡ Some o
+unfolding object_in
 object_back o sorted =
-    object_there o (standing_of (object_tree o)) (letters_in (object_tree o)) (scheduling_of (object_tree o)) (standing_back o) (letters_there o)
+    object_there o (standing_in (object_tree o)) (letters_member (object_tree o)) (scheduling_in (object_tree o)) (standing_back o) (letters_there o)
     (scheduling_back o) (letters_back (is_host_name o.name) o.results sorted)
 
 -- the results of each object are of its sort
@@ -192,9 +193,9 @@ objects_back : (objects : List SavedObject) (i : ℕ) → AreSorted objects → 
 objects_back [] i h = refl
 objects_back (o ∷ os) i h = rw (object_back o h.0, objects_back os (i + 1) h.1) refl
 
-pub draft_back : (saved : Saved) → AreSorted saved.objects → draft_of (saved_tree saved) ≡ Ok saved
-unfolding draft_of
+pub draft_back : (saved : Saved) → AreSorted saved.objects → draft_in (saved_tree saved) ≡ Ok saved
+unfolding draft_in
 draft_back saved h = rw (objects_back saved.objects 0 h) refl
 
-pub format_back : (saved : Saved) → in_this_format (saved_tree saved) ≡ Ok tt
+pub format_back : (saved : Saved) → format_test (saved_tree saved) ≡ Ok tt
 format_back saved = refl

@@ -1,5 +1,6 @@
 -- What a scheduler can go on from passes the tests.
-use Rattle.std.proofs.Common.{◌≡◌, inl, inr, ℕ, zero, suc, ◌+◌, ◌^◌, ◌≤◌, ◌==◌, ◌&&◌, ◌||◌, bytes_eq, not, Bool, true, false, cond, List, [], ◌∷◌, ◌++◌, map, length, take, drop}
+use Rattle.std.proofs.Common.{◌≡◌, inl, inr, ℕ, zero, suc, ◌+◌, ◌^◌, ◌≤◌, ◌==◌, ◌&&◌, ◌||◌, bytes_eq, not, Bool, true, false, cond, List, [], ◌∷◌, ◌++◌, map}
+use Rattle.std.proofs.Common.{length, take, drop}
 use Rattle.std.proofs.Common.{Option, Some, None, option_map, Ok, refl, sym, ap, ◌∙◌, arith}
 use Rattle.std.specs.Prelude.{nat_lt, nat_le, slice_get}
 use Rattle.std.specs.List.{after_first, before_first, list_all, list_any, position, position_or_len, prefix_len}
@@ -7,18 +8,19 @@ use Rattle.std.proofs.lemmas.Bool.{and_parts, eqb-true}
 use Rattle.std.proofs.lemmas.Bool.Decides.{nat_tests}
 use Rattle.std.proofs.lemmas.List.Folds.{list_any-append}
 use Rattle.std.proofs.lemmas.Slice.Eq.{bytes_eq-Decides}
-use Rattle.check_drafts.specs.Keys.{first_repeat}
-use Rattle.check_drafts.specs.Name.{is_host_name, is_name, is_name_byte}
-use Rattle.check_drafts.proofs.RepeatLemmas.{first_repeat_is, repeat_after}
+use Rattle.setup_model.specs.Keys.{first_repeat}
+use Rattle.setup_model.specs.Name.{is_host_name, is_name, is_name_byte}
+use Rattle.setup_model.proofs.RepeatLemmas.{first_repeat_is, repeat_after}
 use Rattle.check_rules.specs.declared.standing.Standing.{Standing}
 use Rattle.check_rules.specs.declared.state.State as rules
 use Rattle.check_rules.specs.Flapping.{AreResultsFor}
 use Rattle.check_rules.specs.Standing.{IsStandingFor, pending_standing}
 use Rattle.check_rules.specs.State.{is_host_state, is_of_sort}
-use Rattle.check_saved.specs.Saved.{IsFullName, IsSaved, IsSavedObject, Saved, SavedObject}
-use Rattle.check_saved.specs.Scheduling.{OpenRun}
-use Rattle.check_saved.specs.Verification.{can_be, can_have_results, can_stand, is_as_pending, is_attempt, is_full_name, is_in_range, is_numbered, is_same_run, is_semicolon, run_number, verified}
-use Rattle.check_saved.proofs.RangeLemmas.{attempt_by}
+use Rattle.check_saved_state.specs.Saved.{IsFullName, IsSaved, IsSavedObject, Saved, SavedObject}
+use Rattle.check_saved_state.specs.Scheduling.{OpenRun}
+use Rattle.check_saved_state.specs.Verification.{is_possible, are_possible_results, is_possible_standing, is_like_pending, is_attempt, is_full_name}
+use Rattle.check_saved_state.specs.Verification.{is_in_range, has_valid_run, is_same_run, is_semicolon, run_number, verified_saved}
+use Rattle.check_saved_state.proofs.RangeLemmas.{attempt_by}
 
 -- ---- each of a list
 
@@ -127,7 +129,7 @@ pub of_sort : (host : Bool) (s : rules.State) → is_host_state s ≡ host → i
 of_sort true s e = e
 of_sort false s e = rw e refl
 
-pending_fine : (host : Bool) → is_as_pending (pending_standing host) ≡ true
+pending_fine : (host : Bool) → is_like_pending (pending_standing host) ≡ true
 pending_fine true = refl
 pending_fine false = refl
 
@@ -135,19 +137,19 @@ or_pending : (b p : Bool) → (b ≡ false → p ≡ true) → (b || p) ≡ true
 or_pending true p h = refl
 or_pending false p h = h refl
 
-stands : (host : Bool) (max : ℕ) (s : Standing) → IsStandingFor host max s → can_stand host max s ≡ true
+stands : (host : Bool) (max : ℕ) (s : Standing) → IsStandingFor host max s → is_possible_standing host max s ≡ true
 stands host max s h =
-    let until : (s.checked || is_as_pending s) ≡ true =
-    or_pending s.checked (is_as_pending s) (λ e. ap is_as_pending (h.until_checked e) ∙ pending_fine host) in
+    let until : (s.checked || is_like_pending s) ≡ true =
+    or_pending s.checked (is_like_pending s) (λ e. ap is_like_pending (h.until_checked e) ∙ pending_fine host) in
     rw (h.lawful, of_sort host s.state h.sort, of_sort host s.last_hard h.last_hard_sort, until) refl
 
-has_results : (host : Bool) (results : List rules.State) → AreResultsFor host results → can_have_results host results ≡ true
+has_results : (host : Bool) (results : List rules.State) → AreResultsFor host results → are_possible_results host results ≡ true
 has_results host results h =
-    let few = h.few in
-    let test : nat_le (length results) 21 ≡ true = grind (arith, nat_tests, few) in
+    let bounded = h.bounded in
+    let test : nat_le (length results) 21 ≡ true = grind (arith, nat_tests, bounded) in
     rw (test, h.sort) refl
 
-numbered : (runs : ℕ) (o : Option OpenRun) → ((run : ℕ) → option_map (λ r. r.number) o ≡ Some run → (1 ≤ run) × (run ≤ runs)) → is_numbered runs o ≡ true
+numbered : (runs : ℕ) (o : Option OpenRun) → ((run : ℕ) → option_map (λ r. r.number) o ≡ Some run → (1 ≤ run) × (run ≤ runs)) → has_valid_run runs o ≡ true
 numbered runs None h = refl
 numbered runs (Some r) h =
     let p = h r.number refl in
@@ -157,7 +159,7 @@ numbered runs (Some r) h =
     let b : nat_le r.number runs ≡ true = grind (arith, nat_tests, high) in
     rw (a, b) refl
 
-lawful : (runs : ℕ) (o : SavedObject) → IsSavedObject runs o → can_be runs o ≡ true
+lawful : (runs : ℕ) (o : SavedObject) → IsSavedObject runs o → is_possible runs o ≡ true
 lawful runs o h =
     rw (
       stands (is_host_name o.name) o.max_attempts o.standing h.standing,
@@ -174,13 +176,13 @@ attempt n low high =
 
 ranged : (runs : ℕ) (o : SavedObject) → IsSavedObject runs o → is_in_range o ≡ true
 ranged runs o h =
-    let a = attempt_by o.standing o.max_attempts h.standing.lawful h.some_attempts h.few_attempts in
-    rw (attempt o.standing.attempt a.0 a.1, attempt o.max_attempts h.some_attempts h.few_attempts, h.in_time) refl
+    let a = attempt_by o.standing o.max_attempts h.standing.lawful h.nonzero_attempts h.bounded_attempts in
+    rw (attempt o.standing.attempt a.0 a.1, attempt o.max_attempts h.nonzero_attempts h.bounded_attempts, h.in_time) refl
 
 -- ---- all of it
 
-few : (n : ℕ) → n ≤ 4096 → nat_lt 4096 n ≡ false
-few n h = grind (arith, nat_tests, h)
+bounded : (n : ℕ) → n ≤ 4096 → nat_lt 4096 n ≡ false
+bounded n h = grind (arith, nat_tests, h)
 
 early : (n m : ℕ) → n ≤ m → nat_lt m n ≡ false
 early n m h = grind (arith, nat_tests, h)
@@ -190,12 +192,12 @@ run_of_same None y e = cc
 run_of_same (Some n) None e = cc
 run_of_same (Some n) (Some m) e = let same : n ≡ m = eqb-true n m e in (n, refl, ap Some (sym same))
 
-pub verified_is : (saved : Saved) → IsSaved saved → verified saved ≡ Ok saved
+pub verified_is : (saved : Saved) → IsSaved saved → verified_saved saved ≡ Ok saved
 verified_is saved h =
     let objects = saved.objects in
     let names = no_place (λ o. is_full_name o.name) objects (all_from (λ o. is_full_name o.name) objects (λ i o e. is_full o.name (h.each i o e).name)) in
     let numbers = no_place is_in_range objects (all_from is_in_range objects (λ i o e. ranged saved.runs o (h.each i o e))) in
-    let all_lawful = no_place (can_be saved.runs) objects (all_from (can_be saved.runs) objects (λ i o e. lawful saved.runs o (h.each i o e))) in
+    let all_lawful = no_place (is_possible saved.runs) objects (all_from (is_possible saved.runs) objects (λ i o e. lawful saved.runs o (h.each i o e))) in
     let distinct = no_repeat bytes_eq (map (λ o. o.name) objects) (λ one other k l e f same.
     let x = item_at (λ o. o.name) objects one k e in
     let y = item_at (λ o. o.name) objects other l f in
@@ -205,4 +207,4 @@ verified_is saved h =
     let y = item_at run_number objects other l f in
     let n = run_of_same k l same in
     h.once one other n.0 x.0 y.0 x.1 y.1 (x.2 ∙ n.1) (y.2 ∙ n.2)) in
-    rw (few (length objects) h.few, names, distinct, early saved.start (2 ^ 60) h.start, early saved.runs (2 ^ 60) h.runs, numbers, all_lawful, once) refl
+    rw (bounded (length objects) h.bounded, names, distinct, early saved.start (2 ^ 60) h.start, early saved.runs (2 ^ 60) h.runs, numbers, all_lawful, once) refl

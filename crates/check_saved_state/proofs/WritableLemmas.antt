@@ -7,18 +7,19 @@ use Rattle.std.proofs.lemmas.Str.{IsUtf8-from_is_utf8}
 use Rattle.serde_json.specs.Data.{Data, Items, no_items, item}
 use Rattle.serde_json.specs.Find.{as_array, as_str, get}
 use Rattle.serde_json.specs.Read.{read}
-use Rattle.check_documents.specs.Tree.{◌>=>◌, has_only, tree_of}
-use Rattle.check_drafts.specs.Agreement.{◌>>=◌}
-use Rattle.check_saved.specs.declared.fault.SavedFault.{SavedFault}
-use Rattle.check_saved.specs.declared.fault.SavedFault.TheVariants as faults
-use Rattle.check_saved.specs.Reading.{document_members, draft_of, in_this_format, lettered_object, letters_in, number_in, object_members, object_of, objects_from}
-use Rattle.check_saved.specs.Reading.{scheduling_of, standing_of, switch_in, text_in}
-use Rattle.check_saved.specs.Saved.{Saved, SavedObject}
-use Rattle.check_saved.specs.Text.{saved_of_text, saved_of_tree}
-use Rattle.check_saved.specs.Verification.{verified}
-use Rattle.check_saved.specs.Written.{IsWritable, IsWritableObject}
-use Rattle.check_saved.proofs.SavedLemmas.{next, short_by, verified_same}
-use Rattle.check_saved.proofs.Utf8Lemmas.{GoodIf, GoodItems, GoodTree, array_good, get_good, good_then, read_good, str_good, whole_good}
+use Rattle.setup_reader.specs.JsonTree.{◌>=>◌, has_only_members, tree_of}
+use Rattle.setup_model.specs.Agreement.{◌>>=◌}
+use Rattle.check_saved_state.specs.declared.fault.SavedFault.{SavedFault}
+use Rattle.check_saved_state.specs.declared.fault.SavedFault.TheVariants as faults
+use Rattle.check_saved_state.specs.Reading.{document_members, draft_in, format_test, object_with_letters, letters_member, number_member, object_members}
+use Rattle.check_saved_state.specs.Reading.{object_in, objects_from}
+use Rattle.check_saved_state.specs.Reading.{scheduling_in, standing_in, bool_member, text_member}
+use Rattle.check_saved_state.specs.Saved.{Saved, SavedObject}
+use Rattle.check_saved_state.specs.Text.{saved_of_text, saved_of_tree}
+use Rattle.check_saved_state.specs.Verification.{verified_saved}
+use Rattle.check_saved_state.specs.Written.{IsWritable, IsWritableObject}
+use Rattle.check_saved_state.proofs.SavedLemmas.{next, short_by, verified_same}
+use Rattle.check_saved_state.proofs.Utf8Lemmas.{GoodIf, GoodItems, GoodTree, array_good, get_good, good_then, read_good, str_good, whole_good}
 
 -- ---- values that are there
 
@@ -40,28 +41,28 @@ good_some P None a g e = cc
 
 -- ---- an object
 
-text_good : (name : List ℕ) (d : Data) → GoodTree d → GoodIf IsUtf8 (text_in name d)
+text_good : (name : List ℕ) (d : Data) → GoodTree d → GoodIf IsUtf8 (text_member name d)
 text_good name d g = good_then GoodTree IsUtf8 as_str (get name d) str_good (get_good name d g)
 
-number_good : (name : List ℕ) (d : Data) → GoodTree d → GoodIf (λ n. n < 2 ^ 64) (number_in name d)
+number_good : (name : List ℕ) (d : Data) → GoodTree d → GoodIf (λ n. n < 2 ^ 64) (number_member name d)
 number_good name d g = good_then GoodTree (λ n. n < 2 ^ 64) _ (get name d) whole_good (get_good name d g)
 
-object_writable : (d : Data) (o : SavedObject) → GoodTree d → object_of d ≡ Some o → IsWritableObject o
-unfolding object_of
+object_writable : (d : Data) (o : SavedObject) → GoodTree d → object_in d ≡ Some o → IsWritableObject o
+unfolding object_in
 object_writable d o g e =
-    then_some (text_in (codes "name") d) _ o (IsWritableObject o) (λ name n in_name.
-    then_some (standing_of d) _ o (IsWritableObject o) (λ standing s in_standing.
-    then_some (letters_in d) _ o (IsWritableObject o) (λ letters l in_letters.
-    then_some (scheduling_of d) _ o (IsWritableObject o) (λ scheduling t in_scheduling.
-    then_some (number_in (codes "check_interval") d) _ o (IsWritableObject o) (λ interval i in_interval.
-    then_some (number_in (codes "max_check_attempts") d) _ o (IsWritableObject o) (λ max_attempts m in_attempts.
-    then_some (switch_in (codes "enabled_in_setup") d) _ o (IsWritableObject o) (λ setup_enabled k last.
-    let same : lettered_object name standing letters scheduling interval max_attempts setup_enabled ≡ o = cc in
+    then_some (text_member (codes "name") d) _ o (IsWritableObject o) (λ name n in_name.
+    then_some (standing_in d) _ o (IsWritableObject o) (λ standing s in_standing.
+    then_some (letters_member d) _ o (IsWritableObject o) (λ letters l in_letters.
+    then_some (scheduling_in d) _ o (IsWritableObject o) (λ scheduling t in_scheduling.
+    then_some (number_member (codes "check_interval") d) _ o (IsWritableObject o) (λ interval i in_interval.
+    then_some (number_member (codes "max_check_attempts") d) _ o (IsWritableObject o) (λ max_attempts m in_attempts.
+    then_some (bool_member (codes "enabled_in_setup") d) _ o (IsWritableObject o) (λ setup_enabled k last.
+    let same : object_with_letters name standing letters scheduling interval max_attempts setup_enabled ≡ o = cc in
     subst IsWritableObject same (record {
-      name = good_some IsUtf8 (text_in (codes "name") d) name (text_good (codes "name") d g) n;
-      interval = good_some (λ x. x < 2 ^ 64) (number_in (codes "check_interval") d) interval (number_good (codes "check_interval") d g) i;
+      name = good_some IsUtf8 (text_member (codes "name") d) name (text_good (codes "name") d g) n;
+      interval = good_some (λ x. x < 2 ^ 64) (number_member (codes "check_interval") d) interval (number_good (codes "check_interval") d g) i;
     })) in_attempts) in_interval) in_scheduling) in_letters) in_standing) in_name)
-    (test_some (has_only object_members d) _ o e)
+    (test_some (has_only_members object_members d) _ o e)
 
 -- ---- the objects
 
@@ -77,11 +78,11 @@ AllWritable objects = (place : ℕ) (o : SavedObject) → slice_get objects plac
 objects_writable : (i : ℕ) (ds : Items) (objects : List SavedObject) → GoodItems ds → objects_from i ds ≡ Ok objects → AllWritable objects
 objects_writable i no_items objects g e = let same : [] ≡ objects = cc in subst AllWritable same (λ place o f. cc)
 objects_writable i (item d ds) objects g e =
-    next (ok_or (object_of d) (faults.Shape (Some i))) _ objects (AllWritable objects) (λ first f in_first.
+    next (ok_or (object_in d) (faults.Shape (Some i))) _ objects (AllWritable objects) (λ first f in_first.
     next (objects_from (i + 1) ds) _ objects (AllWritable objects) (λ more m last.
     let same : first ∷ more ≡ objects = cc in
     subst AllWritable same
-    (each_writable first more (object_writable d first g.0 (is_there (object_of d) (faults.Shape (Some i)) first f))
+    (each_writable first more (object_writable d first g.0 (is_there (object_in d) (faults.Shape (Some i)) first f))
     (objects_writable (i + 1) ds more g.1 m))) in_first) e
 
 -- ---- the document
@@ -90,26 +91,26 @@ test_ok : (t : Bool) (r : Result Saved SavedFault) (why : SavedFault) (saved : S
 test_ok true r why saved e = e
 test_ok false r why saved e = cc
 
-draft_writable : (d : Data) (saved : Saved) → GoodTree d → draft_of d ≡ Ok saved → IsWritable saved
-unfolding draft_of
+draft_writable : (d : Data) (saved : Saved) → GoodTree d → draft_in d ≡ Ok saved → IsWritable saved
+unfolding draft_in
 draft_writable d saved g e =
     let why = faults.Shape None in
     let list = option_and_then as_array (get (codes "objects") d) in
-    next (ok_or (number_in (codes "format") d) why) _ saved (IsWritable saved) (λ format f in_format.
-    next (ok_or (number_in (codes "start") d) why) _ saved (IsWritable saved) (λ start s in_start.
-    next (ok_or (number_in (codes "runs") d) why) _ saved (IsWritable saved) (λ runs r in_runs.
+    next (ok_or (number_member (codes "format") d) why) _ saved (IsWritable saved) (λ format f in_format.
+    next (ok_or (number_member (codes "start") d) why) _ saved (IsWritable saved) (λ start s in_start.
+    next (ok_or (number_member (codes "runs") d) why) _ saved (IsWritable saved) (λ runs r in_runs.
     next (ok_or list why) _ saved (IsWritable saved) (λ items l in_items.
     next (objects_from 0 items) _ saved (IsWritable saved) (λ objects o last.
     let same : record { start = start; runs = runs; objects = objects } ≡ saved = cc in
     let good = good_some GoodItems list items (good_then GoodTree GoodItems as_array (get (codes "objects") d) array_good (get_good (codes "objects") d g))
     (is_there list why items l) in
     subst IsWritable same (record { each = objects_writable 0 items objects good o })) in_items) in_runs) in_start) in_format)
-    (test_ok (has_only document_members d) _ why saved e)
+    (test_ok (has_only_members document_members d) _ why saved e)
 
 tree_writable : (tree : Data) (saved : Saved) → GoodTree tree → saved_of_tree tree ≡ Ok saved → IsWritable saved
 tree_writable tree saved g e =
-    next (in_this_format tree) (λ _. draft_of tree >>= verified) saved (IsWritable saved) (λ u f more.
-    next (draft_of tree) verified saved (IsWritable saved) (λ draft d last.
+    next (format_test tree) (λ _. draft_in tree >>= verified_saved) saved (IsWritable saved) (λ u f more.
+    next (draft_in tree) verified_saved saved (IsWritable saved) (λ draft d last.
     subst IsWritable (verified_same draft saved last) (draft_writable tree draft g d)) more) e
 
 text_read : (text : List ℕ) (valid : Bool) (tree : Data) → is_utf8 text ≡ valid → cond valid (read text) None ≡ Some tree → GoodTree tree

@@ -1,8 +1,8 @@
 -- A draft, as contracts see it: a record like a saved state, without further conditions.
-use Rattle.check_drafts.specs.Name.{is_host_name}
-use Rattle.check_saved.specs.declared.draft.ObjectDraft.TheInside as one
-use Rattle.check_saved.specs.Saved.{SavedObject}
-use Rattle.check_saved.specs.Words.{results_of_letters}
+use Rattle.setup_model.specs.Name.{is_host_name}
+use Rattle.check_saved_state.specs.declared.draft.ObjectDraft.TheInside as one
+use Rattle.check_saved_state.specs.Saved.{SavedObject}
+use Rattle.check_saved_state.specs.Words.{results_of_letters}
 
 abbrev pub object_draft : one.Inside → SavedObject
 object_draft d = record {

@@ -2,11 +2,11 @@
 use Rattle.std.specs.Prelude.{◌^◌, ⊤, Bool, codes, nat_lt}
 use Rattle.serde_json.specs.Data.{boolean, string, Members, put}
 use Rattle.check_rules.specs.declared.standing.Standing.{Standing}
-use Rattle.check_saved.specs.Saved.{SavedObject}
-use Rattle.check_saved.specs.Scheduling.{Scheduling}
-use Rattle.check_saved.specs.Tree.{number_tree, run_tree, time_tree}
+use Rattle.check_saved_state.specs.Saved.{SavedObject}
+use Rattle.check_saved_state.specs.Scheduling.{Scheduling}
+use Rattle.check_saved_state.specs.Tree.{number_tree, run_tree, time_tree}
 use Rattle.check_rules.specs.Words.{kind_word, state_word}
-use Rattle.check_saved.specs.Words.{flapping_word}
+use Rattle.check_saved_state.specs.Words.{flapping_word}
 
 unfoldable pub state_members : Standing → Members → Members
 state_members s ms =
@@ -40,5 +40,5 @@ unfolding state_members standing_members scheduling_members setup_members
 members_put = tt
 
 -- whether an object's check interval is a number of 64 bits
-abbrev pub is_narrow : SavedObject → Bool
-is_narrow o = nat_lt o.interval (2 ^ 64)
+abbrev pub has_u64_interval : SavedObject → Bool
+has_u64_interval o = nat_lt o.interval (2 ^ 64)

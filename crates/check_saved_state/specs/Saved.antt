@@ -2,12 +2,12 @@
 -- (Our own profile; Nagios uses retention files, and reads them again at a restart and a reload.)
 use Rattle.std.specs.Prelude.{ℕ, ◌≡◌, ◌⊎◌, ◌^◌, ◌≤◌, Bool, true, List, length, find, bytes_eq}
 use Rattle.std.specs.Prelude.{Option, Some, option_map, slice_get}
-use Rattle.check_drafts.specs.Name.{full_name, is_host_name, is_name}
+use Rattle.setup_model.specs.Name.{full_name, is_host_name, is_name}
 use Rattle.check_rules.specs.declared.state.State as rules
 use Rattle.check_rules.specs.declared.standing.Standing.{Standing}
 use Rattle.check_rules.specs.Flapping.{AreResultsFor}
 use Rattle.check_rules.specs.Standing.{IsStandingFor}
-use Rattle.check_saved.specs.Scheduling.{Scheduling, is_in_time, is_timed_if_forced}
+use Rattle.check_saved_state.specs.Scheduling.{Scheduling, is_in_time, is_timed_if_forced}
 
 -- one saved object
 pub record SavedObject : Type 0 where
@@ -32,8 +32,8 @@ pub record Saved : Type 0 where
   pub objects : List SavedObject
 
 -- the saved object with this full name, if there is one
-abbrev pub saved_named : Saved → List ℕ → Option SavedObject
-saved_named saved name = find (λ o. bytes_eq name o.name) saved.objects
+abbrev pub saved_by_name : Saved → List ℕ → Option SavedObject
+saved_by_name saved name = find (λ o. bytes_eq name o.name) saved.objects
 
 -- ---- the facts of every saved state
 
@@ -52,12 +52,12 @@ pub record IsSavedObject (runs : ℕ) (o : SavedObject) : Type 0 where
   pub in_time : is_in_time o.scheduling ≡ true
   pub timed : is_timed_if_forced o.scheduling ≡ true
   pub numbered : (run : ℕ) → option_map (λ r. r.number) o.scheduling.run ≡ Some run → (1 ≤ run) × (run ≤ runs)
-  pub some_attempts : 1 ≤ o.max_attempts
-  pub few_attempts : o.max_attempts ≤ 255
+  pub nonzero_attempts : 1 ≤ o.max_attempts
+  pub bounded_attempts : o.max_attempts ≤ 255
 
 -- The facts of every saved state. It has at most 4,096 objects, and no two of them have the same name or the same run.
 pub record IsSaved (saved : Saved) : Type 0 where
-  pub few : length saved.objects ≤ 4096
+  pub bounded : length saved.objects ≤ 4096
   pub start : saved.start ≤ 2 ^ 60
   pub runs : saved.runs ≤ 2 ^ 60
   pub each : (place : ℕ) (o : SavedObject) → slice_get saved.objects place ≡ Some o → IsSavedObject saved.runs o

@@ -1,8 +1,8 @@
 -- A saved state, as contracts see it.
 use Rattle.std.specs.Prelude.{string_bytes}
-use Rattle.check_saved.specs.declared.saved.Saved.TheInside as all
-use Rattle.check_saved.specs.declared.saved.SavedObject.TheInside as one
-use Rattle.check_saved.specs.Saved.{IsSaved, Saved, SavedObject}
+use Rattle.check_saved_state.specs.declared.saved.Saved.TheInside as all
+use Rattle.check_saved_state.specs.declared.saved.SavedObject.TheInside as one
+use Rattle.check_saved_state.specs.Saved.{IsSaved, Saved, SavedObject}
 
 abbrev pub object_view : one.Inside → SavedObject
 object_view o = record {
@@ -19,5 +19,5 @@ abbrev pub saved_view : all.Inside → Saved
 saved_view s = record { start = s.start; runs = s.runs; objects = s.objects.items }
 
 -- the facts of the fields of every saved state
-pub record IsKept (s : all.Inside) : Type 0 where
+pub record IsWellFormed (s : all.Inside) : Type 0 where
   pub saved : IsSaved (saved_view s)

@@ -2,10 +2,10 @@
 use Rattle.std.specs.Prelude.{ℕ, List, map, Option, Some, None, codes}
 use Rattle.serde_json.specs.Data.{unsigned, Data, null, boolean, number, string, array, object, Items, no_members, member}
 use Rattle.serde_json.specs.View.{items_of}
-use Rattle.check_saved.specs.Saved.{Saved, SavedObject}
-use Rattle.check_saved.specs.Scheduling.{OpenRun}
+use Rattle.check_saved_state.specs.Saved.{Saved, SavedObject}
+use Rattle.check_saved_state.specs.Scheduling.{OpenRun}
 use Rattle.check_rules.specs.Words.{kind_word, state_word}
-use Rattle.check_saved.specs.Words.{flapping_word, letters_of}
+use Rattle.check_saved_state.specs.Words.{flapping_word, letters_of}
 
 abbrev pub number_tree : ℕ → Data
 number_tree n = number (unsigned n)

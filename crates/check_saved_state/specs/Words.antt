@@ -2,7 +2,7 @@
 use Rattle.std.specs.Prelude.{ℕ, Bool, true, false, List, map, Option, Some, None, codes, bytes_eq, if◌then◌else◌}
 use Rattle.std.specs.List.{list_all}
 use Rattle.check_rules.specs.declared.state.State.{State}
-use Rattle.check_rules.specs.Words.{is_letter, lettered_state, state_letter}
+use Rattle.check_rules.specs.Words.{is_letter, state_of_letter, state_letter}
 
 -- ---- flapping
 
@@ -29,4 +29,4 @@ are_letters text = list_all is_letter text
 
 -- the results of a host, or of a service, with these letters
 abbrev pub results_of_letters : Bool → List ℕ → List State
-results_of_letters host text = map (lettered_state host) text
+results_of_letters host text = map (state_of_letter host) text

@@ -1,6 +1,6 @@
 -- Further facts of every saved state, about names and check intervals. A scheduler doesn't need them.
 use Rattle.std.specs.Prelude.{◌≡◌, ◌^◌, ◌<◌, ℕ, IsUtf8, Some, slice_get}
-use Rattle.check_saved.specs.Saved.{Saved, SavedObject}
+use Rattle.check_saved_state.specs.Saved.{Saved, SavedObject}
 
 -- each name is text, and each interval is a number of 64 bits
 pub record IsWritableObject (o : SavedObject) : Type 0 where

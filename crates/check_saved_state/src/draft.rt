@@ -1,9 +1,10 @@
 //! The contents of a saved state whose members have the right names and kinds. Its values aren't verified
 //! yet.
+
 ghost use Rattle.std.specs.Prelude.{◌≡◌, ◌≤◌, IfOk};
 
-use crate::letters::results_of;
 use crate::name::is_host_name;
+use crate::result_letters::results_of_letters;
 use crate::saved::{SavedObject, SavedRun};
 use check_rules::{Kind, Standing, State};
 use std::alloc::{AllocError, Global};
@@ -22,7 +23,7 @@ pub(crate) struct StandingDraft {
 
 impl Model for StandingDraft {
     ghost use Rattle.check_rules.specs.declared.standing.Standing as rules;
-    ghost use Rattle.check_saved.specs.Reading.{standing_with};
+    ghost use Rattle.check_saved_state.specs.Reading.{standing_with};
 
     ghost Value = { rules.Standing };
 
@@ -48,7 +49,7 @@ pub(crate) struct SchedulingDraft {
 }
 
 impl Model for SchedulingDraft {
-    ghost use Rattle.check_saved.specs.Scheduling as spec;
+    ghost use Rattle.check_saved_state.specs.Scheduling as spec;
 
     ghost Value = { spec.Scheduling };
 
@@ -71,8 +72,8 @@ pub(crate) struct ObjectDraft<'v> {
 }
 
 impl<'v> Model for ObjectDraft<'v> {
-    ghost use Rattle.check_saved.specs.Saved as spec;
-    ghost use Rattle.check_saved.specs.DraftViews.{object_draft};
+    ghost use Rattle.check_saved_state.specs.Saved as spec;
+    ghost use Rattle.check_saved_state.specs.DraftViews.{object_draft};
 
     ghost Value = { spec.SavedObject };
 
@@ -88,7 +89,7 @@ pub(crate) struct SavedDraft<'v> {
 }
 
 impl<'v> Model for SavedDraft<'v> {
-    ghost use Rattle.check_saved.specs.Saved as spec;
+    ghost use Rattle.check_saved_state.specs.Saved as spec;
 
     ghost Value = { spec.Saved };
 
@@ -96,11 +97,11 @@ impl<'v> Model for SavedDraft<'v> {
 }
 
 impl<'v> ObjectDraft<'v> {
-    ghost use Rattle.check_saved.specs.Verification.{HasFewAttempts};
+    ghost use Rattle.check_saved_state.specs.Verification.{HasBoundedAttempts};
 
     /// The saved object. Its attempts are within their limits.
-    pub(crate) fn kept(&self, alloc: Global) -> Result<SavedObject, AllocError>
-        requires { HasFewAttempts self.now }
+    pub(crate) fn to_saved(&self, alloc: Global) -> Result<SavedObject, AllocError>
+        requires { HasBoundedAttempts self.now }
         ensures { IfOk result (λ object. object ≡ self.now) }
     {
         let standing = self.standing;
@@ -115,7 +116,7 @@ impl<'v> ObjectDraft<'v> {
                 last_hard: standing.last_hard,
                 flapping: standing.flapping,
             },
-            results: results_of(alloc, is_host_name(self.name), self.letters)?,
+            results: results_of_letters(alloc, is_host_name(self.name), self.letters)?,
             next: scheduling.next,
             run: scheduling.run,
             enabled: scheduling.enabled,

@@ -1,6 +1,7 @@
 //! Why a saved state is refused.
+
 ghost use Rattle.std.specs.Prelude.{◌≡◌};
-ghost use Rattle.check_saved.specs.declared.fault.SavedFault.TheVariants.{Memory};
+ghost use Rattle.check_saved_state.specs.declared.fault.SavedFault.TheVariants.{Memory};
 
 use std::alloc::{AllocError, AllocFailed};
 

@@ -1,31 +1,35 @@
 //! Tests whether saved objects are possible in a scheduler.
+
 ghost use Rattle.std.specs.Prelude.{◌≡◌, IfOk, IsOkUnless, map, not, position};
 ghost use Rattle.std.specs.List.{list_all};
-ghost use Rattle.check_drafts.specs.Keys.{first_repeat};
+ghost use Rattle.setup_model.specs.Keys.{first_repeat};
 ghost use Rattle.check_rules.specs.State.{is_of_sort};
-ghost use Rattle.check_saved.specs.SavedFault.{Gives};
-ghost use Rattle.check_saved.specs.Scheduling.{is_timed};
-ghost use Rattle.check_saved.specs.Verification.{can_be, can_have_results, can_stand, is_as_pending};
+ghost use Rattle.check_saved_state.specs.SavedFault.{IsExpectedResult};
+ghost use Rattle.check_saved_state.specs.Scheduling.{is_timed};
+ghost use Rattle.check_saved_state.specs.Verification.{is_possible, are_possible_results, is_possible_standing, is_like_pending};
 ghost use Rattle.check_spread.specs.Spread.{earlier};
-ghost use Rattle.check_saved.specs.Verification.{is_numbered, is_same_run, lawful_objects, run_number};
+ghost use Rattle.check_saved_state.specs.Verification.{has_valid_run, is_same_run, possible_objects_test, run_number};
 
 use crate::fault::SavedFault;
 use crate::name::is_host_name;
 use crate::saved::{SavedObject, SavedRun};
-use check_rules::{KEPT_RESULTS, Kind, Standing, State, lawful};
+use check_rules::{Kind, STORED_RESULTS, Standing, State, lawful};
 use indexmap::IndexSet;
 use std::alloc::Global;
 
 /// Tests that each of these objects is possible in a scheduler that handed out `runs` runs, and that no two
 /// of them run under the same number. An error names the first object that fails.
-pub(crate) fn verify_lawful(
+pub(crate) fn verify_possible(
     alloc: Global,
     runs: u64,
     objects: &[SavedObject],
 ) -> Result<(), SavedFault>
-    ensures { Gives (λ u. u) result (lawful_objects runs objects.now) }
+    ensures { IsExpectedResult (λ u. u) result (possible_objects_test runs objects.now) }
 {
-    match earlier(unlawful(runs, objects), repeated_run(alloc, objects)?) {
+    match earlier(
+        first_impossible(runs, objects),
+        first_repeated_run(alloc, objects)?,
+    ) {
         Some(index) => Err(SavedFault::Unlawful(index)),
         None => Ok(()),
     }
@@ -42,14 +46,14 @@ fn earlier(one: Option<usize>, other: Option<usize>) -> Option<usize>
     }
 }
 
-fn unlawful(runs: u64, objects: &[SavedObject]) -> Option<usize>
-    ensures { result ≡ position (λ o. not (can_be runs o)) objects.now }
+fn first_impossible(runs: u64, objects: &[SavedObject]) -> Option<usize>
+    ensures { result ≡ position (λ o. not (is_possible runs o)) objects.now }
 {
-    objects.iter().position(|object| !can_be(runs, object))
+    objects.iter().position(|object| !is_possible(runs, object))
 }
 
 /// The first object that runs under the number of an earlier one.
-fn repeated_run(alloc: Global, objects: &[SavedObject]) -> Result<Option<usize>, SavedFault>
+fn first_repeated_run(alloc: Global, objects: &[SavedObject]) -> Result<Option<usize>, SavedFault>
     ensures place { IfOk result (λ place. place
         ≡ first_repeat is_same_run (map run_number objects.now)) }
     ensures memory { IsOkUnless result SavedFault.Memory }
@@ -72,28 +76,28 @@ fn run_number(object: &SavedObject) -> Option<u64>
     object.run.map(|run| run.number)
 }
 
-fn can_be(runs: u64, object: &SavedObject) -> bool
-    ensures { result ≡ can_be runs object.now }
+fn is_possible(runs: u64, object: &SavedObject) -> bool
+    ensures { result ≡ is_possible runs object.now }
 {
     let host = is_host_name(object.name.as_str());
-    can_stand(host, object.max_attempts, object.standing)
-        && can_have_results(host, &object.results)
-        && is_numbered(runs, object.run)
+    is_possible_standing(host, object.max_attempts, object.standing)
+        && are_possible_results(host, &object.results)
+        && has_valid_run(runs, object.run)
         && is_timed(object.next, object.forced)
 }
 
-fn can_stand(host: bool, max: u8, standing: Standing) -> bool
-    ensures { result ≡ can_stand host max standing }
+fn is_possible_standing(host: bool, max: u8, standing: Standing) -> bool
+    ensures { result ≡ is_possible_standing host max standing }
 {
     lawful(standing, max)
         && is_of_sort(host, standing.state)
         && is_of_sort(host, standing.last_hard)
-        && (standing.checked || is_as_pending(standing))
+        && (standing.checked || is_like_pending(standing))
 }
 
 /// Whether a standing is that of an object that was never checked, except for the sort of its states.
-fn is_as_pending(standing: Standing) -> bool
-    ensures { result ≡ is_as_pending standing }
+fn is_like_pending(standing: Standing) -> bool
+    ensures { result ≡ is_like_pending standing }
 {
     !standing.state.is_problem()
         && matches!(standing.kind, Kind::Hard)
@@ -112,10 +116,10 @@ fn is_of_sort(host: bool, state: State) -> bool
     }
 }
 
-fn can_have_results(host: bool, results: &[State]) -> bool
-    ensures { result ≡ can_have_results host results.now }
+fn are_possible_results(host: bool, results: &[State]) -> bool
+    ensures { result ≡ are_possible_results host results.now }
 {
-    results.len() <= KEPT_RESULTS && are_of_sort(host, results)
+    results.len() <= STORED_RESULTS && are_of_sort(host, results)
 }
 
 fn are_of_sort(host: bool, results: &[State]) -> bool
@@ -124,8 +128,8 @@ fn are_of_sort(host: bool, results: &[State]) -> bool
     results.iter().all(|state| is_of_sort(host, *state))
 }
 
-fn is_numbered(runs: u64, run: Option<SavedRun>) -> bool
-    ensures { result ≡ is_numbered runs run }
+fn has_valid_run(runs: u64, run: Option<SavedRun>) -> bool
+    ensures { result ≡ has_valid_run runs run }
 {
     match run {
         Some(run) => 1 <= run.number && run.number <= runs,

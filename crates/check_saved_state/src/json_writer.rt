@@ -1,12 +1,14 @@
 //! The tree of a saved state, as `serde_json` writes it.
+
 ghost use Rattle.std.specs.Prelude.{◌≡◌, IfOk, OnOk, map, true};
 ghost use Rattle.std.specs.List.{list_all};
+ghost use Rattle.serde_json.specs.Data.{put, string};
 ghost use Rattle.serde_json.specs.View.{members_view, view};
-ghost use Rattle.check_saved.specs.Members.{is_narrow, scheduling_members, setup_members, standing_members, state_members};
-ghost use Rattle.check_saved.specs.Saved.{IsSaved};
-ghost use Rattle.check_saved.specs.Tree.{object_tree, run_tree, saved_tree};
+ghost use Rattle.check_saved_state.specs.Members.{has_u64_interval, scheduling_members, setup_members, standing_members, state_members};
+ghost use Rattle.check_saved_state.specs.Saved.{IsSaved};
+ghost use Rattle.check_saved_state.specs.Tree.{object_tree, run_tree, saved_tree};
 
-use crate::letters::letters_of;
+use crate::result_letters::letters_of;
 use crate::saved::{Saved, SavedObject, SavedRun};
 use crate::words::flapping_word;
 use check_rules::Standing;
@@ -17,7 +19,7 @@ use std::alloc::{AllocError, Global};
 pub(crate) fn saved_value(alloc: Global, saved: &Saved) -> Result<Value, AllocError>
     ensures tree { IfOk result (λ tree. view tree ≡ saved_tree saved.now) }
     ensures saved { OnOk result (IsSaved saved.now) }
-    ensures narrow { OnOk result (list_all is_narrow saved.now.objects ≡ true) }
+    ensures fits { OnOk result (list_all has_u64_interval saved.now.objects ≡ true) }
 {
     let objects = object_values(alloc, saved.objects())?;
     json!(in alloc; {"format": 1u64, "start": saved.start(), "runs": saved.runs(), "objects": objects})
@@ -25,7 +27,7 @@ pub(crate) fn saved_value(alloc: Global, saved: &Saved) -> Result<Value, AllocEr
 
 fn object_values(alloc: Global, objects: &[SavedObject]) -> Result<Vec<Value>, AllocError>
     ensures trees { IfOk result (λ trees. map view trees.items ≡ map object_tree objects.now) }
-    ensures narrow { OnOk result (list_all is_narrow objects.now ≡ true) }
+    ensures fits { OnOk result (list_all has_u64_interval objects.now ≡ true) }
 {
     let mut trees = Vec::with_capacity(alloc, objects.len())?;
     for object in objects {
@@ -37,18 +39,13 @@ fn object_values(alloc: Global, objects: &[SavedObject]) -> Result<Vec<Value>, A
 #[tactic(auto, unfolding(crate::specs::Members::members_put))]
 fn object_value(alloc: Global, object: &SavedObject) -> Result<Value, AllocError>
     ensures tree { IfOk result (λ tree. view tree ≡ object_tree object.now) }
-    ensures narrow { OnOk result (is_narrow object.now ≡ true) }
+    ensures fits { OnOk result (has_u64_interval object.now ≡ true) }
 {
     let mut members = Map::new(alloc);
     put_standing(&mut members, alloc, object.standing)?;
     put_scheduling(&mut members, alloc, object)?;
     put_setup(&mut members, alloc, object)?;
-    put(
-        &mut members,
-        alloc,
-        "name",
-        Value::try_from_str(alloc, object.name.as_str())?,
-    )?;
+    put_word(&mut members, alloc, "name", object.name.as_str())?;
     put(
         &mut members,
         alloc,
@@ -71,12 +68,7 @@ fn put_standing(
     put_states(members, alloc, standing)?;
     put(members, alloc, "attempt", Value::from(standing.attempt))?;
     put(members, alloc, "checked", Value::Bool(standing.checked))?;
-    put(
-        members,
-        alloc,
-        "flapping",
-        Value::try_from_str(alloc, flapping_word(standing.flapping))?,
-    )
+    put_word(members, alloc, "flapping", flapping_word(standing.flapping))
 }
 
 /// Puts the members for an object's states.
@@ -89,24 +81,9 @@ fn put_states(
     ensures { OnOk result (members_view members.new.entries
         ≡ state_members standing (members_view members.old.entries)) }
 {
-    put(
-        members,
-        alloc,
-        "state",
-        Value::try_from_str(alloc, standing.state.word())?,
-    )?;
-    put(
-        members,
-        alloc,
-        "last_hard_state",
-        Value::try_from_str(alloc, standing.last_hard.word())?,
-    )?;
-    put(
-        members,
-        alloc,
-        "kind",
-        Value::try_from_str(alloc, standing.kind.word())?,
-    )
+    put_word(members, alloc, "state", standing.state.word())?;
+    put_word(members, alloc, "last_hard_state", standing.last_hard.word())?;
+    put_word(members, alloc, "kind", standing.kind.word())
 }
 
 /// Puts the members for the scheduling of an object.
@@ -134,7 +111,7 @@ fn put_setup(
 ) -> Result<(), AllocError>
     ensures members { OnOk result (members_view members.new.entries
         ≡ setup_members object.now (members_view members.old.entries)) }
-    ensures narrow { OnOk result (is_narrow object.now ≡ true) }
+    ensures fits { OnOk result (has_u64_interval object.now ≡ true) }
 {
     put(
         members,
@@ -154,6 +131,19 @@ fn put_setup(
         "enabled_in_setup",
         Value::Bool(object.setup_enabled),
     )
+}
+
+/// Puts a member whose value is this text.
+fn put_word(
+    members: &mut Map<String, Value>,
+    alloc: Global,
+    name: &str,
+    word: &str,
+) -> Result<(), AllocError>
+    ensures { OnOk result (members_view members.new.entries
+        ≡ put name.now (string word.now) (members_view members.old.entries)) }
+{
+    put(members, alloc, name, Value::try_from_str(alloc, word)?)
 }
 
 fn run_value(alloc: Global, run: Option<SavedRun>) -> Result<Value, AllocError>

@@ -1,11 +1,11 @@
 //! Laws of the definitions. Each is the contract of a function without parameters and code.
 
 ghost use Rattle.std.specs.Prelude.{◌≡◌, ◌≤◌, ℕ, List, Ok, length};
-ghost use Rattle.check_saved.specs.declared.limits.TheConstants.{MAX_SAVED_BYTES};
-ghost use Rattle.check_saved.specs.Saved.{IsSaved, Saved};
-ghost use Rattle.check_saved.specs.Text.{saved_of_text, saved_text};
-ghost use Rattle.check_saved.specs.Verification.{verified};
-ghost use Rattle.check_saved.specs.Written.{IsWritable};
+ghost use Rattle.check_saved_state.specs.declared.saved.TheConstants.{MAX_SAVED_BYTES};
+ghost use Rattle.check_saved_state.specs.Saved.{IsSaved, Saved};
+ghost use Rattle.check_saved_state.specs.Text.{saved_of_text, saved_text};
+ghost use Rattle.check_saved_state.specs.Verification.{verified_saved};
+ghost use Rattle.check_saved_state.specs.Written.{IsWritable};
 
 /// The greatest length of the text of a saved state in bytes, as a number. (Our own profile.)
 pub fn limit_of_a_text()
@@ -16,7 +16,7 @@ pub fn limit_of_a_text()
 /// be resumed from a saved state, that state passes the tests (`tests`).
 pub fn what_is_read_is_what_can_be_saved()
     ensures lawful { (text : List ℕ) → (saved : Saved) → saved_of_text text ≡ Ok saved → IsSaved saved }
-    ensures tests { (saved : Saved) → IsSaved saved → verified saved ≡ Ok saved }
+    ensures tests { (saved : Saved) → IsSaved saved → verified_saved saved ≡ Ok saved }
 {}
 
 /// The text of a saved state is within the limit of a text (`fits`), and is read as the same saved state

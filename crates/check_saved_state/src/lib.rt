@@ -9,29 +9,27 @@
 //!
 //! The modules:
 //!
-//! - `saved`: the saved state of a scheduler and of each object.
-//! - `words`, `letters` and `tree`: the JSON tree of a saved state.
+//! - `saved`: the saved state of a scheduler and of each object, and the limits.
+//! - `words`, `result_letters` and `json_writer`: the JSON tree of a saved state.
 //! - `members` and `reading`: reading a `draft` from a tree, by its shape.
-//! - `name`, `verification` and `lawful`: the tests of a draft.
+//! - `name`, `verification` and `invariants`: the tests of a draft.
 //! - `text`: reading and writing as a whole.
-//! - `fault` and `limits`: the refusals, and the limits of numbers.
+//! - `fault`: the refusals.
 //! - `laws`: facts about all texts and saved states.
 
 mod draft;
 mod fault;
-mod lawful;
+mod invariants;
+mod json_writer;
 pub mod laws;
-mod letters;
-mod limits;
 mod members;
 mod name;
 mod reading;
+mod result_letters;
 mod saved;
 mod text;
-mod tree;
 mod verification;
 mod words;
 
 pub use fault::SavedFault;
-pub use limits::{MAX_RUNS, MAX_SAVED_BYTES};
-pub use saved::{Saved, SavedObject, SavedRun};
+pub use saved::{MAX_RUNS, MAX_SAVED_BYTES, Saved, SavedObject, SavedRun};

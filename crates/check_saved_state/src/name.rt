@@ -1,9 +1,10 @@
 //! Tests whether a text can be the full name of an object.
-ghost use Rattle.std.specs.Prelude.{◌≡◌};
-ghost use Rattle.check_drafts.specs.Name.{is_host_name};
-ghost use Rattle.check_saved.specs.Verification.{is_full_name};
 
-use check_drafts::is_name;
+ghost use Rattle.std.specs.Prelude.{◌≡◌};
+ghost use Rattle.setup_model.specs.Name.{is_host_name};
+ghost use Rattle.check_saved_state.specs.Verification.{is_full_name};
+
+use setup_model::is_name;
 
 /// Whether a full name is a host's: it has no semicolon.
 pub(crate) fn is_host_name(name: &str) -> bool

@@ -1,7 +1,8 @@
 //! Results as a text, one letter for each, the oldest first: `o`, `w`, `u` and `c` for a service, `o`, `d`
 //! and `u` for a host.
+
 ghost use Rattle.std.specs.Prelude.{◌≡◌, IfOk, string_bytes};
-ghost use Rattle.check_saved.specs.Words.{are_letters, letters_of, results_of_letters};
+ghost use Rattle.check_saved_state.specs.Words.{are_letters, letters_of, results_of_letters};
 
 use check_rules::State;
 use std::alloc::{AllocError, Global};
@@ -25,12 +26,16 @@ pub(crate) fn are_letters(text: &str) -> bool
 }
 
 /// The results of a host, or of a service, with these letters.
-pub(crate) fn results_of(alloc: Global, host: bool, letters: &str) -> Result<Vec<State>, AllocError>
+pub(crate) fn results_of_letters(
+    alloc: Global,
+    host: bool,
+    letters: &str,
+) -> Result<Vec<State>, AllocError>
     ensures { IfOk result (λ results. results.items ≡ results_of_letters host letters.now) }
 {
     letters
         .as_bytes()
         .iter()
-        .map(|letter| State::lettered(host, *letter))
+        .map(|letter| State::from_letter(host, *letter))
         .collect(alloc)
 }

@@ -17,7 +17,7 @@ pub struct SavedRun {
 }
 
 impl Model for SavedRun {
-    ghost use Rattle.check_saved.specs.Scheduling.{OpenRun};
+    ghost use Rattle.check_saved_state.specs.Scheduling.{OpenRun};
 
     ghost Value = { OpenRun };
 
@@ -52,11 +52,11 @@ pub struct SavedObject {
 }
 
 impl Model for SavedObject {
-    ghost use Rattle.check_saved.specs.Saved as spec;
+    ghost use Rattle.check_saved_state.specs.Saved as spec;
 
     ghost Value = { spec.SavedObject };
 
-    ghost use Rattle.check_saved.specs.SavedViews.{object_view};
+    ghost use Rattle.check_saved_state.specs.SavedViews.{object_view};
 
     ghost view = { object_view };
 }
@@ -75,20 +75,20 @@ pub struct Saved {
 }
 
 impl Model for Saved {
-    ghost use Rattle.check_saved.specs.Saved as spec;
+    ghost use Rattle.check_saved_state.specs.Saved as spec;
 
     ghost Value = { spec.Saved };
 
-    ghost use Rattle.check_saved.specs.SavedViews.{saved_view, IsKept};
+    ghost use Rattle.check_saved_state.specs.SavedViews.{saved_view, IsWellFormed};
 
     ghost view = { saved_view };
 
-    ghost invariant = { IsKept };
+    ghost invariant = { IsWellFormed };
 }
 
 impl Saved {
     ghost use Rattle.std.specs.Prelude.{◌≤◌};
-    ghost use Rattle.check_saved.specs.Saved.{IsSaved};
+    ghost use Rattle.check_saved_state.specs.Saved.{IsSaved};
 
     /// The saved state with these objects, of a scheduler that started at `start`, in milliseconds, and
     /// handed out `runs` runs. The order of the objects has no meaning.
@@ -126,3 +126,9 @@ impl Saved {
         &self.objects
     }
 }
+
+/// The greatest length of the text of a saved state, in bytes.
+pub const MAX_SAVED_BYTES: usize = 16_777_216;
+
+/// The greatest number of runs that a scheduler hands out.
+pub const MAX_RUNS: u64 = 1 << 60;

@@ -1,22 +1,21 @@
 //! Writes a saved state as one line of JSON, and reads it.
 use crate::draft::{ObjectDraft, SavedDraft};
 use crate::fault::SavedFault;
-use crate::lawful::verify_lawful;
-use crate::limits::MAX_SAVED_BYTES;
+use crate::invariants::verify_possible;
+use crate::json_writer::saved_value;
 use crate::reading::{read_draft, verify_format};
-use crate::saved::{Saved, SavedObject};
-use crate::tree::saved_value;
+use crate::saved::{MAX_SAVED_BYTES, Saved, SavedObject};
 use crate::verification::verify_draft;
-use check_documents::read_tree;
-use check_drafts::Fault;
 use serde_json::Value;
+use setup_model::Fault;
+use setup_reader::read_tree;
 use std::alloc::{AllocError, Global};
 
 impl Saved {
     ghost use Rattle.std.specs.Prelude.{◌≡◌, ◌<◌, ◌≤◌, Err, IfOk, Ok, length};
-    ghost use Rattle.check_documents.specs.Feeds.{HasNoFeed};
-    ghost use Rattle.check_saved.specs.SavedFault.{Gives};
-    ghost use Rattle.check_saved.specs.Text.{saved_of_text, saved_text};
+    ghost use Rattle.setup_reader.specs.Feeds.{HasNoLineFeed};
+    ghost use Rattle.check_saved_state.specs.SavedFault.{IsExpectedResult};
+    ghost use Rattle.check_saved_state.specs.Text.{saved_of_text, saved_text};
 
     /// Writes the saved state in JSON's compact form, without a line feed in it or at its end. The text is
     /// read as the same saved state.
@@ -24,7 +23,7 @@ impl Saved {
     /// An error means out of memory. There is no other error.
     pub fn write(&self, alloc: Global) -> Result<Vec<u8>, AllocError>
         ensures text { IfOk result (λ text. text.items ≡ saved_text self.now) }
-        ensures one_line { IfOk result (λ text. HasNoFeed text.items) }
+        ensures one_line { IfOk result (λ text. HasNoLineFeed text.items) }
         ensures fits { IfOk result (λ text. length text.items ≤ 16777216) }
         ensures reads_back { IfOk result (λ text. saved_of_text text.items ≡ Ok self.now) }
     {
@@ -37,7 +36,7 @@ impl Saved {
     ///
     /// `Memory` can come in place of any other result except `TooLong`.
     pub fn read(alloc: Global, text: &[u8]) -> Result<Saved, SavedFault>
-        ensures exact { Gives (λ saved. saved) result (saved_of_text text.now) }
+        ensures exact { IsExpectedResult (λ saved. saved) result (saved_of_text text.now) }
         ensures too_long { 16777216 < length text.now → result ≡ Err SavedFault.TooLong }
     {
         if text.len() > MAX_SAVED_BYTES {
@@ -50,14 +49,14 @@ impl Saved {
 
 ghost use Rattle.std.specs.Prelude.{◌≡◌, All, IfOk, ok_or};
 ghost use Rattle.serde_json.specs.View.{view};
-ghost use Rattle.check_documents.specs.Tree.{tree_of};
-ghost use Rattle.check_saved.specs.SavedFault.{Gives};
-ghost use Rattle.check_saved.specs.Text.{saved_of_tree};
-ghost use Rattle.check_saved.specs.Verification.{HasFewAttempts, verified};
+ghost use Rattle.setup_reader.specs.JsonTree.{tree_of};
+ghost use Rattle.check_saved_state.specs.SavedFault.{IsExpectedResult};
+ghost use Rattle.check_saved_state.specs.Text.{saved_of_tree};
+ghost use Rattle.check_saved_state.specs.Verification.{HasBoundedAttempts, verified_saved};
 
 /// The tree of a text.
 fn tree_of(alloc: Global, text: &[u8]) -> Result<Value, SavedFault>
-    ensures { Gives view result (ok_or (tree_of text.now) SavedFault.NotJson) }
+    ensures { IsExpectedResult view result (ok_or (tree_of text.now) SavedFault.NotJson) }
 {
     match read_tree(alloc, text) {
         Ok(tree) => Ok(tree),
@@ -68,7 +67,7 @@ fn tree_of(alloc: Global, text: &[u8]) -> Result<Value, SavedFault>
 
 /// The saved state in a tree.
 fn read_saved(alloc: Global, tree: &Value) -> Result<Saved, SavedFault>
-    ensures { Gives (λ saved. saved) result (saved_of_tree (view tree.now)) }
+    ensures { IsExpectedResult (λ saved. saved) result (saved_of_tree (view tree.now)) }
 {
     verify_format(tree)?;
     let draft = read_draft(alloc, tree)?;
@@ -76,22 +75,22 @@ fn read_saved(alloc: Global, tree: &Value) -> Result<Saved, SavedFault>
 }
 
 fn saved_of_draft(alloc: Global, draft: &SavedDraft<'_>) -> Result<Saved, SavedFault>
-    ensures { Gives (λ saved. saved) result (verified draft.now) }
+    ensures { IsExpectedResult (λ saved. saved) result (verified_saved draft.now) }
 {
     verify_draft(alloc, draft)?;
     let objects = objects_of(alloc, &draft.objects)?;
-    verify_lawful(alloc, draft.runs, &objects)?;
+    verify_possible(alloc, draft.runs, &objects)?;
     Ok(Saved::of(draft.start, draft.runs, objects))
 }
 
 /// The saved objects of these drafts.
 fn objects_of(alloc: Global, drafts: &[ObjectDraft<'_>]) -> Result<Vec<SavedObject>, AllocError>
-    requires { All HasFewAttempts drafts.now }
+    requires { All HasBoundedAttempts drafts.now }
     ensures { IfOk result (λ objects. objects.items ≡ drafts.now) }
 {
     let mut objects = Vec::with_capacity(alloc, drafts.len())?;
     for draft in drafts {
-        objects.push(draft.kept(alloc)?)?;
+        objects.push(draft.to_saved(alloc)?)?;
     }
     Ok(objects)
 }

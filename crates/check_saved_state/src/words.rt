@@ -1,6 +1,7 @@
 //! The words of a saved state for flapping. The words of states and kinds are in `check_rules`.
+
 ghost use Rattle.std.specs.Prelude.{◌≡◌};
-ghost use Rattle.check_saved.specs.Words.{flapping_of_word, flapping_word};
+ghost use Rattle.check_saved_state.specs.Words.{flapping_of_word, flapping_word};
 
 pub(crate) fn flapping_word(flapping: bool) -> &'static str
     ensures { result.now ≡ flapping_word flapping }

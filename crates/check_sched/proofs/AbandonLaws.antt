@@ -1,8 +1,8 @@
 -- Laws of runs that are given up, one object after another.
 use Rattle.std.proofs.Common.{◌≡◌, ℕ, zero, suc, ◌+◌, ◌<◌, ◌≤◌, List, [], ◌∷◌, ◌++◌, length, take, drop, get_or, set, refl, ap, ◌∙◌, arith}
 use Rattle.std.proofs.lemmas.List.{append-nil, drop_all, take_all}
-use Rattle.check_saved.specs.Scheduling.{Scheduling}
-use Rattle.check_sched.specs.Saved.{given_up}
+use Rattle.check_saved_state.specs.Scheduling.{Scheduling}
+use Rattle.check_sched.specs.Saved.{object_after_abandon}
 use Rattle.check_sched.proofs.ResumedLaws.{freed, length-freed}
 
 -- the objects below a number as they are given up, and those from there on as they were
@@ -23,35 +23,24 @@ read_below (suc n) (suc from) now [] d h = refl
 read_below (suc n) (suc from) now (o ∷ objects) d h = read_below n from now objects d (omega arith)
 
 set_below : (n from now : ℕ) (objects : List Scheduling) (d : Scheduling) → from ≤ n → n < length objects
-    → set (freed_below n from now objects) n (given_up now (get_or objects n d)) ≡ freed_below (suc n) from now objects
+    → set (freed_below n from now objects) n (object_after_abandon now (get_or objects n d)) ≡ freed_below (suc n) from now objects
 set_below n from now [] d h l = absurd (omega arith)
 set_below zero zero now (o ∷ objects) d h l = refl
-set_below (suc n) zero now (o ∷ objects) d h l = ap (λ os. given_up now o ∷ os) (set_below n zero now objects d (omega arith) (omega arith))
+set_below (suc n) zero now (o ∷ objects) d h l = ap (λ os. object_after_abandon now o ∷ os) (set_below n zero now objects d (omega arith) (omega arith))
 set_below zero (suc from) now (o ∷ objects) d h l = absurd (omega arith)
 set_below (suc n) (suc from) now (o ∷ objects) d h l = ap (λ os. o ∷ os) (set_below n from now objects d (omega arith) (omega arith))
 
 -- one object more is given up
 pub freed_more : (n from now : ℕ) (objects current : List Scheduling) (old new : Scheduling) → from ≤ n → n < length objects
-    → current ≡ freed_below n from now objects → old ≡ get_or current n old → new ≡ given_up now old
+    → current ≡ freed_below n from now objects → old ≡ get_or current n old → new ≡ object_after_abandon now old
     → set current n new ≡ freed_below (n + 1) from now objects
 freed_more n from now objects current old new h l e f g =
     let read : old ≡ get_or objects n old = f ∙ ap (λ os. get_or os n old) e ∙ read_below n from now objects old h in
     let next : suc n ≡ n + 1 = omega arith in
-    (λ i. set (e i) n ((g ∙ ap (given_up now) read) i)) ∙ set_below n from now objects old h l ∙ ap (λ m. freed_below m from now objects) next
+    (λ i. set (e i) n ((g ∙ ap (object_after_abandon now) read) i)) ∙ set_below n from now objects old h l ∙ ap (λ m. freed_below m from now objects) next
 
 -- at the end all from there on are
 pub freed_all : (n from now : ℕ) (objects : List Scheduling) → length objects ≤ n → freed_below n from now objects ≡ freed from now objects
 freed_all n from now objects l =
     let long = length-freed from now objects in
     (λ i. take_all n (freed from now objects) (omega (arith, l, long)) i ++ drop_all n objects l i) ∙ append-nil (freed from now objects)
-
-length-below : (n from now : ℕ) (objects : List Scheduling) → length (freed_below n from now objects) ≡ length objects
-length-below zero from now objects = refl
-length-below (suc n) zero now [] = refl
-length-below (suc n) zero now (o ∷ objects) = ap suc (length-below n zero now objects)
-length-below (suc n) (suc from) now [] = refl
-length-below (suc n) (suc from) now (o ∷ objects) = ap suc (length-below n from now objects)
-
--- none comes or goes
-pub freed_long : (n from now : ℕ) (objects current : List Scheduling) → current ≡ freed_below n from now objects → length current ≡ length objects
-freed_long n from now objects current e = ap length e ∙ length-below n from now objects

@@ -9,7 +9,7 @@ use Rattle.std.proofs.lemmas.Option.{slice_get_within}
 use Rattle.check_queue.specs.Order.{least}
 use Rattle.check_rules.specs.declared.state.Code.{Code}
 use Rattle.check_rules.specs.declared.standing.Standing.{Standing}
-use Rattle.check_rules.specs.Board.{encoded}
+use Rattle.check_rules.specs.Board.{word_of_standing}
 use Rattle.check_rules.specs.Standing.{pending_standing}
 use Rattle.check_sched.specs.declared.call.Call.{Call}
 use Rattle.check_sched.specs.declared.call.Call.TheVariants as call
@@ -17,20 +17,21 @@ use Rattle.check_sched.specs.declared.call.Reply.{Reply}
 use Rattle.check_sched.specs.declared.call.Reply.TheVariants as reply
 use Rattle.check_sched.specs.declared.call.Refusal.{Refusal}
 use Rattle.check_sched.specs.Scheduling.{run_under}
-use Rattle.check_saved.specs.Scheduling.{Scheduling, OpenRun}
+use Rattle.check_saved_state.specs.Scheduling.{Scheduling, OpenRun}
 use Rattle.check_sched.specs.Candidate.{Candidate}
 use Rattle.check_sched.specs.Report.{put_off_until}
 use Rattle.check_sched.specs.State.{State, standing_at}
-use Rattle.check_sched.specs.Step.{eligible, found_in, is_held_back, judged_in, known, put_off, report_taken, run_left, step, take_least, taken}
-use Rattle.check_sched.specs.Step.{update_at, within_range}
-use Rattle.check_sched.specs.Board.{board_of, place_by}
+use Rattle.check_sched.specs.Step.{eligible_candidates, state_found_in, is_held_back, new_standing_in, existing_object, put_off, report_of_run, run_test, step}
+use Rattle.check_sched.specs.Step.{take_least, state_after_take}
+use Rattle.check_sched.specs.Step.{update_at, moment_test}
+use Rattle.check_sched.specs.Board.{board_of, slot_of_reply}
 use Rattle.check_sched.proofs.AnswerLaws.{by_test, known_is}
 use Rattle.check_sched.proofs.UpdateLaws.{length-update_at, update_at_apart}
 
 -- ---- a board, place by place
 
 abbrev pub word_in : List Standing → ℕ → ℕ
-word_in standings number = encoded (standing_at standings number)
+word_in standings number = word_of_standing (standing_at standings number)
 
 abbrev pub words_of : List Standing → ℕ → List ℕ
 words_of standings count = map (word_in standings) (range_with_len 0 count)
@@ -41,7 +42,7 @@ length-board_of s = length-map-range_with_len (word_in s.standings) 0 (length s.
 
 -- the word of an object
 pub word_at : (s : State) (n : ℕ) → n < length s.objects → slice_index (board_of s) n ≡ word_in s.standings n
-word_at s n there = get_or-map-range_with_len (word_in s.standings) 0 (length s.objects) n n 0 there (omega arith)
+word_at s n in_range = get_or-map-range_with_len (word_in s.standings) 0 (length s.objects) n n 0 in_range (omega arith)
 
 -- as many objects with the same standings show the same
 same_words : (standings : List Standing) (n : ℕ) (f : Scheduling → Scheduling) (objects : List Scheduling)
@@ -74,7 +75,7 @@ one_word f g count n h =
 word_apart : (n k : ℕ) (standing : Standing) (standings : List Standing) → n ≢ k
     → word_in (update_at n (λ before. standing) standings) k ≡ word_in standings k
 word_apart n k standing standings apart =
-    ap (λ found. encoded (unwrap_or found (pending_standing true))) (update_at_apart n k (λ before. standing) standings apart)
+    ap (λ found. word_of_standing (unwrap_or found (pending_standing true))) (update_at_apart n k (λ before. standing) standings apart)
 
 -- one standing that changes leaves all words but its own
 reported_words : (n : ℕ) (f : Scheduling → Scheduling) (standing : Standing) (objects : List Scheduling) (standings : List Standing)
@@ -93,7 +94,7 @@ abbrev Same : State → State × Reply → Type 0
 Same s a = board_of a.0 ≡ board_of s
 
 same_turn : (now n : ℕ) (s : State) (held : Bool)
-    → Same s (cond held (put_off now n s, reply.PutOff n (put_off_until s.setup n now)) (taken now n s, reply.Taken n (s.runs + 1)))
+    → Same s (cond held (put_off now n s, reply.PutOff n (put_off_until s.setup n now)) (state_after_take now n s, reply.Taken n (s.runs + 1)))
 same_turn now n s true = same_words s.standings n _ s.objects
 same_turn now n s false = same_words s.standings n _ s.objects
 
@@ -103,48 +104,48 @@ same_least now s None = refl
 
 same_take : (now : ℕ) (s : State) → Same s (step s (call.Take now))
 same_take now s =
-    by_test (Same s) s (within_range now) _ (λ why. refl)
-    (λ u m. by_test (Same s) s (run_left s) _ (λ why. refl)
-    (λ v r. same_least now s (least (eligible now s))))
+    by_test (Same s) s (moment_test now) _ (λ why. refl)
+    (λ u m. by_test (Same s) s (run_test s) _ (λ why. refl)
+    (λ v r. same_least now s (least (eligible_candidates now s))))
 
 same_abandon : (n run now : ℕ) (s : State) → Same s (step s (call.Abandon n run now))
 same_abandon n run now s =
-    by_test (Same s) s (known n s) _ (λ why. refl)
-    (λ o e. by_test (Same s) s (within_range now) _ (λ why. refl)
+    by_test (Same s) s (existing_object n s) _ (λ why. refl)
+    (λ o e. by_test (Same s) s (moment_test now) _ (λ why. refl)
     (λ u m. by_test (Same s) s (run_under run o.run) _ (λ why. refl)
     (λ r f. same_words s.standings n _ s.objects)))
 
 same_reschedule : (n time : ℕ) (forced : Bool) (s : State) → Same s (step s (call.Reschedule n time forced))
 same_reschedule n time forced s =
-    by_test (Same s) s (known n s) _ (λ why. refl)
-    (λ o e. by_test (Same s) s (within_range time) _ (λ why. refl)
+    by_test (Same s) s (existing_object n s) _ (λ why. refl)
+    (λ o e. by_test (Same s) s (moment_test time) _ (λ why. refl)
     (λ u m. same_words s.standings n _ s.objects))
 
 same_enable : (n : ℕ) (on : Bool) (s : State) → Same s (step s (call.Enable n on))
-same_enable n on s = by_test (Same s) s (known n s) _ (λ why. refl) (λ o e. same_words s.standings n _ s.objects)
+same_enable n on s = by_test (Same s) s (existing_object n s) _ (λ why. refl) (λ o e. same_words s.standings n _ s.objects)
 
 same_status : (n : ℕ) (s : State) → Same s (step s (call.Status n))
-same_status n s = by_test (Same s) s (known n s) _ (λ why. refl) (λ o e. refl)
+same_status n s = by_test (Same s) s (existing_object n s) _ (λ why. refl) (λ o e. refl)
 
 -- ---- Report
 
 -- what is true of a refusal, and of what is answered by a standing, is true of a report
 by_report : (P : State × Reply → Type 0) (n run : ℕ) (c : Code) (s : State)
     → ((why : Refusal) → P (s, reply.Refused why))
-    → ((o : Scheduling) (r : OpenRun) → slice_get s.objects n ≡ Some o → P (report_taken n r.start c o s))
+    → ((o : Scheduling) (r : OpenRun) → slice_get s.objects n ≡ Some o → P (report_of_run n r.start c o s))
     → P (step s (call.Report n run c))
 by_report P n run c s refused tell =
-    by_test P s (known n s) _ refused (λ o e. by_test P s (run_under run o.run) _ refused (λ r f. tell o r (known_is n s o e)))
+    by_test P s (existing_object n s) _ refused (λ o e. by_test P s (run_under run o.run) _ refused (λ r f. tell o r (known_is n s o e)))
 
 nowhere : {P : Type 0} (at : ℕ) → None ≡ Some at → P
 nowhere at e = absurd (cc)
 
 -- a posted call is posted at the place of a word
-pub step_within : (s : State) (c : Call) (at : ℕ) → place_by c (step s c).1 ≡ Some at → at < length (board_of s)
+pub step_within : (s : State) (c : Call) (at : ℕ) → slot_of_reply c (step s c).1 ≡ Some at → at < length (board_of s)
 step_within s (call.Report n run code) at =
-    by_report (λ a. place_by (call.Report n run code) a.1 ≡ Some at → at < length (board_of s)) n run code s (λ why e. nowhere at e)
+    by_report (λ a. slot_of_reply (call.Report n run code) a.1 ≡ Some at → at < length (board_of s)) n run code s (λ why e. nowhere at e)
     (λ o r f e.
-    let here : n ≡ at = cc in let there = slice_get_within s.objects n o f in let long = length-board_of s in omega (arith, here, there, long))
+    let here : n ≡ at = cc in let in_range = slice_get_within s.objects n o f in let long = length-board_of s in omega (arith, here, in_range, long))
 step_within s (call.Take now) at = nowhere at
 step_within s (call.Abandon n run now) at = nowhere at
 step_within s (call.Reschedule n time forced) at = nowhere at
@@ -152,9 +153,9 @@ step_within s (call.Enable n on) at = nowhere at
 step_within s (call.Status n) at = nowhere at
 
 -- a call that isn't posted changes no word
-pub step_unposted : (s : State) (c : Call) → place_by c (step s c).1 ≡ None → Same s (step s c)
+pub step_unposted : (s : State) (c : Call) → slot_of_reply c (step s c).1 ≡ None → Same s (step s c)
 step_unposted s (call.Report n run code) e =
-    by_report (λ a. place_by (call.Report n run code) a.1 ≡ None → Same s a) n run code s (λ why none. refl) (λ o r f none. nowhere n (sym none)) e
+    by_report (λ a. slot_of_reply (call.Report n run code) a.1 ≡ None → Same s a) n run code s (λ why none. refl) (λ o r f none. nowhere n (sym none)) e
 step_unposted s (call.Take now) e = same_take now s
 step_unposted s (call.Abandon n run now) e = same_abandon n run now s
 step_unposted s (call.Reschedule n time forced) e = same_reschedule n time forced s
@@ -165,12 +166,12 @@ step_unposted s (call.Status n) e = same_status n s
 abbrev Posted : State → ℕ → State × Reply → Type 0
 Posted s at a = board_of a.0 ≡ slice_set (board_of s) at (slice_index (board_of a.0) at)
 
-pub step_posted : (s : State) (c : Call) (at : ℕ) → place_by c (step s c).1 ≡ Some at → Posted s at (step s c)
+pub step_posted : (s : State) (c : Call) (at : ℕ) → slot_of_reply c (step s c).1 ≡ Some at → Posted s at (step s c)
 step_posted s (call.Report n run code) at =
-    by_report (λ a. place_by (call.Report n run code) a.1 ≡ Some at → Posted s at a) n run code s (λ why e. nowhere at e)
+    by_report (λ a. slot_of_reply (call.Report n run code) a.1 ≡ Some at → Posted s at a) n run code s (λ why e. nowhere at e)
     (λ o r f e.
     let here : n ≡ at = cc in
-    subst (λ i. Posted s i (report_taken n r.start code o s)) here (reported_words n _ (judged_in s n (found_in s n code)) s.objects s.standings))
+    subst (λ i. Posted s i (report_of_run n r.start code o s)) here (reported_words n _ (new_standing_in s n (state_found_in s n code)) s.objects s.standings))
 step_posted s (call.Take now) at = nowhere at
 step_posted s (call.Abandon n run now) at = nowhere at
 step_posted s (call.Reschedule n time forced) at = nowhere at

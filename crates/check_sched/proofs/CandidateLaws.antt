@@ -6,7 +6,7 @@ use Rattle.std.specs.List.{list_all, filter_map, enumerate_from, cons_option}
 use Rattle.std.proofs.lemmas.Bool.Decides.{nat_tests}
 use Rattle.std.proofs.lemmas.Bool.{and_parts, and_from}
 use Rattle.check_sched.specs.Scheduling.{candidate_time}
-use Rattle.check_saved.specs.Scheduling.{Scheduling, is_time, is_moment, is_in_time}
+use Rattle.check_saved_state.specs.Scheduling.{Scheduling, is_time, is_moment, is_in_time}
 use Rattle.check_sched.specs.Candidate.{Candidate, candidate, candidates_among, due_among, if_due}
 use Rattle.check_queue.specs.Order.{least}
 use Rattle.check_queue.proofs.LeastLaws.{FoundLeast, IsLeast, all_filtered, all_weaker, any_filtered, is_no_later, least_found, least_is_found}

@@ -1,17 +1,18 @@
 -- Laws of what is made of each object of a setup, one object after another.
-use Rattle.std.proofs.Common.{◌≡◌, ℕ, zero, suc, ◌+◌, ◌<◌, Bool, false, List, [], ◌∷◌, ◌++◌, length, map, take, get_or, Option, Some, None, option_map, unwrap_or, refl, sym, ap, ◌∙◌, arith}
+use Rattle.std.proofs.Common.{◌≡◌, ℕ, zero, suc, ◌+◌, ◌<◌, Bool, false, List, [], ◌∷◌, ◌++◌, length, map, take, get_or, Option, Some, None, option_map}
+use Rattle.std.proofs.Common.{unwrap_or, refl, sym, ap, ◌∙◌, arith}
 use Rattle.std.specs.Prelude.{slice_get}
 use Rattle.std.specs.List.{enumerate_from}
 use Rattle.std.proofs.lemmas.List.{take_more}
-use Rattle.check_drafts.specs.declared.object.Object.{Object}
-use Rattle.check_numbers.proofs.NameLemmas.{item_at}
-use Rattle.check_objects.specs.Configuration.{Configuration, Named, name_of, object_count, objects_of}
+use Rattle.setup_model.specs.declared.parsed_setup.Object.{Object}
+use Rattle.check_objects.proofs.NameLemmas.{item_at}
+use Rattle.check_objects.specs.Configuration.{Configuration, NamedObject, name_of, object_count, objects_of}
 use Rattle.check_rules.specs.declared.standing.Standing.{Standing}
 use Rattle.check_rules.specs.declared.state.State as rules
-use Rattle.check_saved.specs.Saved.{Saved, SavedObject, saved_named}
-use Rattle.check_saved.specs.Scheduling.{Scheduling}
+use Rattle.check_saved_state.specs.Saved.{Saved, SavedObject, saved_by_name}
+use Rattle.check_saved_state.specs.Scheduling.{Scheduling}
 use Rattle.check_spread.specs.Spread.{milliseconds}
-use Rattle.check_sched.specs.Saved.{each_object, results_of, saved_object, scheduling_of, standing_of, time_among}
+use Rattle.check_sched.specs.Saved.{each_object, results_after_resume, saved_object, scheduling_after_resume, standing_after_resume, time_among}
 use Rattle.check_sched.specs.Scheduling.{opening_object}
 use Rattle.check_sched.specs.State.{State, is_host, results_at, standing_at}
 use Rattle.check_sched.proofs.OpeningLaws.{one_more}
@@ -19,7 +20,7 @@ use Rattle.check_sched.proofs.ReportLaws.{read_at}
 use Rattle.check_sched.proofs.ResumedLaws.{length-made}
 
 -- what is made of the object with this number
-get_each : {X : Type 0} (made : ℕ × Named → X) (k n : ℕ) (os : List Named) (o : Named) (d : X) → slice_get os n ≡ Some o
+get_each : {X : Type 0} (made : ℕ × NamedObject → X) (k n : ℕ) (os : List NamedObject) (o : NamedObject) (d : X) → slice_get os n ≡ Some o
     → get_or (map made (enumerate_from k os)) n d ≡ made (k + n, o)
 get_each made k n [] o d e = cc
 get_each made k zero (p ∷ os) o d e =
@@ -27,14 +28,14 @@ get_each made k zero (p ∷ os) o d e =
     let here : k ≡ k + 0 = omega arith in
     λ i. made (here i, same i)
 get_each made k (suc n) (p ∷ os) o d e =
-    let there : k + 1 + n ≡ k + suc n = omega arith in get_each made (k + 1) n os o d e ∙ ap (λ j. made (j, o)) there
+    let in_range : k + 1 + n ≡ k + suc n = omega arith in get_each made (k + 1) n os o d e ∙ ap (λ j. made (j, o)) in_range
 
-pub slice_each : {X : Type 0} (made : ℕ × Named → X) (n : ℕ) (os : List Named) (o : Named) → slice_get os n ≡ Some o
+pub slice_each : {X : Type 0} (made : ℕ × NamedObject → X) (n : ℕ) (os : List NamedObject) (o : NamedObject) → slice_get os n ≡ Some o
     → slice_get (map made (enumerate_from 0 os)) n ≡ Some (made (n, o))
 slice_each made n os o e =
     let z : 0 + n ≡ n = omega arith in from_k made 0 n os o e ∙ ap (λ j. Some (made (j, o))) z
   where
-    from_k : {X : Type 0} (f : ℕ × Named → X) (k m : ℕ) (xs : List Named) (x : Named) → slice_get xs m ≡ Some x
+    from_k : {X : Type 0} (f : ℕ × NamedObject → X) (k m : ℕ) (xs : List NamedObject) (x : NamedObject) → slice_get xs m ≡ Some x
         → slice_get (map f (enumerate_from k xs)) m ≡ Some (f (k + m, x))
     from_k f k m [] x g = cc
     from_k f k zero (y ∷ xs) x g =
@@ -42,11 +43,11 @@ slice_each made n os o e =
         let here : k ≡ k + 0 = omega arith in
         λ i. Some (f (here i, same i))
     from_k f k (suc m) (y ∷ xs) x g =
-        let there : k + 1 + m ≡ k + suc m = omega arith in from_k f (k + 1) m xs x g ∙ ap (λ j. Some (f (j, x))) there
+        let in_range : k + 1 + m ≡ k + suc m = omega arith in from_k f (k + 1) m xs x g ∙ ap (λ j. Some (f (j, x))) in_range
 
 -- one object more
-pub one_each : {X : Type 0} (c : Configuration) (made : ℕ × Named → X) (n : ℕ) (was more : List X) (x : X) → n < object_count c
-    → more ≡ was ++ x ∷ [] → was ≡ take n (each_object c made) → ((o : Named) → slice_get (objects_of c) n ≡ Some o → x ≡ made (n, o))
+pub one_each : {X : Type 0} (c : Configuration) (made : ℕ × NamedObject → X) (n : ℕ) (was more : List X) (x : X) → n < object_count c
+    → more ≡ was ++ x ∷ [] → was ≡ take n (each_object c made) → ((o : NamedObject) → slice_get (objects_of c) n ≡ Some o → x ≡ made (n, o))
     → more ≡ take (n + 1) (each_object c made)
 one_each c made n was more x l e f h =
     let found = item_at (objects_of c) n l in
@@ -58,19 +59,19 @@ one_each c made n was more x l e f h =
 
 -- ---- an object of a setup, as the code reads it
 
-pub object_is : (found : Option Named) (o : Named) (object : Object) → found ≡ Some o → option_map (λ x. x.object) found ≡ Some object → object ≡ o.object
+pub object_is : (found : Option NamedObject) (o : NamedObject) (object : Object) → found ≡ Some o → option_map (λ x. x.object) found ≡ Some object → object ≡ o.object
 object_is None o object e f = cc
 object_is (Some x) o object e f =
     let same : x ≡ o = cc in
     let read : x.object ≡ object = cc in
-    sym read ∙ ap (λ (y : Named). y.object) same
+    sym read ∙ ap (λ (y : NamedObject). y.object) same
 
-pub name_is : (c : Configuration) (n : ℕ) (o : Named) → slice_get (objects_of c) n ≡ Some o → name_of c n ≡ o.name
-name_is c n o e = ap (λ found. unwrap_or (option_map (λ (x : Named). x.name) found) []) e
+pub name_is : (c : Configuration) (n : ℕ) (o : NamedObject) → slice_get (objects_of c) n ≡ Some o → name_of c n ≡ o.name
+name_is c n o e = ap (λ found. unwrap_or (option_map (λ (x : NamedObject). x.name) found) []) e
 
 -- ---- what is saved of an object
 
-pub saved_made : (s : State) (n : ℕ) (o : Named) (object : Object) (name : List ℕ) (standing : Standing) (results : List rules.State) (x y : Scheduling) (interval : ℕ)
+pub saved_made : (s : State) (n : ℕ) (o : NamedObject) (object : Object) (name : List ℕ) (standing : Standing) (results : List rules.State) (x y : Scheduling) (interval : ℕ)
     → slice_get (objects_of s.setup) n ≡ Some o → option_map (λ z. z.object) (slice_get (objects_of s.setup) n) ≡ Some object
     → name ≡ name_of s.setup n → standing_at s.standings n ≡ standing → results ≡ results_at s.results n
     → slice_get s.objects n ≡ Some x → y ≡ x → interval ≡ milliseconds s.setup object.check_interval
@@ -110,25 +111,25 @@ time_read times n first l e =
     some_read (y ∷ ys) zero d = refl
     some_read (y ∷ ys) (suc k) d = some_read ys k d
 
-pub scheduling_seen : (c : Configuration) (saved : Saved) (times : List (Option ℕ)) (n : ℕ) (o : Named) (object : Object) (first : Option ℕ)
+pub scheduling_seen : (c : Configuration) (saved : Saved) (times : List (Option ℕ)) (n : ℕ) (o : NamedObject) (object : Object) (first : Option ℕ)
     (found : Option SavedObject) (x : Scheduling) → slice_get (objects_of c) n ≡ Some o → option_map (λ z. z.object) (slice_get (objects_of c) n) ≡ Some object
-    → n < length times → first ≡ get_or times n None → found ≡ saved_named saved (name_of c n) → x ≡ scheduling_of c first object found
-    → x ≡ scheduling_of c (time_among times n) o.object (saved_named saved o.name)
+    → n < length times → first ≡ get_or times n None → found ≡ saved_by_name saved (name_of c n) → x ≡ scheduling_after_resume c first object found
+    → x ≡ scheduling_after_resume c (time_among times n) o.object (saved_by_name saved o.name)
 scheduling_seen c saved times n o object first found x e f l g h m =
     let same = object_is (slice_get (objects_of c) n) o object e f in
-    let was = h ∙ ap (saved_named saved) (name_is c n o e) in
+    let was = h ∙ ap (saved_by_name saved) (name_is c n o e) in
     let time = time_read times n first l g in
-    m ∙ (λ i. scheduling_of c (time i) (same i) (was i))
+    m ∙ (λ i. scheduling_after_resume c (time i) (same i) (was i))
 
-pub standing_seen : (c : Configuration) (saved : Saved) (n : ℕ) (o : Named) (object : Object) (host : Bool)
+pub standing_seen : (c : Configuration) (saved : Saved) (n : ℕ) (o : NamedObject) (object : Object) (host : Bool)
     (found : Option SavedObject) (x : Standing) → slice_get (objects_of c) n ≡ Some o → option_map (λ z. z.object) (slice_get (objects_of c) n) ≡ Some object
-    → host ≡ is_host c n → found ≡ saved_named saved (name_of c n) → x ≡ standing_of host object found
-    → x ≡ standing_of (is_host c n) o.object (saved_named saved o.name)
+    → host ≡ is_host c n → found ≡ saved_by_name saved (name_of c n) → x ≡ standing_after_resume host object found
+    → x ≡ standing_after_resume (is_host c n) o.object (saved_by_name saved o.name)
 standing_seen c saved n o object host found x e f g h m =
     let same = object_is (slice_get (objects_of c) n) o object e f in
-    let was = h ∙ ap (saved_named saved) (name_is c n o e) in
-    m ∙ (λ i. standing_of (g i) (same i) (was i))
+    let was = h ∙ ap (saved_by_name saved) (name_is c n o e) in
+    m ∙ (λ i. standing_after_resume (g i) (same i) (was i))
 
-pub results_seen : (c : Configuration) (saved : Saved) (n : ℕ) (o : Named) (found : Option SavedObject) (x : List rules.State)
-    → slice_get (objects_of c) n ≡ Some o → found ≡ saved_named saved (name_of c n) → x ≡ results_of found → x ≡ results_of (saved_named saved o.name)
-results_seen c saved n o found x e h m = m ∙ ap results_of (h ∙ ap (saved_named saved) (name_is c n o e))
+pub results_seen : (c : Configuration) (saved : Saved) (n : ℕ) (o : NamedObject) (found : Option SavedObject) (x : List rules.State)
+    → slice_get (objects_of c) n ≡ Some o → found ≡ saved_by_name saved (name_of c n) → x ≡ results_after_resume found → x ≡ results_after_resume (saved_by_name saved o.name)
+results_seen c saved n o found x e h m = m ∙ ap results_after_resume (h ∙ ap (saved_by_name saved) (name_is c n o e))

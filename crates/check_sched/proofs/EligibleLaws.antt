@@ -8,13 +8,13 @@ use Rattle.std.proofs.lemmas.Bool.Decides.{nat_tests}
 use Rattle.std.proofs.lemmas.Bool.{and_from}
 use Rattle.check_objects.specs.Configuration.{Configuration, host_count}
 use Rattle.check_sched.specs.Scheduling.{candidate_time}
-use Rattle.check_saved.specs.Scheduling.{Scheduling}
+use Rattle.check_saved_state.specs.Scheduling.{Scheduling}
 use Rattle.check_sched.specs.Candidate.{Candidate, candidate, candidates_among, due_among, if_due}
 use Rattle.check_queue.specs.Order.{least}
 use Rattle.check_sched.specs.declared.call.Reply.{Reply}
 use Rattle.check_sched.specs.declared.call.Reply.TheVariants as reply
-use Rattle.check_sched.specs.State.{State, has_room, is_host}
-use Rattle.check_sched.specs.Step.{candidates, due, eligible, is_open, waiting_reply}
+use Rattle.check_sched.specs.State.{State, is_below_limit, is_host}
+use Rattle.check_sched.specs.Step.{candidates, due_candidates, eligible_candidates, is_startable, waiting_reply}
 use Rattle.check_queue.proofs.LeastLaws.{FoundLeast, IsLeast, all_at_least, any_filtered, is_same, least_is_found, none_filtered, same_is}
 use Rattle.check_sched.proofs.CandidateLaws.{least_due}
 
@@ -88,13 +88,13 @@ open_by now setup objects false =
     ∙ ap (due_among now) (sym (numbered_first 0 (host_count setup) (host_count setup) objects (omega arith)))
 
 -- they are the due among all objects, or among the hosts, by whether there is room
-pub eligible_is : (now : ℕ) (s : State) (room : Bool) → has_room s ≡ room
-    → eligible now s ≡ due_among now (candidates_among (cond room s.objects (take (host_count s.setup) s.objects)))
+pub eligible_is : (now : ℕ) (s : State) (room : Bool) → is_below_limit s ≡ room
+    → eligible_candidates now s ≡ due_among now (candidates_among (cond room s.objects (take (host_count s.setup) s.objects)))
 eligible_is now s room e = ap (λ b. filter (λ c. is_host s.setup c.1 || b) (due_among now (candidates_among s.objects))) e ∙ open_by now s.setup s.objects room
 
 -- the check of the one that is chosen may begin
-pub eligible_open : (now : ℕ) (s : State) (c : Candidate) → least (eligible now s) ≡ Some c → is_open s c.1 ≡ true
-eligible_open now s c e = all_at_least (λ x. is_open s x.1) c (eligible now s) e (filtered_pass (λ x. is_open s x.1) (due now s))
+pub eligible_open : (now : ℕ) (s : State) (c : Candidate) → least (eligible_candidates now s) ≡ Some c → is_startable s c.1 ≡ true
+eligible_open now s c e = all_at_least (λ x. is_startable s x.1) c (eligible_candidates now s) e (filtered_pass (λ x. is_startable s x.1) (due_candidates now s))
 
 -- ---- the reply where none may begin
 
@@ -105,7 +105,7 @@ waiting_by P false next limit idle = idle
 -- it is one of two
 pub waiting_cases : (P : Reply → Type 0) (now : ℕ) (s : State) → P reply.AtLimit → P (reply.Idle (option_map (λ c. c.0) (least (candidates s))))
     → P (waiting_reply now s)
-waiting_cases P now s limit idle = waiting_by P (list_any (λ c. not (is_host s.setup c.1)) (due now s)) _ limit idle
+waiting_cases P now s limit idle = waiting_by P (list_any (λ c. not (is_host s.setup c.1)) (due_candidates now s)) _ limit idle
 
 any_same_by : (p : Candidate → Bool) (c d : Candidate) (cs : List Candidate) (b : Bool) → is_same c d ≡ b → p c ≡ true
     → (b || list_any (is_same c) cs) ≡ true → (list_any (is_same c) cs ≡ true → list_any p cs ≡ true) → (p d || list_any p cs) ≡ true
@@ -123,44 +123,44 @@ least_some : (c : Candidate) (cs : List Candidate) → least cs ≡ Some c → I
 least_some c cs e = subst (λ first. FoundLeast first cs) e (least_is_found cs)
 
 -- the least of all that wait, where it is due, is the least of the due
-due_least : (now : ℕ) (s : State) (c : Candidate) → least (candidates s) ≡ Some c → c.0 ≤ now → least (due now s) ≡ Some c
+due_least : (now : ℕ) (s : State) (c : Candidate) → least (candidates s) ≡ Some c → c.0 ≤ now → least (due_candidates now s) ≡ Some c
 due_least now s c e l =
     let is_due : nat_le c.0 now ≡ true = grind (arith, nat_tests, l) in
     sym (least_due now (candidates s)) ∙ ap (if_due now) e ∙ ap (λ b. cond b (Some c) None) is_due
 
-closed_by : (now : ℕ) (s : State) (c : Candidate) (host : Bool) → is_host s.setup c.1 ≡ host → eligible now s ≡ []
-    → list_any (is_same c) (due now s) ≡ true → host ≡ false
+closed_by : (now : ℕ) (s : State) (c : Candidate) (host : Bool) → is_host s.setup c.1 ≡ host → eligible_candidates now s ≡ []
+    → list_any (is_same c) (due_candidates now s) ≡ true → host ≡ false
 closed_by now s c false e none m = refl
 closed_by now s c true e none m =
-    let here : is_open s c.1 ≡ true = rw e refl in
-    let among : list_any (is_same c) (eligible now s) ≡ true = any_filtered c (λ x. is_open s x.1) (due now s) here m in
-    let empty : list_any (is_same c) (eligible now s) ≡ false = ap (list_any (is_same c)) none in
+    let here : is_startable s c.1 ≡ true = rw e refl in
+    let among : list_any (is_same c) (eligible_candidates now s) ≡ true = any_filtered c (λ x. is_startable s x.1) (due_candidates now s) here m in
+    let empty : list_any (is_same c) (eligible_candidates now s) ≡ false = ap (list_any (is_same c)) none in
     cc
 
 -- none may begin, and the least of all that wait is due: it is a service, and the limit is reached
-pub waiting_at_limit : (now : ℕ) (s : State) (c : Candidate) → least (eligible now s) ≡ None → least (candidates s) ≡ Some c → c.0 ≤ now
+pub waiting_at_limit : (now : ℕ) (s : State) (c : Candidate) → least (eligible_candidates now s) ≡ None → least (candidates s) ≡ Some c → c.0 ≤ now
     → waiting_reply now s ≡ reply.AtLimit
 waiting_at_limit now s c none e l =
-    let among = (least_some c (due now s) (due_least now s c e l)).among in
-    let service : is_host s.setup c.1 ≡ false = closed_by now s c (is_host s.setup c.1) refl (least_none (eligible now s) none) among in
+    let among = (least_some c (due_candidates now s) (due_least now s c e l)).among in
+    let service : is_host s.setup c.1 ≡ false = closed_by now s c (is_host s.setup c.1) refl (least_none (eligible_candidates now s) none) among in
     let here : not (is_host s.setup c.1) ≡ true = ap not service in
     ap (λ b. cond b reply.AtLimit (reply.Idle (option_map (λ x. x.0) (least (candidates s)))))
-    (any_same (λ x. not (is_host s.setup x.1)) c (due now s) here among)
+    (any_same (λ x. not (is_host s.setup x.1)) c (due_candidates now s) here among)
 
-none_due : (now : ℕ) (s : State) → least (due now s) ≡ None → waiting_reply now s ≡ reply.Idle (option_map (λ x. x.0) (least (candidates s)))
+none_due : (now : ℕ) (s : State) → least (due_candidates now s) ≡ None → waiting_reply now s ≡ reply.Idle (option_map (λ x. x.0) (least (candidates s)))
 none_due now s e =
     ap (λ l. cond (list_any (λ c. not (is_host s.setup c.1)) l) reply.AtLimit (reply.Idle (option_map (λ x. x.0) (least (candidates s)))))
-    (least_none (due now s) e)
+    (least_none (due_candidates now s) e)
 
 -- the least of all that wait isn't due, and so none is
 pub waiting_early : (now : ℕ) (s : State) (c : Candidate) → least (candidates s) ≡ Some c → now < c.0 → waiting_reply now s ≡ reply.Idle (Some c.0)
 waiting_early now s c e l =
     let is_late : nat_le c.0 now ≡ false = grind (arith, nat_tests, l) in
-    let none : least (due now s) ≡ None = sym (least_due now (candidates s)) ∙ ap (if_due now) e ∙ ap (λ b. cond b (Some c) None) is_late in
+    let none : least (due_candidates now s) ≡ None = sym (least_due now (candidates s)) ∙ ap (if_due now) e ∙ ap (λ b. cond b (Some c) None) is_late in
     none_due now s none ∙ ap (λ f. reply.Idle (option_map (λ x. x.0) f)) e
 
 -- none waits
 pub waiting_none : (now : ℕ) (s : State) → least (candidates s) ≡ None → waiting_reply now s ≡ reply.Idle None
 waiting_none now s e =
-    let none : least (due now s) ≡ None = sym (least_due now (candidates s)) ∙ ap (if_due now) e in
+    let none : least (due_candidates now s) ≡ None = sym (least_due now (candidates s)) ∙ ap (if_due now) e in
     none_due now s none ∙ ap (λ f. reply.Idle (option_map (λ x. x.0) f)) e

@@ -8,24 +8,24 @@ use Rattle.std.proofs.lemmas.List.{append-nil, append_assoc, drop-append-le, dro
 use Rattle.std.proofs.lemmas.Option.{slice_get_within}
 use Rattle.std.proofs.lemmas.Slice.Zip.{length-zip}
 use Rattle.circular_buffer.specs.Buffer.{keep_last}
-use Rattle.ticket_steps.specs.declared.kept.Entry.{Entry}
+use Rattle.ticket_steps.specs.declared.books.Entry.{Entry}
 use Rattle.ticket_steps.specs.History.{replay, IsLegal}
-use Rattle.check_objects.specs.Configuration.{Configuration, Named, object_count, objects_of}
+use Rattle.check_objects.specs.Configuration.{Configuration, NamedObject, object_count, objects_of}
 use Rattle.check_rules.specs.declared.state.State as rules
 use Rattle.check_rules.specs.declared.standing.Standing.{Standing}
-use Rattle.check_rules.specs.declared.flapping.TheConstants.{KEPT_RESULTS}
-use Rattle.check_rules.specs.Flapping.{kept_after}
+use Rattle.check_rules.specs.declared.flapping.TheConstants.{STORED_RESULTS}
+use Rattle.check_rules.specs.Flapping.{results_after}
 use Rattle.check_rules.specs.Standing.{pending_standing}
 use Rattle.check_spread.specs.Spread.{initial_times}
 use Rattle.check_sched.specs.declared.call.Call.{Call}
 use Rattle.check_sched.specs.declared.call.Call.TheVariants as call
 use Rattle.check_sched.specs.declared.call.Reply.{Reply}
 use Rattle.check_sched.specs.Report.{next_after}
-use Rattle.check_sched.specs.Scheduling.{ended}
-use Rattle.check_saved.specs.Scheduling.{Scheduling}
+use Rattle.check_sched.specs.Scheduling.{object_after_run}
+use Rattle.check_saved_state.specs.Scheduling.{Scheduling}
 use Rattle.check_sched.specs.State.{State, flap_thresholds_of, is_host, opening, opening_objects, opening_results, results_at, standing_at}
-use Rattle.check_sched.specs.Step.{found_in, judged_in, reported, step, update_at}
-use Rattle.check_sched.specs.Flapping.{Flapping, flapping_in, never_checked, states_told, told_by, with_result, with_results}
+use Rattle.check_sched.specs.Step.{state_found_in, new_standing_in, state_after_report, step, update_at}
+use Rattle.check_sched.specs.Flapping.{Flapping, flapping_in, never_checked, reported_states, reported_state, with_result, with_results}
 use Rattle.check_sched.proofs.OpeningLaws.{length-opening_standings}
 use Rattle.check_sched.proofs.OperatorLaws.{abandon_cases, enable_cases, reschedule_cases, status_cases}
 use Rattle.check_sched.proofs.ReportLaws.{report_cases}
@@ -43,11 +43,11 @@ object_changed : (n : ℕ) (f : Scheduling → Scheduling) (s : State) → HasPl
     → (length (update_at n f s.objects) ≤ length s.standings) × (length (update_at n f s.objects) ≤ length s.results)
 object_changed n f s was = let same = length-update_at n f s.objects in (omega (arith, same, was.0), omega (arith, same, was.1))
 
-object_reported : (n : ℕ) (found : rules.State) (standing : Standing) (next : Option ℕ) (s : State) → HasPlaces s → HasPlaces (reported n found standing next s)
+object_reported : (n : ℕ) (found : rules.State) (standing : Standing) (next : Option ℕ) (s : State) → HasPlaces s → HasPlaces (state_after_report n found standing next s)
 object_reported n found standing next s was =
-    let objects = object_changed n (ended next) s was in
+    let objects = object_changed n (object_after_run next) s was in
     let standings = length-update_at n (λ (before : Standing). standing) s.standings in
-    let results = length-update_at n (λ kept. kept_after kept found) s.results in
+    let results = length-update_at n (λ kept. results_after kept found) s.results in
     (omega (arith, objects.0, standings), omega (arith, objects.1, results))
 
 step_places : (s : State) (c : Call) → HasPlaces s → HasPlaces (step s c).0
@@ -71,7 +71,7 @@ opening_places setup start =
 -- ---- one call
 
 pub results_here : (xs : List (List rules.State)) (n : ℕ) (found : rules.State) → n < length xs
-    → results_at (update_at n (λ kept. kept_after kept found) xs) n ≡ kept_after (results_at xs n) found
+    → results_at (update_at n (λ kept. results_after kept found) xs) n ≡ results_after (results_at xs n) found
 results_here [] n found l = absurd (omega arith)
 results_here (x ∷ xs) zero found l = refl
 results_here (x ∷ xs) (suc n) found l = results_here xs n found (omega arith)
@@ -83,17 +83,17 @@ standing_here (x ∷ xs) (suc n) t l = standing_here xs n t (omega arith)
 
 -- the object that a report is of has one result more
 reported_here : (s : State) (n : ℕ) (found : rules.State) (next : Option ℕ) → n < length s.standings → n < length s.results
-    → flapping_in (reported n found (judged_in s n found) next s) n ≡ with_result (flap_thresholds_of s.setup n) (flapping_in s n) found
+    → flapping_in (state_after_report n found (new_standing_in s n found) next s) n ≡ with_result (flap_thresholds_of s.setup n) (flapping_in s n) found
 reported_here s n found next l m i = record {
   results = results_here s.results n found m i;
-  flapping = (standing_here s.standings n (judged_in s n found) l i).flapping;
+  flapping = (standing_here s.standings n (new_standing_in s n found) l i).flapping;
 }
 
 -- any other is as it was
 reported_apart : (s : State) (n object : ℕ) (found : rules.State) (standing : Standing) (next : Option ℕ) → n ≢ object
-    → flapping_in (reported n found standing next s) object ≡ flapping_in s object
+    → flapping_in (state_after_report n found standing next s) object ≡ flapping_in s object
 reported_apart s n object found standing next h i = record {
-  results = unwrap_or (update_at_apart n object (λ kept. kept_after kept found) s.results h i) [];
+  results = unwrap_or (update_at_apart n object (λ kept. results_after kept found) s.results h i) [];
   flapping = (unwrap_or (update_at_apart n object (λ (before : Standing). standing) s.standings h i) (pending_standing true)).flapping;
 }
 
@@ -104,31 +104,31 @@ with_told thresholds was (Some found) = with_result thresholds was found
 
 reported_by : (s : State) (n object : ℕ) (found : rules.State) (next : Option ℕ) (same : Bool) → (n == object) ≡ same
     → n < length s.standings → n < length s.results
-    → flapping_in (reported n found (judged_in s n found) next s) object
+    → flapping_in (state_after_report n found (new_standing_in s n found) next s) object
     ≡ with_told (flap_thresholds_of s.setup object) (flapping_in s object) (cond same (Some found) None)
 reported_by s n object found next true e l m =
-    subst (λ k. flapping_in (reported n found (judged_in s n found) next s) k ≡ with_result (flap_thresholds_of s.setup k) (flapping_in s k) found)
+    subst (λ k. flapping_in (state_after_report n found (new_standing_in s n found) next s) k ≡ with_result (flap_thresholds_of s.setup k) (flapping_in s k) found)
     (eqb-true n object e) (reported_here s n found next l m)
 reported_by s n object found next false e l m =
-    reported_apart s n object found (judged_in s n found) next (λ same. let clash : true ≡ false = sym (eq-eqb n object same) ∙ e in cc)
+    reported_apart s n object found (new_standing_in s n found) next (λ same. let clash : true ≡ false = sym (eq-eqb n object same) ∙ e in cc)
 
 -- what a call leaves of an object, by what its answer says
 abbrev Tells : State → ℕ → Call → State × Reply → Type 0
-Tells s object c a = flapping_in a.0 object ≡ with_told (flap_thresholds_of s.setup object) (flapping_in s object) (told_by object c a.1)
+Tells s object c a = flapping_in a.0 object ≡ with_told (flap_thresholds_of s.setup object) (flapping_in s object) (reported_state object c a.1)
 
 step_tells : (s : State) (object : ℕ) (c : Call) → HasPlaces s → Tells s object c (step s c)
-step_tells s object (call.Take now) places =
+step_tells s object (call.Take now) saved_indexes =
     take_cases (Tells s object (call.Take now)) now s (λ why. refl) (λ c m e. refl) (λ c m r e. refl) (λ e. refl)
-step_tells s object (call.Report n run c) places =
+step_tells s object (call.Report n run c) saved_indexes =
     report_cases (Tells s object (call.Report n run c)) n run c s (λ why. refl)
-    (λ o r e f. let there = slice_get_within s.objects n o e in
-    let next = next_after s.setup n (judged_in s n (found_in s n c)) r.start o.next in
-    reported_by s n object (found_in s n c) next (n == object) refl (omega (arith, there, places.0)) (omega (arith, there, places.1)))
-step_tells s object (call.Abandon n run now) places = abandon_cases (Tells s object (call.Abandon n run now)) n run now s (λ why. refl) (λ o e m. refl)
-step_tells s object (call.Reschedule n time forced) places =
+    (λ o r e f. let in_range = slice_get_within s.objects n o e in
+    let next = next_after s.setup n (new_standing_in s n (state_found_in s n c)) r.start o.next in
+    reported_by s n object (state_found_in s n c) next (n == object) refl (omega (arith, in_range, saved_indexes.0)) (omega (arith, in_range, saved_indexes.1)))
+step_tells s object (call.Abandon n run now) saved_indexes = abandon_cases (Tells s object (call.Abandon n run now)) n run now s (λ why. refl) (λ o e m. refl)
+step_tells s object (call.Reschedule n time forced) saved_indexes =
     reschedule_cases (Tells s object (call.Reschedule n time forced)) n time forced s (λ why. refl) (λ m. refl)
-step_tells s object (call.Enable n on) places = enable_cases (Tells s object (call.Enable n on)) n on s (λ why. refl) refl
-step_tells s object (call.Status n) places = status_cases (Tells s object (call.Status n)) n s (λ why. refl) (λ o e. refl)
+step_tells s object (call.Enable n on) saved_indexes = enable_cases (Tells s object (call.Enable n on)) n on s (λ why. refl) refl
+step_tells s object (call.Status n) saved_indexes = status_cases (Tells s object (call.Status n)) n s (λ why. refl) (λ o e. refl)
 
 -- ---- histories
 
@@ -138,17 +138,17 @@ told_first thresholds was None later = refl
 told_first thresholds was (Some found) later = refl
 
 pub replay_tells : (s : State) (h : List (Entry Call Reply)) (object : ℕ) → HasPlaces s → IsLegal step s h
-    → flapping_in (replay step s h) object ≡ with_results (flap_thresholds_of s.setup object) (flapping_in s object) (states_told object h)
-replay_tells s [] object places legal = refl
-replay_tells s (e ∷ h) object places legal =
+    → flapping_in (replay step s h) object ≡ with_results (flap_thresholds_of s.setup object) (flapping_in s object) (reported_states object h)
+replay_tells s [] object saved_indexes legal = refl
+replay_tells s (e ∷ h) object saved_indexes legal =
     let next = (step s e.call).0 in
-    let told : flapping_in next object ≡ with_told (flap_thresholds_of s.setup object) (flapping_in s object) (told_by object e.call e.reply) =
-    subst (λ r. flapping_in next object ≡ with_told (flap_thresholds_of s.setup object) (flapping_in s object) (told_by object e.call r))
-    (sym legal.0) (step_tells s object e.call places) in
-    replay_tells next h object (step_places s e.call places) legal.1
-    ∙ ap (λ c. with_results (flap_thresholds_of c object) (flapping_in next object) (states_told object h)) (step_keeps s e.call).setup
-    ∙ ap (λ f. with_results (flap_thresholds_of s.setup object) f (states_told object h)) told
-    ∙ told_first (flap_thresholds_of s.setup object) (flapping_in s object) (told_by object e.call e.reply) (states_told object h)
+    let told : flapping_in next object ≡ with_told (flap_thresholds_of s.setup object) (flapping_in s object) (reported_state object e.call e.reply) =
+    subst (λ r. flapping_in next object ≡ with_told (flap_thresholds_of s.setup object) (flapping_in s object) (reported_state object e.call r))
+    (sym legal.0) (step_tells s object e.call saved_indexes) in
+    replay_tells next h object (step_places s e.call saved_indexes) legal.1
+    ∙ ap (λ c. with_results (flap_thresholds_of c object) (flapping_in next object) (reported_states object h)) (step_keeps s e.call).setup
+    ∙ ap (λ f. with_results (flap_thresholds_of s.setup object) f (reported_states object h)) told
+    ∙ told_first (flap_thresholds_of s.setup object) (flapping_in s object) (reported_state object e.call e.reply) (reported_states object h)
 
 -- ---- the opening
 
@@ -157,7 +157,7 @@ no_results zero n = refl
 no_results (suc count) zero = refl
 no_results (suc count) (suc n) = no_results count n
 
-steady_from : (setup : Configuration) (k : ℕ) (os : List Named) (n : ℕ)
+steady_from : (setup : Configuration) (k : ℕ) (os : List NamedObject) (n : ℕ)
     → (standing_at (map (λ p. pending_standing (is_host setup p.0)) (enumerate_from k os)) n).flapping ≡ false
 steady_from setup k [] n = refl
 steady_from setup k (o ∷ os) zero = refl
@@ -172,10 +172,10 @@ opening_flapping setup start object i = record {
 -- In a legal history from the opening on, the results that are kept of an object, and whether it flaps, are what comes of
 -- the states that its reports were answered with, one after another.
 pub opened_flapping : (setup : Configuration) (start : ℕ) (h : List (Entry Call Reply)) (object : ℕ) → IsLegal step (opening setup start) h
-    → flapping_in (replay step (opening setup start) h) object ≡ with_results (flap_thresholds_of setup object) never_checked (states_told object h)
+    → flapping_in (replay step (opening setup start) h) object ≡ with_results (flap_thresholds_of setup object) never_checked (reported_states object h)
 opened_flapping setup start h object legal =
     replay_tells (opening setup start) h object (opening_places setup start) legal
-    ∙ ap (λ f. with_results (flap_thresholds_of setup object) f (states_told object h)) (opening_flapping setup start object)
+    ∙ ap (λ f. with_results (flap_thresholds_of setup object) f (reported_states object h)) (opening_flapping setup start object)
 
 -- ---- the last of all
 
@@ -191,17 +191,17 @@ keep_more n xs x =
     let count : past + (length (kept ++ x ∷ []) - n) ≡ length (xs ++ x ∷ []) - n = omega (arith, one, all, long) in
     ap (drop (length (kept ++ x ∷ []) - n)) seam ∙ drop-drop (length (kept ++ x ∷ []) - n) past (xs ++ x ∷ []) ∙ ap (λ k. drop k (xs ++ x ∷ [])) count
 
-pub kept_of_all : (thresholds : ℕ × ℕ) (was : Flapping) (front later : List rules.State) → was.results ≡ keep_last KEPT_RESULTS front
-    → (with_results thresholds was later).results ≡ keep_last KEPT_RESULTS (front ++ later)
-kept_of_all thresholds was front [] e = e ∙ ap (keep_last KEPT_RESULTS) (sym (append-nil front))
+pub kept_of_all : (thresholds : ℕ × ℕ) (was : Flapping) (front later : List rules.State) → was.results ≡ keep_last STORED_RESULTS front
+    → (with_results thresholds was later).results ≡ keep_last STORED_RESULTS (front ++ later)
+kept_of_all thresholds was front [] e = e ∙ ap (keep_last STORED_RESULTS) (sym (append-nil front))
 kept_of_all thresholds was front (found ∷ later) e =
     kept_of_all thresholds (with_result thresholds was found) (front ++ found ∷ []) later
-    (ap (λ kept. kept_after kept found) e ∙ keep_more KEPT_RESULTS front found)
-    ∙ ap (keep_last KEPT_RESULTS) (append_assoc front (found ∷ []) later)
+    (ap (λ kept. results_after kept found) e ∙ keep_more STORED_RESULTS front found)
+    ∙ ap (keep_last STORED_RESULTS) (append_assoc front (found ∷ []) later)
 
 -- The results that are kept are the last of all.
 pub opened_results : (setup : Configuration) (start : ℕ) (h : List (Entry Call Reply)) (object : ℕ) → IsLegal step (opening setup start) h
-    → results_at (replay step (opening setup start) h).results object ≡ keep_last KEPT_RESULTS (states_told object h)
+    → results_at (replay step (opening setup start) h).results object ≡ keep_last STORED_RESULTS (reported_states object h)
 opened_results setup start h object legal =
     ap (λ (f : Flapping). f.results) (opened_flapping setup start h object legal)
-    ∙ kept_of_all (flap_thresholds_of setup object) never_checked [] (states_told object h) refl
+    ∙ kept_of_all (flap_thresholds_of setup object) never_checked [] (reported_states object h) refl

@@ -1,117 +1,119 @@
--- Laws of the intervals of objects in milliseconds: the next time that they give is the one that the setup gives.
-use Rattle.std.proofs.Common.{◌≡◌, ℕ, ◌+◌, ◌*◌, ◌<◌, ◌≤◌, ◌==◌, Bool, true, false, cond, List, [], ◌∷◌, ◌++◌, length, take, get_or, Option, None, Some, refl, sym, ap, subst, ◌∙◌, arith}
+-- Laws of the intervals of objects in milliseconds: the times that follow from those that were computed are the ones that follow from the setup.
+use Rattle.std.proofs.Common.{◌≡◌, ℕ, ◌+◌, ◌*◌, ◌<◌, ◌≤◌, Bool, true, false, cond, List, [], ◌∷◌, ◌++◌, length, take, get_or, Option, Some}
+use Rattle.std.proofs.Common.{refl, sym, ap, subst, ◌∙◌, arith}
 use Rattle.std.specs.Prelude.{option_and_then, option_map, slice_get}
 use Rattle.std.specs.Option.{option_or}
 use Rattle.std.proofs.Math.Nat.{mul-le-mul}
-use Rattle.std.proofs.lemmas.Bool.{eqb-false, eqb-true}
 use Rattle.std.proofs.lemmas.List.{length-map, take_more}
 use Rattle.std.proofs.lemmas.Option.{get_or_from_slice_get, slice_get-map}
-use Rattle.check_drafts.specs.declared.object.Object.{Object}
-use Rattle.check_numbers.proofs.NameLemmas.{item_at}
-use Rattle.check_objects.specs.Configuration.{Configuration, IsSetup, Named, is_object_in_range, object_count, objects_of}
+use Rattle.setup_model.specs.declared.parsed_setup.Object.{Object}
+use Rattle.check_objects.proofs.NameLemmas.{item_at}
+use Rattle.check_objects.specs.Configuration.{Configuration, IsSetup, NamedObject, is_object_in_range, object_count, objects_of}
 use Rattle.check_rules.specs.declared.standing.Standing.{Standing}
 use Rattle.check_rules.specs.Standing.{is_soft_problem}
 use Rattle.check_sched.specs.declared.intervals.Intervals.{Intervals}
-use Rattle.check_sched.specs.Intervals.{AreFew, intervals_for, intervals_of, next_by, time_past}
-use Rattle.check_sched.specs.Report.{interval_after, next_after, time_after}
+use Rattle.check_sched.specs.Intervals.{AreBounded, interval_for_standing, intervals_for, intervals_of, time_after}
+use Rattle.check_sched.specs.Report.{next_after, put_off_until}
+use Rattle.check_sched.specs.Sched.{IsWellFormed, state_of}
+use Rattle.check_sched.specs.State.{State, standing_at}
+use Rattle.check_sched.specs.declared.sched.Sched.TheInside.{Inside}
 use Rattle.check_spread.specs.Spread.{milliseconds}
-use Rattle.check_sched.proofs.EachLaws.{object_is}
+use Rattle.check_sched.proofs.EachObjectLaws.{object_is}
 use Rattle.check_sched.proofs.ReportLaws.{check_in_range, object_in_range, read_at, retry_in_range}
 
 -- ---- one object
 
 -- the check intervals of a setup are few milliseconds
 pub few_milliseconds : (setup : Configuration) (interval : ℕ) → IsSetup setup → interval ≤ 525600 → milliseconds setup interval ≤ 45411840000000
-few_milliseconds setup interval valid few =
-    let units : interval * setup.options.interval_length ≤ 525600 * 86400 = mul-le-mul few valid.interval_length in omega (arith, units)
+few_milliseconds setup interval valid bounded =
+    let units : interval * setup.options.interval_length ≤ 525600 * 86400 = mul-le-mul bounded valid.interval_length in omega (arith, units)
 
-intervals_few : (setup : Configuration) (o : Object) → IsSetup setup → is_object_in_range o ≡ true → AreFew (intervals_for setup o)
+pub intervals_few : (setup : Configuration) (o : Object) → IsSetup setup → is_object_in_range o ≡ true → AreBounded (intervals_for setup o)
 intervals_few setup o valid range = record {
   check = few_milliseconds setup o.check_interval valid (check_in_range o range);
   retry = few_milliseconds setup o.retry_interval valid (retry_in_range o range);
 }
 
-some_by : (n : ℕ) (none : Bool) → (n == 0) ≡ none → 1 ≤ n → (n == 0) ≡ false
-some_by n true e l = let nothing : n ≡ 0 = eqb-true n 0 e in absurd (omega (arith, nothing, l))
-some_by n false e l = e
+few_by : (intervals : Intervals) (soft : Bool) → AreBounded intervals → cond soft intervals.retry intervals.check ≤ 45411840000000
+few_by intervals true bounded = bounded.retry
+few_by intervals false bounded = bounded.check
 
-none_by : (n : ℕ) (none : Bool) → (n == 0) ≡ none → n ≡ 0 → (n == 0) ≡ true
-none_by n true e nothing = e
-none_by n false e nothing = absurd (eqb-false n 0 e nothing)
-
--- an interval is 0 where it is 0 milliseconds
-none_same : (setup : Configuration) (interval : ℕ) (none : Bool) → (interval == 0) ≡ none → IsSetup setup
-    → (milliseconds setup interval == 0) ≡ (interval == 0)
-none_same setup interval true e valid =
-    let nothing : interval ≡ 0 = eqb-true interval 0 e in
-    let below : interval ≤ 0 = omega (arith, nothing) in
-    let same : setup.options.interval_length ≤ setup.options.interval_length = omega arith in
-    let units : interval * setup.options.interval_length ≤ 0 * setup.options.interval_length = mul-le-mul below same in
-    none_by (milliseconds setup interval) _ refl (omega (arith, units)) ∙ sym e
-none_same setup interval false e valid =
-    let other = eqb-false interval 0 e in
-    let one : 1 ≤ interval = omega (arith, other) in
-    let units : 1 * 1 ≤ interval * setup.options.interval_length = mul-le-mul one valid.some_interval_length in
-    some_by (milliseconds setup interval) _ refl (omega (arith, units)) ∙ sym e
-
-time_by : (setup : Configuration) (start interval : ℕ) → IsSetup setup → time_past start (milliseconds setup interval) ≡ time_after setup start interval
-time_by setup start interval valid =
-    ap (λ none. cond none None (Some (start + milliseconds setup interval))) (none_same setup interval (interval == 0) refl valid)
-
-interval_same : (setup : Configuration) (o : Object) (start : ℕ) (soft : Bool) → IsSetup setup
-    → time_past start (cond soft (milliseconds setup o.retry_interval) (milliseconds setup o.check_interval))
-    ≡ time_after setup start (cond soft o.retry_interval o.check_interval)
-interval_same setup o start true valid = time_by setup start o.retry_interval valid
-interval_same setup o start false valid = time_by setup start o.check_interval valid
+-- the interval to the next check is one of the two
+pub interval_few : (intervals : Intervals) (standing : Standing) → AreBounded intervals → interval_for_standing intervals standing ≤ 45411840000000
+interval_few intervals standing bounded = few_by intervals (is_soft_problem standing) bounded
 
 -- ---- the object at a place
 
 -- there is a place for each object
 pub intervals_each : (setup : Configuration) (table : List Intervals) → table ≡ intervals_of setup → length table ≡ object_count setup
-intervals_each setup table made = ap length made ∙ length-map (objects_of setup) (λ (o : Named). intervals_for setup o.object)
+intervals_each setup table made = ap length made ∙ length-map (objects_of setup) (λ (o : NamedObject). intervals_for setup o.object)
 
 -- one object more
 pub intervals_seen : (setup : Configuration) (n : ℕ) (o : Object) (made : Intervals) → n < object_count setup
     → option_map (λ x. x.object) (slice_get (objects_of setup) n) ≡ Some o → made ≡ intervals_for setup o
     → take n (intervals_of setup) ++ made ∷ [] ≡ take (n + 1) (intervals_of setup)
-intervals_seen setup n o made there read is =
-    let found = item_at (objects_of setup) n there in
+intervals_seen setup n o made in_range read is =
+    let found = item_at (objects_of setup) n in_range in
     let same = object_is (slice_get (objects_of setup) n) found.item o found.at read in
-    let less : n < length (intervals_of setup) = let each = intervals_each setup (intervals_of setup) refl in omega (arith, there, each) in
+    let less : n < length (intervals_of setup) = let each = intervals_each setup (intervals_of setup) refl in omega (arith, in_range, each) in
     let here : slice_get (intervals_of setup) n ≡ Some made =
-    slice_get-map (λ (x : Named). intervals_for setup x.object) (objects_of setup) n
-    ∙ ap (option_map (λ (x : Named). intervals_for setup x.object)) found.at ∙ ap (λ x. Some (intervals_for setup x)) (sym same) ∙ ap Some (sym is) in
+    slice_get-map (λ (x : NamedObject). intervals_for setup x.object) (objects_of setup) n
+    ∙ ap (option_map (λ (x : NamedObject). intervals_for setup x.object)) found.at ∙ ap (λ x. Some (intervals_for setup x)) (sym same) ∙ ap Some (sym is) in
     ap (λ x. take n (intervals_of setup) ++ x ∷ []) (sym (get_or_from_slice_get (intervals_of setup) n made made here))
     ∙ sym (take_more (intervals_of setup) n made less)
 
 -- what is read of the table is of the object
 pub record AreRead (setup : Configuration) (n : ℕ) (intervals : Intervals) : Type 0 where
-  pub few : AreFew intervals
-  pub next : (standing : Standing) (start : ℕ) (already : Option ℕ) → next_by intervals standing start already ≡ next_after setup n standing start already
+  pub bounded : AreBounded intervals
+  pub next : (standing : Standing) (start : ℕ) (already : Option ℕ)
+      → option_or already (time_after start (interval_for_standing intervals standing)) ≡ next_after setup n standing start already
+  pub until : (now : ℕ) → time_after now intervals.check ≡ put_off_until setup n now
 
-next_at : (setup : Configuration) (n : ℕ) (o : Named) (standing : Standing) (start : ℕ) (already : Option ℕ) → slice_get (objects_of setup) n ≡ Some o
-    → next_after setup n standing start already ≡ option_or already (time_after setup start (interval_after o.object standing))
-next_at setup n o standing start already e =
-    ap (λ found. option_or already (option_and_then (λ (x : Named). time_after setup start (interval_after x.object standing)) found)) e
-
-next_same : (setup : Configuration) (n : ℕ) (o : Named) (standing : Standing) (start : ℕ) (already : Option ℕ) → IsSetup setup
-    → slice_get (objects_of setup) n ≡ Some o → next_by (intervals_for setup o.object) standing start already ≡ next_after setup n standing start already
-next_same setup n o standing start already valid e =
-    ap (option_or already) (interval_same setup o.object start (is_soft_problem standing) valid) ∙ sym (next_at setup n o standing start already e)
-
-read_for : (setup : Configuration) (n : ℕ) (o : Named) → IsSetup setup → slice_get (objects_of setup) n ≡ Some o → AreRead setup n (intervals_for setup o.object)
+read_for : (setup : Configuration) (n : ℕ) (o : NamedObject) → IsSetup setup → slice_get (objects_of setup) n ≡ Some o
+    → AreRead setup n (intervals_for setup o.object)
 read_for setup n o valid e = record {
-  few = intervals_few setup o.object valid (object_in_range setup n o valid e);
-  next = λ standing start already. next_same setup n o standing start already valid e;
+  bounded = intervals_few setup o.object valid (object_in_range setup n o valid e);
+  next =
+      λ standing start already.
+      ap (λ found. option_or already (option_and_then (λ (x : NamedObject). time_after start (interval_for_standing (intervals_for setup x.object) standing)) found)) (sym e);
+  until = λ now. ap (option_and_then (λ (x : NamedObject). time_after now (intervals_for setup x.object).check)) (sym e);
 }
 
-pub intervals_read : (setup : Configuration) (n : ℕ) (table : List Intervals) (x : Intervals) → IsSetup setup → table ≡ intervals_of setup
+intervals_read : (setup : Configuration) (n : ℕ) (table : List Intervals) (x : Intervals) → IsSetup setup → table ≡ intervals_of setup
     → n < object_count setup → x ≡ get_or table n x → AreRead setup n x
-intervals_read setup n table x valid made there read =
-    let long : n < length table = let each = intervals_each setup table made in omega (arith, there, each) in
-    let found = item_at (objects_of setup) n there in
+intervals_read setup n table x valid made in_range read =
+    let long : n < length table = let each = intervals_each setup table made in omega (arith, in_range, each) in
+    let found = item_at (objects_of setup) n in_range in
     let both : Some x ≡ Some (intervals_for setup found.item.object) =
-    sym (read_at table n x long read) ∙ ap (λ xs. slice_get xs n) made ∙ slice_get-map (λ (o : Named). intervals_for setup o.object) (objects_of setup) n
-    ∙ ap (option_map (λ (o : Named). intervals_for setup o.object)) found.at in
+    sym (read_at table n x long read) ∙ ap (λ xs. slice_get xs n) made ∙ slice_get-map (λ (o : NamedObject). intervals_for setup o.object) (objects_of setup) n
+    ∙ ap (option_map (λ (o : NamedObject). intervals_for setup o.object)) found.at in
     let is : x ≡ intervals_for setup found.item.object = cc in
     subst (AreRead setup n) (sym is) (read_for setup n found.item valid found.at)
+
+-- ---- the object at a place of the fields
+
+-- an object of the state is one of the fields' setup
+pub count_there : (inside : Inside) (n : ℕ) (old : State) → state_of inside ≡ old → n < object_count old.setup → n < object_count inside.setup
+count_there inside n old e l = let count = ap (λ (s : State). object_count s.setup) e in omega (arith, l, count)
+
+-- its intervals are among those that were computed
+pub intervals_there : (inside : Inside) (n : ℕ) (old : State) → IsWellFormed inside → state_of inside ≡ old → n < object_count old.setup
+    → n < length inside.intervals.items
+intervals_there inside n old kept e l =
+    let known = count_there inside n old e l in let each = intervals_each inside.setup inside.intervals.items kept.intervals in omega (arith, known, each)
+
+-- those that are read are the object's
+pub read_there : (inside : Inside) (n : ℕ) (old : State) (x : Intervals) → IsWellFormed inside → state_of inside ≡ old → n < object_count old.setup
+    → x ≡ get_or inside.intervals.items n x → AreRead inside.setup n x
+read_there inside n old x kept e l is =
+    intervals_read inside.setup n inside.intervals.items x kept.state.valid_setup kept.intervals (count_there inside n old e l) is
+
+-- and the next time that they give is the one that the setup gives
+pub next_there : (inside : Inside) (n start : ℕ) (already next : Option ℕ) (old : State) (x : Intervals) (standing : Standing) → IsWellFormed inside
+    → state_of inside ≡ old → n < object_count old.setup → x ≡ get_or inside.intervals.items n x → standing ≡ standing_at old.standings n
+    → next ≡ option_or already (time_after start (interval_for_standing x standing))
+    → next ≡ next_after inside.setup n (standing_at inside.standings.items n) start already
+next_there inside n start already next old x standing kept e l is stands made =
+    made
+    ∙ (read_there inside n old x kept e l is).next standing start already
+    ∙ ap (λ t. next_after inside.setup n t start already) (stands ∙ ap (λ (t : State). standing_at t.standings n) (sym e))

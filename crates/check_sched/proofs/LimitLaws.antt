@@ -1,14 +1,15 @@
 -- Laws of the limit: how many services are being checked, and that no call passes the limit.
-use Rattle.std.proofs.Common.{◌≡◌, ℕ, zero, suc, ◌+◌, ◌<◌, ◌≤◌, Bool, true, false, ◌||◌, cond, List, [], ◌∷◌, map, drop, Option, Some, None, refl, ap, ◌∙◌, arith}
+use Rattle.std.proofs.Common.{◌≡◌, ℕ, zero, suc, ◌+◌, ◌<◌, ◌≤◌, Bool, true, false, ◌||◌, cond, List, [], ◌∷◌, map, drop, Option, Some, None, refl, ap, ◌∙◌}
+use Rattle.std.proofs.Common.{arith}
 use Rattle.std.specs.Prelude.{is_some}
 use Rattle.std.proofs.lemmas.Bool.Decides.{nat_tests}
 use Rattle.std.proofs.lemmas.List.Sums.{sum_by-cons}
 use Rattle.check_objects.specs.Configuration.{host_count}
 use Rattle.check_sched.specs.Roster.{running_among}
-use Rattle.check_sched.specs.Scheduling.{running_from}
-use Rattle.check_saved.specs.Scheduling.{OpenRun, Scheduling}
-use Rattle.check_sched.specs.State.{State, IsWithinLimit, has_room, is_host, limit_of, running_services}
-use Rattle.check_sched.specs.Step.{is_open, taken, update_at, with_object}
+use Rattle.check_sched.specs.Scheduling.{object_with_run}
+use Rattle.check_saved_state.specs.Scheduling.{OpenRun, Scheduling}
+use Rattle.check_sched.specs.State.{State, IsWithinLimit, is_below_limit, is_host, limit_of, running_services}
+use Rattle.check_sched.specs.Step.{is_startable, state_after_take, update_at, with_object}
 
 pub busy_cons : (o : Scheduling) (os : List Scheduling) → running_among (o ∷ os) ≡ cond (is_some o.run) 1 0 + running_among os
 busy_cons o os = sum_by-cons (λ x. cond (is_some x.run) 1 0) o os
@@ -67,22 +68,22 @@ services_apart (suc hosts) (suc n) f (o ∷ os) l = services_apart hosts n f os 
 pub limit_kept : (n : ℕ) (f : Scheduling → Scheduling) (s : State) → BeginsNone f → IsWithinLimit s → IsWithinLimit (with_object n f s)
 limit_kept n f s h within some = let least = services_kept (host_count s.setup) n f s.objects h in let was = within some in omega (arith, least, was)
 
-room_for_one : (s : State) → has_room s ≡ true → 0 < limit_of s.setup → running_services s < limit_of s.setup
+room_for_one : (s : State) → is_below_limit s ≡ true → 0 < limit_of s.setup → running_services s < limit_of s.setup
 room_for_one s e some = grind (arith, nat_tests, e, some)
 
-taken_by : (now n : ℕ) (s : State) (host : Bool) → is_host s.setup n ≡ host → (host || has_room s) ≡ true → IsWithinLimit s → IsWithinLimit (taken now n s)
+taken_by : (now n : ℕ) (s : State) (host : Bool) → is_host s.setup n ≡ host → (host || is_below_limit s) ≡ true → IsWithinLimit s → IsWithinLimit (state_after_take now n s)
 taken_by now n s true e may within some =
     let below : n < host_count s.setup = grind (arith, nat_tests, e) in
-    let same = ap running_among (services_apart (host_count s.setup) n (running_from (record { number = s.runs + 1; start = now })) s.objects below) in
+    let same = ap running_among (services_apart (host_count s.setup) n (object_with_run (record { number = s.runs + 1; start = now })) s.objects below) in
     let was = within some in
     omega (arith, same, was)
 taken_by now n s false e may within some =
     let room = room_for_one s may some in
-    let more = services_more (host_count s.setup) n (running_from (record { number = s.runs + 1; start = now })) s.objects in
+    let more = services_more (host_count s.setup) n (object_with_run (record { number = s.runs + 1; start = now })) s.objects in
     omega (arith, room, more)
 
 -- neither does a check that may begin
-pub limit_taken : (now n : ℕ) (s : State) → is_open s n ≡ true → IsWithinLimit s → IsWithinLimit (taken now n s)
+pub limit_taken : (now n : ℕ) (s : State) → is_startable s n ≡ true → IsWithinLimit s → IsWithinLimit (state_after_take now n s)
 limit_taken now n s may within = taken_by now n s (is_host s.setup n) refl may within
 
 -- ---- the opening

@@ -1,5 +1,6 @@
 -- Laws of the opening.
-use Rattle.std.proofs.Common.{◌≡◌, ℕ, zero, suc, ◌+◌, ◌<◌, ◌≤◌, ◌^◌, Bool, true, List, [], ◌∷◌, ◌++◌, length, map, take, get_or, min, replicate, Option, Some, None}
+use Rattle.std.proofs.Common.{◌≡◌, ℕ, zero, suc, ◌+◌, ◌<◌, ◌≤◌, ◌^◌, Bool, true, List, [], ◌∷◌, ◌++◌, length, map, take, get_or, min, replicate, Option, Some}
+use Rattle.std.proofs.Common.{None}
 use Rattle.std.proofs.Common.{option_map, refl, sym, ap, subst, ◌∙◌, arith, IfSome}
 use Rattle.std.specs.Prelude.{slice_get, zip, All}
 use Rattle.std.specs.List.{list_all, enumerate_from}
@@ -8,20 +9,20 @@ use Rattle.std.proofs.lemmas.List.{length-append, length-map, length-replicate, 
 use Rattle.std.proofs.lemmas.List.FromFn.{length-enumerate_from}
 use Rattle.std.proofs.lemmas.Slice.Zip.{length-zip}
 use Rattle.std.proofs.lemmas.Bool.{and_from}
-use Rattle.check_drafts.specs.declared.object.Object.{Object}
-use Rattle.check_objects.specs.Configuration.{Configuration, Named, objects_of, object_count, host_count, IsSetup}
+use Rattle.setup_model.specs.declared.parsed_setup.Object.{Object}
+use Rattle.check_objects.specs.Configuration.{Configuration, NamedObject, objects_of, object_count, host_count, IsSetup}
 use Rattle.check_rules.specs.declared.standing.Standing.{Standing}
 use Rattle.check_rules.specs.declared.state.State as rules
 use Rattle.check_rules.specs.Standing.{pending_standing}
 use Rattle.check_rules.proofs.VerdictLaws.{pending_is_lawful, pending_sort}
 use Rattle.check_sched.specs.Scheduling.{opening_object}
-use Rattle.check_saved.specs.Scheduling.{Scheduling, is_in_time, is_time}
+use Rattle.check_saved_state.specs.Scheduling.{Scheduling, is_in_time, is_time}
 use Rattle.check_spread.specs.Spread.{initial_times}
-use Rattle.check_sched.specs.State.{State, AreResultsOf, IsState, IsStandingOf, IsWithinLimit, is_host, objects_at, opening}
-use Rattle.check_sched.specs.State.{opening_objects, opening_results, opening_standings, run_number_of}
+use Rattle.check_sched.specs.State.{AreResultsOf, IsState, IsStandingOf, IsWithinLimit, is_host, objects_at, opening}
+use Rattle.check_sched.specs.State.{opening_standings, run_number_of}
 use Rattle.check_sched.proofs.LimitLaws.{services_none}
-use Rattle.check_sched.proofs.OutLaws.{none_forced, none_out, timed_unforced}
-use Rattle.check_sched.proofs.ReportLaws.{some_attempts}
+use Rattle.check_sched.proofs.RunningLaws.{none_forced, none_out, timed_unforced}
+use Rattle.check_sched.proofs.ReportLaws.{nonzero_attempts}
 
 -- ---- within the limits
 
@@ -29,7 +30,7 @@ pub first_in_time : (first : Option ℕ) → IfSome first (λ time. time < 2 ^ 6
 first_in_time None h = refl
 first_in_time (Some time) h = grind (arith, nat_tests, h)
 
-times_in_time : (times : List (Option ℕ)) (os : List Named) → All (λ first. IfSome first (λ time. time < 2 ^ 61)) times
+times_in_time : (times : List (Option ℕ)) (os : List NamedObject) → All (λ first. IfSome first (λ time. time < 2 ^ 61)) times
     → list_all is_in_time (map (λ p. opening_object p.0 p.1.object.enabled) (zip times os)) ≡ true
 times_in_time [] os h = refl
 times_in_time (first ∷ times) [] h = refl
@@ -38,7 +39,7 @@ times_in_time (first ∷ times) (o ∷ os) h =
     (times_in_time times os (λ k d l. h (suc k) d (omega arith)))
 
 -- the standing at a place of the opening is pending
-pub pending_at : (setup : Configuration) (k : ℕ) (os : List Named) (n : ℕ) (t : Standing)
+pub pending_at : (setup : Configuration) (k : ℕ) (os : List NamedObject) (n : ℕ) (t : Standing)
     → slice_get (map (λ p. pending_standing (is_host setup p.0)) (enumerate_from k os)) n ≡ Some t → pending_standing (is_host setup (k + n)) ≡ t
 pending_at setup k [] n t e = cc
 pending_at setup k (o ∷ os) zero t e =
@@ -49,12 +50,12 @@ pending_at setup k (o ∷ os) (suc n) t e =
     let here : k + 1 + n ≡ k + suc n = omega arith in
     subst (λ j. pending_standing (is_host setup j) ≡ t) here (pending_at setup (k + 1) os n t e)
 
-standings_opening : (setup : Configuration) (k : ℕ) (os : List Named) → IsSetup setup → (n : ℕ) (t : Standing)
+standings_opening : (setup : Configuration) (k : ℕ) (os : List NamedObject) → IsSetup setup → (n : ℕ) (t : Standing)
     → slice_get (map (λ p. pending_standing (is_host setup p.0)) (enumerate_from k os)) n ≡ Some t → IsStandingOf setup (k + n) t
 standings_opening setup k os h n t e =
     subst (λ x. IsStandingOf setup (k + n) x) (pending_at setup k os n t e)
     (record {
-      lawful = pending_is_lawful (is_host setup (k + n)) _ (some_attempts setup (k + n) h);
+      lawful = pending_is_lawful (is_host setup (k + n)) _ (nonzero_attempts setup (k + n) h);
       sort = pending_sort
           (is_host setup (k + n));
       last_hard_sort = pending_sort (is_host setup (k + n));
@@ -81,14 +82,14 @@ length-opening_standings setup = length-map (enumerate_from 0 (objects_of setup)
 -- no service is being checked at the opening
 pub opening_limit : (setup : Configuration) (start : ℕ) → IsWithinLimit (opening setup start)
 opening_limit setup start some =
-    let none = services_none (host_count setup) (λ (p : Option ℕ × Named). opening_object p.0 p.1.object.enabled)
+    let none = services_none (host_count setup) (λ (p : Option ℕ × NamedObject). opening_object p.0 p.1.object.enabled)
     (zip (initial_times setup start) (objects_of setup)) (λ p. refl) in
     omega (arith, none)
 
 -- no object is being checked at the opening
 opening_none : (setup : Configuration) (start n r : ℕ) → run_number_of n (opening setup start) ≡ Some r → ⊥
 opening_none setup start n r e =
-    none_out (λ (p : Option ℕ × Named). opening_object p.0 p.1.object.enabled) (zip (initial_times setup start) (objects_of setup)) n r (λ p. refl) e
+    none_out (λ (p : Option ℕ × NamedObject). opening_object p.0 p.1.object.enabled) (zip (initial_times setup start) (objects_of setup)) n r (λ p. refl) e
 
 -- and no result of any is kept
 pub none_kept : (count n : ℕ) (rs : List rules.State) → slice_get (replicate count []) n ≡ Some rs → [] ≡ rs
@@ -112,19 +113,8 @@ opening_is_state setup start valid moment count within = record {
   numbered = λ n r e. absurd (opening_none setup start n r e);
   once = λ m n r e f. absurd (opening_none setup start m r e);
   forced = none_forced _ (zip (initial_times setup start) (objects_of setup)) (λ p. timed_unforced p.0);
-  results = λ n rs e. subst (AreResultsOf setup n) (none_kept (object_count setup) n rs e) (record { few = omega arith; sort = refl });
+  results = λ n rs e. subst (AreResultsOf setup n) (none_kept (object_count setup) n rs e) (record { bounded = omega arith; sort = refl });
 }
-
--- the same of what the code opens with, by the times that it was given
-pub opened_is_state : (setup : Configuration) (start : ℕ) (times seen : List (Option ℕ)) (objects : List Scheduling) (standings : List Standing)
-    (results : List (List rules.State))
-    → IsSetup setup → start ≤ 2 ^ 60 → times ≡ initial_times setup start → length times ≡ object_count setup → All (λ first. IfSome first (λ time. time < 2 ^ 61)) times
-    → seen ≡ times → objects ≡ objects_at setup seen → standings ≡ opening_standings setup → results ≡ opening_results setup
-    → let s : State =
-    record { setup = setup; start = start; objects = objects; standings = standings; results = results; runs = 0 } in IsState s
-opened_is_state setup start times seen objects standings results valid moment made count within e o t r =
-    let at : objects ≡ opening_objects setup start = o ∙ ap (objects_at setup) (e ∙ made) in
-    rw (at, t, r) (opening_is_state setup start valid moment (ap length (sym made) ∙ count) (subst (All (λ first. IfSome first (λ time. time < 2 ^ 61))) made within))
 
 -- ---- the roster that the code opens with
 
@@ -137,7 +127,7 @@ pub opened_few : (setup : Configuration) (times : List (Option ℕ)) (objects : 
     → objects ≡ objects_at setup times → length objects ≤ 4096
 opened_few setup times objects valid count e =
     let long = ap length e ∙ length-objects_at setup times count ∙ count_is setup in
-    let few = valid.few in omega (arith, long, few)
+    let bounded = valid.bounded in omega (arith, long, bounded)
 
 -- the hosts are among them
 pub opened_hosts : (setup : Configuration) (times : List (Option ℕ)) (objects : List Scheduling) → length times ≡ object_count setup
@@ -152,7 +142,7 @@ pub one_more : {X : Type 0} (n : ℕ) (all was more : List X) (x : X) → more �
     → take n all ++ x ∷ [] ≡ take (n + 1) all → more ≡ take (n + 1) all
 one_more n all was more x e f g = e ∙ ap (λ xs. xs ++ x ∷ []) f ∙ g
 
-object_at : (n : ℕ) (times : List (Option ℕ)) (os : List Named) (o : Object) (first : Option ℕ) (d : Scheduling) → n < length times
+object_at : (n : ℕ) (times : List (Option ℕ)) (os : List NamedObject) (o : Object) (first : Option ℕ) (d : Scheduling) → n < length times
     → option_map (λ x. x.object) (slice_get os n) ≡ Some o → first ≡ get_or times n None
     → get_or (map (λ p. opening_object p.0 p.1.object.enabled) (zip times os)) n d ≡ opening_object first o.enabled
 object_at n [] os o first d l e f = absurd (omega arith)
@@ -172,7 +162,7 @@ object_seen setup times n o first made c l e f m =
     let is : made ≡ get_or (objects_at setup times) n made = m ∙ sym (object_at n times (objects_of setup) o first made l e f) in
     ap (λ x. take n (objects_at setup times) ++ x ∷ []) is ∙ sym (take_more (objects_at setup times) n made less)
 
-standing_at_opening : (setup : Configuration) (k n : ℕ) (os : List Named) (d : Standing) → n < length os
+standing_at_opening : (setup : Configuration) (k n : ℕ) (os : List NamedObject) (d : Standing) → n < length os
     → get_or (map (λ p. pending_standing (is_host setup p.0)) (enumerate_from k os)) n d ≡ pending_standing (is_host setup (k + n))
 standing_at_opening setup k n [] d h = absurd (omega arith)
 standing_at_opening setup k zero (o ∷ os) d h = ap (λ j. pending_standing (is_host setup j)) (let here : k ≡ k + 0 = omega arith in here)

@@ -1,52 +1,51 @@
 -- Laws of the operators' calls: Abandon, Reschedule, Enable and Status.
-use Rattle.std.proofs.Common.{◌≡◌, ℕ, ◌<◌, ◌≤◌, ◌^◌, Bool, true, false, Some, Ok, length, refl, ◌∙◌}
+use Rattle.std.proofs.Common.{◌≡◌, ℕ, ◌≤◌, ◌^◌, Bool, true, false, Some, Ok, refl, ◌∙◌}
 use Rattle.std.specs.Prelude.{slice_get}
-use Rattle.check_sched.specs.Scheduling.{ended, enabled_as, freed_time, rescheduled, run_under}
-use Rattle.check_saved.specs.Scheduling.{Scheduling, OpenRun, is_in_time, is_timed_if_forced}
+use Rattle.check_sched.specs.Scheduling.{object_after_run, enabled_as, freed_time, object_after_reschedule, run_under}
+use Rattle.check_saved_state.specs.Scheduling.{Scheduling, OpenRun, is_in_time, is_timed_if_forced}
 use Rattle.check_sched.specs.declared.call.Call.TheVariants as call
 use Rattle.check_sched.specs.declared.call.Reply.{Reply}
 use Rattle.check_sched.specs.declared.call.Reply.TheVariants as reply
 use Rattle.check_sched.specs.declared.call.Refusal.{Refusal}
 use Rattle.check_sched.specs.State.{State, IsState, standing_at}
-use Rattle.check_sched.specs.Step.{known, step, with_object, within_range}
+use Rattle.check_sched.specs.Step.{existing_object, step, with_object, moment_test}
 use Rattle.check_sched.proofs.AnswerLaws.{by_test, known_is, range_is}
 use Rattle.check_sched.proofs.LimitLaws.{BeginsNone, limit_kept}
-use Rattle.check_sched.proofs.OutLaws.{numbered_kept, once_kept}
+use Rattle.check_sched.proofs.RunningLaws.{numbered_kept, once_kept}
 use Rattle.check_sched.proofs.UpdateLaws.{length-update_at, all-update_at, all-update_at_place}
-use Rattle.std.proofs.lemmas.Option.{slice_get_within}
 
 -- ---- each call, by its answers
 
 pub abandon_cases : (P : State × Reply → Type 0) (n run now : ℕ) (s : State)
     → ((why : Refusal) → P (s, reply.Refused why))
-    → ((o : Scheduling) → slice_get s.objects n ≡ Some o → now ≤ 2 ^ 60 → P (with_object n (ended (Some (freed_time now o))) s, reply.Freed (freed_time now o)))
+    → ((o : Scheduling) → slice_get s.objects n ≡ Some o → now ≤ 2 ^ 60 → P (with_object n (object_after_run (Some (freed_time now o))) s, reply.Freed (freed_time now o)))
     → P (step s (call.Abandon n run now))
 abandon_cases P n run now s refused free =
-    by_test P s (known n s) _ refused
-    (λ o e. by_test P s (within_range now) _ refused
+    by_test P s (existing_object n s) _ refused
+    (λ o e. by_test P s (moment_test now) _ refused
     (λ u m. by_test P s (run_under run o.run) _ refused
     (λ r f. free o (known_is n s o e) (range_is now u m))))
 
 pub reschedule_cases : (P : State × Reply → Type 0) (n time : ℕ) (forced : Bool) (s : State)
     → ((why : Refusal) → P (s, reply.Refused why))
-    → (time ≤ 2 ^ 60 → P (with_object n (rescheduled time forced) s, reply.Done))
+    → (time ≤ 2 ^ 60 → P (with_object n (object_after_reschedule time forced) s, reply.Done))
     → P (step s (call.Reschedule n time forced))
 reschedule_cases P n time forced s refused done =
-    by_test P s (known n s) _ refused
-    (λ o e. by_test P s (within_range time) _ refused
+    by_test P s (existing_object n s) _ refused
+    (λ o e. by_test P s (moment_test time) _ refused
     (λ u m. done (range_is time u m)))
 
 pub enable_cases : (P : State × Reply → Type 0) (n : ℕ) (on : Bool) (s : State)
     → ((why : Refusal) → P (s, reply.Refused why))
     → P (with_object n (enabled_as on) s, reply.Done)
     → P (step s (call.Enable n on))
-enable_cases P n on s refused done = by_test P s (known n s) _ refused (λ o e. done)
+enable_cases P n on s refused done = by_test P s (existing_object n s) _ refused (λ o e. done)
 
 pub status_cases : (P : State × Reply → Type 0) (n : ℕ) (s : State)
     → ((why : Refusal) → P (s, reply.Refused why))
     → ((o : Scheduling) → slice_get s.objects n ≡ Some o → P (s, reply.Standing (standing_at s.standings n) false o.next))
     → P (step s (call.Status n))
-status_cases P n s refused tell = by_test P s (known n s) _ refused (λ o e. tell o (known_is n s o e))
+status_cases P n s refused tell = by_test P s (existing_object n s) _ refused (λ o e. tell o (known_is n s o e))
 
 -- ---- the limits
 
@@ -73,11 +72,7 @@ with_object_is_state n f s is_state h none timed = record {
 
 -- ---- what the code leaves and answers
 
--- an object that was found is one of the objects
-pub known_within : (n : ℕ) (s : State) (o : Scheduling) → known n s ≡ Ok o → n < length s.objects
-known_within n s o e = slice_get_within s.objects n o (known_is n s o e)
-
-pub abandon_answers : (n run now : ℕ) (s : State) (o : Scheduling) (u : Unit {0}) (r : OpenRun) → known n s ≡ Ok o → within_range now ≡ Ok u
+pub abandon_answers : (n run now : ℕ) (s : State) (o : Scheduling) (u : Unit {0}) (r : OpenRun) → existing_object n s ≡ Ok o → moment_test now ≡ Ok u
     → run_under run o.run ≡ Ok r
-    → step s (call.Abandon n run now) ≡ (with_object n (ended (Some (freed_time now o))) s, reply.Freed (freed_time now o))
+    → step s (call.Abandon n run now) ≡ (with_object n (object_after_run (Some (freed_time now o))) s, reply.Freed (freed_time now o))
 abandon_answers n run now s o u r e f g = rw (e, f, g) refl

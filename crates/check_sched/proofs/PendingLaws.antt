@@ -7,7 +7,7 @@ use Rattle.check_rules.specs.Standing.{pending_standing}
 use Rattle.check_sched.specs.declared.call.Call.{Call}
 use Rattle.check_sched.specs.declared.call.Call.TheVariants as call
 use Rattle.check_sched.specs.State.{State, IsPendingUntilChecked, is_host, opening}
-use Rattle.check_sched.specs.Step.{after, found_in, judged_in, step}
+use Rattle.check_sched.specs.Step.{after, state_found_in, new_standing_in, step}
 use Rattle.check_sched.proofs.OpeningLaws.{pending_at}
 use Rattle.check_sched.proofs.OperatorLaws.{abandon_cases, enable_cases, reschedule_cases, status_cases}
 use Rattle.check_sched.proofs.ReportLaws.{report_cases}
@@ -24,7 +24,7 @@ step_pending : (s : State) (c : Call) → ArePending s → ArePending (step s c)
 step_pending s (call.Take now) was = take_cases (λ a. ArePending a.0) now s (λ why. was) (λ c m e. was) (λ c m r e. was) (λ e. was)
 step_pending s (call.Report n run c) was =
     report_cases (λ a. ArePending a.0) n run c s (λ why. was)
-    (λ o r e f. each-update_at (IsPendingUntilChecked s.setup) n (judged_in s n (found_in s n c)) s.standings was (λ never. cc))
+    (λ o r e f. each-update_at (IsPendingUntilChecked s.setup) n (new_standing_in s n (state_found_in s n c)) s.standings was (λ never. cc))
 step_pending s (call.Abandon n run now) was = abandon_cases (λ a. ArePending a.0) n run now s (λ why. was) (λ o e m. was)
 step_pending s (call.Reschedule n time forced) was = reschedule_cases (λ a. ArePending a.0) n time forced s (λ why. was) (λ m. was)
 step_pending s (call.Enable n on) was = enable_cases (λ a. ArePending a.0) n on s (λ why. was) was

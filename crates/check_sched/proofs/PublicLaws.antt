@@ -7,6 +7,6 @@ pub use Rattle.check_sched.proofs.StandingLaws.{opened_standing}
 -- runs_from_any_state: out, numbers
 pub use Rattle.check_sched.proofs.RunLaws.{taken_after, taken_number}
 -- opening_states
-pub use Rattle.check_sched.proofs.NewLaws.{opening_can_be}
+pub use Rattle.check_sched.proofs.NewObjectLaws.{opening_can_be}
 -- resumed_states: saved, writable
-pub use Rattle.check_sched.proofs.KeepingLaws.{saved_is_writable, saved_of_state}
+pub use Rattle.check_sched.proofs.SaveLaws.{saved_is_writable, saved_of_state}

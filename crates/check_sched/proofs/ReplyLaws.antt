@@ -2,7 +2,7 @@
 use Rattle.std.proofs.Common.{◌≡◌, ℕ, ◌<◌, ◌^◌, Bool, true, false, ◌==◌, cond, List, [], ◌∷◌, ◌++◌, length, Option, Some, None, Result, Ok, Err, refl}
 use Rattle.std.proofs.Common.{◌∙◌, arith}
 use Rattle.std.specs.Prelude.{nat_lt, ok_or, slice_get}
-use Rattle.ticket_steps.specs.declared.kept.Entry.{Entry}
+use Rattle.ticket_steps.specs.declared.books.Entry.{Entry}
 use Rattle.ticket_steps.specs.History.{entry, replay, IsLegal}
 use Rattle.check_rules.specs.declared.state.Code.{Code}
 use Rattle.check_sched.specs.declared.call.Call.{Call}
@@ -12,11 +12,11 @@ use Rattle.check_sched.specs.declared.call.Reply.TheVariants as reply
 use Rattle.check_sched.specs.declared.call.Refusal.{Refusal}
 use Rattle.check_sched.specs.declared.call.Refusal.TheVariants as refusal
 use Rattle.check_sched.specs.Scheduling.{run_under}
-use Rattle.check_saved.specs.Scheduling.{Scheduling, OpenRun}
+use Rattle.check_saved_state.specs.Scheduling.{Scheduling, OpenRun}
 use Rattle.check_sched.specs.Candidate.{Candidate}
 use Rattle.check_queue.specs.Order.{least}
 use Rattle.check_sched.specs.State.{State}
-use Rattle.check_sched.specs.Step.{◌>>=◌, eligible, report_taken, settled, step, take_least}
+use Rattle.check_sched.specs.Step.{◌>>=◌, eligible_candidates, report_of_run, step_of_answer, step, take_least}
 pub use Rattle.check_sched.specs.Reply.{IsReportRefusal, IsReportReply, IsTakeRefusal, IsTakeReply}
 use Rattle.check_sched.proofs.EligibleLaws.{waiting_cases}
 use Rattle.check_sched.proofs.OperatorLaws.{abandon_cases, enable_cases, reschedule_cases, status_cases}
@@ -60,9 +60,9 @@ turn_reply : (s : State) (now : ℕ) (found : Option Candidate) → IsTakeReply 
 turn_reply s now found = take_by (λ a. IsTakeReply a.1) now s found (λ c e. tt) (λ c e. tt) (λ e. waiting_cases IsTakeReply now s tt tt)
 
 take_tests : (s : State) (now : ℕ) (late left : Bool)
-    → IsTakeReply (settled s (range_test late >>= λ _. (left_test left >>= λ _. Ok (take_least now s (least (eligible now s)))))).1
+    → IsTakeReply (step_of_answer s (range_test late >>= λ _. (left_test left >>= λ _. Ok (take_least now s (least (eligible_candidates now s)))))).1
 take_tests s now true left = tt
-take_tests s now false true = turn_reply s now (least (eligible now s))
+take_tests s now false true = turn_reply s now (least (eligible_candidates now s))
 take_tests s now false false = tt
 
 -- a take has a take's reply
@@ -74,34 +74,34 @@ pub taken_there : (s : State) (now object run : ℕ) → reply.Taken object run 
 taken_there s now object run =
     take_cases (λ a. reply.Taken object run ≡ a.1 → object < length s.objects) now s
     (λ why e. cc) (λ c m f e. cc)
-    (λ c m q f e. let same : c.1 ≡ object = cc in let there = eligible_there now s c f in omega (arith, there, same))
+    (λ c m q f e. let same : c.1 ≡ object = cc in let in_range = eligible_there now s c f in omega (arith, in_range, same))
     (λ f e. waiting_cases (λ w. reply.Taken object run ≡ w → object < length s.objects) now s (λ g. cc) (λ g. cc) e)
 
 -- the answer to a report, by the run that the result is for, and by the object
 abbrev run_answer : State → ℕ → Code → Scheduling → Result OpenRun Refusal → Result (State × Reply) Refusal
-run_answer s n code o test = test >>= λ r. Ok (report_taken n r.start code o s)
+run_answer s n code o test = test >>= λ r. Ok (report_of_run n r.start code o s)
 
 abbrev object_answer : State → ℕ → ℕ → Code → Result Scheduling Refusal → Result (State × Reply) Refusal
 object_answer s n run code test = test >>= λ o. run_answer s n code o (run_under run o.run)
 
 under_by : (s : State) (n : ℕ) (code : Code) (o : Scheduling) (x : OpenRun) (same : Bool)
-    → IsReportReply (settled s (run_answer s n code o (cond same (Ok x) (Err refusal.WrongRun)))).1
+    → IsReportReply (step_of_answer s (run_answer s n code o (cond same (Ok x) (Err refusal.WrongRun)))).1
 under_by s n code o x true = tt
 under_by s n code o x false = tt
 
 run_by : (s : State) (n run : ℕ) (code : Code) (o : Scheduling) (running : Option OpenRun)
-    → IsReportReply (settled s (run_answer s n code o (run_under run running))).1
+    → IsReportReply (step_of_answer s (run_answer s n code o (run_under run running))).1
 run_by s n run code o None = tt
 run_by s n run code o (Some x) = under_by s n code o x (x.number == run)
 
 found_by : (s : State) (n run : ℕ) (code : Code) (found : Option Scheduling) → slice_get s.objects n ≡ found → n < length s.objects
-    → IsReportReply (settled s (object_answer s n run code (ok_or found refusal.UnknownObject))).1
-found_by s n run code None e there = let past = none_there s.objects n e in absurd (omega (arith, past, there))
-found_by s n run code (Some o) e there = run_by s n run code o o.run
+    → IsReportReply (step_of_answer s (object_answer s n run code (ok_or found refusal.UnknownObject))).1
+found_by s n run code None e in_range = let past = none_there s.objects n e in absurd (omega (arith, past, in_range))
+found_by s n run code (Some o) e in_range = run_by s n run code o o.run
 
 -- the report of an object that is there has a report's reply
 pub step_report : (s : State) (n run : ℕ) (code : Code) → n < length s.objects → IsReportReply (step s (call.Report n run code)).1
-step_report s n run code there = found_by s n run code (slice_get s.objects n) refl there
+step_report s n run code in_range = found_by s n run code (slice_get s.objects n) refl in_range
 
 -- ---- histories
 
@@ -111,6 +111,6 @@ pub taken_among : (s : State) (front back : List (Entry Call Reply)) (m now obje
 taken_among s front back m now object run legal =
     let taken = entry m (call.Take now) (reply.Taken object run) in
     let until = legal_front s (front ++ taken ∷ []) back legal in
-    let there = taken_there (replay step s front) now object run (legal_back s front (taken ∷ []) until).0 in
+    let in_range = taken_there (replay step s front) now object run (legal_back s front (taken ∷ []) until).0 in
     let count = replay_objects s front in
-    omega (arith, there, count)
+    omega (arith, in_range, count)

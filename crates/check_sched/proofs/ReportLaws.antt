@@ -1,13 +1,13 @@
 -- Laws of reports: the standing and the next time that a result gives are within their limits.
 use Rattle.std.proofs.Common.{◌≡◌, ℕ, ◌<◌, ◌≤◌, ◌^◌, Bool, true, false, cond, List, length, get_or, Option}
-use Rattle.std.proofs.Common.{Some, None, Ok, option_map, refl, sym, ap, subst, ◌∙◌, arith, IfSome}
+use Rattle.std.proofs.Common.{Some, None, option_map, refl, sym, ap, subst, ◌∙◌, arith, IfSome}
 use Rattle.std.specs.Prelude.{is_some, slice_get, unwrap_or}
 use Rattle.std.specs.Option.{option_map_or}
 use Rattle.std.proofs.lemmas.Bool.Decides.{nat_tests}
 use Rattle.std.proofs.lemmas.Option.{slice_get-get_or, slice_get_read, slice_get_within}
 use Rattle.std.proofs.lemmas.Bool.{and_parts, and_from}
-use Rattle.check_drafts.specs.declared.object.Object.{Object}
-use Rattle.check_objects.specs.Configuration.{Configuration, Named, objects_of, object_count, host_of, IsSetup, is_object_in_range}
+use Rattle.setup_model.specs.declared.parsed_setup.Object.{Object}
+use Rattle.check_objects.specs.Configuration.{Configuration, NamedObject, objects_of, object_count, host_of, IsSetup, is_object_in_range}
 use Rattle.check_rules.specs.declared.state.Code.{Code}
 use Rattle.check_rules.specs.declared.state.State as rules
 use Rattle.check_rules.specs.declared.state.State.TheVariants as state
@@ -15,52 +15,52 @@ use Rattle.check_rules.specs.declared.standing.Kind.{Kind}
 use Rattle.check_rules.specs.declared.standing.Kind.TheVariants as kind
 use Rattle.check_rules.specs.declared.standing.Standing.{Standing}
 use Rattle.check_rules.specs.State.{is_host_state, is_problem}
-use Rattle.check_rules.specs.Flapping.{kept_after}
+use Rattle.check_rules.specs.Flapping.{results_after}
 use Rattle.check_rules.specs.Verdict.{kind_and_attempt, last_hard_after, verdict_on}
-use Rattle.check_rules.specs.Standing.{as_checked, is_soft_problem}
+use Rattle.check_rules.specs.Standing.{as_checked}
 use Rattle.check_rules.proofs.VerdictLaws.{pending_sort, verdict_is_lawful}
 use Rattle.check_rules.specs.Standing.{pending_standing}
-use Rattle.check_sched.specs.Scheduling.{ended, run_under}
-use Rattle.check_saved.specs.Scheduling.{Scheduling, OpenRun, is_time, is_moment, is_in_time, is_timed_if_forced}
+use Rattle.check_sched.specs.Scheduling.{object_after_run, run_under}
+use Rattle.check_saved_state.specs.Scheduling.{Scheduling, OpenRun, is_time, is_moment, is_in_time, is_timed_if_forced}
 use Rattle.check_sched.specs.declared.call.Reply.{Reply}
 use Rattle.check_sched.specs.declared.call.Reply.TheVariants as reply
 use Rattle.check_sched.specs.declared.call.Refusal.{Refusal}
 use Rattle.check_sched.specs.declared.call.Call.TheVariants as call
 use Rattle.check_sched.specs.State.{State, AreResultsOf, IsState, IsStandingOf, is_host}
 use Rattle.check_sched.specs.State.{max_attempts_of, standing_at}
-use Rattle.check_sched.specs.Step.{found_in, judged_in, known, report_taken, report_told, reported, standing_reply, step}
+use Rattle.check_sched.specs.Step.{state_found_in, new_standing_in, existing_object, report_of_run, report_result, state_after_report, standing_reply, step}
 use Rattle.check_sched.proofs.AnswerLaws.{by_test, known_is, under_is}
 use Rattle.check_sched.proofs.LimitLaws.{limit_kept}
-use Rattle.check_sched.proofs.OutLaws.{numbered_kept, once_kept, timed_if, timed_then}
-use Rattle.check_sched.proofs.KeptLaws.{kept_are_results}
+use Rattle.check_sched.proofs.RunningLaws.{numbered_kept, once_kept, timed_if, timed_then}
+use Rattle.check_sched.proofs.ResultLaws.{kept_are_results}
 use Rattle.check_sched.proofs.UpdateLaws.{length-update_at, all-update_at, all-update_at_place, each-changed_at, each-update_at, none_there}
-use Rattle.check_saved.proofs.SavedLemmas.{all_at}
-use Rattle.check_sched.specs.Report.{interval_after, is_host_up, judged, next_after}
+use Rattle.check_saved_state.proofs.SavedLemmas.{all_at}
+use Rattle.check_sched.specs.Report.{is_host_up, new_standing, next_after}
 
 -- an object that is scheduled is one of the setup's
 pub is_an_object : (s : State) (n : ℕ) (o : Scheduling) → length s.objects ≡ object_count s.setup → slice_get s.objects n ≡ Some o → n < object_count s.setup
-is_an_object s n o each e = let there = slice_get_within s.objects n o e in omega (arith, there, each)
+is_an_object s n o each e = let in_range = slice_get_within s.objects n o e in omega (arith, in_range, each)
 
 -- ---- the limits of an object
 
 -- the limits of an object's numbers
-pub object_in_range : (setup : Configuration) (n : ℕ) (o : Named) → IsSetup setup → slice_get (objects_of setup) n ≡ Some o → is_object_in_range o.object ≡ true
+pub object_in_range : (setup : Configuration) (n : ℕ) (o : NamedObject) → IsSetup setup → slice_get (objects_of setup) n ≡ Some o → is_object_in_range o.object ≡ true
 object_in_range setup n o h e = all_at (λ x. is_object_in_range x.object) (objects_of setup) n o h.ranges e
 
 pub one_attempt : (o : Object) → is_object_in_range o ≡ true → 1 ≤ o.max_check_attempts
 one_attempt o e = grind (arith, nat_tests, e)
 
-attempts_by : (setup : Configuration) (n : ℕ) (found : Option Named) → IsSetup setup → slice_get (objects_of setup) n ≡ found
+attempts_by : (setup : Configuration) (n : ℕ) (found : Option NamedObject) → IsSetup setup → slice_get (objects_of setup) n ≡ found
     → 1 ≤ option_map_or (λ o. o.object.max_check_attempts) found 1
 attempts_by setup n None h e = omega arith
 attempts_by setup n (Some o) h e = one_attempt o.object (object_in_range setup n o h e)
 
 -- an object has one check attempt at least
-pub some_attempts : (setup : Configuration) (n : ℕ) → IsSetup setup → 1 ≤ max_attempts_of setup n
-some_attempts setup n h = attempts_by setup n (slice_get (objects_of setup) n) h refl
+pub nonzero_attempts : (setup : Configuration) (n : ℕ) → IsSetup setup → 1 ≤ max_attempts_of setup n
+nonzero_attempts setup n h = attempts_by setup n (slice_get (objects_of setup) n) h refl
 
 -- the maximum of attempts of an object that is there
-pub max_attempts_at : (found : Option Named) (o : Object) → option_map (λ x. x.object) found ≡ Some o
+pub max_attempts_at : (found : Option NamedObject) (o : Object) → option_map (λ x. x.object) found ≡ Some o
     → o.max_check_attempts ≡ option_map_or (λ x. x.object.max_check_attempts) found 1
 max_attempts_at None o e = cc
 max_attempts_at (Some x) o e = let same : x.object ≡ o = cc in ap (λ y. y.max_check_attempts) (sym same)
@@ -86,11 +86,11 @@ last_hard_sort kind.Soft found before host e f = f
 
 pub judged_is_standing : (setup : Configuration) (standings : List Standing) (n : ℕ) (found : rules.State) (flapping : Bool) → IsSetup setup
     → is_host_state found ≡ is_host setup n → IsStandingOf setup n (standing_at standings n)
-    → IsStandingOf setup n (judged setup standings n found flapping)
+    → IsStandingOf setup n (new_standing setup standings n found flapping)
 judged_is_standing setup standings n found flapping h sort b = record {
   lawful =
       verdict_is_lawful (standing_at standings n) found (max_attempts_of setup n) (is_host_up (host_of setup n) standings) flapping
-      (some_attempts setup n h) b.lawful;
+      (nonzero_attempts setup n h) b.lawful;
   sort = sort;
   last_hard_sort =
       last_hard_sort (kind_and_attempt (as_checked (standing_at standings n)) found (max_attempts_of setup n) (is_host_up (host_of setup n) standings)).0
@@ -113,15 +113,7 @@ check_in_range o e = grind (arith, nat_tests, e)
 pub retry_in_range : (o : Object) → is_object_in_range o ≡ true → o.retry_interval ≤ 525600
 retry_in_range o e = grind (arith, nat_tests, e)
 
-interval_by : (o : Object) (soft : Bool) → is_object_in_range o ≡ true → cond soft o.retry_interval o.check_interval ≤ 525600
-interval_by o true e = grind (arith, nat_tests, e)
-interval_by o false e = grind (arith, nat_tests, e)
-
--- the interval to the next check is within its limit
-pub interval_bound : (o : Object) (standing : Standing) → is_object_in_range o ≡ true → interval_after o standing ≤ 525600
-interval_bound o standing e = interval_by o (is_soft_problem standing) e
-
-read_by : (setup : Configuration) (n : ℕ) (o : Object) (found : Option Named) → IsSetup setup → slice_get (objects_of setup) n ≡ found
+read_by : (setup : Configuration) (n : ℕ) (o : Object) (found : Option NamedObject) → IsSetup setup → slice_get (objects_of setup) n ≡ found
     → option_map (λ x. x.object) found ≡ Some o → is_object_in_range o ≡ true
 read_by setup n o None h e f = cc
 read_by setup n o (Some x) h e f = let same : x.object ≡ o = cc in subst (λ y. is_object_in_range y ≡ true) same (object_in_range setup n x h e)
@@ -169,7 +161,7 @@ next_already setup n standing start (Some time) e = refl
 -- a report leaves the state one that a scheduler can be in
 pub reported_is_state : (n : ℕ) (found : rules.State) (standing : Standing) (next : Option ℕ) (s : State) → IsState s → is_time next ≡ true
     → ((o : Scheduling) → slice_get s.objects n ≡ Some o → is_some o.next ≡ true → is_some next ≡ true)
-    → is_host_state found ≡ is_host s.setup n → IsStandingOf s.setup n standing → IsState (reported n found standing next s)
+    → is_host_state found ≡ is_host s.setup n → IsStandingOf s.setup n standing → IsState (state_after_report n found standing next s)
 reported_is_state n found standing next s is_state t already sort new = record {
   valid_setup = is_state.valid_setup;
   start = is_state.start;
@@ -177,15 +169,15 @@ reported_is_state n found standing next s is_state t already sort new = record {
   one_standing_each = length-update_at n _ s.standings ∙ is_state.one_standing_each;
   results_each = length-update_at n _ s.results ∙ is_state.results_each;
   runs = is_state.runs;
-  times = all-update_at is_in_time n (ended next) s.objects is_state.times (λ o e. and_from (is_time next) true t refl);
-  limit = limit_kept n (ended next) s (λ o r e. cc) is_state.limit;
+  times = all-update_at is_in_time n (object_after_run next) s.objects is_state.times (λ o e. and_from (is_time next) true t refl);
+  limit = limit_kept n (object_after_run next) s (λ o r e. cc) is_state.limit;
   standings = each-update_at (IsStandingOf s.setup) n standing s.standings is_state.standings new;
-  numbered = numbered_kept n (ended next) s (λ o r e. cc) is_state.numbered;
-  once = once_kept n (ended next) s (λ o r e. cc) is_state.once;
+  numbered = numbered_kept n (object_after_run next) s (λ o r e. cc) is_state.numbered;
+  once = once_kept n (object_after_run next) s (λ o r e. cc) is_state.once;
   forced =
-      all-update_at_place is_timed_if_forced n (ended next) s.objects is_state.forced
-      (λ o there timed. timed_if next o.forced (λ forced. already o there (timed_then o.next o.forced timed forced)));
-  results = each-changed_at (AreResultsOf s.setup) n (λ kept. kept_after kept found) s.results is_state.results (kept_are_results s.setup n found sort);
+      all-update_at_place is_timed_if_forced n (object_after_run next) s.objects is_state.forced
+      (λ o in_range timed. timed_if next o.forced (λ forced. already o in_range (timed_then o.next o.forced timed forced)));
+  results = each-changed_at (AreResultsOf s.setup) n (λ kept. results_after kept found) s.results is_state.results (kept_are_results s.setup n found sort);
 }
 
 -- a time that passes the test is at most 2^61
@@ -198,29 +190,24 @@ is_time_reads (Some time) e = grind (arith, nat_tests, e)
 -- what is true of a Report is what is true of each of its answers
 pub report_cases : (P : State × Reply → Type 0) (n run : ℕ) (c : Code) (s : State)
     → ((why : Refusal) → P (s, reply.Refused why))
-    → ((o : Scheduling) (r : OpenRun) → slice_get s.objects n ≡ Some o → o.run ≡ Some r → P (report_taken n r.start c o s))
+    → ((o : Scheduling) (r : OpenRun) → slice_get s.objects n ≡ Some o → o.run ≡ Some r → P (report_of_run n r.start c o s))
     → P (step s (call.Report n run c))
 report_cases P n run c s refused take =
-    by_test P s (known n s) _ refused
+    by_test P s (existing_object n s) _ refused
     (λ o e. by_test P s (run_under run o.run) _ refused
     (λ r f. take o r (known_is n s o e) (under_is run o.run r f)))
 
--- what a Report of a run that is out answers
-pub reported_run : (n run : ℕ) (c : Code) (s : State) (o : Scheduling) (r : OpenRun) → known n s ≡ Ok o → run_under run o.run ≡ Ok r
-    → step s (call.Report n run c) ≡ report_told n r.start c o.next s
-reported_run n run c s o r e f = rw (e, f) refl
-
 -- by the state that it finds, and by the standing and the next time that it makes
 pub told_answers : (n start : ℕ) (c : Code) (already : Option ℕ) (s : State) (found : rules.State) (standing : Standing) (next : Option ℕ)
-    → found ≡ found_in s n c → standing ≡ judged_in s n found → next ≡ next_after s.setup n standing start already
-    → report_told n start c already s ≡ (reported n found standing next s, standing_reply n standing next s)
+    → found ≡ state_found_in s n c → standing ≡ new_standing_in s n found → next ≡ next_after s.setup n standing start already
+    → report_result n start c already s ≡ (state_after_report n found standing next s, standing_reply n standing next s)
 told_answers n start c already s found standing next i j k =
-    ap (λ u. answered u (judged_in s n u) (next_after s.setup n (judged_in s n u) start already)) (sym i)
+    ap (λ u. answered u (new_standing_in s n u) (next_after s.setup n (new_standing_in s n u) start already)) (sym i)
     ∙ ap (λ t. answered found t (next_after s.setup n t start already)) (sym j)
     ∙ ap (λ x. answered found standing x) (sym k)
   where
     answered : rules.State → Standing → Option ℕ → State × Reply
-    answered u t x = (reported n u t x s, standing_reply n t x s)
+    answered u t x = (state_after_report n u t x s, standing_reply n t x s)
 
 -- ---- what is read at a place
 

@@ -6,9 +6,9 @@ use Rattle.std.proofs.lemmas.List.{length-drop}
 use Rattle.std.proofs.lemmas.List.Folds.{list_all-append}
 use Rattle.check_objects.specs.Configuration.{Configuration}
 use Rattle.check_rules.specs.declared.state.State as rules
-use Rattle.check_rules.specs.Flapping.{kept_after}
+use Rattle.check_rules.specs.Flapping.{results_after}
 use Rattle.check_rules.specs.State.{is_host_state, is_of_sort}
-use Rattle.check_saved.proofs.VerifiedLemmas.{of_sort}
+use Rattle.check_saved_state.proofs.VerifiedLemmas.{of_sort}
 use Rattle.check_sched.specs.State.{AreResultsOf, is_host}
 
 pub all_dropped : {X : Type 0} (p : X → Bool) (n : ℕ) (xs : List X) → list_all p xs ≡ true → list_all p (drop n xs) ≡ true
@@ -18,9 +18,9 @@ all_dropped p (suc n) (x ∷ xs) e = all_dropped p n xs (and_parts (p x) (list_a
 
 -- one result more of the object's sort
 pub kept_are_results : (setup : Configuration) (n : ℕ) (found : rules.State) → is_host_state found ≡ is_host setup n → (results : List rules.State)
-    → AreResultsOf setup n results → AreResultsOf setup n (kept_after results found)
+    → AreResultsOf setup n results → AreResultsOf setup n (results_after results found)
 kept_are_results setup n found sort results was = record {
-  few = let all = results ++ found ∷ [] in let l = length-drop (length all - 21) all in omega (arith, l);
+  bounded = let all = results ++ found ∷ [] in let l = length-drop (length all - 21) all in omega (arith, l);
   sort =
       all_dropped (is_of_sort (is_host setup n)) (length (results ++ found ∷ []) - 21) (results ++ found ∷ [])
       (rw (list_all-append (is_of_sort (is_host setup n)) results (found ∷ []))

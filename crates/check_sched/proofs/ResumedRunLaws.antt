@@ -6,24 +6,25 @@ use Rattle.std.specs.List.{list_any}
 use Rattle.std.proofs.lemmas.Bool.{eqb-true}
 use Rattle.std.proofs.lemmas.Bool.Decides.{nat_tests}
 use Rattle.std.proofs.lemmas.List.Sums.{sum_by-append, sum_by-cons}
-use Rattle.ticket_steps.specs.declared.kept.Entry.{Entry}
+use Rattle.ticket_steps.specs.declared.books.Entry.{Entry}
 use Rattle.ticket_steps.specs.History.{replay, IsLegal}
-use Rattle.check_drafts.specs.declared.object.Object.{Object}
-use Rattle.check_numbers.proofs.NameLemmas.{item_at}
-use Rattle.check_objects.specs.Configuration.{Configuration, Named, host_count, name_of, object_count, objects_of}
+use Rattle.setup_model.specs.declared.parsed_setup.Object.{Object}
+use Rattle.check_objects.proofs.NameLemmas.{item_at}
+use Rattle.check_objects.specs.Configuration.{Configuration, NamedObject, host_count, name_of, object_count, objects_of}
 use Rattle.check_rules.specs.declared.standing.Standing.{Standing}
 use Rattle.check_rules.specs.Standing.{is_soft_problem, pending_standing}
-use Rattle.check_saved.specs.Saved.{Saved, SavedObject, saved_named}
-use Rattle.check_saved.specs.Scheduling.{Scheduling}
+use Rattle.check_saved_state.specs.Saved.{Saved, SavedObject, saved_by_name}
+use Rattle.check_saved_state.specs.Scheduling.{Scheduling}
 use Rattle.check_sched.specs.declared.call.Call.{Call}
 use Rattle.check_sched.specs.declared.call.Reply.{Reply}
 use Rattle.check_sched.specs.Runs.{begins, begins_by, ends, takes_by}
-use Rattle.check_sched.specs.Saved.{keeps_limit, objects_kept, resumed, run_saved_of, scheduling_of, standing_kept, standing_of}
-use Rattle.check_sched.specs.Saved.{standings_resumed, stays_out, time_among, within_limit}
+use Rattle.check_sched.specs.Saved.{keeps_limit, objects_kept, state_after_resume, saved_run_number_of, scheduling_after_resume, standing_kept}
+use Rattle.check_sched.specs.Saved.{standing_after_resume}
+use Rattle.check_sched.specs.Saved.{standings_after_resume, continues_running, time_among, within_limit}
 use Rattle.check_sched.specs.State.{State, is_host, max_attempts_of, standing_at}
 use Rattle.check_sched.specs.Step.{step}
-use Rattle.check_sched.proofs.EachLaws.{name_is, slice_each}
-use Rattle.check_sched.proofs.OutLaws.{run_in}
+use Rattle.check_sched.proofs.EachObjectLaws.{name_is, slice_each}
+use Rattle.check_sched.proofs.RunningLaws.{run_in}
 use Rattle.check_sched.proofs.ResumedLaws.{freed}
 use Rattle.check_sched.proofs.RunLaws.{runs_count, taken_after, taken_number}
 use Rattle.check_sched.proofs.ReplyCases.{each_reply}
@@ -34,9 +35,9 @@ use Rattle.check_spread.specs.Spread.{initial_times}
 
 -- a run that is handed out over whatever setup has a greater number than those that were handed out before
 pub runs_greater : (c : Configuration) (saved : Saved) (start : ℕ) (front back : List (Entry Call Reply)) (e : Entry Call Reply) (object run : ℕ)
-    → IsLegal step (resumed c saved start) (front ++ e ∷ back) → begins object run e ≡ true → saved.runs < run
+    → IsLegal step (state_after_resume c saved start) (front ++ e ∷ back) → begins object run e ≡ true → saved.runs < run
 runs_greater c saved start front back e object run legal is =
-    let next = taken_number (resumed c saved start) front back e object run legal is in omega (arith, next)
+    let next = taken_number (state_after_resume c saved start) front back e object run legal is in omega (arith, next)
 
 abbrev counted_once : Bool → ℕ
 counted_once b = cond b 1 0
@@ -60,18 +61,18 @@ runs_counted s front back e object run legal is =
 -- ---- what is still out
 
 run_made : (c : Configuration) (first : Option ℕ) (o : Object) (found : Option SavedObject)
-    → option_map (λ r. r.number) (scheduling_of c first o found).run ≡ option_map (λ r. r.number) (option_and_then (λ x. x.scheduling.run) found)
+    → option_map (λ r. r.number) (scheduling_after_resume c first o found).run ≡ option_map (λ r. r.number) (option_and_then (λ x. x.scheduling.run) found)
 run_made c first o None = refl
 run_made c first o (Some x) = refl
 
 run_each : (c : Configuration) (saved : Saved) (times : List (Option ℕ)) (n : ℕ) → n < object_count c
-    → run_in n (objects_kept c saved times) ≡ run_saved_of c saved n
+    → run_in n (objects_kept c saved times) ≡ saved_run_number_of c saved n
 run_each c saved times n l =
     let found = item_at (objects_of c) n l in
-    let made : ℕ × Named → Scheduling = λ p. scheduling_of c (time_among times p.0) p.1.object (saved_named saved p.1.name) in
+    let made : ℕ × NamedObject → Scheduling = λ p. scheduling_after_resume c (time_among times p.0) p.1.object (saved_by_name saved p.1.name) in
     ap (λ x. option_map (λ r. r.number) (option_and_then (λ (y : Scheduling). y.run) x)) (slice_each made n (objects_of c) found.item found.at)
-    ∙ run_made c (time_among times n) found.item.object (saved_named saved found.item.name)
-    ∙ ap (λ name. option_map (λ r. r.number) (option_and_then (λ (x : SavedObject). x.scheduling.run) (saved_named saved name))) (sym (name_is c n found.item found.at))
+    ∙ run_made c (time_among times n) found.item.object (saved_by_name saved found.item.name)
+    ∙ ap (λ name. option_map (λ r. r.number) (option_and_then (λ (x : SavedObject). x.scheduling.run) (saved_by_name saved name))) (sym (name_is c n found.item found.at))
 
 host_kept : (hosts now n : ℕ) (objects : List Scheduling) → n < hosts → run_in n (freed hosts now objects) ≡ run_in n objects
 host_kept zero now n objects l = absurd (omega arith)
@@ -87,12 +88,12 @@ out_by c now n objects false false e f h = cc
 
 -- an object whose check was out isn't taken until that run has ended
 pub out_until : (c : Configuration) (saved : Saved) (start : ℕ) (front back : List (Entry Call Reply)) (e : Entry Call Reply) (object run other : ℕ)
-    → object < object_count c → run_saved_of c saved object ≡ Some other → stays_out c saved start object ≡ true
-    → IsLegal step (resumed c saved start) (front ++ e ∷ back) → begins object run e ≡ true → list_any (ends object other) front ≡ true
+    → object < object_count c → saved_run_number_of c saved object ≡ Some other → continues_running c saved start object ≡ true
+    → IsLegal step (state_after_resume c saved start) (front ++ e ∷ back) → begins object run e ≡ true → list_any (ends object other) front ≡ true
 out_until c saved start front back e object run other l out stays legal is =
     let objects = objects_kept c saved (initial_times c start) in
     let still = out_by c start object objects (is_host c object) (keeps_limit c objects) refl refl stays ∙ run_each c saved (initial_times c start) object l ∙ out in
-    taken_after (resumed c saved start) front back e object run other legal is still
+    taken_after (state_after_resume c saved start) front back e object run other legal is still
 
 -- ---- soft problems
 
@@ -103,15 +104,15 @@ soft_by max was false e other soft =
     ap is_soft_problem kept ∙ soft
 
 pub soft_stays : (c : Configuration) (saved : Saved) (start object : ℕ) (o : SavedObject) → object < object_count c
-    → saved_named saved (name_of c object) ≡ Some o → is_soft_problem o.standing ≡ true → max_attempts_of c object ≢ 1
-    → is_soft_problem (standing_at (resumed c saved start).standings object) ≡ true
+    → saved_by_name saved (name_of c object) ≡ Some o → is_soft_problem o.standing ≡ true → max_attempts_of c object ≢ 1
+    → is_soft_problem (standing_at (state_after_resume c saved start).standings object) ≡ true
 soft_stays c saved start object o l e soft other =
     let found = item_at (objects_of c) object l in
     let host = is_host c object in
-    let kept : saved_named saved found.item.name ≡ Some o = ap (saved_named saved) (sym (name_is c object found.item found.at)) ∙ e in
+    let kept : saved_by_name saved found.item.name ≡ Some o = ap (saved_by_name saved) (sym (name_is c object found.item found.at)) ∙ e in
     let attempts = attempts_at c object found.item found.at in
-    let at = slice_each (λ p. standing_of (is_host c p.0) p.1.object (saved_named saved p.1.name)) object (objects_of c) found.item found.at in
-    let stands : standing_at (standings_resumed c saved) object ≡ standing_kept found.item.object.max_check_attempts o.standing =
-    ap (λ x. unwrap_or x (pending_standing true)) at ∙ ap (standing_of host found.item.object) kept in
+    let at = slice_each (λ p. standing_after_resume (is_host c p.0) p.1.object (saved_by_name saved p.1.name)) object (objects_of c) found.item found.at in
+    let stands : standing_at (standings_after_resume c saved) object ≡ standing_kept found.item.object.max_check_attempts o.standing =
+    ap (λ x. unwrap_or x (pending_standing true)) at ∙ ap (standing_after_resume host found.item.object) kept in
     ap is_soft_problem stands
     ∙ soft_by found.item.object.max_check_attempts o.standing (found.item.object.max_check_attempts == 1) refl (λ one. other (attempts ∙ one)) soft

@@ -17,7 +17,7 @@ use Rattle.check_queue.proofs.LeastLaws.{no_later_holds, no_later_time, or_true}
 use Rattle.check_sched.specs.Candidate.{Candidate, candidates_among, earlier_of}
 use Rattle.check_sched.specs.Roster.{running_among, waiting_from, waiting_times}
 use Rattle.check_sched.specs.Scheduling.{candidate_time}
-use Rattle.check_saved.specs.Scheduling.{Scheduling}
+use Rattle.check_saved_state.specs.Scheduling.{Scheduling}
 use Rattle.check_sched.proofs.EligibleLaws.{filtered_pass, numbered, numbered_first}
 use Rattle.check_sched.proofs.LimitLaws.{busy_cons}
 

@@ -6,7 +6,7 @@ use Rattle.std.specs.List.{cons_option, enumerate_from, filter_map, list_all, li
 use Rattle.std.proofs.lemmas.Bool.Decides.{nat_tests}
 use Rattle.std.proofs.lemmas.Bool.{and_from, eqb-true, eq-eqb, cases_eq, or_parts}
 use Rattle.std.proofs.lemmas.List.Sums.{sum_by-cons}
-use Rattle.ticket_steps.specs.declared.kept.Entry.{Entry}
+use Rattle.ticket_steps.specs.declared.books.Entry.{Entry}
 use Rattle.ticket_steps.specs.History.{replay, IsLegal}
 use Rattle.check_sched.specs.declared.call.Call.{Call}
 use Rattle.check_sched.specs.declared.call.Call.TheVariants as call
@@ -16,15 +16,16 @@ use Rattle.check_sched.specs.declared.call.Refusal.TheVariants as refusal
 use Rattle.check_sched.specs.Candidate.{Candidate, candidate, candidates_among}
 use Rattle.check_queue.specs.Order.{least}
 use Rattle.check_sched.specs.Scheduling.{candidate_time, run_under}
-use Rattle.check_saved.specs.Scheduling.{Scheduling, OpenRun}
+use Rattle.check_saved_state.specs.Scheduling.{Scheduling, OpenRun}
 use Rattle.check_sched.specs.State.{State, is_host}
-use Rattle.check_sched.specs.Step.{candidates, due, eligible, is_open, known, step, taken, update_at, waiting_reply, within_range}
+use Rattle.check_sched.specs.Step.{candidates, due_candidates, eligible_candidates, is_startable, existing_object, step, state_after_take, update_at}
+use Rattle.check_sched.specs.Step.{waiting_reply, moment_test}
 use Rattle.check_sched.specs.Runs.{begins, begins_by, ends, ends_by, runs_begun, runs_under, takes_by}
 use Rattle.check_sched.proofs.AnswerLaws.{by_test, known_is, under_is}
 use Rattle.check_queue.proofs.LeastLaws.{all_at_least, all_filtered}
 use Rattle.check_sched.proofs.CandidateLaws.{candidates_within}
 use Rattle.check_sched.proofs.OperatorLaws.{abandon_cases, enable_cases, reschedule_cases, status_cases}
-use Rattle.check_sched.proofs.OutLaws.{run_apart, run_begun, run_in, run_kept}
+use Rattle.check_sched.proofs.RunningLaws.{run_apart, run_begun, run_in, run_kept}
 use Rattle.check_sched.proofs.ReportLaws.{report_cases}
 use Rattle.check_sched.proofs.TakeLaws.{take_cases}
 
@@ -52,23 +53,23 @@ free_from test k [] f = refl
 free_from test k (x ∷ xs) f =
     free_by test k (candidate_time x) _
     (λ t e. let here = f 0 (omega arith) (none_number x.run (waits_free x t e)) in let at : k + 0 ≡ k = omega arith in rw at at here)
-    (free_from test (k + 1) xs (λ i l h. let there = f (suc i) (omega arith) h in let at : k + suc i ≡ k + 1 + i = omega arith in rw at at there))
+    (free_from test (k + 1) xs (λ i l h. let in_range = f (suc i) (omega arith) h in let at : k + suc i ≡ k + 1 + i = omega arith in rw at at in_range))
 
 -- whatever waits for its check isn't being checked
 pub waiting_free : (xs : List Scheduling) → list_all (λ c. is_none (run_in c.1 xs)) (candidates_among xs) ≡ true
 waiting_free xs = free_from (λ n. is_none (run_in n xs)) 0 xs (λ i l h. let at : 0 + i ≡ i = omega arith in rw at h)
 
 -- neither is what may be checked now
-pub eligible_free : (now : ℕ) (s : State) (c : Candidate) → least (eligible now s) ≡ Some c → is_none (run_in c.1 s.objects) ≡ true
+pub eligible_free : (now : ℕ) (s : State) (c : Candidate) → least (eligible_candidates now s) ≡ Some c → is_none (run_in c.1 s.objects) ≡ true
 eligible_free now s c e =
-    all_at_least (λ x. is_none (run_in x.1 s.objects)) c (eligible now s) e
-    (all_filtered (λ x. is_none (run_in x.1 s.objects)) (λ x. is_open s x.1) (due now s)
+    all_at_least (λ x. is_none (run_in x.1 s.objects)) c (eligible_candidates now s) e
+    (all_filtered (λ x. is_none (run_in x.1 s.objects)) (λ x. is_startable s x.1) (due_candidates now s)
     (all_filtered (λ x. is_none (run_in x.1 s.objects)) (λ x. nat_le x.0 now) (candidates s) (waiting_free s.objects)))
 
-pub eligible_there : (now : ℕ) (s : State) (c : Candidate) → least (eligible now s) ≡ Some c → c.1 < length s.objects
+pub eligible_there : (now : ℕ) (s : State) (c : Candidate) → least (eligible_candidates now s) ≡ Some c → c.1 < length s.objects
 eligible_there now s c e =
-    let within = all_at_least (λ x. nat_lt x.1 (length s.objects)) c (eligible now s) e
-    (all_filtered (λ x. nat_lt x.1 (length s.objects)) (λ x. is_open s x.1) (due now s)
+    let within = all_at_least (λ x. nat_lt x.1 (length s.objects)) c (eligible_candidates now s) e
+    (all_filtered (λ x. nat_lt x.1 (length s.objects)) (λ x. is_startable s x.1) (due_candidates now s)
     (all_filtered (λ x. nat_lt x.1 (length s.objects)) (λ x. nat_le x.0 now) (candidates s) (candidates_within s.objects))) in
     grind (arith, nat_tests, within)
 
@@ -88,7 +89,7 @@ under_number number (Some x) q e = under_number_by number x q (x.number == numbe
 
 -- the run that a passed test names is the object's
 run_named : (s : State) (n run : ℕ) (x : Scheduling) (q : OpenRun) → slice_get s.objects n ≡ Some x → run_under run x.run ≡ Ok q → run_in n s.objects ≡ Some run
-run_named s n run x q there under = rw (there, under_is run x.run q under) (ap Some (under_number run x.run q under))
+run_named s n run x q in_range under = rw (in_range, under_is run x.run q under) (ap Some (under_number run x.run q under))
 
 some_same : (x : Option ℕ) (a b : ℕ) → x ≡ Some a → x ≡ Some b → a ≡ b
 some_same x a b e f = let same : Some a ≡ Some b = sym e ∙ f in cc
@@ -96,9 +97,9 @@ some_same x a b e f = let same : Some a ≡ Some b = sym e ∙ f in cc
 -- a run that isn't the one that ends goes on
 run_goes_on : (s : State) (n run o r : ℕ) (f : Scheduling → Scheduling) (x : Scheduling) (q : OpenRun) → slice_get s.objects n ≡ Some x
     → run_under run x.run ≡ Ok q → run_in o s.objects ≡ Some r → (n == o && (run == r)) ≡ false → run_in o (update_at n f s.objects) ≡ Some r
-run_goes_on s n run o r f x q there under h e = elim (cases_eq n o) [
+run_goes_on s n run o r f x q in_range under h e = elim (cases_eq n o) [
   | inl same ↦
-      let named : run_in o s.objects ≡ Some run = rw (← same) (run_named s n run x q there under) in
+      let named : run_in o s.objects ≡ Some run = rw (← same) (run_named s n run x q in_range under) in
       let is : run ≡ r = some_same (run_in o s.objects) run r named h in
       let ends : (n == o && (run == r)) ≡ true = rw (eq-eqb n o same, eq-eqb run r is) refl in
       absurd (let clash : true ≡ false = sym ends ∙ e in cc)
@@ -115,12 +116,12 @@ step_keeps_run s (call.Take now) o r h =
     (ap (λ k. run_in k s.objects) same ∙ h)) ∙ h)
     (λ f e. h)
 step_keeps_run s (call.Report n run c) o r h =
-    by_test (λ a. ends_by o r (call.Report n run c) a.1 ≡ false → run_in o a.0.objects ≡ Some r) s (known n s) _ (λ why e. h)
+    by_test (λ a. ends_by o r (call.Report n run c) a.1 ≡ false → run_in o a.0.objects ≡ Some r) s (existing_object n s) _ (λ why e. h)
     (λ x k. by_test (λ a. ends_by o r (call.Report n run c) a.1 ≡ false → run_in o a.0.objects ≡ Some r) s (run_under run x.run) _ (λ why e. h)
     (λ q f e. run_goes_on s n run o r _ x q (known_is n s x k) f h e))
 step_keeps_run s (call.Abandon n run now) o r h =
-    by_test (λ a. ends_by o r (call.Abandon n run now) a.1 ≡ false → run_in o a.0.objects ≡ Some r) s (known n s) _ (λ why e. h)
-    (λ x k. by_test (λ a. ends_by o r (call.Abandon n run now) a.1 ≡ false → run_in o a.0.objects ≡ Some r) s (within_range now) _ (λ why e. h)
+    by_test (λ a. ends_by o r (call.Abandon n run now) a.1 ≡ false → run_in o a.0.objects ≡ Some r) s (existing_object n s) _ (λ why e. h)
+    (λ x k. by_test (λ a. ends_by o r (call.Abandon n run now) a.1 ≡ false → run_in o a.0.objects ≡ Some r) s (moment_test now) _ (λ why e. h)
     (λ u m. by_test (λ a. ends_by o r (call.Abandon n run now) a.1 ≡ false → run_in o a.0.objects ≡ Some r) s (run_under run x.run) _ (λ why e. h)
     (λ q f e. run_goes_on s n run o r _ x q (known_is n s x k) f h e)))
 step_keeps_run s (call.Reschedule n time forced) o r h =
@@ -146,8 +147,8 @@ and_right : (a b : Bool) → (a && b) ≡ true → b ≡ true
 and_right true b h = h
 and_right false b h = cc
 
-taken_begins : (now : ℕ) (s : State) (c : Candidate) (o r : ℕ) → least (eligible now s) ≡ Some c → (c.1 == o && ((s.runs + 1) == r)) ≡ true
-    → IsBegun o r s (taken now c.1 s)
+taken_begins : (now : ℕ) (s : State) (c : Candidate) (o r : ℕ) → least (eligible_candidates now s) ≡ Some c → (c.1 == o && ((s.runs + 1) == r)) ≡ true
+    → IsBegun o r s (state_after_take now c.1 s)
 taken_begins now s c o r f e =
     let here : c.1 ≡ o = eqb-true c.1 o (and_left (c.1 == o) _ e) in
     let number : s.runs + 1 ≡ r = eqb-true (s.runs + 1) r (and_right (c.1 == o) _ e) in
@@ -163,7 +164,7 @@ waiting_by true s next o r e = cc
 waiting_by false s next o r e = cc
 
 waiting_begins : (now : ℕ) (s : State) (o r : ℕ) → begins_by o r (waiting_reply now s) ≡ true → IsBegun o r s s
-waiting_begins now s o r e = waiting_by (list_any (λ c. not (is_host s.setup c.1)) (due now s)) s (option_map (λ c. c.0) (least (candidates s))) o r e
+waiting_begins now s o r e = waiting_by (list_any (λ c. not (is_host s.setup c.1)) (due_candidates now s)) s (option_map (λ c. c.0) (least (candidates s))) o r e
 
 step_begins : (s : State) (c : Call) (o r : ℕ) → begins_by o r (step s c).1 ≡ true → IsBegun o r s (step s c).0
 step_begins s (call.Take now) o r =
@@ -191,7 +192,7 @@ waiting_runs_by true s next = none_more s
 waiting_runs_by false s next = none_more s
 
 waiting_runs : (now : ℕ) (s : State) → s.runs ≡ s.runs + cond (takes_by (waiting_reply now s)) 1 0
-waiting_runs now s = waiting_runs_by (list_any (λ c. not (is_host s.setup c.1)) (due now s)) s (option_map (λ c. c.0) (least (candidates s)))
+waiting_runs now s = waiting_runs_by (list_any (λ c. not (is_host s.setup c.1)) (due_candidates now s)) s (option_map (λ c. c.0) (least (candidates s)))
 
 -- a run goes on through a history that doesn't end it
 pub keeps_running : (s : State) (h : List (Entry Call Reply)) (o r : ℕ) → IsLegal step s h → run_in o s.objects ≡ Some r → list_any (ends o r) h ≡ false

@@ -4,10 +4,10 @@ use Rattle.std.proofs.Common.{option_map, refl, sym, ap, ◌∙◌, arith, inl, 
 use Rattle.std.specs.Prelude.{is_some, option_and_then, slice_get}
 use Rattle.std.specs.List.{list_all}
 use Rattle.std.proofs.lemmas.Bool.{and_from}
-use Rattle.check_sched.specs.Scheduling.{running_from}
-use Rattle.check_saved.specs.Scheduling.{Scheduling, OpenRun, is_timed, is_timed_if_forced}
+use Rattle.check_sched.specs.Scheduling.{object_with_run}
+use Rattle.check_saved_state.specs.Scheduling.{Scheduling, OpenRun, is_timed, is_timed_if_forced}
 use Rattle.check_sched.specs.State.{State, run_number_of}
-use Rattle.check_sched.specs.Step.{taken, update_at, with_object}
+use Rattle.check_sched.specs.Step.{state_after_take, update_at, with_object}
 use Rattle.check_sched.proofs.LimitLaws.{BeginsNone}
 
 -- ---- the run of one object
@@ -34,7 +34,7 @@ run_kept (suc n) zero f (x ∷ xs) h = refl
 run_kept (suc n) (suc o) f (x ∷ xs) h = run_kept n o f xs h
 
 -- an object whose check begins runs
-pub run_begun : (n : ℕ) (r : OpenRun) (xs : List Scheduling) → n < length xs → run_in n (update_at n (running_from r) xs) ≡ Some r.number
+pub run_begun : (n : ℕ) (r : OpenRun) (xs : List Scheduling) → n < length xs → run_in n (update_at n (object_with_run r) xs) ≡ Some r.number
 run_begun n r [] h = absurd (omega arith)
 run_begun zero r (x ∷ xs) h = refl
 run_begun (suc n) r (x ∷ xs) h = run_begun n r xs (omega arith)
@@ -55,7 +55,7 @@ run_before (suc n) zero r f (x ∷ xs) h e = e
 run_before (suc n) (suc o) r f (x ∷ xs) h e = run_before n o r f xs h e
 
 -- what is out after a check began is that check, or was out before
-begun_before : (n o r : ℕ) (q : OpenRun) (xs : List Scheduling) → run_in o (update_at n (running_from q) xs) ≡ Some r
+begun_before : (n o r : ℕ) (q : OpenRun) (xs : List Scheduling) → run_in o (update_at n (object_with_run q) xs) ≡ Some r
     → ((o ≡ n) × (r ≡ q.number)) ⊎ (run_in o xs ≡ Some r)
 begun_before n o r q [] e = inr e
 begun_before zero zero r q (x ∷ xs) e = let same : r ≡ q.number = cc in inl (refl, same)
@@ -89,7 +89,7 @@ numbered_begun_by : (s : State) (number n run : ℕ) → AreNumbered s → ((num
 numbered_begun_by s number n run was (inl p) = let is = p.1 in (omega arith, omega arith)
 numbered_begun_by s number n run was (inr e) = let h = was number run e in (omega arith, omega arith)
 
-pub numbered_taken : (now n : ℕ) (s : State) → AreNumbered s → AreNumbered (taken now n s)
+pub numbered_taken : (now n : ℕ) (s : State) → AreNumbered s → AreNumbered (state_after_take now n s)
 numbered_taken now n s was number run e =
     numbered_begun_by s number n run was (begun_before n number run (record { number = s.runs + 1; start = now }) s.objects e)
 
@@ -100,7 +100,7 @@ once_begun_by s n one other run numbered was (inl p) (inr g) = let h = numbered 
 once_begun_by s n one other run numbered was (inr e) (inl q) = let h = numbered one run e in let is = q.1 in absurd (omega arith)
 once_begun_by s n one other run numbered was (inr e) (inr g) = was one other run e g
 
-pub once_taken : (now n : ℕ) (s : State) → AreNumbered s → AreOnce s → AreOnce (taken now n s)
+pub once_taken : (now n : ℕ) (s : State) → AreNumbered s → AreOnce s → AreOnce (state_after_take now n s)
 once_taken now n s numbered was one other run e g =
     let q : OpenRun = record { number = s.runs + 1; start = now } in
     once_begun_by s n one other run numbered was (begun_before n one run q s.objects e) (begun_before n other run q s.objects g)

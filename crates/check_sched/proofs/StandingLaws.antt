@@ -2,7 +2,7 @@
 use Rattle.std.proofs.Common.{◌≡◌, ℕ, ◌+◌, ◌-◌, ◌<◌, ◌≤◌, Bool, true, false, cond, List, [], ◌∷◌, length, Option, Some, None, refl, sym, subst, ◌∙◌, arith}
 use Rattle.std.specs.Prelude.{option_map, slice_get, nat_lt, unwrap_or}
 use Rattle.std.proofs.lemmas.Bool.Decides.{nat_tests}
-use Rattle.ticket_steps.specs.declared.kept.Entry.{Entry}
+use Rattle.ticket_steps.specs.declared.books.Entry.{Entry}
 use Rattle.ticket_steps.specs.History.{replay}
 use Rattle.check_objects.specs.Configuration.{Configuration, IsSetup, Service, host_count, object_count, parents_of}
 use Rattle.check_spread.specs.Spread.{first_times, host_objects, host_spread, initial_times, service_objects, service_spread}
@@ -19,9 +19,9 @@ use Rattle.check_sched.specs.declared.call.Call.{Call}
 use Rattle.check_sched.specs.declared.call.Call.TheVariants as call
 use Rattle.check_sched.specs.declared.call.Reply.{Reply}
 use Rattle.check_sched.specs.Report.{flaps_with, state_found_by}
-use Rattle.check_saved.specs.Scheduling.{Scheduling}
+use Rattle.check_saved_state.specs.Scheduling.{Scheduling}
 use Rattle.check_sched.specs.State.{State, IsState, IsStandingOf, is_host, opening, standing_at}
-use Rattle.check_sched.specs.Step.{found_in, judged_in, step, update_at}
+use Rattle.check_sched.specs.Step.{state_found_in, new_standing_in, step, update_at}
 use Rattle.check_sched.proofs.OpeningLaws.{count_is, first_standings, length-objects_at, length-opening_standings}
 use Rattle.check_sched.proofs.OperatorLaws.{abandon_cases, enable_cases, reschedule_cases, status_cases}
 use Rattle.check_sched.proofs.ReportLaws.{is_an_object, judged_is_standing, report_cases}
@@ -49,19 +49,19 @@ service_sort code.Unknown = refl
 sort_by : (setup : Configuration) (standings : List Standing) (n : ℕ) (c : Code) (host : Bool) (found : Option Service)
     → (host ≡ false → found ≡ None → ⊥)
     → is_host_state (state_found_by (cond host None (option_map (λ s. s.host) found)) setup standings n c) ≡ host
-sort_by setup standings n c true found there = host_sort setup standings n c
-sort_by setup standings n c false None there = absurd (there refl refl)
-sort_by setup standings n c false (Some s) there = service_sort c
+sort_by setup standings n c true found in_range = host_sort setup standings n c
+sort_by setup standings n c false None in_range = absurd (in_range refl refl)
+sort_by setup standings n c false (Some s) in_range = service_sort c
 
 -- a check of a host finds a state of hosts, one of a service a state of services
-pub found_sort : (s : State) (n : ℕ) (c : Code) → n < object_count s.setup → is_host_state (found_in s n c) ≡ is_host s.setup n
-found_sort s n c there =
+pub found_sort : (s : State) (n : ℕ) (c : Code) → n < object_count s.setup → is_host_state (state_found_in s n c) ≡ is_host s.setup n
+found_sort s n c in_range =
     sort_by s.setup s.standings n c (nat_lt n (host_count s.setup)) (slice_get s.setup.services (n - host_count s.setup))
     (λ past none.
     let gone = none_there s.setup.services (n - host_count s.setup) none in
     let count = count_is s.setup in
     let behind = not_less n (host_count s.setup) past in
-    omega (arith, gone, count, behind, there))
+    omega (arith, gone, count, behind, in_range))
   where
     not_less : (a b : ℕ) → nat_lt a b ≡ false → b ≤ a
     not_less a b e = grind (arith, nat_tests, e)
@@ -77,11 +77,11 @@ pub record IsGood (s : State) : Type 0 where
 
 standing_by : (s : State) (n : ℕ) (found : Option Standing) → IsGood s → n < object_count s.setup → slice_get s.standings n ≡ found
     → IsStandingOf s.setup n (unwrap_or found (pending_standing true))
-standing_by s n None good there e = let past = none_there s.standings n e in absurd (omega (arith, past, there, good.one_standing_each))
-standing_by s n (Some t) good there e = good.standings n t e
+standing_by s n None good in_range e = let past = none_there s.standings n e in absurd (omega (arith, past, in_range, good.one_standing_each))
+standing_by s n (Some t) good in_range e = good.standings n t e
 
 standing_good : (s : State) (n : ℕ) → IsGood s → n < object_count s.setup → IsStandingOf s.setup n (standing_at s.standings n)
-standing_good s n good there = standing_by s n (slice_get s.standings n) good there refl
+standing_good s n good in_range = standing_by s n (slice_get s.standings n) good in_range refl
 
 -- another scheduling of one object
 object_good : (n runs : ℕ) (f : Scheduling → Scheduling) (s : State) → IsGood s
@@ -100,16 +100,16 @@ step_good s (call.Take now) good =
 step_good s (call.Report n run c) good =
     report_cases (λ a. IsGood a.0) n run c s (λ why. good)
     (λ o r e f.
-    let there = is_an_object s n o good.one_each e in
-    let found = found_in s n c in
+    let in_range = is_an_object s n o good.one_each e in
+    let found = state_found_in s n c in
     record {
       setup = good.setup;
       one_each = length-update_at n _ s.objects ∙ good.one_each;
       one_standing_each = length-update_at n _ s.standings ∙ good.one_standing_each;
       standings =
-          each-update_at (IsStandingOf s.setup) n (judged_in s n found) s.standings good.standings
-          (judged_is_standing s.setup s.standings n found (flaps_with s.setup s.standings s.results n found) good.setup (found_sort s n c there)
-          (standing_good s n good there));
+          each-update_at (IsStandingOf s.setup) n (new_standing_in s n found) s.standings good.standings
+          (judged_is_standing s.setup s.standings n found (flaps_with s.setup s.standings s.results n found) good.setup (found_sort s n c in_range)
+          (standing_good s n good in_range));
     })
 step_good s (call.Abandon n run now) good = abandon_cases (λ a. IsGood a.0) n run now s (λ why. good) (λ o e m. object_good n s.runs _ s good)
 step_good s (call.Reschedule n time forced) good =
@@ -154,20 +154,20 @@ opening_good setup start h = record {
 -- Whatever calls are made from a good state on, each object has a standing that it can have.
 good_standing : (opened : State) (history : List (Entry Call Reply)) (n : ℕ) → IsGood opened → n < object_count opened.setup
     → IsStandingOf opened.setup n (standing_at (replay step opened history).standings n)
-good_standing opened history n good there =
+good_standing opened history n good in_range =
     let s = replay step opened history in
     let same : s.setup ≡ opened.setup = replay_setup opened history in
-    let in_setup : n < object_count s.setup = subst (λ c. n < object_count c) (sym same) there in
+    let in_setup : n < object_count s.setup = subst (λ c. n < object_count c) (sym same) in_range in
     subst (λ c. IsStandingOf c n (standing_at s.standings n)) same (standing_good s n (replay_good opened history good) in_setup)
 
 -- So it is from every state on that a scheduler can be in,
 pub state_standing : (opened : State) (history : List (Entry Call Reply)) (n : ℕ) → IsState opened → n < object_count opened.setup
     → IsStandingOf opened.setup n (standing_at (replay step opened history).standings n)
-state_standing opened history n h there =
+state_standing opened history n h in_range =
     good_standing opened history n
-    (record { setup = h.valid_setup; one_each = h.one_each; one_standing_each = h.one_standing_each; standings = h.standings }) there
+    (record { setup = h.valid_setup; one_each = h.one_each; one_standing_each = h.one_standing_each; standings = h.standings }) in_range
 
 -- and of a scheduler that was opened.
 pub opened_standing : (setup : Configuration) (start : ℕ) (history : List (Entry Call Reply)) (n : ℕ) → IsSetup setup → n < object_count setup
     → IsStandingOf setup n (standing_at (replay step (opening setup start) history).standings n)
-opened_standing setup start history n h there = good_standing (opening setup start) history n (opening_good setup start h) there
+opened_standing setup start history n h in_range = good_standing (opening setup start) history n (opening_good setup start h) in_range

@@ -1,7 +1,7 @@
 -- Laws of objects that an OK leaves as they stand: what such a report answers, and which objects are such ones after one.
-use Rattle.std.proofs.Common.{◌≡◌, ℕ, zero, suc, ◌<◌, ◌==◌, Bool, true, false, cond, List, [], replicate, length, Option, Some, None, refl, sym, ap, subst, ◌∙◌, arith}
+use Rattle.std.proofs.Common.{◌≡◌, ℕ, zero, suc, ◌<◌, ◌==◌, Bool, true, false, List, [], replicate, length, Option, Some, None, refl, sym, ap, subst, ◌∙◌}
 use Rattle.std.specs.Prelude.{is_some, option_and_then, slice_get, unwrap_or}
-use Rattle.std.specs.Option.{option_map_or, option_or}
+use Rattle.std.specs.Option.{option_map_or}
 use Rattle.std.proofs.lemmas.Bool.{eqb-true, eqb-false}
 use Rattle.check_objects.specs.Configuration.{Configuration, host_of, object_count}
 use Rattle.check_rules.specs.declared.state.Code.{Code}
@@ -9,49 +9,45 @@ use Rattle.check_rules.specs.declared.state.Code.TheVariants as code
 use Rattle.check_rules.specs.declared.state.State as rules
 use Rattle.check_rules.specs.declared.state.State.TheVariants as state
 use Rattle.check_rules.specs.declared.standing.Standing.{Standing}
-use Rattle.check_rules.specs.Flapping.{is_flapping, kept_after}
-use Rattle.check_rules.specs.Standing.{is_soft_problem, pending_standing}
-use Rattle.check_rules.specs.State.{fine_state, is_another_state, is_host_state, is_problem}
+use Rattle.check_rules.specs.Flapping.{is_flapping, results_after}
+use Rattle.check_rules.specs.Standing.{pending_standing}
+use Rattle.check_rules.specs.State.{ok_or_up_state, is_another_state, is_host_state, is_problem}
 use Rattle.check_rules.specs.Verdict.{verdict_on}
-use Rattle.check_saved.specs.Scheduling.{Scheduling, is_timed, is_timed_if_forced}
+use Rattle.check_saved_state.specs.Scheduling.{Scheduling, is_timed, is_timed_if_forced}
 use Rattle.check_sched.specs.declared.call.Reply.{Reply}
 use Rattle.check_sched.specs.declared.call.Reply.TheVariants as reply
-use Rattle.check_sched.specs.declared.intervals.Intervals.{Intervals}
-use Rattle.check_sched.specs.Intervals.{next_by, time_past}
 use Rattle.check_sched.specs.Report.{is_host_up, next_after, state_found_by}
-use Rattle.check_sched.specs.Scheduling.{ended}
+use Rattle.check_sched.specs.Scheduling.{object_after_run}
 use Rattle.check_sched.specs.State.{State, IsState, flap_thresholds_of, is_host, max_attempts_of, next_of, results_at, standing_at}
 use Rattle.check_sched.specs.Steady.{IsSteady, IsSteadyIn}
-use Rattle.check_sched.specs.Step.{found_in, is_forced, judged_in, report_told, reported, standing_reply, update_at, with_object}
+use Rattle.check_sched.specs.Step.{state_found_in, is_forced, new_standing_in, report_result, state_after_report, standing_reply, update_at, with_object}
 use Rattle.check_sched.proofs.FlappingLaws.{results_here, standing_here}
-use Rattle.check_sched.proofs.OutLaws.{timed_if, timed_then}
+use Rattle.check_sched.proofs.RunningLaws.{timed_if, timed_then}
 use Rattle.check_sched.proofs.ReportLaws.{next_already, verdict_by_host}
 use Rattle.check_sched.proofs.StandingLaws.{found_sort}
-use Rattle.check_sched.specs.declared.sched.Sched.TheInside.{Inside}
-use Rattle.check_sched.specs.Sched.{state_of}
 use Rattle.check_sched.proofs.UpdateLaws.{update_at_apart, update_at_read, update_at_still}
-use Rattle.check_saved.proofs.SavedLemmas.{all_at}
+use Rattle.check_saved_state.proofs.SavedLemmas.{all_at}
 
 -- ---- what an OK means
 
-no_problem : (host : Bool) → is_problem (fine_state host) ≡ true → ⊥
+no_problem : (host : Bool) → is_problem (ok_or_up_state host) ≡ true → ⊥
 no_problem true e = cc
 no_problem false e = cc
 
 fine_by : (host : Option ℕ) (setup : Configuration) (standings : List Standing) (n : ℕ)
-    → state_found_by host setup standings n code.Ok ≡ fine_state (is_host_state (state_found_by host setup standings n code.Ok))
+    → state_found_by host setup standings n code.Ok ≡ ok_or_up_state (is_host_state (state_found_by host setup standings n code.Ok))
 fine_by None setup standings n = refl
 fine_by (Some host) setup standings n = refl
 
 -- OK of a service, and UP of a host
-fine_found : (s : State) (n : ℕ) → n < object_count s.setup → found_in s n code.Ok ≡ fine_state (is_host s.setup n)
-fine_found s n there = fine_by (host_of s.setup n) s.setup s.standings n ∙ ap fine_state (found_sort s n code.Ok there)
+fine_found : (s : State) (n : ℕ) → n < object_count s.setup → state_found_in s n code.Ok ≡ ok_or_up_state (is_host s.setup n)
+fine_found s n in_range = fine_by (host_of s.setup n) s.setup s.standings n ∙ ap ok_or_up_state (found_sort s n code.Ok in_range)
 
 -- ---- a report that leaves the object as it stands
 
-fine_judged : (s : State) (n : ℕ) → IsSteadyIn s n → judged_in s n (fine_state (is_host s.setup n)) ≡ standing_at s.standings n
+fine_judged : (s : State) (n : ℕ) → IsSteadyIn s n → new_standing_in s n (ok_or_up_state (is_host s.setup n)) ≡ standing_at s.standings n
 fine_judged s n is =
-    let fine = fine_state (is_host s.setup n) in
+    let fine = ok_or_up_state (is_host s.setup n) in
     let before = standing_at s.standings n in
     let max = max_attempts_of s.setup n in
     let thresholds = flap_thresholds_of s.setup n in
@@ -70,19 +66,19 @@ same_state state.Unreachable = refl
 
 -- what it leaves
 still : (s : State) (n : ℕ) (next : Option ℕ) → IsSteadyIn s n
-    → reported n (fine_state (is_host s.setup n)) (standing_at s.standings n) next s ≡ with_object n (ended next) s
+    → state_after_report n (ok_or_up_state (is_host s.setup n)) (standing_at s.standings n) next s ≡ with_object n (object_after_run next) s
 still s n next is =
-    let fine = fine_state (is_host s.setup n) in
+    let fine = ok_or_up_state (is_host s.setup n) in
     let standing = standing_at s.standings n in
     let standings : update_at n (λ (before : Standing). standing) s.standings ≡ s.standings =
     update_at_still n (λ (before : Standing). standing) s.standings (λ x e. ap (λ found. unwrap_or found (pending_standing true)) e) in
-    let results : update_at n (λ kept. kept_after kept fine) s.results ≡ s.results =
-    update_at_still n (λ kept. kept_after kept fine) s.results
-    (λ x e. let same : results_at s.results n ≡ x = ap (λ found. unwrap_or found []) e in subst (λ kept. kept_after kept fine ≡ kept) same is.kept) in
+    let results : update_at n (λ kept. results_after kept fine) s.results ≡ s.results =
+    update_at_still n (λ kept. results_after kept fine) s.results
+    (λ x e. let same : results_at s.results n ≡ x = ap (λ found. unwrap_or found []) e in subst (λ kept. results_after kept fine ≡ kept) same is.kept) in
     λ i. record {
       setup = s.setup;
       start = s.start;
-      objects = update_at n (ended next) s.objects;
+      objects = update_at n (object_after_run next) s.objects;
       standings = standings i;
       results = results i;
       runs = s.runs;
@@ -92,10 +88,10 @@ still s n next is =
 pub steady_answer : (s : State) (n start : ℕ) (already : Option ℕ) → n < object_count s.setup → IsSteadyIn s n
     → let standing = standing_at s.standings n in
     let next = next_after s.setup n standing start already in
-    report_told n start code.Ok already s ≡ (with_object n (ended next) s, reply.Standing standing false next)
-steady_answer s n start already there is =
-    ap (λ u. told u (judged_in s n u)) (fine_found s n there)
-    ∙ ap (told (fine_state (is_host s.setup n))) (fine_judged s n is)
+    report_result n start code.Ok already s ≡ (with_object n (object_after_run next) s, reply.Standing standing false next)
+steady_answer s n start already in_range is =
+    ap (λ u. told u (new_standing_in s n u)) (fine_found s n in_range)
+    ∙ ap (told (ok_or_up_state (is_host s.setup n))) (fine_judged s n is)
     ∙ (λ i. (still s n next is i, reply.Standing standing (same_state standing.state i) next))
   where
     standing : Standing
@@ -105,7 +101,7 @@ steady_answer s n start already there is =
     next = next_after s.setup n standing start already
 
     told : rules.State → Standing → State × Reply
-    told u t = (reported n u t (next_after s.setup n t start already) s, standing_reply n t (next_after s.setup n t start already) s)
+    told u t = (state_after_report n u t (next_after s.setup n t start already) s, standing_reply n t (next_after s.setup n t start already) s)
 
 timed_by : (s : State) (n : ℕ) (next : Option ℕ) (found : Option Scheduling) → IsState s → slice_get s.objects n ≡ found
     → (is_some (option_and_then (λ o. o.next) found) ≡ true → is_some next ≡ true) → is_timed next (option_map_or (λ o. o.forced) found false) ≡ true
@@ -120,35 +116,16 @@ report_timed s n start standing already is e =
     timed_by s n (next_after s.setup n standing start already) (slice_get s.objects n) is refl
     (λ set. next_already s.setup n standing start already (ap is_some (sym e) ∙ set))
 
--- the standing that a verdict on an OK makes is no soft problem
-fine_phase : (host : Bool) (before : Standing) (max : ℕ) (flapping : Bool) → is_soft_problem (verdict_on before (fine_state host) max true flapping) ≡ false
-fine_phase true before max flapping = refl
-fine_phase false before max flapping = refl
-
--- so an object that an OK leaves as it stands is none
-steady_phase : (s : State) (n : ℕ) → IsSteadyIn s n → is_soft_problem (standing_at s.standings n) ≡ false
-steady_phase s n is =
-    let standing = standing_at s.standings n in
-    let thresholds = flap_thresholds_of s.setup n in
-    let flapping = is_flapping (results_at s.results n) standing.flapping thresholds.0 thresholds.1 in
-    subst (λ t. is_soft_problem t ≡ false) is.stands (fine_phase (is_host s.setup n) standing (max_attempts_of s.setup n) flapping)
-
--- and its next check comes after its check interval
-pub steady_next : (s : State) (n start : ℕ) (intervals : Intervals) (already : Option ℕ) → IsSteadyIn s n
-    → option_or already (time_past start intervals.check) ≡ next_by intervals (standing_at s.standings n) start already
-steady_next s n start intervals already is =
-    ap (λ soft. option_or already (time_past start (cond soft intervals.retry intervals.check))) (sym (steady_phase s n is))
-
 -- ---- which objects are left as they stand, after a report
 
 -- one whose OK made the standing that there was, and leaves the results as they are
 pub steady_after : (s : State) (n : ℕ) (c : Code) (found : rules.State) (before standing : Standing) → n < object_count s.setup
-    → found ≡ found_in s n c → standing_at s.standings n ≡ before → standing ≡ judged_in s n found
-    → c ≡ code.Ok → before ≡ standing → let kept = kept_after (results_at s.results n) found in
-    kept_after kept found ≡ kept → IsSteady s.setup n standing kept
-steady_after s n c found before standing there meant read made ok same stays =
-    let kept = kept_after (results_at s.results n) found in
-    let fine : found ≡ fine_state (is_host s.setup n) = meant ∙ ap (found_in s n) ok ∙ fine_found s n there in
+    → found ≡ state_found_in s n c → standing_at s.standings n ≡ before → standing ≡ new_standing_in s n found
+    → c ≡ code.Ok → before ≡ standing → let kept = results_after (results_at s.results n) found in
+    results_after kept found ≡ kept → IsSteady s.setup n standing kept
+steady_after s n c found before standing in_range meant read made ok same stays =
+    let kept = results_after (results_at s.results n) found in
+    let fine : found ≡ ok_or_up_state (is_host s.setup n) = meant ∙ ap (state_found_in s n) ok ∙ fine_found s n in_range in
     let max = max_attempts_of s.setup n in
     let up = is_host_up (host_of s.setup n) s.standings in
     let thresholds = flap_thresholds_of s.setup n in
@@ -156,35 +133,35 @@ steady_after s n c found before standing there meant read made ok same stays =
     let once : verdict_on standing found max up (flaps standing) ≡ standing =
     subst (λ t. verdict_on t found max up (flaps t) ≡ standing) (read ∙ same) (sym made) in
     record {
-      kept = subst (λ f. kept_after kept f ≡ kept) fine stays;
+      kept = subst (λ f. results_after kept f ≡ kept) fine stays;
       stands =
-          sym (verdict_by_host standing (fine_state (is_host s.setup n)) max up true (flaps standing) (λ e. absurd (no_problem (is_host s.setup n) e)))
+          sym (verdict_by_host standing (ok_or_up_state (is_host s.setup n)) max up true (flaps standing) (λ e. absurd (no_problem (is_host s.setup n) e)))
           ∙ subst (λ f. verdict_on standing f max up (flaps standing) ≡ standing) fine once;
     }
 
 marks_by : (setup : Configuration) (n k : ℕ) (mark same : Bool) (marks : List Bool) (standings : List Standing) (results : List (List rules.State))
     (standing : Standing) (found : rules.State) → (n == k) ≡ same
     → ((j : ℕ) → slice_get marks j ≡ Some true → IsSteady setup j (standing_at standings j) (results_at results j))
-    → n < length standings → n < length results → (mark ≡ true → IsSteady setup n standing (kept_after (results_at results n) found))
+    → n < length standings → n < length results → (mark ≡ true → IsSteady setup n standing (results_after (results_at results n) found))
     → slice_get (update_at n (λ before. mark) marks) k ≡ Some true
-    → IsSteady setup k (standing_at (update_at n (λ before. standing) standings) k) (results_at (update_at n (λ kept. kept_after kept found) results) k)
+    → IsSteady setup k (standing_at (update_at n (λ before. standing) standings) k) (results_at (update_at n (λ kept. results_after kept found) results) k)
 marks_by setup n k mark true marks standings results standing found e was one two new set =
     let here : n ≡ k = eqb-true n k e in
     let marked : mark ≡ true = update_at_read n mark true marks (ap (slice_get (update_at n (λ before. mark) marks)) here ∙ set) in
-    subst (λ j. IsSteady setup j (standing_at (update_at n (λ before. standing) standings) j) (results_at (update_at n (λ kept. kept_after kept found) results) j)) here
+    subst (λ j. IsSteady setup j (standing_at (update_at n (λ before. standing) standings) j) (results_at (update_at n (λ kept. results_after kept found) results) j)) here
     (rw (standing_here standings n standing one, results_here results n found two) (new marked))
 marks_by setup n k mark false marks standings results standing found e was one two new set =
     let apart = eqb-false n k e in
-    rw (update_at_apart n k (λ before. standing) standings apart, update_at_apart n k (λ kept. kept_after kept found) results apart)
+    rw (update_at_apart n k (λ before. standing) standings apart, update_at_apart n k (λ kept. results_after kept found) results apart)
     (was k (sym (update_at_apart n k (λ before. mark) marks apart) ∙ set))
 
 -- the marks after a report, where its object is marked as it is after it
 pub marks_after : (setup : Configuration) (n : ℕ) (mark : Bool) (marks : List Bool) (standings : List Standing) (results : List (List rules.State))
     (standing : Standing) (found : rules.State)
     → ((j : ℕ) → slice_get marks j ≡ Some true → IsSteady setup j (standing_at standings j) (results_at results j))
-    → n < length standings → n < length results → (mark ≡ true → IsSteady setup n standing (kept_after (results_at results n) found))
+    → n < length standings → n < length results → (mark ≡ true → IsSteady setup n standing (results_after (results_at results n) found))
     → (k : ℕ) → slice_get (update_at n (λ before. mark) marks) k ≡ Some true
-    → IsSteady setup k (standing_at (update_at n (λ before. standing) standings) k) (results_at (update_at n (λ kept. kept_after kept found) results) k)
+    → IsSteady setup k (standing_at (update_at n (λ before. standing) standings) k) (results_at (update_at n (λ kept. results_after kept found) results) k)
 marks_after setup n mark marks standings results standing found was one two new k set =
     marks_by setup n k mark (n == k) marks standings results standing found refl was one two new set
 
@@ -193,7 +170,3 @@ pub none_marked : (count k : ℕ) → slice_get (replicate count false) k ≡ So
 none_marked zero k e = cc
 none_marked (suc count) zero e = cc
 none_marked (suc count) (suc k) e = none_marked count k e
-
--- an object of the state is one of the fields' setup
-pub count_there : (inside : Inside) (n : ℕ) (old : State) → state_of inside ≡ old → n < object_count old.setup → n < object_count inside.setup
-count_there inside n old e l = let count = ap (λ (s : State). object_count s.setup) e in omega (arith, l, count)

@@ -5,7 +5,7 @@ use Rattle.check_sched.specs.declared.call.Call.TheVariants as call
 use Rattle.check_sched.specs.declared.call.Refusal.{Refusal}
 use Rattle.check_sched.specs.declared.call.Reply.{Reply}
 use Rattle.check_sched.specs.declared.call.Reply.TheVariants as reply
-use Rattle.check_sched.specs.Scheduling.{ended, enabled_as, freed_time, rescheduled}
+use Rattle.check_sched.specs.Scheduling.{object_after_run, enabled_as, freed_time, object_after_reschedule}
 use Rattle.check_sched.specs.State.{State, IsWithinLimit}
 use Rattle.check_sched.proofs.LimitLaws.{limit_kept, limit_taken}
 use Rattle.check_sched.specs.Reply.{OnRefused}
@@ -46,11 +46,11 @@ step_limit s (call.Take now) within =
     take_cases (λ a. IsWithinLimit a.0) now s (λ why. within) (λ c m e. limit_kept c.1 _ s (λ o r b. b) within)
     (λ c m r e. limit_taken now c.1 s (eligible_open now s c e) within) (λ e. within)
 step_limit s (call.Report n run c) within =
-    report_cases (λ a. IsWithinLimit a.0) n run c s (λ why. within) (λ o r e f. limit_kept n (ended _) s (λ x r b. cc) within)
+    report_cases (λ a. IsWithinLimit a.0) n run c s (λ why. within) (λ o r e f. limit_kept n (object_after_run _) s (λ x r b. cc) within)
 step_limit s (call.Abandon n run now) within =
-    abandon_cases (λ a. IsWithinLimit a.0) n run now s (λ why. within) (λ o e m. limit_kept n (ended (Some (freed_time now o))) s (λ x r b. cc) within)
+    abandon_cases (λ a. IsWithinLimit a.0) n run now s (λ why. within) (λ o e m. limit_kept n (object_after_run (Some (freed_time now o))) s (λ x r b. cc) within)
 step_limit s (call.Reschedule n time forced) within =
-    reschedule_cases (λ a. IsWithinLimit a.0) n time forced s (λ why. within) (λ m. limit_kept n (rescheduled time forced) s (λ x r b. b) within)
+    reschedule_cases (λ a. IsWithinLimit a.0) n time forced s (λ why. within) (λ m. limit_kept n (object_after_reschedule time forced) s (λ x r b. b) within)
 step_limit s (call.Enable n on) within = enable_cases (λ a. IsWithinLimit a.0) n on s (λ why. within) (limit_kept n (enabled_as on) s (λ x r b. b) within)
 step_limit s (call.Status n) within = status_cases (λ a. IsWithinLimit a.0) n s (λ why. within) (λ o e. within)
 

@@ -2,10 +2,10 @@
 use Rattle.std.specs.Prelude.{ℕ}
 use Rattle.std.proofs.Props.{props}
 use Rattle.std.specs.List.Sorted.{IsStrictlySortedBy-prop}
-use Rattle.check_drafts.specs.declared.options.DelayMethod.{DelayMethod}
-use Rattle.check_drafts.specs.declared.options.DelayMethod.TheVariants as method
-use Rattle.check_drafts.specs.declared.options.InterleaveFactor.{InterleaveFactor}
-use Rattle.check_drafts.specs.declared.options.InterleaveFactor.TheVariants as factor
+use Rattle.setup_model.specs.declared.options.DelayMethod.{DelayMethod}
+use Rattle.setup_model.specs.declared.options.DelayMethod.TheVariants as method
+use Rattle.setup_model.specs.declared.options.InterleaveFactor.{InterleaveFactor}
+use Rattle.setup_model.specs.declared.options.InterleaveFactor.TheVariants as factor
 use Rattle.check_objects.specs.Configuration.{Configuration, IsDelayInRange, IsFactorInRange, IsSetup}
 use Rattle.check_rules.specs.declared.standing.Standing.{Standing}
 use Rattle.check_sched.specs.State.{State, IsState, IsStandingOf}

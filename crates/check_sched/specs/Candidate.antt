@@ -2,7 +2,7 @@
 use Rattle.std.specs.Prelude.{ℕ, List, filter, Option, Some, None, option_map, nat_le, nat_lt, if◌then◌else◌}
 use Rattle.std.specs.List.{filter_map, enumerate_from}
 use Rattle.check_sched.specs.Scheduling.{candidate_time}
-use Rattle.check_saved.specs.Scheduling.{Scheduling}
+use Rattle.check_saved_state.specs.Scheduling.{Scheduling}
 
 -- an object that waits for its check: the time for which it waits, and its number
 abbrev pub Candidate : Type 0

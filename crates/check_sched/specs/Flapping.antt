@@ -1,9 +1,9 @@
 -- The stored results of an object, and whether it flaps, by a history.
 use Rattle.std.specs.Prelude.{ℕ, ◌==◌, Bool, false, List, [], ◌∷◌, Option, Some, None, if◌then◌else◌}
 use Rattle.std.specs.List.{filter_map}
-use Rattle.ticket_steps.specs.declared.kept.Entry.{Entry}
+use Rattle.ticket_steps.specs.declared.books.Entry.{Entry}
 use Rattle.check_rules.specs.declared.state.State.{State}
-use Rattle.check_rules.specs.Flapping.{is_flapping, kept_after}
+use Rattle.check_rules.specs.Flapping.{is_flapping, results_after}
 use Rattle.check_sched.specs.declared.call.Call.{Call}
 use Rattle.check_sched.specs.declared.call.Call.TheVariants as call
 use Rattle.check_sched.specs.declared.call.Reply.{Reply}
@@ -14,13 +14,13 @@ use Rattle.check_sched.specs.State.{results_at, standing_at}
 -- ---- the states of a history
 
 -- the state in an answer, if it is the standing in the answer to a report of the object
-abbrev pub told_by : ℕ → Call → Reply → Option State
-told_by object (call.Report o run code) (reply.Standing standing changed next) = if o == object then Some standing.state else None
-told_by object c r = None
+abbrev pub reported_state : ℕ → Call → Reply → Option State
+reported_state object (call.Report o run code) (reply.Standing standing changed next) = if o == object then Some standing.state else None
+reported_state object c r = None
 
 -- the states in the answers to the reports of an object, in their order
-abbrev pub states_told : ℕ → List (Entry Call Reply) → List State
-states_told object history = filter_map (λ e. told_by object e.call e.reply) history
+abbrev pub reported_states : ℕ → List (Entry Call Reply) → List State
+reported_states object history = filter_map (λ e. reported_state object e.call e.reply) history
 
 -- ---- the effect of these states, one result after another
 
@@ -40,8 +40,8 @@ never_checked = record { results = []; flapping = false }
 -- both after one more result, under these thresholds
 abbrev pub with_result : ℕ × ℕ → Flapping → State → Flapping
 with_result thresholds was found = record {
-  results = kept_after was.results found;
-  flapping = is_flapping (kept_after was.results found) was.flapping thresholds.0 thresholds.1;
+  results = results_after was.results found;
+  flapping = is_flapping (results_after was.results found) was.flapping thresholds.0 thresholds.1;
 }
 
 -- both after these results, one after another

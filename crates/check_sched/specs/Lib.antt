@@ -14,4 +14,4 @@ pub mod Runs
 pub mod Flapping
 pub mod Board
 pub mod Saved
-pub mod Places
+pub mod SavedIndexes

@@ -34,15 +34,15 @@ NamesObjectOf setup reply.Done = ⊤
 NamesObjectOf setup (reply.Refused why) = ⊤
 
 -- the time in the reply, if any, is at most this one
-abbrev pub TellsTimesUpTo : ℕ → Reply → Type 0
-TellsTimesUpTo last (reply.Taken object run) = ⊤
-TellsTimesUpTo last (reply.PutOff object until) = IfSome until (λ time. time ≤ last)
-TellsTimesUpTo last (reply.Idle next) = IfSome next (λ time. time ≤ last)
-TellsTimesUpTo last reply.AtLimit = ⊤
-TellsTimesUpTo last (reply.Standing standing changed next) = IfSome next (λ time. time ≤ last)
-TellsTimesUpTo last (reply.Freed next) = next ≤ last
-TellsTimesUpTo last reply.Done = ⊤
-TellsTimesUpTo last (reply.Refused why) = ⊤
+abbrev pub HasTimesUpTo : ℕ → Reply → Type 0
+HasTimesUpTo last (reply.Taken object run) = ⊤
+HasTimesUpTo last (reply.PutOff object until) = IfSome until (λ time. time ≤ last)
+HasTimesUpTo last (reply.Idle next) = IfSome next (λ time. time ≤ last)
+HasTimesUpTo last reply.AtLimit = ⊤
+HasTimesUpTo last (reply.Standing standing changed next) = IfSome next (λ time. time ≤ last)
+HasTimesUpTo last (reply.Freed next) = next ≤ last
+HasTimesUpTo last reply.Done = ⊤
+HasTimesUpTo last (reply.Refused why) = ⊤
 
 -- a reason to refuse a take
 abbrev pub IsTakeRefusal : Refusal → Type 0

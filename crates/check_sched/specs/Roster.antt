@@ -2,9 +2,9 @@
 use Rattle.std.specs.Prelude.{ℕ, ◌≡◌, ◌≤◌, Bool, not, List, length, map, drop, count_by, Option, None, is_some, nat_lt, if◌then◌else◌}
 use Rattle.std.specs.List.{enumerate_from}
 use Rattle.check_sched.specs.Scheduling.{candidate_time}
-use Rattle.check_saved.specs.Scheduling.{Scheduling}
+use Rattle.check_saved_state.specs.Scheduling.{Scheduling}
 use Rattle.check_sched.specs.declared.roster.Roster.TheInside.{Inside}
-use Rattle.check_drafts.specs.declared.limits.TheConstants.{MAX_OBJECTS}
+use Rattle.setup_model.specs.declared.limits.TheConstants.{MAX_OBJECTS}
 
 pub record RosterState : Type 0 where
   -- the number of hosts among the objects; they have the first numbers
@@ -28,10 +28,10 @@ abbrev pub roster_of : Inside → RosterState
 roster_of r = record { hosts = r.hosts; objects = r.objects.items }
 
 -- the facts of the fields of every roster
-pub record IsKept (r : Inside) : Type 0 where
+pub record IsWellFormed (r : Inside) : Type 0 where
   -- each queue has the objects of its sort that wait, each with its time, and no others
   pub waiting_hosts : r.waiting_hosts ≡ waiting_times (λ number. nat_lt number r.hosts) r.objects.items
   pub waiting_services : r.waiting_services ≡ waiting_times (λ number. not (nat_lt number r.hosts)) r.objects.items
   -- the count of services that are being checked is right
   pub running_services : r.running_services ≡ running_among (drop r.hosts r.objects.items)
-  pub few : length r.objects.items ≤ MAX_OBJECTS
+  pub bounded : length r.objects.items ≤ MAX_OBJECTS

@@ -3,24 +3,24 @@
 use Rattle.std.specs.Prelude.{ℕ, ◌-◌, ◌==◌, ◌&&◌, ◌||◌, Bool, true, false, not, List, [], ◌++◌, map, take, drop, min}
 use Rattle.std.specs.Prelude.{Option, Some, None, is_some, option_and_then, option_map, slice_get, nat_lt, unwrap_or, if◌then◌else◌}
 use Rattle.std.specs.List.{enumerate_from}
-use Rattle.check_drafts.specs.declared.object.Object.{Object}
-use Rattle.check_objects.specs.Configuration.{Configuration, Named, host_count, name_of, objects_of}
+use Rattle.setup_model.specs.declared.parsed_setup.Object.{Object}
+use Rattle.check_objects.specs.Configuration.{Configuration, NamedObject, host_count, name_of, objects_of}
 use Rattle.check_rules.specs.declared.state.State as rules
 use Rattle.check_rules.specs.declared.standing.Kind.TheVariants as kind
 use Rattle.check_rules.specs.declared.standing.Standing.{Standing}
 use Rattle.check_rules.specs.Standing.{is_soft_problem, pending_standing}
 use Rattle.check_rules.specs.State.{is_problem}
 use Rattle.check_sched.specs.Roster.{running_among}
-use Rattle.check_sched.specs.Scheduling.{ended, freed_time, opening_object}
-use Rattle.check_saved.specs.Saved.{Saved, SavedObject, saved_named}
-use Rattle.check_saved.specs.Scheduling.{Scheduling}
+use Rattle.check_sched.specs.Scheduling.{object_after_run, freed_time, opening_object}
+use Rattle.check_saved_state.specs.Saved.{Saved, SavedObject, saved_by_name}
+use Rattle.check_saved_state.specs.Scheduling.{Scheduling}
 use Rattle.check_sched.specs.State.{State, is_host, limit_of, results_at, scheduling_at, standing_at}
 use Rattle.check_spread.specs.Spread.{earlier, initial_times, milliseconds}
 
 -- ---- the saved state
 
 -- the saved object for the object with this number
-abbrev pub saved_object : State → ℕ × Named → SavedObject
+abbrev pub saved_object : State → ℕ × NamedObject → SavedObject
 saved_object s p = record {
   name = p.1.name;
   standing = standing_at s.standings p.0;
@@ -72,23 +72,23 @@ scheduling_kept setup first object saved = record {
 
 -- ---- every object of a setup: kept if its name was saved, otherwise new
 
-abbrev pub scheduling_of : Configuration → Option ℕ → Object → Option SavedObject → Scheduling
-scheduling_of setup first object None = opening_object first object.enabled
-scheduling_of setup first object (Some saved) = scheduling_kept setup first object saved
+abbrev pub scheduling_after_resume : Configuration → Option ℕ → Object → Option SavedObject → Scheduling
+scheduling_after_resume setup first object None = opening_object first object.enabled
+scheduling_after_resume setup first object (Some saved) = scheduling_kept setup first object saved
 
-abbrev pub standing_of : Bool → Object → Option SavedObject → Standing
-standing_of host object None = pending_standing host
-standing_of host object (Some saved) = standing_kept object.max_check_attempts saved.standing
+abbrev pub standing_after_resume : Bool → Object → Option SavedObject → Standing
+standing_after_resume host object None = pending_standing host
+standing_after_resume host object (Some saved) = standing_kept object.max_check_attempts saved.standing
 
-abbrev pub results_of : Option SavedObject → List rules.State
-results_of None = []
-results_of (Some saved) = saved.results
+abbrev pub results_after_resume : Option SavedObject → List rules.State
+results_after_resume None = []
+results_after_resume (Some saved) = saved.results
 
 -- ---- the limit of services that are checked at the same time
 
 -- an object whose run, if it has one, is abandoned at this moment
-abbrev pub given_up : ℕ → Scheduling → Scheduling
-given_up now o = if is_some o.run then ended (Some (freed_time now o)) o else o
+abbrev pub object_after_abandon : ℕ → Scheduling → Scheduling
+object_after_abandon now o = if is_some o.run then object_after_run (Some (freed_time now o)) o else o
 
 -- whether no more services are running than the limit allows; a limit of 0 allows any number
 abbrev pub keeps_limit : Configuration → List Scheduling → Bool
@@ -98,7 +98,7 @@ keeps_limit setup objects = limit_of setup == 0 || not (nat_lt (limit_of setup) 
 abbrev pub within_limit : Configuration → ℕ → List Scheduling → List Scheduling
 within_limit setup now objects =
     let hosts = host_count setup in
-    if keeps_limit setup objects then objects else take hosts objects ++ map (given_up now) (drop hosts objects)
+    if keeps_limit setup objects then objects else take hosts objects ++ map (object_after_abandon now) (drop hosts objects)
 
 -- ---- the state of a resumed scheduler
 
@@ -111,42 +111,42 @@ abbrev pub first_time : Configuration → ℕ → ℕ → Option ℕ
 first_time setup start number = time_among (initial_times setup start) number
 
 -- a value for each object of a setup, by its number
-abbrev pub each_object : {X : Type 0} → Configuration → (ℕ × Named → X) → List X
+abbrev pub each_object : {X : Type 0} → Configuration → (ℕ × NamedObject → X) → List X
 each_object setup made = map made (enumerate_from 0 (objects_of setup))
 
 -- the scheduling of each object, given these first times
 abbrev pub objects_kept : Configuration → Saved → List (Option ℕ) → List Scheduling
 objects_kept setup saved times =
-    each_object setup (λ p. scheduling_of setup (time_among times p.0) p.1.object (saved_named saved p.1.name))
+    each_object setup (λ p. scheduling_after_resume setup (time_among times p.0) p.1.object (saved_by_name saved p.1.name))
 
-abbrev pub objects_resumed : Configuration → Saved → ℕ → List Scheduling
-objects_resumed setup saved start = within_limit setup start (objects_kept setup saved (initial_times setup start))
+abbrev pub objects_after_resume : Configuration → Saved → ℕ → List Scheduling
+objects_after_resume setup saved start = within_limit setup start (objects_kept setup saved (initial_times setup start))
 
-abbrev pub standings_resumed : Configuration → Saved → List Standing
-standings_resumed setup saved = each_object setup (λ p. standing_of (is_host setup p.0) p.1.object (saved_named saved p.1.name))
+abbrev pub standings_after_resume : Configuration → Saved → List Standing
+standings_after_resume setup saved = each_object setup (λ p. standing_after_resume (is_host setup p.0) p.1.object (saved_by_name saved p.1.name))
 
-abbrev pub results_resumed : Configuration → Saved → List (List rules.State)
-results_resumed setup saved = each_object setup (λ p. results_of (saved_named saved p.1.name))
+abbrev pub result_lists_after_resume : Configuration → Saved → List (List rules.State)
+result_lists_after_resume setup saved = each_object setup (λ p. results_after_resume (saved_by_name saved p.1.name))
 
 -- the state of a scheduler that is resumed over this setup, from this moment on
-abbrev pub resumed : Configuration → Saved → ℕ → State
-resumed setup saved start = record {
+abbrev pub state_after_resume : Configuration → Saved → ℕ → State
+state_after_resume setup saved start = record {
   setup = setup;
   start = start;
-  objects = objects_resumed setup saved start;
-  standings = standings_resumed setup saved;
-  results = results_resumed setup saved;
+  objects = objects_after_resume setup saved start;
+  standings = standings_after_resume setup saved;
+  results = result_lists_after_resume setup saved;
   runs = saved.runs;
 }
 
 -- ---- checks that are still running
 
 -- the number of the run under which the object with this number was being checked when it was saved, if it was
-abbrev pub run_saved_of : Configuration → Saved → ℕ → Option ℕ
-run_saved_of setup saved number =
-    option_map (λ r. r.number) (option_and_then (λ o. o.scheduling.run) (saved_named saved (name_of setup number)))
+abbrev pub saved_run_number_of : Configuration → Saved → ℕ → Option ℕ
+saved_run_number_of setup saved number =
+    option_map (λ r. r.number) (option_and_then (λ o. o.scheduling.run) (saved_by_name saved (name_of setup number)))
 
 -- Whether the check of the object with this number continues, if one was running. A host's check always does. A service's check does if no more
 -- services are running than the limit allows.
-abbrev pub stays_out : Configuration → Saved → ℕ → ℕ → Bool
-stays_out setup saved start number = is_host setup number || keeps_limit setup (objects_kept setup saved (initial_times setup start))
+abbrev pub continues_running : Configuration → Saved → ℕ → ℕ → Bool
+continues_running setup saved start number = is_host setup number || keeps_limit setup (objects_kept setup saved (initial_times setup start))

@@ -19,7 +19,7 @@ state_of s = record {
 }
 
 -- the facts of the fields of every scheduler
-pub record IsKept (s : Inside) : Type 0 where
+pub record IsWellFormed (s : Inside) : Type 0 where
   pub state : IsState (state_of s)
   -- one mark for each object
   pub marks : length s.marks.items ≡ object_count s.setup

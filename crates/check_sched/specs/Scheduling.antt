@@ -1,6 +1,6 @@
 -- The scheduling of one object at the start, and its changes.
 use Rattle.std.specs.Prelude.{ℕ, Bool, false, ◌&&◌, ◌||◌, ◌==◌, Option, Some, None, Result, Ok, Err, is_none, unwrap_or, if◌then◌else◌}
-use Rattle.check_saved.specs.Scheduling.{OpenRun, Scheduling}
+use Rattle.check_saved_state.specs.Scheduling.{OpenRun, Scheduling}
 use Rattle.check_sched.specs.declared.call.Refusal.{Refusal}
 use Rattle.check_sched.specs.declared.call.Refusal.TheVariants as refusal
 
@@ -15,12 +15,12 @@ abbrev pub candidate_time : Scheduling → Option ℕ
 candidate_time o = if is_none o.run && (o.enabled || o.forced) then o.next else None
 
 -- The object is being checked: it has a run and no next time, and isn't forced any more.
-abbrev pub running_from : OpenRun → Scheduling → Scheduling
-running_from run o = record { next = None; run = Some run; enabled = o.enabled; forced = false }
+abbrev pub object_with_run : OpenRun → Scheduling → Scheduling
+object_with_run run o = record { next = None; run = Some run; enabled = o.enabled; forced = false }
 
 -- The object isn't being checked any more, and has its next check at this time, if one is given.
-abbrev pub ended : Option ℕ → Scheduling → Scheduling
-ended next o = record { next = next; run = None; enabled = o.enabled; forced = o.forced }
+abbrev pub object_after_run : Option ℕ → Scheduling → Scheduling
+object_after_run next o = record { next = next; run = None; enabled = o.enabled; forced = o.forced }
 
 -- The run of this number. An object that isn't being checked is refused. So is an object that is being checked under another number.
 abbrev pub run_under : ℕ → Option OpenRun → Result OpenRun Refusal
@@ -33,8 +33,8 @@ abbrev pub freed_time : ℕ → Scheduling → ℕ
 freed_time now o = unwrap_or o.next now
 
 -- The next check is at this time, and is forced or not, independent of its former time and mark.
-abbrev pub rescheduled : ℕ → Bool → Scheduling → Scheduling
-rescheduled time forced o = record { next = Some time; run = o.run; enabled = o.enabled; forced = forced }
+abbrev pub object_after_reschedule : ℕ → Bool → Scheduling → Scheduling
+object_after_reschedule time forced o = record { next = Some time; run = o.run; enabled = o.enabled; forced = forced }
 
 -- The next check is at this time, if one is given; the rest stays as it was.
 abbrev pub put_off_to : Option ℕ → Scheduling → Scheduling

@@ -8,7 +8,7 @@ use Rattle.check_rules.specs.declared.standing.Standing.{Standing}
 use Rattle.check_rules.specs.declared.state.State as rules
 use Rattle.check_rules.specs.Standing.{IsStandingFor, pending_standing}
 use Rattle.check_sched.specs.Scheduling.{opening_object}
-use Rattle.check_saved.specs.Scheduling.{Scheduling, is_in_time, is_timed_if_forced}
+use Rattle.check_saved_state.specs.Scheduling.{Scheduling, is_in_time, is_timed_if_forced}
 use Rattle.check_rules.specs.Flapping.{AreResultsFor}
 use Rattle.check_spread.specs.Spread.{initial_times}
 
@@ -76,8 +76,8 @@ abbrev pub running_services : State → ℕ
 running_services s = count_by (λ o. is_some o.run) (services_of s)
 
 -- whether one more service may be checked
-abbrev pub has_room : State → Bool
-has_room s = limit_of s.setup == 0 || nat_lt (running_services s) (limit_of s.setup)
+abbrev pub is_below_limit : State → Bool
+is_below_limit s = limit_of s.setup == 0 || nat_lt (running_services s) (limit_of s.setup)
 
 -- no more services are being checked than the limit allows; a limit of 0 allows any number
 abbrev pub IsWithinLimit : State → Type 0

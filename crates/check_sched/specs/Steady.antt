@@ -3,16 +3,16 @@ use Rattle.std.specs.Prelude.{ℕ, ◌≡◌, true, List}
 use Rattle.check_objects.specs.Configuration.{Configuration}
 use Rattle.check_rules.specs.declared.standing.Standing.{Standing}
 use Rattle.check_rules.specs.declared.state.State as rules
-use Rattle.check_rules.specs.Flapping.{is_flapping, kept_after}
-use Rattle.check_rules.specs.State.{fine_state}
+use Rattle.check_rules.specs.Flapping.{is_flapping, results_after}
+use Rattle.check_rules.specs.State.{ok_or_up_state}
 use Rattle.check_rules.specs.Verdict.{verdict_on}
 use Rattle.check_sched.specs.State.{State, flap_thresholds_of, is_host, max_attempts_of, results_at, standing_at}
 
 -- An OK leaves an object with this standing and these results unchanged. All stored results are OK, or UP for a host, and the verdict on one more is
 -- the present standing.
 pub record IsSteady (setup : Configuration) (number : ℕ) (standing : Standing) (results : List rules.State) : Type 0 where
-  pub kept : kept_after results (fine_state (is_host setup number)) ≡ results
-  pub stands : verdict_on standing (fine_state (is_host setup number)) (max_attempts_of setup number) true
+  pub kept : results_after results (ok_or_up_state (is_host setup number)) ≡ results
+  pub stands : verdict_on standing (ok_or_up_state (is_host setup number)) (max_attempts_of setup number) true
       (is_flapping results standing.flapping (flap_thresholds_of setup number).0 (flap_thresholds_of setup number).1) ≡ standing
 
 -- the same for the object with this number, in a state

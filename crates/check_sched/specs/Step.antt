@@ -9,17 +9,17 @@ use Rattle.check_sched.specs.declared.call.Reply.{Reply}
 use Rattle.check_sched.specs.declared.call.Reply.TheVariants as reply
 use Rattle.check_sched.specs.declared.call.Refusal.{Refusal}
 use Rattle.check_sched.specs.declared.call.Refusal.TheVariants as refusal
-use Rattle.check_sched.specs.Scheduling.{running_from, ended, run_under, freed_time, put_off_to, rescheduled, enabled_as}
-use Rattle.check_saved.specs.Scheduling.{Scheduling}
+use Rattle.check_sched.specs.Scheduling.{object_with_run, object_after_run, run_under, freed_time, put_off_to, object_after_reschedule, enabled_as}
+use Rattle.check_saved_state.specs.Scheduling.{Scheduling}
 use Rattle.check_sched.specs.Candidate.{Candidate, candidates_among, due_among}
 use Rattle.check_queue.specs.Order.{least}
 use Rattle.check_rules.specs.declared.state.Code.{Code}
 use Rattle.check_rules.specs.declared.standing.Standing.{Standing}
 use Rattle.check_rules.specs.declared.state.State as rules
-use Rattle.check_rules.specs.Flapping.{kept_after}
+use Rattle.check_rules.specs.Flapping.{results_after}
 use Rattle.check_rules.specs.State.{is_another_state}
-use Rattle.check_sched.specs.State.{State, has_room, is_host, standing_at}
-use Rattle.check_sched.specs.Report.{flaps_with, judged, next_after, put_off_until, state_found}
+use Rattle.check_sched.specs.State.{State, is_below_limit, is_host, standing_at}
+use Rattle.check_sched.specs.Report.{flaps_with, new_standing, next_after, put_off_until, state_found}
 use Rattle.check_rules.specs.Dependencies.{is_blocked}
 
 -- a list with one item for each object, in which f changes the item of this number
@@ -48,16 +48,16 @@ abbrev pub ◌>>=◌ : {A B : Type 0} → Result A Refusal → (A → Result B R
 (Err why) >>= f = Err why
 
 -- an object that doesn't exist is refused
-abbrev pub known : ℕ → State → Result Scheduling Refusal
-known number s = ok_or (slice_get s.objects number) refusal.UnknownObject
+abbrev pub existing_object : ℕ → State → Result Scheduling Refusal
+existing_object number s = ok_or (slice_get s.objects number) refusal.UnknownObject
 
 -- a moment above 2^60 is refused
-abbrev pub within_range : ℕ → Result (Unit {0}) Refusal
-within_range moment = if nat_lt (2 ^ 60) moment then Err refusal.TimeRange else Ok tt
+abbrev pub moment_test : ℕ → Result (Unit {0}) Refusal
+moment_test moment = if nat_lt (2 ^ 60) moment then Err refusal.TimeRange else Ok tt
 
 -- a check after 2^60 runs is refused
-abbrev pub run_left : State → Result (Unit {0}) Refusal
-run_left s = if nat_lt s.runs (2 ^ 60) then Ok tt else Err refusal.RunsSpent
+abbrev pub run_test : State → Result (Unit {0}) Refusal
+run_test s = if nat_lt s.runs (2 ^ 60) then Ok tt else Err refusal.RunsSpent
 
 -- ---- Take
 
@@ -67,24 +67,24 @@ abbrev pub candidates : State → List Candidate
 candidates s = candidates_among s.objects
 
 -- the candidates whose time has come
-abbrev pub due : ℕ → State → List Candidate
-due now s = due_among now (candidates s)
+abbrev pub due_candidates : ℕ → State → List Candidate
+due_candidates now s = due_among now (candidates s)
 
 -- Whether the check of the object with this number may begin while others run. A host's check always may. A service's check may if there is room for
 -- one more. ("Main Configuration File Options", max_concurrent_checks; in our own profile a forced check keeps to the limit.)
-abbrev pub is_open : State → ℕ → Bool
-is_open s number = is_host s.setup number || has_room s
+abbrev pub is_startable : State → ℕ → Bool
+is_startable s number = is_host s.setup number || is_below_limit s
 
 -- the candidates that are due and whose check may begin
-abbrev pub eligible : ℕ → State → List Candidate
-eligible now s = filter (λ c. is_open s c.1) (due now s)
+abbrev pub eligible_candidates : ℕ → State → List Candidate
+eligible_candidates now s = filter (λ c. is_startable s c.1) (due_candidates now s)
 
 -- the object's check begins under the next run number
-abbrev pub taken : ℕ → ℕ → State → State
-taken now number s = record {
+abbrev pub state_after_take : ℕ → ℕ → State → State
+state_after_take now number s = record {
   setup = s.setup;
   start = s.start;
-  objects = update_at number (running_from (record { number = s.runs + 1; start = now })) s.objects;
+  objects = update_at number (object_with_run (record { number = s.runs + 1; start = now })) s.objects;
   standings = s.standings;
   results = s.results;
   runs = s.runs + 1;
@@ -92,7 +92,7 @@ taken now number s = record {
 
 -- The reply if no object may be checked: the limit if some service is due, otherwise the least time of all objects that wait.
 abbrev pub waiting_reply : ℕ → State → Reply
-waiting_reply now s = if list_any (λ c. not (is_host s.setup c.1)) (due now s) then reply.AtLimit else reply.Idle (option_map (λ c. c.0) (least (candidates s)))
+waiting_reply now s = if list_any (λ c. not (is_host s.setup c.1)) (due_candidates now s) then reply.AtLimit else reply.Idle (option_map (λ c. c.0) (least (candidates s)))
 
 -- whether the next check of the object with this number is forced
 abbrev pub is_forced : State → ℕ → Bool
@@ -108,30 +108,30 @@ abbrev pub put_off : ℕ → ℕ → State → State
 put_off now number s = with_object number (put_off_to (put_off_until s.setup number now)) s
 
 -- the object whose turn it is, put off or checked
-abbrev pub take_turn : ℕ → ℕ → State → State × Reply
-take_turn now number s =
+abbrev pub take_candidate : ℕ → ℕ → State → State × Reply
+take_candidate now number s =
     if is_held_back s number then (put_off now number s, reply.PutOff number (put_off_until s.setup number now))
-    else (taken now number s, reply.Taken number (s.runs + 1))
+    else (state_after_take now number s, reply.Taken number (s.runs + 1))
 
 -- It is the turn of the least candidate whose check may begin, if there is one. (The order of equal times is our own profile: the least number.)
 abbrev pub take_least : ℕ → State → Option Candidate → State × Reply
-take_least now s (Some c) = take_turn now c.1 s
+take_least now s (Some c) = take_candidate now c.1 s
 take_least now s None = (s, waiting_reply now s)
 
 abbrev pub take_answer : ℕ → State → Result (State × Reply) Refusal
-take_answer now s = within_range now >>= λ _. (run_left s >>= λ _. Ok (take_least now s (least (eligible now s))))
+take_answer now s = moment_test now >>= λ _. (run_test s >>= λ _. Ok (take_least now s (least (eligible_candidates now s))))
 
 -- ---- Report
 
 -- The state after a report. The object's run has ended, its standing and next time are these, and the state that was found is the last of its
 -- results.
-abbrev pub reported : ℕ → rules.State → Standing → Option ℕ → State → State
-reported number found standing next s = record {
+abbrev pub state_after_report : ℕ → rules.State → Standing → Option ℕ → State → State
+state_after_report number found standing next s = record {
   setup = s.setup;
   start = s.start;
-  objects = update_at number (ended next) s.objects;
+  objects = update_at number (object_after_run next) s.objects;
   standings = update_at number (λ before. standing) s.standings;
-  results = update_at number (λ results. kept_after results found) s.results;
+  results = update_at number (λ results. results_after results found) s.results;
   runs = s.runs;
 }
 
@@ -141,46 +141,46 @@ abbrev pub standing_reply : ℕ → Standing → Option ℕ → State → Reply
 standing_reply number standing next s = reply.Standing standing (is_another_state standing.state (standing_at s.standings number).state) next
 
 -- the state for this code of the object's check
-abbrev pub found_in : State → ℕ → Code → rules.State
-found_in s number code = state_found s.setup s.standings number code
+abbrev pub state_found_in : State → ℕ → Code → rules.State
+state_found_in s number code = state_found s.setup s.standings number code
 
 -- the object's standing after a check that found this state
-abbrev pub judged_in : State → ℕ → rules.State → Standing
-judged_in s number found = judged s.setup s.standings number found (flaps_with s.setup s.standings s.results number found)
+abbrev pub new_standing_in : State → ℕ → rules.State → Standing
+new_standing_in s number found = new_standing s.setup s.standings number found (flaps_with s.setup s.standings s.results number found)
 
 -- the answer to the result of a run that began at start; the next time may be set already
-abbrev pub report_told : ℕ → ℕ → Code → Option ℕ → State → State × Reply
-report_told number start code already s =
-    let found = found_in s number code in
-    let standing = judged_in s number found in
+abbrev pub report_result : ℕ → ℕ → Code → Option ℕ → State → State × Reply
+report_result number start code already s =
+    let found = state_found_in s number code in
+    let standing = new_standing_in s number found in
     let next = next_after s.setup number standing start already in
-    (reported number found standing next s, standing_reply number standing next s)
+    (state_after_report number found standing next s, standing_reply number standing next s)
 
-abbrev pub report_taken : ℕ → ℕ → Code → Scheduling → State → State × Reply
-report_taken number start code o s = report_told number start code o.next s
+abbrev pub report_of_run : ℕ → ℕ → Code → Scheduling → State → State × Reply
+report_of_run number start code o s = report_result number start code o.next s
 
 abbrev pub report_answer : ℕ → ℕ → Code → State → Result (State × Reply) Refusal
-report_answer number run code s = known number s >>= λ o. (run_under run o.run >>= λ r. Ok (report_taken number r.start code o s))
+report_answer number run code s = existing_object number s >>= λ o. (run_under run o.run >>= λ r. Ok (report_of_run number r.start code o s))
 
 -- ---- the operators' calls
 
 -- Abandon: the run ends without a result, and the reply is the time of the next check.
 abbrev pub abandon_answer : ℕ → ℕ → ℕ → State → Result (State × Reply) Refusal
 abandon_answer number run now s =
-    known number s >>= λ o. (within_range now >>= λ _. (run_under run o.run >>= λ _.
-    Ok (with_object number (ended (Some (freed_time now o))) s, reply.Freed (freed_time now o))))
+    existing_object number s >>= λ o. (moment_test now >>= λ _. (run_under run o.run >>= λ _.
+    Ok (with_object number (object_after_run (Some (freed_time now o))) s, reply.Freed (freed_time now o))))
 
 -- Reschedule: the next check is at this time, forced or not, whether the object is being checked or not.
 abbrev pub reschedule_answer : ℕ → ℕ → Bool → State → Result (State × Reply) Refusal
-reschedule_answer number time forced s = known number s >>= λ _. (within_range time >>= λ _. Ok (with_object number (rescheduled time forced) s, reply.Done))
+reschedule_answer number time forced s = existing_object number s >>= λ _. (moment_test time >>= λ _. Ok (with_object number (object_after_reschedule time forced) s, reply.Done))
 
 -- Enable: the active checks are on or off, and nothing else changes.
 abbrev pub enable_answer : ℕ → Bool → State → Result (State × Reply) Refusal
-enable_answer number on s = known number s >>= λ _. Ok (with_object number (enabled_as on) s, reply.Done)
+enable_answer number on s = existing_object number s >>= λ _. Ok (with_object number (enabled_as on) s, reply.Done)
 
 -- Status: returns the standing and the next time, and changes nothing.
 abbrev pub status_answer : ℕ → State → Result (State × Reply) Refusal
-status_answer number s = known number s >>= λ o. Ok (s, reply.Standing (standing_at s.standings number) false o.next)
+status_answer number s = existing_object number s >>= λ o. Ok (s, reply.Standing (standing_at s.standings number) false o.next)
 
 -- ---- every call
 
@@ -194,12 +194,12 @@ answer_to s (call.Enable object on) = enable_answer object on s
 answer_to s (call.Status object) = status_answer object s
 
 -- a refused call leaves the state as it was
-abbrev pub settled : State → Result (State × Reply) Refusal → State × Reply
-settled s (Ok answer) = answer
-settled s (Err why) = (s, reply.Refused why)
+abbrev pub step_of_answer : State → Result (State × Reply) Refusal → State × Reply
+step_of_answer s (Ok answer) = answer
+step_of_answer s (Err why) = (s, reply.Refused why)
 
 abbrev pub step : State → Call → State × Reply
-step s c = settled s (answer_to s c)
+step s c = step_of_answer s (answer_to s c)
 
 -- the replies to a sequence of calls
 abbrev pub replies : State → List Call → List Reply

@@ -1,10 +1,10 @@
-//! The intervals of each object in milliseconds, computed once for all reports, and the next time after a
-//! report.
+//! The intervals of each object in milliseconds, computed once for all checks, and the times that follow from
+//! them.
 
 ghost use Rattle.std.specs.Prelude.{◌≡◌, ◌≤◌, IfOk, IfSome, OnOk};
 ghost use Rattle.check_objects.specs.Configuration.{IsSetup};
 ghost use Rattle.std.specs.Option.{option_or};
-ghost use Rattle.check_sched.specs.Intervals.{AreFew, interval_by, intervals_for, intervals_of, next_by, time_past};
+ghost use Rattle.check_sched.specs.Intervals.{AreBounded, interval_for_standing, intervals_for, intervals_of, time_after};
 
 use check_objects::{MAX_INTERVAL, Object, Setup};
 use check_rules::Standing;
@@ -49,33 +49,31 @@ fn intervals_for(setup: &Setup, object: &Object) -> Intervals
 
 /// The time of the check that follows one that began at `start`. It is `already` if a time was set while the
 /// check ran. Otherwise it is the interval after the start, or None if the interval is 0.
-pub(crate) fn next_by(
+pub(crate) fn next_check_time(
     intervals: Intervals,
     standing: Standing,
     start: u64,
     already: Option<u64>,
 ) -> Option<u64>
-    requires few { AreFew intervals }
+    requires bounded { AreBounded intervals }
     requires moment { start ≤ LAST_MOMENT }
     requires in_time { IfSome already (λ time. time ≤ LAST_TIME) }
-    ensures value { result ≡ next_by intervals standing start already }
-    ensures within { IfSome result (λ time. time ≤ LAST_TIME) }
-{
-    next_past(interval_by(intervals, standing), start, already)
-}
-
-/// The time of the check that follows one that began at `start`, by this interval. It is `already` if a time
-/// was set while the check ran. Otherwise it is the interval after the start, or None if the interval is 0.
-pub(crate) fn next_past(interval: u64, start: u64, already: Option<u64>) -> Option<u64>
-    requires few { interval ≤ 45411840000000 }
-    requires moment { start ≤ LAST_MOMENT }
-    requires in_time { IfSome already (λ time. time ≤ LAST_TIME) }
-    ensures value { result ≡ option_or already (time_past start interval) }
+    ensures value { result ≡ option_or already (time_after start (interval_for_standing intervals standing)) }
     ensures within { IfSome result (λ time. time ≤ LAST_TIME) }
 {
     if already.is_some() {
         return already;
     }
+    time_after(start, interval_for_standing(intervals, standing))
+}
+
+/// The time that is an interval after `start`, or None if the interval is 0.
+pub(crate) fn time_after(start: u64, interval: u64) -> Option<u64>
+    requires bounded { interval ≤ 45411840000000 }
+    requires moment { start ≤ LAST_MOMENT }
+    ensures value { result ≡ time_after start interval }
+    ensures within { IfSome result (λ time. time ≤ LAST_TIME) }
+{
     if interval == 0 {
         None
     } else {
@@ -84,10 +82,10 @@ pub(crate) fn next_past(interval: u64, start: u64, already: Option<u64>) -> Opti
 }
 
 /// The interval to the next check: that of retries while the object is a soft problem.
-fn interval_by(intervals: Intervals, standing: Standing) -> u64
-    requires { AreFew intervals }
-    ensures value { result ≡ interval_by intervals standing }
-    ensures few { result ≤ 45411840000000 }
+fn interval_for_standing(intervals: Intervals, standing: Standing) -> u64
+    requires { AreBounded intervals }
+    ensures value { result ≡ interval_for_standing intervals standing }
+    ensures bounded { result ≤ 45411840000000 }
 {
     if standing.is_soft_problem() {
         intervals.retry

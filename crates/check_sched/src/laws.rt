@@ -3,22 +3,23 @@
 ghost use Rattle.std.specs.Prelude.{ℕ, ◌≡◌, ◌≢◌, ◌+◌, ◌^◌, ◌<◌, ◌≤◌, true, false, IsUtf8, List, [], ◌∷◌, ◌++◌, None, Some, slice_get};
 ghost use Rattle.std.specs.List.{list_any};
 ghost use Rattle.std.specs.List.Sorted.{IsPermutation};
-ghost use Rattle.ticket_steps.specs.declared.kept.Entry.{Entry};
+ghost use Rattle.ticket_steps.specs.declared.books.Entry.{Entry};
 ghost use Rattle.ticket_steps.specs.History.{replay, IsLegal};
 ghost use Rattle.circular_buffer.specs.Buffer.{keep_last};
 ghost use Rattle.check_objects.specs.Configuration.{Configuration, IsSetup, name_of, object_count};
 ghost use Rattle.check_spread.specs.declared.limits.TheConstants.{LAST_MOMENT, LAST_TIME};
 ghost use Rattle.check_rules.specs.declared.standing.Standing.{Standing};
 ghost use Rattle.check_rules.specs.Standing.{is_soft_problem, pending_standing};
-ghost use Rattle.check_saved.specs.declared.limits.TheConstants.{MAX_RUNS};
+ghost use Rattle.check_saved_state.specs.declared.saved.TheConstants.{MAX_RUNS};
 ghost use Rattle.check_sched.specs.declared.call.Call.{Call};
-ghost use Rattle.check_saved.specs.Saved.{IsSaved, Saved, SavedObject, saved_named};
-ghost use Rattle.check_saved.specs.Written.{IsWritable};
-ghost use Rattle.check_sched.specs.Saved.{resumed, run_saved_of, saved_of, stays_out};
-ghost use Rattle.check_sched.specs.State.{IsStandingOf, IsState, IsWithinLimit, State, flap_thresholds_of, is_host, max_attempts_of, opening, results_at, run_number_of, scheduling_at, standing_at};
+ghost use Rattle.check_saved_state.specs.Saved.{IsSaved, Saved, SavedObject, saved_by_name};
+ghost use Rattle.check_saved_state.specs.Written.{IsWritable};
+ghost use Rattle.check_sched.specs.Saved.{state_after_resume, saved_run_number_of, saved_of, continues_running};
+ghost use Rattle.check_sched.specs.State.{IsStandingOf, IsState, IsWithinLimit, State, flap_thresholds_of, is_host, max_attempts_of, opening, results_at};
+ghost use Rattle.check_sched.specs.State.{run_number_of, scheduling_at, standing_at};
 ghost use Rattle.check_sched.specs.Step.{after, step};
 ghost use Rattle.check_sched.specs.Runs.{begins, ends, runs_begun, runs_under};
-ghost use Rattle.check_sched.specs.Flapping.{flapping_in, never_checked, states_told, with_results};
+ghost use Rattle.check_sched.specs.Flapping.{flapping_in, never_checked, reported_states, with_results};
 ghost use Rattle.check_sched.specs.declared.call.Reply.{Reply};
 
 /// After every sequence of calls of a newly opened scheduler, no more services are being checked than the
@@ -79,27 +80,27 @@ pub fn flaps_by_history()
     ensures fold { (setup : Configuration) → (start : ℕ) → (history : List (Entry Call Reply))
         → (object : ℕ) → IsLegal step (opening setup start) history
         → flapping_in (replay step (opening setup start) history) object
-        ≡ with_results (flap_thresholds_of setup object) never_checked (states_told object history) }
+        ≡ with_results (flap_thresholds_of setup object) never_checked (reported_states object history) }
     ensures last { (setup : Configuration) → (start : ℕ) → (history : List (Entry Call Reply))
         → (object : ℕ) → IsLegal step (opening setup start) history
         → results_at (replay step (opening setup start) history).results object
-        ≡ keep_last 21 (states_told object history) }
+        ≡ keep_last 21 (reported_states object history) }
 {}
 
 /// A saved state is complete. If it is resumed over the same setup, the state is the saved one, except for
 /// the start, which no call reads.
 pub fn resumed_over_the_same()
     ensures { (s : State) → (start : ℕ) → IsState s
-        → resumed s.setup (saved_of s) start ≡ record s { start = start } }
+        → state_after_resume s.setup (saved_of s) start ≡ record s { start = start } }
 {}
 
 /// A scheduler that is resumed from any saved state, over any setup and from any moment, is in a state that a
-/// scheduler can be in (`resumed`). The saved state of a scheduler, in any state that it can be in, is well
+/// scheduler can be in (`state_after_resume`). The saved state of a scheduler, in any state that it can be in, is well
 /// formed (`saved`). It can be written if the names of its objects are UTF-8, as in every setup that was read
 /// (`writable`).
 pub fn resumed_states()
-    ensures resumed { (setup : Configuration) → (saved : Saved) → (start : ℕ) → IsSetup setup
-        → IsSaved saved → start ≤ LAST_MOMENT → IsState (resumed setup saved start) }
+    ensures state_after_resume { (setup : Configuration) → (saved : Saved) → (start : ℕ) → IsSetup setup
+        → IsSaved saved → start ≤ LAST_MOMENT → IsState (state_after_resume setup saved start) }
     ensures saved { (s : State) → IsState s → IsSaved (saved_of s) }
     ensures writable { (s : State) → IsState s → ((number : ℕ) → IsUtf8 (name_of s.setup number))
         → IsWritable (saved_of s) }
@@ -117,18 +118,18 @@ pub fn opening_states()
 /// `results`).
 pub fn new_objects()
     ensures nothing { (setup : Configuration) → (before start : ℕ)
-        → resumed setup (record { start = before; runs = 0; objects = [] }) start ≡ opening setup start }
+        → state_after_resume setup (record { start = before; runs = 0; objects = [] }) start ≡ opening setup start }
     ensures scheduling { (setup : Configuration) → (saved : Saved) → (start object : ℕ)
-        → object < object_count setup → saved_named saved (name_of setup object) ≡ None
-        → scheduling_at (resumed setup saved start).objects object
+        → object < object_count setup → saved_by_name saved (name_of setup object) ≡ None
+        → scheduling_at (state_after_resume setup saved start).objects object
         ≡ scheduling_at (opening setup start).objects object }
     ensures standing { (setup : Configuration) → (saved : Saved) → (start object : ℕ)
-        → object < object_count setup → saved_named saved (name_of setup object) ≡ None
-        → standing_at (resumed setup saved start).standings object
+        → object < object_count setup → saved_by_name saved (name_of setup object) ≡ None
+        → standing_at (state_after_resume setup saved start).standings object
         ≡ standing_at (opening setup start).standings object }
     ensures results { (setup : Configuration) → (saved : Saved) → (start object : ℕ)
-        → object < object_count setup → saved_named saved (name_of setup object) ≡ None
-        → results_at (resumed setup saved start).results object
+        → object < object_count setup → saved_by_name saved (name_of setup object) ≡ None
+        → results_at (state_after_resume setup saved start).results object
         ≡ results_at (opening setup start).results object }
 {}
 
@@ -139,7 +140,7 @@ pub fn resumed_histories_join()
     ensures states { (s : State) → (call : Call) → IsState s → IsState (step s call).0 }
     ensures joined { (s : State) → (before later : List (Entry Call Reply)) → (start : ℕ) → IsState s
         → IsLegal step s before
-        → IsLegal step (resumed (replay step s before).setup (saved_of (replay step s before)) start) later
+        → IsLegal step (state_after_resume (replay step s before).setup (saved_of (replay step s before)) start) later
         → IsLegal step s (before ++ later) }
 {}
 
@@ -151,7 +152,7 @@ pub fn resumed_histories_join()
 pub fn resumed_runs()
     ensures greater { (setup : Configuration) → (saved : Saved) → (start : ℕ)
         → (front back : List (Entry Call Reply)) → (e : Entry Call Reply) → (object run : ℕ)
-        → IsLegal step (resumed setup saved start) (front ++ e ∷ back) → begins object run e ≡ true
+        → IsLegal step (state_after_resume setup saved start) (front ++ e ∷ back) → begins object run e ≡ true
         → saved.runs < run }
     ensures counted { (s : State) → (front back : List (Entry Call Reply)) → (e : Entry Call Reply)
         → (object run : ℕ) → IsLegal step s (front ++ e ∷ back) → begins object run e ≡ true
@@ -159,24 +160,24 @@ pub fn resumed_runs()
     ensures out { (setup : Configuration) → (saved : Saved) → (start : ℕ)
         → (front back : List (Entry Call Reply)) → (e : Entry Call Reply)
         → (object run other : ℕ) → object < object_count setup
-        → run_saved_of setup saved object ≡ Some other → stays_out setup saved start object ≡ true
-        → IsLegal step (resumed setup saved start) (front ++ e ∷ back) → begins object run e ≡ true
+        → saved_run_number_of setup saved object ≡ Some other → continues_running setup saved start object ≡ true
+        → IsLegal step (state_after_resume setup saved start) (front ++ e ∷ back) → begins object run e ≡ true
         → list_any (ends object other) front ≡ true }
 {}
 
 /// A resume over any setup makes no soft problem hard, unless the object's maximum of attempts is 1.
 pub fn resumed_problems_stay_soft()
     ensures { (setup : Configuration) → (saved : Saved) → (start object : ℕ) → (o : SavedObject)
-        → object < object_count setup → saved_named saved (name_of setup object) ≡ Some o
+        → object < object_count setup → saved_by_name saved (name_of setup object) ≡ Some o
         → is_soft_problem o.standing ≡ true → max_attempts_of setup object ≢ 1
-        → is_soft_problem (standing_at (resumed setup saved start).standings object) ≡ true }
+        → is_soft_problem (standing_at (state_after_resume setup saved start).standings object) ≡ true }
 {}
 
 /// The order of the objects in a saved state has no effect: every order is resumed as the same state.
 pub fn resumed_in_any_order()
     ensures { (setup : Configuration) → (saved : Saved) → (others : List SavedObject) → (start : ℕ)
         → IsSaved saved → IsPermutation saved.objects others
-        → resumed setup (record saved { objects = others }) start ≡ resumed setup saved start }
+        → state_after_resume setup (record saved { objects = others }) start ≡ state_after_resume setup saved start }
 {}
 
 /// The laws of a newly opened scheduler hold from every state that a scheduler can be in, for example after a
@@ -214,10 +215,10 @@ pub fn flaps_from_any_state()
     ensures fold { (s : State) → (history : List (Entry Call Reply)) → (object : ℕ) → IsState s
         → IsLegal step s history → flapping_in (replay step s history) object
         ≡ with_results (flap_thresholds_of s.setup object) (flapping_in s object)
-        (states_told object history) }
+        (reported_states object history) }
     ensures last { (s : State) → (history : List (Entry Call Reply)) → (object : ℕ) → IsState s
         → IsLegal step s history → results_at (replay step s history).results object
-        ≡ keep_last 21 (results_at s.results object ++ states_told object history) }
+        ≡ keep_last 21 (results_at s.results object ++ reported_states object history) }
 {}
 
 /// No call reads the moment at which scheduling started, and none changes it.

@@ -18,10 +18,10 @@
 //! - `results`: the last results of each object.
 //! - `intervals`: the intervals of each object in milliseconds.
 //! - `report`: the effect of a check's result on an object.
-//! - `places`: the place of each object in a saved state.
-//! - `resumed`: an object of a saved state after a resume.
-//! - `sched`: the scheduler. In it, `checks` has the calls of workers, `operators` those of operators,
-//!   `saving` saves its state, and `resuming` makes a scheduler from a saved state.
+//! - `saved_indexes`: the index of each object in a saved state.
+//! - `resumed_object`: an object of a saved state after a resume.
+//! - `sched`: the scheduler. In it, `worker_calls` has the calls of workers, `operator_calls` those of
+//!   operators, `saving` saves its state, and `resuming` makes a scheduler from a saved state.
 //! - `laws`: facts about all sequences of calls.
 
 mod call;
@@ -29,14 +29,14 @@ mod candidate;
 mod intervals;
 pub mod laws;
 mod object_state;
-mod places;
 mod report;
 mod results;
-mod resumed;
+mod resumed_object;
 mod roster;
+mod saved_indexes;
 mod sched;
 
 pub use call::{Call, Refusal, Reply};
-pub use check_saved::{MAX_RUNS, Saved, SavedRun};
+pub use check_saved_state::{MAX_RUNS, Saved, SavedRun};
 pub use check_spread::{LAST_MOMENT, LAST_TIME};
 pub use sched::Sched;

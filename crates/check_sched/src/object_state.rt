@@ -1,7 +1,7 @@
 //! The scheduling of one object, which the scheduler stores between calls.
 
 use crate::call::Refusal;
-use check_saved::SavedRun;
+use check_saved_state::SavedRun;
 use std::marker::Model;
 
 /// The run in the field of an object that isn't being checked.
@@ -27,13 +27,13 @@ pub(crate) struct ObjectState {
 }
 
 impl Model for ObjectState {
-    ghost use Rattle.check_saved.specs.Scheduling.{Scheduling};
+    ghost use Rattle.check_saved_state.specs.Scheduling.{Scheduling};
 
     ghost Value = { Scheduling };
 
-    ghost use Rattle.check_sched.specs.ObjectState.{scheduling_of};
+    ghost use Rattle.check_sched.specs.ObjectState.{scheduling_view};
 
-    ghost view = { scheduling_of };
+    ghost view = { scheduling_view };
 }
 
 /// A change of one object. All changes except `Begin` leave the number of runs as it was, or end one.
@@ -53,9 +53,9 @@ pub(crate) enum Change {
 
 impl ObjectState {
     ghost use Rattle.std.specs.Prelude.{◌≡◌, is_some, option_map};
-    ghost use Rattle.check_sched.specs.Change.{changed};
-    ghost use Rattle.check_sched.specs.Saved.{given_up};
-    ghost use Rattle.check_sched.specs.Scheduling.{candidate_time, opening_object, put_off_to, run_under};
+    ghost use Rattle.check_sched.specs.Change.{object_after_change};
+    ghost use Rattle.check_sched.specs.Saved.{object_after_abandon};
+    ghost use Rattle.check_sched.specs.Scheduling.{candidate_time, freed_time, opening_object, put_off_to, run_under};
 
     /// The state of an object when scheduling starts. Its first check is at `first`, it isn't being checked,
     /// it is enabled as the setup says, and its next check isn't forced.
@@ -150,7 +150,7 @@ impl ObjectState {
 
     /// Makes this change.
     pub(crate) fn change(&mut self, change: Change)
-        ensures { self.new ≡ changed change self.old }
+        ensures { self.new ≡ object_after_change change self.old }
     {
         match change {
             Change::Begin(run) => {
@@ -173,13 +173,21 @@ impl ObjectState {
     }
 
     /// Abandons the run of the running check, if there is one, at this moment.
-    pub(crate) fn give_up(&mut self, now: u64)
-        ensures { self.new ≡ given_up now self.old }
+    pub(crate) fn abandon_run(&mut self, now: u64)
+        ensures { self.new ≡ object_after_abandon now self.old }
     {
         if self.is_running() {
-            let next = self.next().unwrap_or(now);
+            let next = self.freed_time(now);
             self.change(Change::End(Some(next)));
         }
+    }
+
+    /// The time of the next check if the run is abandoned at this moment: the time that was set during the
+    /// run, or else this moment.
+    pub(crate) fn freed_time(&self, now: u64) -> u64
+        ensures { result ≡ freed_time now self.now }
+    {
+        self.next().unwrap_or(now)
     }
 
     /// Sets the next time. None clears it.

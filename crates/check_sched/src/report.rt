@@ -1,20 +1,18 @@
-//! The standing of an object after the result of a check, and the time to which an object is put off.
+//! The standing of an object after the result of a check.
 
-ghost use Rattle.std.specs.Prelude.{◌≡◌, ◌<◌, ◌≤◌, IfSome, length, Some, true};
+ghost use Rattle.std.specs.Prelude.{◌≡◌, ◌<◌, ◌≤◌, length, true};
 ghost use Rattle.check_objects.specs.Configuration.{IsSetup, host_of, object_count};
 ghost use Rattle.check_rules.specs.State.{is_another_state, is_host_state, is_problem};
 ghost use Rattle.check_sched.specs.State.{IsStandingOf, flap_thresholds_of, is_host, max_attempts_of, standing_at};
-ghost use Rattle.check_sched.specs.Report.{is_host_up, judged};
-ghost use Rattle.check_sched.specs.Report.{put_off_until, state_found, time_after};
+ghost use Rattle.check_sched.specs.Report.{is_host_up, new_standing, state_found};
 
-use check_objects::{MAX_INTERVAL, Setup};
+use check_objects::Setup;
 use check_rules::{Code, Standing, State, host_state, service_state, verdict};
-use check_spread::{LAST_MOMENT, LAST_TIME, milliseconds};
 
 /// The state of the object with this number after its check returned this code, given the standings
 /// of all objects, by number.
 pub(crate) fn state_found(setup: &Setup, standings: &[Standing], number: u32, code: Code) -> State
-    requires there { number < object_count setup.now }
+    requires in_range { number < object_count setup.now }
     requires one_each { length standings.now ≡ object_count setup.now }
     requires valid_setup { IsSetup setup.now }
     ensures value { result ≡ state_found setup.now standings.now number code }
@@ -49,19 +47,19 @@ pub(crate) fn flap_thresholds(setup: &Setup, number: u32) -> (u8, u8)
 
 /// The standing of the object with this number after a check that found this state, given the
 /// standings of all objects, by number. `flapping` says whether the object flaps with it.
-pub(crate) fn judged(
+pub(crate) fn new_standing(
     setup: &Setup,
     standings: &[Standing],
     number: u32,
     found: State,
     flapping: bool,
 ) -> Standing
-    requires there { number < object_count setup.now }
+    requires in_range { number < object_count setup.now }
     requires one_each { length standings.now ≡ object_count setup.now }
     requires valid_setup { IsSetup setup.now }
     requires before { IsStandingOf setup.now number (standing_at standings.now number) }
     requires same_sort { is_host_state found ≡ is_host setup.now number }
-    ensures { result ≡ judged setup.now standings.now number found flapping }
+    ensures { result ≡ new_standing setup.now standings.now number found flapping }
 {
     let before = standing_at(standings, number);
     let max = max_attempts(setup, number);
@@ -72,7 +70,7 @@ pub(crate) fn judged(
 /// Whether the host of the object with this number isn't down. The result is true for an object without a
 /// host. Only a verdict on a problem uses it: for another state it is true, and no host's standing is read.
 fn is_host_up(setup: &Setup, standings: &[Standing], number: u32, found: State) -> bool
-    requires there { number < object_count setup.now }
+    requires in_range { number < object_count setup.now }
     requires one_each { length standings.now ≡ object_count setup.now }
     requires valid_setup { IsSetup setup.now }
     ensures { is_problem found ≡ true → result ≡ is_host_up (host_of setup.now number) standings.now }
@@ -96,10 +94,10 @@ fn standing_at(standings: &[Standing], number: u32) -> Standing
 
 /// The maximum of check attempts of the object with this number.
 fn max_attempts(setup: &Setup, number: u32) -> u8
-    requires there { number < object_count setup.now }
+    requires in_range { number < object_count setup.now }
     requires valid_setup { IsSetup setup.now }
     ensures value { result ≡ max_attempts_of setup.now number }
-    ensures some { 1 ≤ result }
+    ensures nonempty { 1 ≤ result }
 {
     setup.object(number).max_check_attempts
 }
@@ -109,31 +107,4 @@ pub(crate) fn is_changed(before: Standing, after: Standing) -> bool
     ensures { result ≡ is_another_state after.state before.state }
 {
     after.state != before.state
-}
-
-/// The time to which an object is put off at the moment `now`: its check interval later, or None if
-/// the interval is 0.
-pub(crate) fn put_off_until(setup: &Setup, number: u32, now: u64) -> Option<u64>
-    requires there { number < object_count setup.now }
-    requires valid_setup { IsSetup setup.now }
-    requires moment { now ≤ LAST_MOMENT }
-    ensures value { result ≡ put_off_until setup.now number now }
-    ensures within { IfSome result (λ time. time ≤ LAST_TIME) }
-{
-    time_after(setup, now, setup.object(number).check_interval)
-}
-
-/// The time that is an interval of units of `interval_length` after `start`, or None if the interval
-/// is 0.
-fn time_after(setup: &Setup, start: u64, interval: u64) -> Option<u64>
-    requires valid_setup { IsSetup setup.now }
-    requires moment { start ≤ LAST_MOMENT }
-    requires interval { interval ≤ MAX_INTERVAL }
-    ensures value { result ≡ time_after setup.now start interval }
-    ensures within { IfSome result (λ time. time ≤ LAST_TIME) }
-{
-    if interval == 0 {
-        return None;
-    }
-    Some(start + milliseconds(setup, interval))
 }

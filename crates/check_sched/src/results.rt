@@ -2,7 +2,7 @@
 
 ghost use Rattle.std.specs.Prelude.{◌≡◌, ◌<◌, List, [], IfOk, length, replicate, true};
 ghost use Rattle.check_rules.specs.declared.state.State.{State};
-ghost use Rattle.check_rules.specs.Flapping.{is_flapping, kept_after};
+ghost use Rattle.check_rules.specs.Flapping.{is_flapping, results_after};
 ghost use Rattle.check_sched.specs.State.{results_at};
 ghost use Rattle.check_sched.specs.Step.{update_at};
 
@@ -28,12 +28,12 @@ impl Results {
     /// An empty list of results for each of `count` objects, with room for all that will be stored.
     ///
     /// An Err means out of memory. Adding results later needs no memory.
-    pub(crate) fn none(alloc: Global, count: usize) -> Result<Results, AllocError>
+    pub(crate) fn empty(alloc: Global, count: usize) -> Result<Results, AllocError>
         ensures { IfOk result (λ results. results ≡ replicate count []) }
     {
         let mut by_number = Vec::with_capacity(alloc, count)?;
         for _number in 0..count {
-            let results = LastResults::none(alloc)?;
+            let results = LastResults::empty(alloc)?;
             by_number.push(results)?;
         }
         Ok(Results { by_number })
@@ -60,8 +60,8 @@ impl Results {
     /// percents. (Manual: "Detection and Handling of State Flapping".)
     pub(crate) fn add(&mut self, number: u32, found: State, was: bool, thresholds: (u8, u8)) -> bool
         requires { number < length self.old }
-        ensures kept { self.new ≡ update_at number (λ results. kept_after results found) self.old }
-        ensures flaps { result ≡ is_flapping (kept_after (results_at self.old number) found) was thresholds.0 thresholds.1 }
+        ensures kept { self.new ≡ update_at number (λ results. results_after results found) self.old }
+        ensures flaps { result ≡ is_flapping (results_after (results_at self.old number) found) was thresholds.0 thresholds.1 }
     {
         let (low, high) = thresholds;
         self.by_number[number as usize].push(found, was, low, high)
@@ -71,7 +71,7 @@ impl Results {
     /// one more result of this state leaves them as they are.
     pub(crate) fn are_all(&self, number: u32, state: State) -> bool
         requires { number < length self.now }
-        ensures { result ≡ true → kept_after (results_at self.now number) state ≡ results_at self.now number }
+        ensures { result ≡ true → results_after (results_at self.now number) state ≡ results_at self.now number }
     {
         self.by_number[number as usize].are_all(state)
     }

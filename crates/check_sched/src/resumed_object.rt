@@ -2,12 +2,13 @@
 
 ghost use Rattle.std.specs.Prelude.{◌≡◌, ◌≤◌, option_map};
 ghost use Rattle.check_objects.specs.Configuration.{IsSetup};
-ghost use Rattle.check_sched.specs.Saved.{is_same_switch, keeps_time, scheduling_kept, scheduling_of, soft_kept, standing_kept, standing_of};
+ghost use Rattle.check_sched.specs.Saved.{is_same_switch, keeps_time, scheduling_kept, scheduling_after_resume, soft_kept, standing_kept};
+ghost use Rattle.check_sched.specs.Saved.{standing_after_resume};
 
 use crate::object_state::ObjectState;
 use check_objects::{MAX_INTERVAL, Object, Setup};
 use check_rules::{Kind, Standing, pending};
-use check_saved::SavedObject;
+use check_saved_state::SavedObject;
 use check_spread::{earlier, milliseconds};
 
 /// The scheduling of an object whose first time by the spread is `first`. A new object begins as at an
@@ -20,7 +21,7 @@ pub(crate) fn scheduling(
 ) -> ObjectState
     requires valid_setup { IsSetup setup.now }
     requires interval { object.now.check_interval ≤ MAX_INTERVAL }
-    ensures { result ≡ scheduling_of setup.now first object.now (option_map (λ o. o.now) kept.entry) }
+    ensures { result ≡ scheduling_after_resume setup.now first object.now (option_map (λ o. o.now) kept.entry) }
 {
     match kept {
         Some(saved) => scheduling_kept(setup, object, first, saved),
@@ -77,7 +78,7 @@ fn is_same_switch(one: bool, other: bool) -> bool
 /// The standing of an object, a host or a service. The standing of a new object is pending.
 pub(crate) fn standing(host: bool, object: &Object, kept: Option<&SavedObject>) -> Standing
     requires { 1 ≤ object.now.max_check_attempts }
-    ensures { result ≡ standing_of host object.now (option_map (λ o. o.now) kept.entry) }
+    ensures { result ≡ standing_after_resume host object.now (option_map (λ o. o.now) kept.entry) }
 {
     match kept {
         Some(saved) => standing_kept(saved.standing, object.max_check_attempts),

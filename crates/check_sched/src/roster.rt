@@ -5,7 +5,7 @@ ghost use Rattle.std.specs.Prelude.{◌≡◌, ◌<◌, ◌≤◌, ◌&&◌, IfO
 ghost use Rattle.check_queue.specs.Order.{least};
 ghost use Rattle.check_sched.specs.Candidate.{candidates_among};
 ghost use Rattle.check_sched.specs.Roster.{running_among, waiting_times};
-ghost use Rattle.check_sched.specs.Change.{changed};
+ghost use Rattle.check_sched.specs.Change.{object_after_change};
 ghost use Rattle.check_sched.specs.Step.{update_at};
 
 use crate::candidate::{Candidate, earlier};
@@ -30,13 +30,13 @@ pub(crate) struct Roster {
 }
 
 impl Model for Roster {
-    ghost use Rattle.check_sched.specs.Roster.{RosterState, roster_of, IsKept};
+    ghost use Rattle.check_sched.specs.Roster.{RosterState, roster_of, IsWellFormed};
 
     ghost Value = { RosterState };
 
     ghost view = { roster_of };
 
-    ghost invariant = { IsKept };
+    ghost invariant = { IsWellFormed };
 }
 
 impl Roster {
@@ -48,12 +48,12 @@ impl Roster {
         hosts: usize,
         objects: Vec<ObjectState>,
     ) -> Result<Roster, AllocError>
-        requires few { length objects.items ≤ MAX_OBJECTS }
+        requires bounded { length objects.items ≤ MAX_OBJECTS }
         requires hosts { hosts ≤ length objects.items }
         ensures { IfOk result (λ roster. roster ≡ record { hosts = hosts; objects = objects.items }) }
     {
-        let waiting_hosts = waiting(alloc, &objects, 0, hosts)?;
-        let waiting_services = waiting(alloc, &objects, hosts, objects.len())?;
+        let waiting_hosts = build_queue(alloc, &objects, 0, hosts)?;
+        let waiting_services = build_queue(alloc, &objects, hosts, objects.len())?;
         let running_services = running_from(&objects, hosts);
         Ok(Roster {
             hosts,
@@ -86,7 +86,7 @@ impl Roster {
         requires { number < length self.old.objects }
         ensures { self.new ≡ record {
           hosts = self.old.hosts;
-          objects = update_at number (changed change) self.old.objects;
+          objects = update_at number (object_after_change change) self.old.objects;
         } }
     {
         let index = number as usize;
@@ -96,9 +96,9 @@ impl Roster {
         let is_running = object.is_running();
         let time = object.candidate_time();
         if index < self.hosts {
-            place(&mut self.waiting_hosts, number, time);
+            enqueue(&mut self.waiting_hosts, number, time);
         } else {
-            place(&mut self.waiting_services, number, time);
+            enqueue(&mut self.waiting_services, number, time);
             self.running_services += usize::from(is_running);
             self.running_services -= usize::from(was_running);
         }
@@ -131,7 +131,7 @@ impl Roster {
 /// Puts an object into its queue at the time for which it waits, or removes it if there is no time.
 // In each caller the compiler knows whether there is a time.
 #[inline(always)]
-fn place(queue: &mut Queue, number: u32, time: Option<u64>)
+fn enqueue(queue: &mut Queue, number: u32, time: Option<u64>)
     requires { number < length queue.old }
     ensures { queue.new ≡ slice_set queue.old number time }
 {
@@ -144,20 +144,20 @@ fn place(queue: &mut Queue, number: u32, time: Option<u64>)
 }
 
 /// A queue of the objects that wait, among those with the numbers from `from` on and below `to`.
-fn waiting(
+fn build_queue(
     alloc: Global,
     objects: &[ObjectState],
     from: usize,
     to: usize,
 ) -> Result<Queue, AllocError>
-    requires few { length objects.now ≤ MAX_OBJECTS }
+    requires bounded { length objects.now ≤ MAX_OBJECTS }
     requires ascending { from ≤ to }
     requires within { to ≤ length objects.now }
     ensures { IfOk result (λ queue. queue ≡ waiting_times (λ number. nat_le from number && nat_lt number to) objects.now) }
 {
     let mut queue = Queue::new(alloc, objects.len() as u32)?;
     for number in from..to {
-        place(&mut queue, number as u32, objects[number].candidate_time());
+        enqueue(&mut queue, number as u32, objects[number].candidate_time());
     }
     Ok(queue)
 }

@@ -5,12 +5,12 @@ ghost use Rattle.std.specs.List.{All};
 ghost use Rattle.check_objects.specs.Configuration.{IsSetup, object_count};
 ghost use Rattle.check_spread.specs.Spread.{initial_times};
 ghost use Rattle.check_sched.specs.State.{IsStandingOf, IsState, next_of, objects_at, opening_objects, opening, opening_standings, run_number_of, standing_at};
-ghost use Rattle.check_saved.specs.Scheduling.{is_moment, is_time};
+ghost use Rattle.check_saved_state.specs.Scheduling.{is_moment, is_time};
 ghost use Rattle.check_sched.specs.Sched.{AreParts, state_with};
-ghost use Rattle.check_sched.specs.Step.{is_forced, known, step, with_object};
-ghost use Rattle.check_sched.specs.Change.{changed, is_quiet, keeps_timed};
-ghost use Rattle.check_sched.specs.Board.{board_of, place_of};
-ghost use Rattle.check_sched.specs.Reply.{OnRefused, NamesObjectOf, TellsTimesUpTo, reply_of};
+ghost use Rattle.check_sched.specs.Step.{is_forced, existing_object, step, with_object};
+ghost use Rattle.check_sched.specs.Change.{object_after_change, is_valid_change, keeps_timed};
+ghost use Rattle.check_sched.specs.Board.{board_of, slot_of_call};
+ghost use Rattle.check_sched.specs.Reply.{OnRefused, NamesObjectOf, HasTimesUpTo, reply_of};
 
 use crate::call::{Call, Refusal, Reply};
 use crate::intervals::{Intervals, intervals_by_number};
@@ -19,15 +19,15 @@ use crate::results::Results;
 use crate::roster::Roster;
 use check_objects::Setup;
 use check_rules::{Standing, code, pending};
-use check_saved::SavedRun;
+use check_saved_state::SavedRun;
 use check_spread::{LAST_MOMENT, LAST_TIME, initial_times};
 use std::alloc::{AllocError, Global};
 use std::marker::Model;
 
-mod checks;
-mod operators;
+mod operator_calls;
 mod resuming;
 mod saving;
+mod worker_calls;
 
 /// A scheduler over a setup. Contracts see it as a record `State`. The record has the setup, the start, and
 /// the scheduling, the standing and the last results of each object by number. It also has the number of runs
@@ -52,13 +52,13 @@ pub struct Sched {
 
 impl Model for Sched {
     ghost use Rattle.check_sched.specs.State.{State};
-    ghost use Rattle.check_sched.specs.Sched.{state_of, IsKept};
+    ghost use Rattle.check_sched.specs.Sched.{state_of, IsWellFormed};
 
     ghost Value = { State };
 
     ghost view = { state_of };
 
-    ghost invariant = { IsKept };
+    ghost invariant = { IsWellFormed };
 }
 
 /// The fields of a scheduler, without its setup, its start and its number of runs.
@@ -138,7 +138,7 @@ impl Sched {
         ensures setup { self.new.setup ≡ self.old.setup }
         ensures start { self.new.start ≡ self.old.start }
         ensures named { NamesObjectOf self.new.setup result }
-        ensures times { TellsTimesUpTo LAST_TIME result }
+        ensures times { HasTimesUpTo LAST_TIME result }
     {
         match call {
             Call::Take { now } => reply_of(self.take(now)),
@@ -158,19 +158,19 @@ impl Sched {
     // Each caller makes a known change, so the compiler keeps only that part.
     #[inline(always)]
     fn change(&mut self, object: u32, change: Change)
-        requires there { object < object_count self.old.setup }
-        requires quiet { IsTrue (is_quiet change) }
+        requires in_range { object < object_count self.old.setup }
+        requires valid { IsTrue (is_valid_change change) }
         requires timed { IsTrue (keeps_timed change (is_forced self.old object)) }
-        ensures { self.new ≡ with_object object (changed change) self.old }
+        ensures { self.new ≡ with_object object (object_after_change change) self.old }
     {
         self.roster.change(object, change);
     }
 
     /// The scheduling of the object with this number.
     fn object(&self, number: u32) -> Result<&ObjectState, Refusal>
-        ensures value { IfOk result (λ object. known number self.now ≡ Ok object.now) }
-        ensures refused { IfErr result (λ why. known number self.now ≡ Err why) }
-        ensures there { OnOk result (number < object_count self.now.setup) }
+        ensures value { IfOk result (λ object. existing_object number self.now ≡ Ok object.now) }
+        ensures refused { IfErr result (λ why. existing_object number self.now ≡ Err why) }
+        ensures in_range { OnOk result (number < object_count self.now.setup) }
         ensures times { IfOk result (λ object. IsTrue (is_time object.now.next)) }
         ensures moments { IfOk result (λ object. IsTrue (is_moment object.now.run)) }
     {
@@ -199,8 +199,8 @@ impl Sched {
 
     /// The place of the board at which the call is posted, if it is made now. If a report will be answered by
     /// a standing, it is posted at its object's number. No other call is posted.
-    pub fn place_of(&self, call: Call) -> Option<u32>
-        ensures { result ≡ place_of self.now call }
+    pub fn slot_of_call(&self, call: Call) -> Option<u32>
+        ensures { result ≡ slot_of_call self.now call }
     {
         let Call::Report { object, run, .. } = call else {
             return None;
@@ -293,7 +293,7 @@ fn opening_parts(alloc: Global, setup: &Setup, start: u64) -> Result<Parts, Allo
         marks: vec![in alloc; false; setup.len()]?,
         steady: vec![in alloc; false; setup.len()]?,
         intervals: intervals_by_number(alloc, setup)?,
-        results: Results::none(alloc, setup.len())?,
+        results: Results::empty(alloc, setup.len())?,
         standings: opening_standings(alloc, setup)?,
         roster: Roster::new(alloc, setup.hosts(), objects)?,
     })

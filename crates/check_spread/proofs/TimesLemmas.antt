@@ -6,11 +6,12 @@ use Rattle.std.specs.List.{enumerate_from, list_all}
 use Rattle.std.proofs.lemmas.Bool.Decides.{nat_tests}
 use Rattle.std.proofs.lemmas.List.{take_more, length-map, map-append, get_or-map, get_or-take, get_or-drop, length-take, length-drop}
 use Rattle.std.proofs.lemmas.List.FromFn.{length-enumerate_from, get_or-enumerate_from}
-use Rattle.check_drafts.specs.declared.object.Object.{Object}
-use Rattle.check_objects.specs.Configuration.{Configuration, Named, Host, Service, named_host, named_service, objects_of, object_count, is_object_in_range}
+use Rattle.setup_model.specs.declared.parsed_setup.Object.{Object}
+use Rattle.check_objects.specs.Configuration.{Configuration, NamedObject, Host, Service, named_host, named_service, objects_of, object_count}
+use Rattle.check_objects.specs.Configuration.{is_object_in_range}
 use Rattle.check_objects.specs.Configuration.{IsSetup}
-use Rattle.link_order.proofs.TestLemmas.{and_first, and_second}
-use Rattle.check_drafts.specs.declared.limits.TheConstants.{MAX_INTERVAL}
+use Rattle.setup_order.proofs.TestLemmas.{and_first, and_second}
+use Rattle.setup_model.specs.declared.limits.TheConstants.{MAX_INTERVAL}
 use Rattle.check_spread.specs.declared.spread.Scheduled.{Scheduled}
 use Rattle.check_spread.specs.declared.spread.Spread.{Spread}
 use Rattle.check_spread.specs.Spread.{all_objects, host_objects, service_objects, first_time, first_times}
@@ -35,7 +36,7 @@ parts c =
 pub length-all_objects : (c : Configuration) → length (all_objects c) ≡ object_count c
 length-all_objects c = ap length (sym (parts c)) ∙ length-map (objects_of c) (λ o. o.object)
 
-named_at : (os : List Named) (n : ℕ) (x d : Object) → option_map (λ o. o.object) (slice_get os n) ≡ Some x → get_or (map (λ o. o.object) os) n d ≡ x
+named_at : (os : List NamedObject) (n : ℕ) (x d : Object) → option_map (λ o. o.object) (slice_get os n) ≡ Some x → get_or (map (λ o. o.object) os) n d ≡ x
 named_at [] n x d e = cc
 named_at (o ∷ os) zero x d e = cc
 named_at (o ∷ os) (suc n) x d e = named_at os n x d e
@@ -46,7 +47,7 @@ objects_more c n x h e =
     let at : get_or (all_objects c) n x ≡ x = rw (← parts c) (named_at (objects_of c) n x x e) in
     take_more (all_objects c) n x (let l = length-all_objects c in omega (arith, l)) ∙ ap (λ y. take n (all_objects c) ++ y ∷ []) at
 
-range_at : (os : List Named) → list_all (λ o. is_object_in_range o.object) os ≡ true → (k : ℕ) (d : Object) → k < length (map (λ o. o.object) os)
+range_at : (os : List NamedObject) → list_all (λ o. is_object_in_range o.object) os ≡ true → (k : ℕ) (d : Object) → k < length (map (λ o. o.object) os)
     → (get_or (map (λ o. o.object) os) k d).check_interval ≤ MAX_INTERVAL
 range_at [] h k d l = absurd (omega arith)
 range_at (o ∷ os) h zero d l =
@@ -113,4 +114,4 @@ count_parts c =
     ∙ (let a = length-map c.hosts (λ h. h.object) in let b = length-map c.services (λ s. s.object) in omega (arith, a, b))
 
 pub some_host : (c : Configuration) → IsSetup c → 0 < length c.services → 0 < length c.hosts
-some_host c is h = some_host_by c.services (length c.hosts) is.hosted h
+some_host c is h = some_host_by c.services (length c.hosts) is.hosts_in_range h

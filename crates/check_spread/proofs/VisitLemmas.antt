@@ -8,24 +8,25 @@ use Rattle.std.proofs.lemmas.Bool.Decides.{nat_tests}
 use Rattle.std.proofs.lemmas.List.{get_or-set_same, get_or-set_other, length-set, get_or-replicate, length-replicate, take_more, take_all}
 use Rattle.std.proofs.Math.ListN.{set}
 use Rattle.std.proofs.lemmas.List.Sums.{sum_by-cons, sum_by_push}
-use Rattle.check_drafts.specs.declared.object.Object.{Object}
+use Rattle.setup_model.specs.declared.parsed_setup.Object.{Object}
 use Rattle.check_spread.specs.Spread.{is_scheduled}
-use Rattle.check_spread.specs.Visits.{visits, count_at, HasCounts, has_remainder, has_remainder_before, has_less_remainder, is_visited_earlier, sums_before}
+use Rattle.check_spread.specs.Visits.{visit_count, count_at, HasCounts, has_remainder, has_remainder_before, has_less_remainder, is_visited_earlier}
+use Rattle.check_spread.specs.Visits.{sums_before}
 
 -- ---- counts of one test
 
 abbrev one : Bool → ℕ
 one b = cond b 1 0
 
-visits-cons : (t : ℕ → Bool) (i : ℕ) (x : Object) (xs : List Object) → visits t i (x ∷ xs) ≡ one (is_scheduled x && t i) + visits t (i + 1) xs
+visits-cons : (t : ℕ → Bool) (i : ℕ) (x : Object) (xs : List Object) → visit_count t i (x ∷ xs) ≡ one (is_scheduled x && t i) + visit_count t (i + 1) xs
 visits-cons t i x xs = sum_by-cons (λ p. cond (is_scheduled p.1 && t p.0) 1 0) (i, x) (enumerate_from (i + 1) xs)
 
 -- tests that agree at the positions of the list count the same
-pub visits_same : (t u : ℕ → Bool) (i : ℕ) (xs : List Object) → ((j : ℕ) → i ≤ j → j < i + length xs → t j ≡ u j) → visits t i xs ≡ visits u i xs
+pub visits_same : (t u : ℕ → Bool) (i : ℕ) (xs : List Object) → ((j : ℕ) → i ≤ j → j < i + length xs → t j ≡ u j) → visit_count t i xs ≡ visit_count u i xs
 visits_same t u i [] h = refl
 visits_same t u i (x ∷ xs) h =
     visits-cons t i x xs
-    ∙ ap (λ b. one (is_scheduled x && b) + visits t (i + 1) xs) (h i (omega arith) (omega arith))
+    ∙ ap (λ b. one (is_scheduled x && b) + visit_count t (i + 1) xs) (h i (omega arith) (omega arith))
     ∙ ap (λ n. one (is_scheduled x && u i) + n) (visits_same t u (i + 1) xs (λ j l m. h j (omega arith) (omega arith)))
     ∙ sym (visits-cons u i x xs)
 
@@ -36,12 +37,12 @@ one_by false a b c h = refl
 -- a test that counts one position more
 pub visits_one : (t u : ℕ → Bool) (b : Bool) (p i k : ℕ) (xs : List Object) (d : Object) → p ≡ i + k → k < length xs → ((j : ℕ) → j ≢ p → t j ≡ u j)
     → one (u p) ≡ one (t p) + one b
-    → visits u i xs ≡ visits t i xs + one (is_scheduled (get_or xs k d) && b)
+    → visit_count u i xs ≡ visit_count t i xs + one (is_scheduled (get_or xs k d) && b)
 visits_one t u b p i k [] d e l h o = absurd (omega arith)
 visits_one t u b p i zero (x ∷ xs) d e l h o =
     let at : p ≡ i = omega arith in
     let here : one (is_scheduled x && u i) ≡ one (is_scheduled x && t i) + one (is_scheduled x && b) = rw at at (one_by (is_scheduled x) (u p) (t p) b o) in
-    let rest : visits u (i + 1) xs ≡ visits t (i + 1) xs = sym (visits_same t u (i + 1) xs (λ j m n. h j (λ s. absurd (omega arith)))) in
+    let rest : visit_count u (i + 1) xs ≡ visit_count t (i + 1) xs = sym (visits_same t u (i + 1) xs (λ j m n. h j (λ s. absurd (omega arith)))) in
     let a = visits-cons u i x xs in
     let c = visits-cons t i x xs in
     omega (arith, a, c, here, rest)
@@ -57,7 +58,7 @@ none_by true = refl
 none_by false = refl
 
 -- a test that nothing passes
-pub visits_none : (t : ℕ → Bool) (i : ℕ) (xs : List Object) → ((j : ℕ) → t j ≡ false) → visits t i xs ≡ 0
+pub visits_none : (t : ℕ → Bool) (i : ℕ) (xs : List Object) → ((j : ℕ) → t j ≡ false) → visit_count t i xs ≡ 0
 visits_none t i [] h = refl
 visits_none t i (x ∷ xs) h =
     let here : one (is_scheduled x && t i) ≡ 0 = rw (h i) (none_by (is_scheduled x)) in
@@ -70,7 +71,7 @@ one_few true = omega arith
 one_few false = omega arith
 
 -- no more are counted than there are
-pub visits_few : (t : ℕ → Bool) (i : ℕ) (xs : List Object) → visits t i xs ≤ length xs
+pub visits_few : (t : ℕ → Bool) (i : ℕ) (xs : List Object) → visit_count t i xs ≤ length xs
 visits_few t i [] = omega arith
 visits_few t i (x ∷ xs) =
     let rest = visits_few t (i + 1) xs in
@@ -84,7 +85,7 @@ two_by false a b c h = refl
 
 -- a test that is either of two
 pub visits_either : (t u v : ℕ → Bool) (i : ℕ) (xs : List Object) → ((j : ℕ) → one (t j) + one (u j) ≡ one (v j))
-    → visits t i xs + visits u i xs ≡ visits v i xs
+    → visit_count t i xs + visit_count u i xs ≡ visit_count v i xs
 visits_either t u v i [] h = refl
 visits_either t u v i (x ∷ xs) h =
     let rest = visits_either t u v (i + 1) xs h in
@@ -240,7 +241,7 @@ one_more r = omega arith
 
 -- the counts of the first r remainders add up to those with a smaller one
 sums_less : (factor : ℕ) (xs : List Object) (counts : List ℕ) → HasCounts (has_remainder factor) factor xs counts → (r : ℕ) → r ≤ factor
-    → sum (take r counts) ≡ visits (has_less_remainder factor r) 0 xs
+    → sum (take r counts) ≡ visit_count (has_less_remainder factor r) 0 xs
 sums_less factor xs counts has zero h = sym (visits_none (has_less_remainder factor 0) 0 xs (λ j. nothing_below (j % factor)))
 sums_less factor xs counts has (suc r) h =
     let before = sums_less factor xs counts has r (omega arith) in
@@ -248,15 +249,15 @@ sums_less factor xs counts has (suc r) h =
     let here = has.at r (omega arith) in
     let either = visits_either (has_less_remainder factor r) (has_remainder factor r) (has_less_remainder factor (r + 1)) 0 xs
     (λ j. less_or_same (j % factor) r) in
-    rw (one_more r) (more ∙ (let sums : sum (take r counts) + count_at counts r ≡ visits (has_less_remainder factor r) 0 xs + visits
+    rw (one_more r) (more ∙ (let sums : sum (take r counts) + count_at counts r ≡ visit_count (has_less_remainder factor r) 0 xs + visit_count
     (has_remainder factor r) 0 xs = omega (arith, before, here) in sums) ∙ either)
 
 pub few_in_all : (factor : ℕ) (xs : List Object) (counts : List ℕ) → HasCounts (has_remainder factor) factor xs counts → sum counts ≤ length xs
 few_in_all factor xs counts has =
     let all = sums_less factor xs counts has factor (omega arith) in
     let whole : sum (take factor counts) ≡ sum counts = ap sum (take_all factor counts (omega (arith, has.size))) in
-    let few = visits_few (has_less_remainder factor factor) 0 xs in
-    omega (arith, all, whole, few)
+    let bounded = visits_few (has_less_remainder factor factor) 0 xs in
+    omega (arith, all, whole, bounded)
 
 pub ranks_first : (factor : ℕ) (xs : List Object) (counts ranks : List ℕ) → HasCounts (has_remainder factor) factor xs counts
     → ranks ≡ sums_before 0 counts → HasCounts (has_less_remainder factor) factor xs ranks
@@ -275,7 +276,7 @@ one_less true true = omega arith
 one_less true false = omega arith
 one_less false t = omega arith
 
-visits_most : (t : ℕ → Bool) (i : ℕ) (xs : List Object) → visits t i xs ≤ count_by is_scheduled xs
+visits_most : (t : ℕ → Bool) (i : ℕ) (xs : List Object) → visit_count t i xs ≤ count_by is_scheduled xs
 visits_most t i [] = omega arith
 visits_most t i (x ∷ xs) =
     let rest = visits_most t (i + 1) xs in
@@ -286,7 +287,7 @@ visits_most t i (x ∷ xs) =
 
 -- where a scheduled one isn't counted, fewer are counted than are scheduled
 visits_less : (t : ℕ → Bool) (i k : ℕ) (xs : List Object) (d : Object) → k < length xs → is_scheduled (get_or xs k d) ≡ true → t (i + k) ≡ false
-    → visits t i xs < count_by is_scheduled xs
+    → visit_count t i xs < count_by is_scheduled xs
 visits_less t i k [] d h s e = absurd (omega arith)
 visits_less t i zero (x ∷ xs) d h s e =
     let rest = visits_most t (i + 1) xs in
@@ -306,7 +307,7 @@ visits_less t i (suc k) (x ∷ xs) d h s e =
 
 -- the rank of a scheduled object is less than how many are scheduled
 pub rank_less : (factor p : ℕ) (xs : List Object) (d : Object) → p < length xs → is_scheduled (get_or xs p d) ≡ true
-    → visits (is_visited_earlier factor p (p % factor)) 0 xs < count_by is_scheduled xs
+    → visit_count (is_visited_earlier factor p (p % factor)) 0 xs < count_by is_scheduled xs
 rank_less factor p xs d h s =
     let not_less : nat_lt (p % factor) (p % factor) ≡ false = not_less_itself (p % factor) in
     let not_itself : is_visited_earlier factor p (p % factor) p ≡ false = rw (not_less, not_less_itself p) (false_second (p % factor == p % factor)) in

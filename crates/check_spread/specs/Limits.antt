@@ -1,7 +1,7 @@
 -- The limits within which the times of first checks are computed.
 use Rattle.std.specs.Prelude.{◌<◌, ◌≤◌, ◌*◌, ◌^◌}
-use Rattle.check_drafts.specs.declared.options.DelayMethod.{DelayMethod}
-use Rattle.check_drafts.specs.declared.options.DelayMethod.TheVariants as method
+use Rattle.setup_model.specs.declared.options.DelayMethod.{DelayMethod}
+use Rattle.setup_model.specs.declared.options.DelayMethod.TheVariants as method
 use Rattle.check_spread.specs.declared.spread.Spread.{Spread}
 
 -- a fixed delay is at most a day

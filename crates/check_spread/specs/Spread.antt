@@ -4,11 +4,11 @@ use Rattle.std.specs.Prelude.{Option}
 use Rattle.std.specs.Prelude.{Some, None, if◌then◌else◌}
 use Rattle.std.specs.Int.{div_ceil}
 use Rattle.std.specs.List.{enumerate_from}
-use Rattle.check_drafts.specs.declared.object.Object.{Object}
-use Rattle.check_drafts.specs.declared.options.DelayMethod.{DelayMethod}
-use Rattle.check_drafts.specs.declared.options.DelayMethod.TheVariants as method
-use Rattle.check_drafts.specs.declared.options.InterleaveFactor.{InterleaveFactor}
-use Rattle.check_drafts.specs.declared.options.InterleaveFactor.TheVariants as interleave
+use Rattle.setup_model.specs.declared.parsed_setup.Object.{Object}
+use Rattle.setup_model.specs.declared.options.DelayMethod.{DelayMethod}
+use Rattle.setup_model.specs.declared.options.DelayMethod.TheVariants as method
+use Rattle.setup_model.specs.declared.options.InterleaveFactor.{InterleaveFactor}
+use Rattle.setup_model.specs.declared.options.InterleaveFactor.TheVariants as interleave
 use Rattle.check_objects.specs.Configuration.{Configuration}
 use Rattle.check_spread.specs.declared.spread.Spread.{Spread}
 use Rattle.check_spread.specs.declared.spread.Scheduled.{Scheduled}
@@ -24,13 +24,13 @@ abbrev pub milliseconds : Configuration → ℕ → ℕ
 milliseconds setup interval = interval * setup.options.interval_length * 1000
 
 -- the check interval in milliseconds, given the length of a unit in seconds
-abbrev pub interval_of : ℕ → Object → ℕ
-interval_of interval_length o = o.check_interval * interval_length * 1000
+abbrev pub interval_milliseconds : ℕ → Object → ℕ
+interval_milliseconds interval_length o = o.check_interval * interval_length * 1000
 
 -- the number of scheduled objects, and the sum of their check intervals
 abbrev pub scheduled_among : ℕ → List Object → Scheduled
 scheduled_among interval_length objects =
-    record { count = count_by is_scheduled objects; total_interval = sum_by (interval_of interval_length) (filter is_scheduled objects) }
+    record { count = count_by is_scheduled objects; total_interval = sum_by (interval_milliseconds interval_length) (filter is_scheduled objects) }
 
 -- ---- the order
 
@@ -80,14 +80,14 @@ abbrev pub first_times : Spread → List Object → List (Option ℕ)
 first_times spread objects = map (λ p. first_time spread objects p.0 p.1) (enumerate_from 0 objects)
 
 -- The time that pick chooses of two, or the only one.
-abbrev pub picked : (ℕ → ℕ → ℕ) → Option ℕ → Option ℕ → Option ℕ
-picked pick None other = other
-picked pick (Some one) None = Some one
-picked pick (Some one) (Some other) = Some (pick one other)
+abbrev pub choice_of : (ℕ → ℕ → ℕ) → Option ℕ → Option ℕ → Option ℕ
+choice_of pick None other = other
+choice_of pick (Some one) None = Some one
+choice_of pick (Some one) (Some other) = Some (pick one other)
 
 -- the earlier of two times, or the only one
 abbrev pub earlier : Option ℕ → Option ℕ → Option ℕ
-earlier one other = picked min one other
+earlier one other = choice_of min one other
 
 -- the number of services for each host, rounded up; 1 if there is no service
 abbrev pub smart_factor : ℕ → ℕ → ℕ
@@ -112,8 +112,8 @@ abbrev pub minutes : ℕ → ℕ
 minutes n = n * 60000
 
 -- the spread by this method, with this maximum spread in minutes, and this interleave factor
-abbrev pub spread_by : Configuration → ℕ → DelayMethod → ℕ → ℕ → Spread
-spread_by c start method max_minutes factor = record {
+abbrev pub spread_of_method : Configuration → ℕ → DelayMethod → ℕ → ℕ → Spread
+spread_of_method c start method max_minutes factor = record {
   start = start;
   method = method;
   max_spread = minutes max_minutes;
@@ -123,11 +123,11 @@ spread_by c start method max_minutes factor = record {
 
 -- Hosts are visited in the order of their numbers, with the factor 1. (Our own profile.)
 abbrev pub host_spread : Configuration → ℕ → Spread
-host_spread c start = spread_by c start c.options.host_inter_check_delay_method c.options.max_host_check_spread 1
+host_spread c start = spread_of_method c start c.options.host_inter_check_delay_method c.options.max_host_check_spread 1
 
 abbrev pub service_spread : Configuration → ℕ → Spread
 service_spread c start =
-    spread_by c start c.options.service_inter_check_delay_method c.options.max_service_check_spread
+    spread_of_method c start c.options.service_inter_check_delay_method c.options.max_service_check_spread
     (factor_by c.options.service_interleave_factor (length c.services) (length c.hosts))
 
 -- The time of the first check of each object, by number; None for an object that isn't scheduled.

@@ -11,13 +11,12 @@
 //!   share;
 //! - `spread`: the time of one rank;
 //! - `visits`: the order in which objects are visited;
-//! - `limits`: the limits of moments and times, which `laws` gives as numbers.
+//! - `limits`: the limits of moments and times.
 
-pub mod laws;
 mod limits;
 mod spread;
 mod times;
 mod visits;
 
-pub use limits::{LAST_MOMENT, LAST_TIME};
+pub use limits::{LAST_MOMENT, LAST_TIME, limits_of_times};
 pub use times::{copy_objects, earlier, initial_times, interleave_factor, milliseconds};

@@ -1,5 +1,8 @@
 //! The limits of moments and times.
 
+ghost use Rattle.std.specs.Prelude.{◌≡◌, ◌^◌};
+ghost use Rattle.check_spread.specs.declared.limits.TheConstants.{LAST_MOMENT, LAST_TIME};
+
 /// The greatest moment that a clock can show, in milliseconds.
 pub const LAST_MOMENT: u64 = 1 << 60;
 
@@ -8,3 +11,9 @@ pub const LAST_TIME: u64 = 1 << 61;
 
 /// The number of milliseconds in a minute.
 pub const MINUTE: u64 = 60_000;
+
+/// The limits of moments and times, as numbers of milliseconds. (Our own profile.)
+pub fn limits_of_times()
+    ensures moment { LAST_MOMENT ≡ 2 ^ 60 }
+    ensures time { LAST_TIME ≡ 2 ^ 61 }
+{}

@@ -1,7 +1,7 @@
 //! The time at which the check of a rank is due.
 
 ghost use Rattle.std.specs.Prelude.{◌≡◌, ◌<◌, ◌≤◌, ◌*◌, length, count_by, filter, sum_by, All};
-ghost use Rattle.check_spread.specs.Spread.{interval_of, is_scheduled, scheduled_among, smart_delay, time_at};
+ghost use Rattle.check_spread.specs.Spread.{interval_milliseconds, is_scheduled, scheduled_among, smart_delay, time_at};
 ghost use Rattle.check_spread.specs.Limits.{IsInLimits};
 
 use crate::limits::{LAST_TIME, MINUTE};
@@ -41,7 +41,7 @@ pub(crate) fn is_scheduled(object: &Object) -> bool
 impl Scheduled {
     /// The scheduled objects among these.
     pub(crate) fn of(objects: &[Object], interval_length: u64) -> Scheduled
-        requires few { length objects.now ≤ MAX_OBJECTS }
+        requires bounded { length objects.now ≤ MAX_OBJECTS }
         requires unit { interval_length ≤ MAX_INTERVAL_LENGTH }
         requires intervals { All (λ o. o.check_interval ≤ MAX_INTERVAL) objects.now }
         ensures { result ≡ scheduled_among interval_length objects.now }
@@ -62,10 +62,10 @@ fn count_scheduled(objects: &[Object]) -> usize
 
 /// The sum of the check intervals of the scheduled objects, in milliseconds.
 fn sum_intervals(objects: &[Object], interval_length: u64) -> u64
-    requires few { length objects.now ≤ MAX_OBJECTS }
+    requires bounded { length objects.now ≤ MAX_OBJECTS }
     requires unit { interval_length ≤ MAX_INTERVAL_LENGTH }
     requires intervals { All (λ o. o.check_interval ≤ MAX_INTERVAL) objects.now }
-    ensures { result ≡ sum_by (interval_of interval_length) (filter is_scheduled objects.now) }
+    ensures { result ≡ sum_by (interval_milliseconds interval_length) (filter is_scheduled objects.now) }
 {
     let mut total = 0;
     for object in objects {
@@ -80,8 +80,8 @@ impl Spread {
     /// The time of the check of this rank, in milliseconds.
     pub(crate) fn time(self, scheduled: Scheduled, rank: u64) -> u64
         requires limits { IsInLimits self }
-        requires among { rank < scheduled.count }
-        requires few { scheduled.count ≤ MAX_OBJECTS }
+        requires in_range { rank < scheduled.count }
+        requires bounded { scheduled.count ≤ MAX_OBJECTS }
         ensures time { result ≡ time_at self scheduled rank }
         ensures within { result < LAST_TIME }
     {
@@ -99,8 +99,8 @@ impl Spread {
 /// more than the maximum spread passes from the first check to the last.
 fn smart_delay(max_spread: u64, scheduled: Scheduled, rank: u64) -> u64
     requires spread { max_spread ≤ MAX_SPREAD * MINUTE }
-    requires among { rank < scheduled.count }
-    requires few { scheduled.count ≤ MAX_OBJECTS }
+    requires in_range { rank < scheduled.count }
+    requires bounded { scheduled.count ≤ MAX_OBJECTS }
     ensures delay { result ≡ smart_delay max_spread scheduled rank }
     ensures within { result ≤ MAX_SPREAD * MINUTE * MAX_OBJECTS * MAX_OBJECTS }
 {

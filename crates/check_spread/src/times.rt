@@ -50,7 +50,7 @@ fn push_first_times(
     spread: Spread,
     times: &mut Vec<Option<u64>>,
 ) -> Result<(), AllocError>
-    requires few { length objects.now ≤ MAX_OBJECTS }
+    requires bounded { length objects.now ≤ MAX_OBJECTS }
     requires intervals { All (λ o. o.check_interval ≤ MAX_INTERVAL) objects.now }
     requires limits { IsInLimits spread }
     requires within { All (λ first. IfSome first (λ time. time < LAST_TIME)) times.old.items }

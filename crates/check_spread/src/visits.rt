@@ -17,7 +17,7 @@ pub(crate) fn first_ranks(
     objects: &[Object],
     factor: usize,
 ) -> Result<Vec<u64>, AllocError>
-    requires few { length objects.now ≤ MAX_OBJECTS }
+    requires bounded { length objects.now ≤ MAX_OBJECTS }
     requires steps { 0 < factor }
     ensures { IfOk result (λ ranks.
         HasCounts (has_less_remainder factor) factor objects.now ranks.items) }

@@ -8,8 +8,8 @@ use Rattle.std.proofs.lemmas.List.Concat.{flat_map-cons}
 use Rattle.std.proofs.lemmas.List.Elements.{All-head, All-tail}
 use Rattle.std.proofs.lemmas.List.Sums.{sum_by-cons}
 use mathlib.Core.List.{IsPrefix}
-use Rattle.ticket_steps.specs.declared.kept.Entry.{Entry}
-use Rattle.ticket_steps.specs.Sums.{times}
+use Rattle.ticket_steps.specs.declared.books.Entry.{Entry}
+use Rattle.ticket_steps.specs.Sums.{occurrences}
 use Rattle.ticket_lock.specs.Views.{Follows}
 use Rattle.check_rules.specs.declared.state.Code.{Code}
 use Rattle.check_sched.specs.declared.call.Call.{Call}
@@ -17,16 +17,17 @@ use Rattle.check_sched.specs.declared.call.Reply.{Reply}
 use Rattle.check_sched.specs.declared.call.Reply.TheVariants as reply
 use Rattle.check_desk.specs.declared.desk.Desk.{Desk}
 use Rattle.check_desk.specs.declared.passes.Pass.{Pass}
-use Rattle.check_desk.specs.Desks.{opened_with}
+use Rattle.check_desk.specs.Desks.{desk_opening}
 use Rattle.check_desk.specs.Passes.{pass_of}
 use Rattle.check_workers.specs.declared.crews.CrewError.{CrewError}
 use Rattle.check_workers.specs.declared.crews.CrewError.TheVariants as error
 use Rattle.check_workers.specs.declared.tally.Stop.{Stop}
 use Rattle.check_workers.specs.declared.tally.Stop.TheVariants as stop
 use Rattle.check_workers.specs.declared.tally.Tally.{Tally}
-use Rattle.check_workers.specs.Crews.{AreShiftsOf, AreWorked, HaveLeft, MatchCrewError, IsShiftOf, IsTallied, IsWithin, IsWorked, calls_counted, calls_in}
-use Rattle.check_workers.specs.Crews.{numbers_in, numbers_of, sum_of, tally_of_all}
-use Rattle.check_workers.specs.Shifts.{IsReason, Open, Round, Shift, open_entries, open_moments, round_entries, shift_entries, shift_moments, stops_of}
+use Rattle.check_workers.specs.Crews.{AreShiftsOf, AreWorkerResults, HaveCallsLeft, MatchCrewError, IsShiftOf, IsTallied, IsTallyWithin, IsWorkerResult}
+use Rattle.check_workers.specs.Crews.{calls_counted, calls_of_passes}
+use Rattle.check_workers.specs.Crews.{pass_count, pass_numbers, tally_sum, tally_of_all}
+use Rattle.check_workers.specs.Shifts.{IsStopReason, OpenCheck, Round, Shift, open_entries, open_moments, round_entries, shift_entries, shift_moments, stops_of}
 use Rattle.check_workers.specs.Shifts.{unanswered}
 use Rattle.check_workers.specs.Tallies.{IsSum, plus, tally_of}
 use Rattle.check_workers.proofs.CallerLemmas.{prefix_trans}
@@ -39,32 +40,32 @@ length_prefix xs ys (zs, e) = let len = ap length (sym e) ∙ length-append xs z
 
 -- ---- one shift
 
-reason_in : (room a b left : ℕ) (o : Option Stop) → a ≤ b → IsReason room a left o → IsReason room b left o
+reason_in : (room a b left : ℕ) (o : Option Stop) → a ≤ b → IsStopReason room a left o → IsStopReason room b left o
 reason_in room a b left None le r = tt
 reason_in room a b left (Some stop.NoMemory) le r = omega arith
 reason_in room a b left (Some stop.Spent) le r = r
 
 one_shift : (allows : ℕ → ℕ → ℕ → Code → Type 0) (moments : List ℕ) (desk : Desk) (pass back : Pass) (t : Tally) (history : List (Entry Call Reply))
-    (w : IsWorked allows moments desk pass back t)
-    → Follows (pass_of back).numbers (pass_of back).seen history → IsShiftOf allows moments (opened_with desk).room history (pass_of pass) w.shift
+    (w : IsWorkerResult allows moments desk pass back t)
+    → Follows (pass_of back).numbers (pass_of back).seen history → IsShiftOf allows moments (desk_opening desk).room history (pass_of pass) w.shift
 one_shift allows moments desk pass back t history w f = record {
   number = w.worked.number;
   shift = w.worked.shift;
-  new = (λ n has. f.1 n (subst (λ l. 0 < times n l) (sym w.worked.made.numbers) has) ∙ w.worked.made.new n has);
+  new = (λ n has. f.1 n (subst (λ l. 0 < occurrences n l) (sym w.worked.made.numbers) has) ∙ w.worked.made.new n has);
   left = (pass_of back).left;
   left_is = w.worked.made.left;
   reason =
-      reason_in (opened_with desk).room (length (pass_of back).seen) (length history) (pass_of back).left w.shift.stopped
+      reason_in (desk_opening desk).room (length (pass_of back).seen) (length history) (pass_of back).left w.shift.stopped
       (length_prefix (pass_of back).seen history f.0) w.worked.reason;
 }
 
 -- the worker of a pass has made few calls more
 pub worked_tallied : (allows : ℕ → ℕ → ℕ → Code → Type 0) (moments : List ℕ) (desk : Desk) (pass back : Pass) (t : Tally)
-    → 0 < length (pass_of back).numbers → IsWorked allows moments desk pass back t → IsTallied desk back t
+    → 0 < length (pass_of back).numbers → IsWorkerResult allows moments desk pass back t → IsTallied desk back t
 worked_tallied allows moments desk pass back t some w =
     let calls = w.worked.made.calls in (
       w.of_desk,
-      subst (IsWithin (pass_of back).calls (length (pass_of back).numbers)) (sym w.counted)
+      subst (IsTallyWithin (pass_of back).calls (length (pass_of back).numbers)) (sym w.counted)
           (tally_within (shift_entries w.shift) w.shift.stopped (pass_of back).calls (length (pass_of back).numbers) (omega arith) (omega arith)),
     )
 
@@ -90,7 +91,7 @@ rounds_calls number (r ∷ rounds) =
     let rest = rounds_calls number rounds in
     omega arith
 
-open_calls : (number : ℕ) (o : Option Open) → length (open_entries number o) ≤ 2 * length (open_moments o)
+open_calls : (number : ℕ) (o : Option OpenCheck) → length (open_entries number o) ≤ 2 * length (open_moments o)
 open_calls number None = omega arith
 open_calls number (Some o) = omega arith
 
@@ -105,7 +106,7 @@ shift_short s moments p =
     omega arith
 
 -- where calls are left, a worker stops only out of memory
-stops_by : (room recorded left before calls moments : ℕ) (o : Option Stop) → IsReason room recorded left o → before ≡ left + calls + unanswered o
+stops_by : (room recorded left before calls moments : ℕ) (o : Option Stop) → IsStopReason room recorded left o → before ≡ left + calls + unanswered o
     → calls ≤ 2 * moments → 2 * moments < before → length (stops_of o) ≡ unanswered o
 stops_by room recorded left before calls moments None r e short many = refl
 stops_by room recorded left before calls moments (Some stop.NoMemory) r e short many = refl
@@ -115,24 +116,24 @@ stops_by room recorded left before calls moments (Some stop.Spent) r e short man
 
 module _ (allows : ℕ → ℕ → ℕ → Code → Type 0) (moments : List ℕ) (desk : Desk) where
   abbrev pub rest_worked : (p : Pass) (ps : List Pass) (w : Pass × Tally) (ws : List (Pass × Tally))
-      → AreWorked allows moments desk (p ∷ ps) (w ∷ ws) → AreWorked allows moments desk ps ws
+      → AreWorkerResults allows moments desk (p ∷ ps) (w ∷ ws) → AreWorkerResults allows moments desk ps ws
   rest_worked p ps w ws h = record {
     count = (let c = h.count in omega arith);
     each = (λ i d e lt. h.each (suc i) d e (omega arith));
   }
 
   abbrev pub first_worked : (p : Pass) (ps : List Pass) (w : Pass × Tally) (ws : List (Pass × Tally))
-      → AreWorked allows moments desk (p ∷ ps) (w ∷ ws) → IsWorked allows moments desk p w.0 w.1
+      → AreWorkerResults allows moments desk (p ∷ ps) (w ∷ ws) → IsWorkerResult allows moments desk p w.0 w.1
   first_worked p ps w ws h = h.each 0 p w (omega arith)
 
-  abbrev pub shifts_from : (ps : List Pass) (ws : List (Pass × Tally)) → AreWorked allows moments desk ps ws → List Shift
+  abbrev pub shifts_from : (ps : List Pass) (ws : List (Pass × Tally)) → AreWorkerResults allows moments desk ps ws → List Shift
   shifts_from [] ws h = []
   shifts_from (p ∷ ps) [] h = []
   shifts_from (p ∷ ps) (w ∷ ws) h = (first_worked p ps w ws h).shift ∷ shifts_from ps ws (rest_worked p ps w ws h)
 
-  pub are_shifts : (history : List (Entry Call Reply)) (ps : List Pass) (ws : List (Pass × Tally)) (h : AreWorked allows moments desk ps ws)
+  pub are_shifts : (history : List (Entry Call Reply)) (ps : List Pass) (ws : List (Pass × Tally)) (h : AreWorkerResults allows moments desk ps ws)
       → All (λ w. Follows (pass_of w.0).numbers (pass_of w.0).seen history) ws
-      → AreShiftsOf allows moments (opened_with desk).room history ps (shifts_from ps ws h)
+      → AreShiftsOf allows moments (desk_opening desk).room history ps (shifts_from ps ws h)
   are_shifts history [] ws h f = tt
   are_shifts history (p ∷ ps) [] h f = absurd (let c = h.count in omega arith)
   are_shifts history (p ∷ ps) (w ∷ ws) h f = (
@@ -142,7 +143,7 @@ module _ (allows : ℕ → ℕ → ℕ → Code → Type 0) (moments : List ℕ)
   )
 
   -- the history begins with what each pass had seen when it was brought
-  pub all_begin : (history : List (Entry Call Reply)) (ps : List Pass) (ws : List (Pass × Tally)) → AreWorked allows moments desk ps ws
+  pub all_begin : (history : List (Entry Call Reply)) (ps : List Pass) (ws : List (Pass × Tally)) → AreWorkerResults allows moments desk ps ws
       → All (λ w. Follows (pass_of w.0).numbers (pass_of w.0).seen history) ws → All (λ p. IsPrefix (pass_of p).seen history) ps
   all_begin history [] ws h f k d lt = absurd (omega arith)
   all_begin history (p ∷ ps) [] h f k d lt = absurd (let c = h.count in omega arith)
@@ -153,7 +154,7 @@ module _ (allows : ℕ → ℕ → ℕ → Code → Type 0) (moments : List ℕ)
       all_begin history ps ws (rest_worked p ps w ws h) (All-tail (λ v. Follows (pass_of v.0).numbers (pass_of v.0).seen history) w ws f) k d (omega arith)
 
   pub all_tallied : ((pass : Pass) → 0 < length (pass_of pass).numbers) → (ps : List Pass) (ws : List (Pass × Tally))
-      → AreWorked allows moments desk ps ws → All (λ w. IsTallied desk w.0 w.1) ws
+      → AreWorkerResults allows moments desk ps ws → All (λ w. IsTallied desk w.0 w.1) ws
   all_tallied some [] [] h k d lt = absurd (omega arith)
   all_tallied some [] (w ∷ ws) h k d lt = absurd (let c = h.count in omega arith)
   all_tallied some (p ∷ ps) [] h k d lt = absurd (omega arith)
@@ -161,27 +162,27 @@ module _ (allows : ℕ → ℕ → ℕ → Code → Type 0) (moments : List ℕ)
   all_tallied some (p ∷ ps) (w ∷ ws) h (suc k) d lt = all_tallied some ps ws (rest_worked p ps w ws h) k d (omega arith)
 
   -- the sum of the tallies is the tally of all
-  pub sum_is : (ps : List Pass) (ws : List (Pass × Tally)) (h : AreWorked allows moments desk ps ws) → sum_of ws ≡ tally_of_all (shifts_from ps ws h)
+  pub sum_is : (ps : List Pass) (ws : List (Pass × Tally)) (h : AreWorkerResults allows moments desk ps ws) → tally_sum ws ≡ tally_of_all (shifts_from ps ws h)
   sum_is [] [] h = refl
   sum_is [] (w ∷ ws) h = absurd (let c = h.count in omega arith)
   sum_is (p ∷ ps) [] h = refl
   sum_is (p ∷ ps) (w ∷ ws) h =
       let first = first_worked p ps w ws h in
       let rest = shifts_from ps ws (rest_worked p ps w ws h) in
-      ap (λ t. plus t (sum_of ws)) first.counted
+      ap (λ t. plus t (tally_sum ws)) first.counted
       ∙ ap (plus (tally_of (shift_entries first.shift) (stops_of first.shift.stopped))) (sum_is ps ws (rest_worked p ps w ws h))
       ∙ sym (tally_append (shift_entries first.shift) (flat_map shift_entries rest) (stops_of first.shift.stopped) (flat_map (λ s. stops_of s.stopped) rest))
       ∙ ap (λ l. tally_of l (stops_of first.shift.stopped ++ flat_map (λ s. stops_of s.stopped) rest)) (sym (flat_map-cons shift_entries first.shift rest))
       ∙ ap (tally_of (flat_map shift_entries (first.shift ∷ rest))) (sym (flat_map-cons (λ s. stops_of s.stopped) first.shift rest))
 
-  pub sum_sums : (ps : List Pass) (ws : List (Pass × Tally)) → AreWorked allows moments desk ps ws → IsSum (sum_of ws)
+  pub sum_sums : (ps : List Pass) (ws : List (Pass × Tally)) → AreWorkerResults allows moments desk ps ws → IsSum (tally_sum ws)
   sum_sums ps [] h = (refl, refl)
   sum_sums [] (w ∷ ws) h = absurd (let c = h.count in omega arith)
-  sum_sums (p ∷ ps) (w ∷ ws) h = sum_plus w.1 (sum_of ws) (first_worked p ps w ws h).sums (sum_sums ps ws (rest_worked p ps w ws h))
+  sum_sums (p ∷ ps) (w ∷ ws) h = sum_plus w.1 (tally_sum ws) (first_worked p ps w ws h).sums (sum_sums ps ws (rest_worked p ps w ws h))
 
   -- the calls of all passes are those that they brought and those of the shifts
-  pub sum_calls : (ps : List Pass) (ws : List (Pass × Tally)) → AreWorked allows moments desk ps ws
-      → sum_by (λ w. (pass_of w.0).calls) ws ≡ calls_in ps + (sum_of ws).takes + (sum_of ws).reports + (sum_of ws).unanswered
+  pub sum_calls : (ps : List Pass) (ws : List (Pass × Tally)) → AreWorkerResults allows moments desk ps ws
+      → sum_by (λ w. (pass_of w.0).calls) ws ≡ calls_of_passes ps + (tally_sum ws).takes + (tally_sum ws).reports + (tally_sum ws).unanswered
   sum_calls [] [] h = refl
   sum_calls [] (w ∷ ws) h = absurd (let c = h.count in omega arith)
   sum_calls (p ∷ ps) [] h = absurd (let c = h.count in omega arith)
@@ -194,8 +195,8 @@ module _ (allows : ℕ → ℕ → ℕ → Code → Type 0) (moments : List ℕ)
       let brought = sum_by-cons (λ q. (pass_of q).calls) p ps in
       omega arith
 
-  pub sum_stops : (ps : List Pass) (ws : List (Pass × Tally)) → AreWorked allows moments desk ps ws → HaveLeft (2 * length moments) ps
-      → (sum_of ws).stops ≡ (sum_of ws).unanswered
+  pub sum_stops : (ps : List Pass) (ws : List (Pass × Tally)) → AreWorkerResults allows moments desk ps ws → HaveCallsLeft (2 * length moments) ps
+      → (tally_sum ws).stops ≡ (tally_sum ws).unanswered
   sum_stops ps [] h many = refl
   sum_stops [] (w ∷ ws) h many = absurd (let c = h.count in omega arith)
   sum_stops (p ∷ ps) (w ∷ ws) h many =
@@ -203,15 +204,15 @@ module _ (allows : ℕ → ℕ → ℕ → Code → Type 0) (moments : List ℕ)
       let made = first.worked in
       let stops = ap (λ t. t.stops) first.counted in
       let missing = ap (λ t. t.unanswered) first.counted ∙ unanswered_count first.shift.stopped in
-      let same = stops_by (opened_with desk).room (length (pass_of w.0).seen) (pass_of w.0).left (pass_of p).left (length (shift_entries first.shift))
+      let same = stops_by (desk_opening desk).room (length (pass_of w.0).seen) (pass_of w.0).left (pass_of p).left (length (shift_entries first.shift))
       (length moments) first.shift.stopped
       made.reason made.made.left (shift_short first.shift moments made.shift.in_order) many.0 in
       let rest = sum_stops ps ws (rest_worked p ps w ws h) many.1 in
       omega arith
 
   -- the passes that come back stand for the numbers of those that were brought
-  pub same_numbers : (ps : List Pass) (ws : List (Pass × Tally)) → AreWorked allows moments desk ps ws
-      → length (flat_map (λ w. (pass_of w.0).numbers) ws) ≡ numbers_in ps
+  pub same_numbers : (ps : List Pass) (ws : List (Pass × Tally)) → AreWorkerResults allows moments desk ps ws
+      → length (flat_map (λ w. (pass_of w.0).numbers) ws) ≡ pass_count ps
   same_numbers [] [] h = refl
   same_numbers [] (w ∷ ws) h = absurd (let c = h.count in omega arith)
   same_numbers (p ∷ ps) [] h = absurd (let c = h.count in omega arith)
@@ -222,7 +223,7 @@ module _ (allows : ℕ → ℕ → ℕ → Code → Type 0) (moments : List ℕ)
       let brought = sum_by-cons (λ q. length (pass_of q).numbers) p ps in
       omega arith
 
-  pub all_numbers : (ps : List Pass) (ws : List (Pass × Tally)) → AreWorked allows moments desk ps ws → flat_map (λ w. (pass_of w.0).numbers) ws ≡ numbers_of ps
+  pub all_numbers : (ps : List Pass) (ws : List (Pass × Tally)) → AreWorkerResults allows moments desk ps ws → flat_map (λ w. (pass_of w.0).numbers) ws ≡ pass_numbers ps
   all_numbers [] [] h = refl
   all_numbers [] (w ∷ ws) h = absurd (let c = h.count in omega arith)
   all_numbers (p ∷ ps) [] h = absurd (let c = h.count in omega arith)
@@ -233,12 +234,12 @@ module _ (allows : ℕ → ℕ → ℕ → Code → Type 0) (moments : List ℕ)
       ∙ sym (flat_map-cons (λ q. (pass_of q).numbers) p ps)
 
   -- the calls of the pass into which they are gathered
-  pub missing_calls : (ps : List Pass) (ws : List (Pass × Tally)) (h : AreWorked allows moments desk ps ws) (calls : ℕ)
+  pub missing_calls : (ps : List Pass) (ws : List (Pass × Tally)) (h : AreWorkerResults allows moments desk ps ws) (calls : ℕ)
       → calls ≡ sum_by (λ w. (pass_of w.0).calls) ws
-      → calls ≡ calls_in ps + calls_counted (tally_of_all (shifts_from ps ws h))
+      → calls ≡ calls_of_passes ps + calls_counted (tally_of_all (shifts_from ps ws h))
   missing_calls ps ws h calls is =
       let all = sum_calls ps ws h in
-      let counted : calls_counted (sum_of ws) ≡ calls_counted (tally_of_all (shifts_from ps ws h)) = ap (λ t. calls_counted t) (sum_is ps ws h) in
+      let counted : calls_counted (tally_sum ws) ≡ calls_counted (tally_of_all (shifts_from ps ws h)) = ap (λ t. calls_counted t) (sum_is ps ws h) in
       omega (arith, is, all, counted)
 
 -- ---- answers

@@ -8,10 +8,10 @@ use Rattle.std.proofs.lemmas.List.Elements.{All-cons, All-nil}
 use Rattle.std.proofs.lemmas.List.Sums.{sum_by-cons}
 use Rattle.std.proofs.Math.Seq.{get_or-append_seam}
 use native.Mathlib.Numerals.{unary_clauses}
-use Rattle.ticket_steps.specs.declared.kept.Entry.{Entry}
-use Rattle.ticket_steps.specs.Sums.{times}
-use Rattle.ticket_steps.proofs.Totals.{times-append}
-use Rattle.ticket_lock.specs.Callers.{joined}
+use Rattle.ticket_steps.specs.declared.books.Entry.{Entry}
+use Rattle.ticket_steps.specs.Sums.{occurrences}
+use Rattle.ticket_steps.proofs.SumLemmas.{occurrences-append}
+use Rattle.ticket_lock.specs.Callers.{gathered_caller}
 use Rattle.ticket_lock.specs.Views.{Follows}
 use Rattle.check_sched.specs.declared.call.Call.{Call}
 use Rattle.check_sched.specs.declared.call.Reply.{Reply}
@@ -20,13 +20,13 @@ use Rattle.check_desk.specs.declared.passes.Pass.{Pass}
 use Rattle.check_desk.specs.Desks.{IsPassOf}
 use Rattle.check_desk.specs.Passes.{pass_of}
 use Rattle.check_workers.specs.declared.tally.Tally.{Tally}
-use Rattle.check_workers.specs.Crews.{AreGathered, IsTallied, IsWithin}
-use Rattle.check_workers.specs.Tallies.{IsFew, plus, tally_of}
+use Rattle.check_workers.specs.Crews.{AreGathered, IsTallied, IsTallyWithin}
+use Rattle.check_workers.specs.Tallies.{IsBounded, plus, tally_of}
 use Rattle.check_workers.proofs.CallerLemmas.{prefix_trans}
 
 -- ---- bounds of tallies
 
-pub within_few : (calls numbers : ℕ) (t : Tally) → IsWithin calls numbers t → calls < 2 ^ 42 → numbers ≤ 1024 → IsFew t
+pub within_few : (calls numbers : ℕ) (t : Tally) → IsTallyWithin calls numbers t → calls < 2 ^ 42 → numbers ≤ 1024 → IsBounded t
 within_few calls numbers t w c n = record {
   takes = (let h = w.takes in omega arith);
   taken = (let h = w.taken in omega arith);
@@ -41,7 +41,7 @@ within_few calls numbers t w c n = record {
   stops = (let h = w.stops in omega arith);
 }
 
-within_plus : (c d n m : ℕ) (t u : Tally) → IsWithin c n t → IsWithin d m u → IsWithin (c + d) (n + m) (plus t u)
+within_plus : (c d n m : ℕ) (t u : Tally) → IsTallyWithin c n t → IsTallyWithin d m u → IsTallyWithin (c + d) (n + m) (plus t u)
 within_plus c d n m t u v w = record {
   takes = (let h = v.takes in let k = w.takes in omega arith);
   taken = (let h = v.taken in let k = w.taken in omega arith);
@@ -58,12 +58,12 @@ within_plus c d n m t u v w = record {
 
 -- a pass is gathered into another: its tally is few
 pub tallied_few : (desk : Desk) (pass : Pass) (t : Tally) → (pass_of pass).calls < 2 ^ 42 → length (pass_of pass).numbers ≤ 1024 → IsTallied desk pass t
-    → IsFew t
+    → IsBounded t
 tallied_few desk pass t calls numbers h = within_few (pass_of pass).calls (length (pass_of pass).numbers) t h.1 calls numbers
 
 -- ---- what was seen
 
-pub follows_trans : (ns ms : List ℕ) (xs ys zs : List (Entry Call Reply)) → ((n : ℕ) → 0 < times n ns → 0 < times n ms) → Follows ns xs ys
+pub follows_trans : (ns ms : List ℕ) (xs ys zs : List (Entry Call Reply)) → ((n : ℕ) → 0 < occurrences n ns → 0 < occurrences n ms) → Follows ns xs ys
     → Follows ms ys zs → Follows ns xs zs
 follows_trans ns ms xs ys zs among f g = (prefix_trans xs ys zs f.0 g.0, λ n has. g.1 n (among n has) ∙ f.1 n has)
 
@@ -76,16 +76,16 @@ pub all_last : {X : Type 0} (P : X → Type 0) (xs : List X) (x : X) → All P (
 all_last P xs x all = subst P (get_or-append_seam xs x [] x) (all (length xs) x (let len = length-append xs (x ∷ []) in omega arith))
 
 -- the numbers of one pass are among those of all
-numbered : (n : ℕ) (worked : List (Pass × Tally)) (k : ℕ) (d : Pass × Tally) → k < length worked → 0 < times n (pass_of (slice_index_or worked k d).0).numbers
-    → 0 < times n (flat_map (λ w. (pass_of w.0).numbers) worked)
+numbered : (n : ℕ) (worked : List (Pass × Tally)) (k : ℕ) (d : Pass × Tally) → k < length worked → 0 < occurrences n (pass_of (slice_index_or worked k d).0).numbers
+    → 0 < occurrences n (flat_map (λ w. (pass_of w.0).numbers) worked)
 numbered n [] k d lt has = absurd (omega arith)
 numbered n (w ∷ worked) zero d lt has =
-    let all = ap (times n) (flat_map-cons (λ w. (pass_of w.0).numbers) w worked)
-    ∙ times-append n (pass_of w.0).numbers (flat_map (λ w. (pass_of w.0).numbers) worked) in
+    let all = ap (occurrences n) (flat_map-cons (λ w. (pass_of w.0).numbers) w worked)
+    ∙ occurrences-append n (pass_of w.0).numbers (flat_map (λ w. (pass_of w.0).numbers) worked) in
     omega arith
 numbered n (w ∷ worked) (suc k) d lt has =
-    let all = ap (times n) (flat_map-cons (λ w. (pass_of w.0).numbers) w worked)
-    ∙ times-append n (pass_of w.0).numbers (flat_map (λ w. (pass_of w.0).numbers) worked) in
+    let all = ap (occurrences n) (flat_map-cons (λ w. (pass_of w.0).numbers) w worked)
+    ∙ occurrences-append n (pass_of w.0).numbers (flat_map (λ w. (pass_of w.0).numbers) worked) in
     let rest = numbered n worked k d (omega arith) has in
     omega arith
 
@@ -122,7 +122,7 @@ gathered_one desk pass t h = record {
 -- one pass more, before those that are gathered
 pub gathered_more : (desk : Desk) (worked : List (Pass × Tally)) (other pass result : Pass) (more t : Tally) → IsTallied desk other more
     → AreGathered desk worked pass t
-    → IsPassOf desk result → pass_of result ≡ joined (pass_of other) (pass_of pass)
+    → IsPassOf desk result → pass_of result ≡ gathered_caller (pass_of other) (pass_of pass)
     → Follows (pass_of other).numbers (pass_of other).seen (pass_of result).seen → Follows (pass_of pass).numbers (pass_of pass).seen (pass_of result).seen
     → AreGathered desk ((other, more) ∷ worked) result (plus more t)
 gathered_more desk worked other pass result more t h g is join first rest =
@@ -141,6 +141,6 @@ gathered_more desk worked other pass result more t h g is join first rest =
       seen = All-cons (λ w. Follows (pass_of w.0).numbers (pass_of w.0).seen (pass_of result).seen) (other, more) worked first (λ k d lt.
           follows_trans (pass_of (slice_index_or worked k d).0).numbers (pass_of pass).numbers (pass_of (slice_index_or worked k d).0).seen
           (pass_of pass).seen (pass_of result).seen
-          (λ n has. subst (λ l. 0 < times n l) (sym g.numbers) (numbered n worked k d lt has)) (g.seen k d lt) rest);
+          (λ n has. subst (λ l. 0 < occurrences n l) (sym g.numbers) (numbered n worked k d lt has)) (g.seen k d lt) rest);
       sum = ap (λ u. plus more u) g.sum;
     }

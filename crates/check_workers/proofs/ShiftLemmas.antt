@@ -9,7 +9,7 @@ use Rattle.std.proofs.lemmas.List.{length-map, map-append}
 use Rattle.std.proofs.lemmas.List.Elements.{All-append, All-cons, All-nil}
 use Rattle.std.proofs.lemmas.Option.{none-some}
 use mathlib.Core.List.{IsPrefix}
-use Rattle.ticket_steps.specs.declared.kept.Entry.{Entry}
+use Rattle.ticket_steps.specs.declared.books.Entry.{Entry}
 use Rattle.ticket_lock.specs.Callers.{Caller}
 use Rattle.check_rules.specs.declared.state.Code.{Code}
 use Rattle.check_sched.specs.declared.call.Call.{Call}
@@ -21,10 +21,11 @@ use Rattle.check_workers.specs.declared.round.Progress.TheVariants as progress
 use Rattle.check_workers.specs.declared.tally.Stop.{Stop}
 use Rattle.check_workers.specs.declared.tally.Stop.TheVariants as stop
 use Rattle.check_workers.specs.declared.tally.Tally.{Tally}
-use Rattle.check_workers.specs.Progress.{HasCome, IsDone, IsOpenAt, IsStopped}
-use Rattle.check_workers.specs.Shifts.{HasMade, HasWorked, IsRound, Open, Round, Shift, open_entries, open_moments, round_entries, shift_entries, stops_of}
+use Rattle.check_workers.specs.Progress.{HasProgressed, IsDone, IsOpenAt, IsStopped}
+use Rattle.check_workers.specs.Shifts.{HasMadeCalls, HasWorkedShift, IsRound, OpenCheck, Round, Shift, open_entries, open_moments, round_entries, shift_entries}
+use Rattle.check_workers.specs.Shifts.{stops_of}
 use Rattle.check_workers.specs.Shifts.{unanswered}
-use Rattle.check_workers.specs.Tallies.{IsFew, is_no_memory, plus, reports_with, takes_with, tally_of}
+use Rattle.check_workers.specs.Tallies.{IsBounded, is_no_memory, plus, reports_with, takes_with, tally_of}
 use Rattle.check_workers.proofs.CallerLemmas.{made_none, made_then}
 use Rattle.check_workers.proofs.TallyLemmas.{few_tally, tally_append}
 
@@ -36,7 +37,7 @@ pub record IsWorking (allows : ℕ → ℕ → ℕ → Code → Type 0) (moments
   pub rounds : List Round
   pub allowed : All (IsRound allows) rounds
   pub moments_are : map (λ r. r.now) rounds ≡ moments
-  pub made : HasMade (rounds_entries before.own rounds) 0 before after
+  pub made : HasMadeCalls (rounds_entries before.own rounds) 0 before after
   pub counted : tally ≡ tally_of (rounds_entries before.own rounds) []
 
 pub working_none : (allows : ℕ → ℕ → ℕ → Code → Type 0) (c : Caller Call Reply) (t : Tally) → t ≡ tally_of [] [] → IsWorking allows [] c c t
@@ -61,14 +62,14 @@ working_more allows done now before mid after t u w d =
       allowed = All-append (IsRound allows) w.rounds (d.round ∷ []) w.allowed (All-cons (IsRound allows) d.round [] d.allowed (All-nil (IsRound allows)));
       moments_are = map-append (λ r. r.now) w.rounds (d.round ∷ []) ∙ ap (λ l. l ++ d.round.now ∷ []) w.moments_are ∙ ap (λ n. done ++ n ∷ []) d.at;
       made =
-          subst (λ es. HasMade es 0 before after) (sym entries)
+          subst (λ es. HasMadeCalls es 0 before after) (sym entries)
           (made_then (rounds_entries before.own w.rounds) (round_entries before.own d.round) 0 0 before mid after w.made
-          (subst (λ number. HasMade (round_entries number d.round) 0 mid after) own d.made));
+          (subst (λ number. HasMadeCalls (round_entries number d.round) 0 mid after) own d.made));
       counted = rw entries (rw (w.counted, d.counted, own) (sym (tally_append (rounds_entries before.own w.rounds) (round_entries before.own d.round) [] [])));
     }
 
 -- the moments of the rounds, and that of a check that was left open, come first
-stopped_in_order : (now : ℕ) (o : Option Open) (done rest moments : List ℕ) → done ++ now ∷ rest ≡ moments → IsOpenAt now o
+stopped_in_order : (now : ℕ) (o : Option OpenCheck) (done rest moments : List ℕ) → done ++ now ∷ rest ≡ moments → IsOpenAt now o
     → IsPrefix (done ++ open_moments o) moments
 stopped_in_order now None done rest moments e at = (now ∷ rest, ap (λ l. l ++ now ∷ rest) (append-nil done) ∙ e)
 stopped_in_order now (Some o) done rest moments e at = (rest, append_assoc done (o.now ∷ []) rest ∙ ap (λ n. done ++ n ∷ rest) at ∙ e)
@@ -77,7 +78,7 @@ stopped_in_order now (Some o) done rest moments e at = (rest, append_assoc done 
 pub working_stopped : (allows : ℕ → ℕ → ℕ → Code → Type 0) (done rest moments : List ℕ) (now room : ℕ) (stop : Stop) (given : Option (ℕ × ℕ))
     (before mid after : Caller Call Reply) (t u : Tally)
     → done ++ now ∷ rest ≡ moments → (w : IsWorking allows done before mid t) → (h : IsStopped now room stop given mid after u)
-    → HasWorked allows moments room (record { number = before.own; rounds = w.rounds; left_open = h.left_open; stopped = Some stop }) before after
+    → HasWorkedShift allows moments room (record { number = before.own; rounds = w.rounds; left_open = h.left_open; stopped = Some stop }) before after
 working_stopped allows done rest moments now room stop given before mid after t u e w h =
     let own : mid.own ≡ before.own = w.made.own in
     let none : 0 + unanswered (Some stop) ≡ unanswered (Some stop) = omega arith in
@@ -94,9 +95,9 @@ working_stopped allows done rest moments now room stop given before mid after t 
             let all = ap length (sym e) ∙ length-append done (now ∷ rest) in
             omega (arith, rounds, all));
       };
-      made = subst (λ k. HasMade (rounds_entries before.own w.rounds ++ open_entries before.own h.left_open) k before after) none
+      made = subst (λ k. HasMadeCalls (rounds_entries before.own w.rounds ++ open_entries before.own h.left_open) k before after) none
           (made_then (rounds_entries before.own w.rounds) (open_entries before.own h.left_open) 0 (unanswered (Some stop)) before mid after w.made
-          (subst (λ number. HasMade (open_entries number h.left_open) (unanswered (Some stop)) mid after) own h.made));
+          (subst (λ number. HasMadeCalls (open_entries number h.left_open) (unanswered (Some stop)) mid after) own h.made));
       reason = h.reason;
     }
 
@@ -114,7 +115,7 @@ stopped_counted allows done now room stop given before mid after t u w h =
 -- the shift of a worker that did all
 pub working_ended : (allows : ℕ → ℕ → ℕ → Code → Type 0) (moments : List ℕ) (room : ℕ) (before after : Caller Call Reply) (t : Tally)
     (w : IsWorking allows moments before after t)
-    → HasWorked allows moments room (record { number = before.own; rounds = w.rounds; left_open = None; stopped = None }) before after
+    → HasWorkedShift allows moments room (record { number = before.own; rounds = w.rounds; left_open = None; stopped = None }) before after
 working_ended allows moments room before after t w =
     let same = append-nil (map (λ r. r.now) w.rounds) ∙ w.moments_are in
     record {
@@ -127,7 +128,7 @@ working_ended allows moments room before after t w =
             none_open = (λ is. refl);
             early = (λ why is. absurd (none-some why is));
           };
-      made = subst (λ es. HasMade es 0 before after) (sym (append-nil (rounds_entries before.own w.rounds))) w.made;
+      made = subst (λ es. HasMadeCalls es 0 before after) (sym (append-nil (rounds_entries before.own w.rounds))) w.made;
       reason = tt;
     }
 
@@ -140,38 +141,38 @@ ended_counted allows moments before after t w = w.counted ∙ ap (λ l. tally_of
 
 -- a worker's tally is small, since its pass has made few calls
 pub working_few : (allows : ℕ → ℕ → ℕ → Code → Type 0) (done : List ℕ) (before mid : Caller Call Reply) (t : Tally)
-    → IsWorking allows done before mid t → mid.calls < 2 ^ 42 → IsFew t
-working_few allows done before mid t w few =
+    → IsWorking allows done before mid t → mid.calls < 2 ^ 42 → IsBounded t
+working_few allows done before mid t w bounded =
     let calls = w.made.calls in
-    subst IsFew (sym w.counted) (few_tally (rounds_entries before.own w.rounds) [] (omega arith) (omega arith))
+    subst IsBounded (sym w.counted) (few_tally (rounds_entries before.own w.rounds) [] (omega arith) (omega arith))
 
 -- what a worker counted in one moment, however it ended, are few entries of its own
 pub record IsCounted (mid after : Caller Call Reply) (u : Tally) : Type 0 where
   pub entries : List (Entry Call Reply)
   pub missing : ℕ
-  pub made : HasMade entries missing mid after
+  pub made : HasMadeCalls entries missing mid after
   pub counted : u ≡ tally_of entries []
 
 pub came_counted : (allows : ℕ → ℕ → ℕ → Code → Type 0) (now room : ℕ) (mid after : Caller Call Reply) (u : Tally) (p : Progress)
-    → HasCome allows now room mid after u p → IsCounted mid after u
+    → HasProgressed allows now room mid after u p → IsCounted mid after u
 came_counted allows now room mid after u progress.Done h = record { entries = round_entries mid.own h.round; missing = 0; made = h.made; counted = h.counted }
 came_counted allows now room mid after u (progress.Stopped stop given) h =
     record { entries = open_entries mid.own h.left_open; missing = unanswered (Some stop); made = h.made; counted = h.counted }
 
-pub counted_few : (mid after : Caller Call Reply) (u : Tally) → IsCounted mid after u → after.calls < 2 ^ 42 → IsFew u
-counted_few mid after u n few =
+pub counted_few : (mid after : Caller Call Reply) (u : Tally) → IsCounted mid after u → after.calls < 2 ^ 42 → IsBounded u
+counted_few mid after u n bounded =
     let calls = n.made.calls in
-    subst IsFew (sym n.counted) (few_tally n.entries [] (omega arith) (omega arith))
+    subst IsBounded (sym n.counted) (few_tally n.entries [] (omega arith) (omega arith))
 
 pub both_few : (allows : ℕ → ℕ → ℕ → Code → Type 0) (done : List ℕ) (before mid after : Caller Call Reply) (t u : Tally)
-    → IsWorking allows done before mid t → IsCounted mid after u → after.calls < 2 ^ 42 → IsFew (plus t u)
-both_few allows done before mid after t u w n few =
+    → IsWorking allows done before mid t → IsCounted mid after u → after.calls < 2 ^ 42 → IsBounded (plus t u)
+both_few allows done before mid after t u w n bounded =
     let es = rounds_entries before.own w.rounds in
     let first = w.made.calls in
     let then = n.made.calls in
     let len = length-append es n.entries in
     let both : plus t u ≡ tally_of (es ++ n.entries) [] = rw (w.counted, n.counted) (sym (tally_append es n.entries [] [])) in
-    subst IsFew (sym both) (few_tally (es ++ n.entries) [] (omega arith) (omega arith))
+    subst IsBounded (sym both) (few_tally (es ++ n.entries) [] (omega arith) (omega arith))
 
 -- ---- each entry of a shift is a take or a report
 
@@ -211,7 +212,7 @@ both_rounds number (r ∷ rounds) =
     let len = length-append es fs in
     rw all (let goal : both_with (es ++ fs) ≡ length (es ++ fs) = omega arith in goal)
 
-both_open : (number : ℕ) (o : Option Open) → both_with (open_entries number o) ≡ length (open_entries number o)
+both_open : (number : ℕ) (o : Option OpenCheck) → both_with (open_entries number o) ≡ length (open_entries number o)
 both_open number None = refl
 both_open number (Some o) = refl
 
@@ -241,7 +242,7 @@ shift_calls s t e =
     omega arith
 
 pub worked_left : (allows : ℕ → ℕ → ℕ → Code → Type 0) (moments : List ℕ) (room : ℕ) (s : Shift) (before after : Caller Call Reply) (t : Tally)
-    → HasWorked allows moments room s before after → t ≡ tally_of (shift_entries s) (stops_of s.stopped)
+    → HasWorkedShift allows moments room s before after → t ≡ tally_of (shift_entries s) (stops_of s.stopped)
     → before.left ≡ after.left + t.takes + t.reports + t.unanswered
 worked_left allows moments room s before after t h e =
     let calls = shift_calls s t e in

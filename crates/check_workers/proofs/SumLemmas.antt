@@ -1,6 +1,6 @@
 -- Each take and each report is counted under its reply.
 use Rattle.std.proofs.Common.{◌≡◌, ℕ, List, [], ◌∷◌, ◌++◌, refl, sym, ap, subst, ◌∙◌, arith}
-use Rattle.ticket_steps.specs.declared.kept.Entry.{Entry}
+use Rattle.ticket_steps.specs.declared.books.Entry.{Entry}
 use Rattle.ticket_steps.specs.History.{entry, IsLegal}
 use Rattle.ticket_lock.specs.Callers.{Caller}
 use Rattle.check_rules.specs.declared.state.Code.{Code}
@@ -13,7 +13,7 @@ use Rattle.check_sched.specs.Reply.{IsReportReply, IsTakeReply}
 use Rattle.check_book.specs.BookState.{BookState, book_step}
 use Rattle.check_desk.specs.Desks.{HasRecorded}
 use Rattle.check_workers.specs.declared.tally.Tally.{Tally}
-use Rattle.check_workers.specs.Progress.{EndsInTaken}
+use Rattle.check_workers.specs.Progress.{EndsInTake}
 use Rattle.check_workers.specs.Tallies.{IsSum, plus, tally_of}
 
 -- the sum of two tallies
@@ -69,7 +69,7 @@ take_sum replies s now r before after h legal number at =
 
 -- a report that was recorded, of a check that was taken before
 pub report_sum : (replies : AreReportReplies) (s : BookState) (object run : ℕ) (code : Code) (r : Reply) (before after : Caller Call Reply)
-    → EndsInTaken object run before.seen → HasRecorded (call.Report object run code) r before after → IsLegal book_step s after.seen → (number : ℕ)
+    → EndsInTake object run before.seen → HasRecorded (call.Report object run code) r before after → IsLegal book_step s after.seen → (number : ℕ)
     → IsSum (tally_of (entry number (call.Report object run code) r ∷ []) [])
 report_sum replies s object run code r before after ends h legal number =
     let taken = entry ends.pass (call.Take ends.now) (reply.Taken object run) in

@@ -2,14 +2,14 @@
 use Rattle.std.proofs.Common.{◌≡◌, ℕ, ◌+◌, ◌<◌, ◌≤◌, ◌^◌, List, ◌++◌, length, Option, Some, None, refl, cond, Bool, length-append, arith}
 use Rattle.std.specs.Prelude.{count_by, ◌&&◌, true}
 use Rattle.std.proofs.lemmas.List.Sums.{count_by-le-length, sum_by-append}
-use Rattle.ticket_steps.specs.declared.kept.Entry.{Entry}
+use Rattle.ticket_steps.specs.declared.books.Entry.{Entry}
 use Rattle.check_sched.specs.declared.call.Call.{Call}
 use Rattle.check_sched.specs.declared.call.Reply.{Reply}
 use Rattle.check_workers.specs.declared.tally.Stop.{Stop}
 use Rattle.check_workers.specs.declared.tally.Stop.TheVariants as stop
-use Rattle.check_workers.specs.Crews.{IsWithin}
+use Rattle.check_workers.specs.Crews.{IsTallyWithin}
 use Rattle.check_workers.specs.Shifts.{stops_of, unanswered}
-use Rattle.check_workers.specs.Tallies.{IsFew, is_at_limit, is_idle, is_late, is_no_memory, is_put_off, is_refused, is_report, is_standing, is_take}
+use Rattle.check_workers.specs.Tallies.{IsBounded, is_at_limit, is_idle, is_late, is_no_memory, is_put_off, is_refused, is_report, is_standing, is_take}
 use Rattle.check_workers.specs.Tallies.{is_taken, plus, tally_of}
 
 count_append : {X : Type 0} (p : X → Bool) (xs ys : List X) → count_by p (xs ++ ys) ≡ count_by p xs + count_by p ys
@@ -45,7 +45,7 @@ tally_append es fs s t =
 few_count : {X : Type 0} (p : X → Bool) (xs : List X) → length xs < 2 ^ 42 → count_by p xs < 2 ^ 42
 few_count p xs h = omega (arith, count_by-le-length p xs, h)
 
-pub few_tally : (es : List (Entry Call Reply)) (s : List Stop) → length es < 2 ^ 42 → length s < 2 ^ 42 → IsFew (tally_of es s)
+pub few_tally : (es : List (Entry Call Reply)) (s : List Stop) → length es < 2 ^ 42 → length s < 2 ^ 42 → IsBounded (tally_of es s)
 few_tally es s h k = record {
   takes = few_count (λ e. is_take e.call && true) es h;
   taken = few_count (λ e. is_take e.call && is_taken e.reply) es h;
@@ -74,20 +74,20 @@ one_stop None numbers h = omega arith
 one_stop (Some why) numbers h = omega arith
 
 pub tally_within : (es : List (Entry Call Reply)) (o : Option Stop) (calls numbers : ℕ) → length es + unanswered o ≤ calls → 0 < numbers
-    → IsWithin calls numbers (tally_of es (stops_of o))
+    → IsTallyWithin calls numbers (tally_of es (stops_of o))
 tally_within es o calls numbers h some =
-    let few : length es ≤ calls = omega arith in
+    let bounded : length es ≤ calls = omega arith in
     let missing : unanswered o ≤ calls = omega arith in
     record {
-      takes = at_most (λ e. is_take e.call && true) es calls few;
-      taken = at_most (λ e. is_take e.call && is_taken e.reply) es calls few;
-      put_off = at_most (λ e. is_take e.call && is_put_off e.reply) es calls few;
-      idle = at_most (λ e. is_take e.call && is_idle e.reply) es calls few;
-      at_limit = at_most (λ e. is_take e.call && is_at_limit e.reply) es calls few;
-      refused = at_most (λ e. is_take e.call && is_refused e.reply) es calls few;
-      reports = at_most (λ e. is_report e.call && true) es calls few;
-      reported = at_most (λ e. is_report e.call && is_standing e.reply) es calls few;
-      late = at_most (λ e. is_report e.call && is_late e.reply) es calls few;
+      takes = at_most (λ e. is_take e.call && true) es calls bounded;
+      taken = at_most (λ e. is_take e.call && is_taken e.reply) es calls bounded;
+      put_off = at_most (λ e. is_take e.call && is_put_off e.reply) es calls bounded;
+      idle = at_most (λ e. is_take e.call && is_idle e.reply) es calls bounded;
+      at_limit = at_most (λ e. is_take e.call && is_at_limit e.reply) es calls bounded;
+      refused = at_most (λ e. is_take e.call && is_refused e.reply) es calls bounded;
+      reports = at_most (λ e. is_report e.call && true) es calls bounded;
+      reported = at_most (λ e. is_report e.call && is_standing e.reply) es calls bounded;
+      late = at_most (λ e. is_report e.call && is_late e.reply) es calls bounded;
       unanswered = within_stops o calls missing;
       stops = one_stop o numbers some;
     }

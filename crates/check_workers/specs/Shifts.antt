@@ -2,9 +2,9 @@
 use Rattle.std.specs.Prelude.{◌≡◌, ℕ, ◌+◌, ◌≤◌, ◌<◌, ⊤, List, [], ◌∷◌, ◌++◌, length, map, flat_map, Option, Some, None}
 use Rattle.std.specs.List.{All}
 use mathlib.Core.List.{IsPrefix}
-use Rattle.ticket_steps.specs.declared.kept.Entry.{Entry}
+use Rattle.ticket_steps.specs.declared.books.Entry.{Entry}
 use Rattle.ticket_steps.specs.History.{entry, of}
-use Rattle.ticket_steps.specs.Sums.{times}
+use Rattle.ticket_steps.specs.Sums.{occurrences}
 use Rattle.ticket_lock.specs.Callers.{Caller}
 use Rattle.check_rules.specs.declared.state.Code.{Code}
 use Rattle.check_sched.specs.declared.call.Call.{Call}
@@ -44,7 +44,7 @@ IsRound allows r = IsResult allows r.now r.reply r.result
 -- ---- a shift: the work of one worker
 
 -- A check that was taken at this moment, and whose result could not be reported.
-pub record Open : Type 0 where
+pub record OpenCheck : Type 0 where
   pub now : ℕ
   pub object : ℕ
   pub run : ℕ
@@ -53,14 +53,14 @@ pub record Open : Type 0 where
 pub record Shift : Type 0 where
   pub number : ℕ
   pub rounds : List Round
-  pub left_open : Option Open
+  pub left_open : Option OpenCheck
   pub stopped : Option Stop
 
-abbrev pub open_entries : ℕ → Option Open → List (Entry Call Reply)
+abbrev pub open_entries : ℕ → Option OpenCheck → List (Entry Call Reply)
 open_entries number None = []
 open_entries number (Some o) = entry number (call.Take o.now) (reply.Taken o.object o.run) ∷ []
 
-abbrev pub open_moments : Option Open → List ℕ
+abbrev pub open_moments : Option OpenCheck → List ℕ
 open_moments None = []
 open_moments (Some o) = o.now ∷ []
 
@@ -78,7 +78,7 @@ stops_of None = []
 stops_of (Some why) = why ∷ []
 
 -- the object and the run of a check that was left open
-abbrev pub open_run : Option Open → Option (ℕ × ℕ)
+abbrev pub open_run : Option OpenCheck → Option (ℕ × ℕ)
 open_run None = None
 open_run (Some o) = Some (o.object, o.run)
 
@@ -98,25 +98,25 @@ unanswered (Some stop.NoMemory) = 1
 unanswered other = 0
 
 -- A worker stops early only if there is no memory for an entry, and its history has reached the room, or if it has no call left.
-abbrev pub IsReason : ℕ → ℕ → ℕ → Option Stop → Type 0
-IsReason room recorded left (Some stop.NoMemory) = room ≤ recorded
-IsReason room recorded left (Some stop.Spent) = left ≡ 0
-IsReason room recorded left None = ⊤
+abbrev pub IsStopReason : ℕ → ℕ → ℕ → Option Stop → Type 0
+IsStopReason room recorded left (Some stop.NoMemory) = room ≤ recorded
+IsStopReason room recorded left (Some stop.Spent) = left ≡ 0
+IsStopReason room recorded left None = ⊤
 
 -- ---- the calls of callers
 
 -- A caller has made this many more calls, and these entries of its own are the new entries of the numbers for which it answers.
-pub record HasMade (entries : List (Entry Call Reply)) (unanswered : ℕ) (before after : Caller Call Reply) : Type 0 where
+pub record HasMadeCalls (entries : List (Entry Call Reply)) (unanswered : ℕ) (before after : Caller Call Reply) : Type 0 where
   pub own : after.own ≡ before.own
   pub numbers : after.numbers ≡ before.numbers
   pub seen : IsPrefix before.seen after.seen
-  pub new : (number : ℕ) → 0 < times number before.numbers → of number after.seen ≡ of number before.seen ++ of number entries
+  pub new : (number : ℕ) → 0 < occurrences number before.numbers → of number after.seen ≡ of number before.seen ++ of number entries
   pub calls : after.calls ≡ before.calls + length entries + unanswered
   pub left : before.left ≡ after.left + length entries + unanswered
 
 -- A worker's caller has worked this shift on these moments, over a desk with this room.
-pub record HasWorked (allows : ℕ → ℕ → ℕ → Code → Type 0) (moments : List ℕ) (room : ℕ) (s : Shift) (before after : Caller Call Reply) : Type 0 where
+pub record HasWorkedShift (allows : ℕ → ℕ → ℕ → Code → Type 0) (moments : List ℕ) (room : ℕ) (s : Shift) (before after : Caller Call Reply) : Type 0 where
   pub number : s.number ≡ before.own
   pub shift : IsShift allows moments s
-  pub made : HasMade (shift_entries s) (unanswered s.stopped) before after
-  pub reason : IsReason room (length after.seen) after.left s.stopped
+  pub made : HasMadeCalls (shift_entries s) (unanswered s.stopped) before after
+  pub reason : IsStopReason room (length after.seen) after.left s.stopped

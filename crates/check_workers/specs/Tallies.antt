@@ -1,6 +1,6 @@
 -- Tallies: counts of entries, by call and reply.
 use Rattle.std.specs.Prelude.{◌≡◌, ℕ, ◌+◌, ◌<◌, ◌^◌, ◌&&◌, Bool, true, false, List, length, count_by}
-use Rattle.ticket_steps.specs.declared.kept.Entry.{Entry}
+use Rattle.ticket_steps.specs.declared.books.Entry.{Entry}
 use Rattle.check_sched.specs.declared.call.Call.{Call}
 use Rattle.check_sched.specs.declared.call.Call.TheVariants as call
 use Rattle.check_sched.specs.declared.call.Reply.{Reply}
@@ -96,7 +96,7 @@ plus t u = record {
 }
 
 -- each count is below 2^42, so that two tallies can be added
-pub record IsFew (t : Tally) : Type 0 where
+pub record IsBounded (t : Tally) : Type 0 where
   pub takes : t.takes < 2 ^ 42
   pub taken : t.taken < 2 ^ 42
   pub put_off : t.put_off < 2 ^ 42

@@ -7,10 +7,11 @@ ghost use Rattle.ticket_steps.specs.History.{of};
 ghost use Rattle.ticket_steps.specs.Books.{book_state, IsLawfulBook};
 ghost use Rattle.check_book.specs.BookState.{book_step};
 ghost use Rattle.check_book.specs.Books.{entries_of, opening_of, refused_of, state_of};
-ghost use Rattle.check_desk.specs.Desks.{IsHistoryOf, IsPassOf, opened_with, passes_of};
+ghost use Rattle.check_desk.specs.Desks.{IsHistoryOf, IsPassOf, desk_opening, passes_of};
 ghost use Rattle.check_desk.specs.Passes.{pass_of};
-ghost use Rattle.check_workers.specs.Crews.{AreGathered, AreShiftsOf, AreWorked, HaveLeft, IsTallied, IsWorked, MatchCrewError, MatchGathered};
-ghost use Rattle.check_workers.specs.Crews.{calls_counted, calls_in, numbers_in, numbers_of, tally_of_all};
+ghost use Rattle.check_workers.specs.Crews.{AreGathered, AreShiftsOf, AreWorkerResults, HaveCallsLeft, IsTallied, IsWorkerResult, MatchCrewError};
+ghost use Rattle.check_workers.specs.Crews.{MatchGathered};
+ghost use Rattle.check_workers.specs.Crews.{calls_counted, calls_of_passes, pass_count, pass_numbers, tally_of_all};
 ghost use Rattle.check_workers.specs.Shifts.{Shift};
 ghost use Rattle.check_workers.specs.Tallies.{IsSum};
 
@@ -56,33 +57,33 @@ pub fn crew<R: Threads + Wait + Sync, P: Plugin + Sync>(
 ) -> Result<(Book, Tally), CrewError>
     requires { All (IsPassOf desk) passes.items }
     ensures shifts { IfOk result (λ made. (shifts : List Shift)
-        × AreShiftsOf (P.allows plugin.now) moments.now (opened_with desk).room
+        × AreShiftsOf (P.allows plugin.now) moments.now (desk_opening desk).room
         (entries_of made.0) passes.items shifts
         × (made.1 ≡ tally_of_all shifts)) }
     ensures begins { IfOk result (λ made.
         All (λ pass. IsPrefix (pass_of pass).seen (entries_of made.0)) passes.items) }
     ensures sums { IfOk result (λ made. IsSum made.1) }
     ensures calls { IfOk result (λ made. length (entries_of made.0) + refused_of made.0
-        ≡ calls_in passes.items + made.1.takes + made.1.reports + made.1.unanswered) }
-    ensures memory { IfOk result (λ made. HaveLeft (2 * length moments.now) passes.items
+        ≡ calls_of_passes passes.items + made.1.takes + made.1.reports + made.1.unanswered) }
+    ensures memory { IfOk result (λ made. HaveCallsLeft (2 * length moments.now) passes.items
         → made.1.stops ≡ made.1.unanswered) }
-    ensures opening { IfOk result (λ made. opening_of made.0 ≡ opened_with desk) }
+    ensures opening { IfOk result (λ made. opening_of made.0 ≡ desk_opening desk) }
     ensures lawful { IfOk result (λ made. IsLawfulBook book_step (opening_of made.0)
         (book_state (state_of made.0) (entries_of made.0) (refused_of made.0))) }
     ensures numbers { IfOk result (λ made. (number : ℕ)
         → passes_of desk ≤ number → of number (entries_of made.0) ≡ []) }
-    ensures all { IfOk result (λ made. passes_of desk ≤ numbers_in passes.items) }
+    ensures all { IfOk result (λ made. passes_of desk ≤ pass_count passes.items) }
     ensures errors { IfErr result (λ e. MatchCrewError e
         (λ back. (back ≡ desk) × (passes.items ≡ []))
         (λ back pass. (back ≡ desk) × IsPassOf desk pass
-        × (numbers_in passes.items < passes_of desk)
-        × (length (pass_of pass).numbers ≡ numbers_in passes.items)
-        × ((pass_of pass).numbers ≡ numbers_of passes.items)
+        × (pass_count passes.items < passes_of desk)
+        × (length (pass_of pass).numbers ≡ pass_count passes.items)
+        × ((pass_of pass).numbers ≡ pass_numbers passes.items)
         × IsHistoryOf desk (pass_of pass).seen
         × ((shifts : List Shift)
-        × AreShiftsOf (P.allows plugin.now) moments.now (opened_with desk).room
+        × AreShiftsOf (P.allows plugin.now) moments.now (desk_opening desk).room
         (pass_of pass).seen passes.items shifts
-        × ((pass_of pass).calls ≡ calls_in passes.items + calls_counted (tally_of_all shifts))))
+        × ((pass_of pass).calls ≡ calls_of_passes passes.items + calls_counted (tally_of_all shifts))))
         (λ back. back ≡ desk)) }
 {
     if passes.is_empty() {
@@ -104,13 +105,17 @@ fn work_all<R: Threads + Wait + Sync, P: Plugin + Sync>(
 ) -> Result<Vec<(Pass, Tally)>, AllocError>
     requires { All (IsPassOf desk.now) passes.items }
     ensures { IfOk result (λ worked.
-        AreWorked (P.allows plugin.now) moments.now desk.now passes.items worked.items) }
+        AreWorkerResults (P.allows plugin.now) moments.now desk.now passes.items worked.items) }
 {
-    thread::map_vec(rt, passes, &|pass| one(rt, desk, pass, plugin, moments))
+    thread::map_vec(
+        rt,
+        passes,
+        &|pass| work_one(rt, desk, pass, plugin, moments),
+    )
 }
 
 /// Works with one pass, and returns it with its tally.
-fn one<P: Plugin>(
+fn work_one<P: Plugin>(
     rt: &impl Wait,
     desk: &Desk,
     pass: Pass,
@@ -118,7 +123,7 @@ fn one<P: Plugin>(
     moments: &[u64],
 ) -> (Pass, Tally)
     requires { IsPassOf desk.now pass }
-    ensures { IsWorked (P.allows plugin.now) moments.now desk.now pass result.0 result.1 }
+    ensures { IsWorkerResult (P.allows plugin.now) moments.now desk.now pass result.0 result.1 }
 {
     let (pass, tally, _open) = work(rt, desk, pass, plugin, moments);
     (pass, tally)
@@ -132,7 +137,7 @@ fn close(desk: Desk, worked: Vec<(Pass, Tally)>) -> Result<(Book, Tally), CrewEr
         × (entries_of made.0 ≡ (pass_of pass).seen)
         × (length (entries_of made.0) + refused_of made.0 ≡ (pass_of pass).calls)
         × (passes_of desk ≤ length (pass_of pass).numbers)) }
-    ensures opening { IfOk result (λ made. opening_of made.0 ≡ opened_with desk) }
+    ensures opening { IfOk result (λ made. opening_of made.0 ≡ desk_opening desk) }
     ensures lawful { IfOk result (λ made. IsLawfulBook book_step (opening_of made.0)
         (book_state (state_of made.0) (entries_of made.0) (refused_of made.0))) }
     ensures numbers { IfOk result (λ made. (number : ℕ)

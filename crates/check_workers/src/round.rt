@@ -1,8 +1,8 @@
 //! The work of one moment.
 
-ghost use Rattle.check_desk.specs.Desks.{IsPassOf, opened_with};
+ghost use Rattle.check_desk.specs.Desks.{IsPassOf, desk_opening};
 ghost use Rattle.check_desk.specs.Passes.{pass_of};
-ghost use Rattle.check_workers.specs.Progress.{EndsInTaken, HasCome, HasReported};
+ghost use Rattle.check_workers.specs.Progress.{EndsInTake, HasProgressed, HasReported};
 ghost use Rattle.check_workers.specs.Tallies.{IsSum};
 
 use crate::plugin::Plugin;
@@ -21,7 +21,7 @@ pub enum Progress {
 }
 
 /// Takes the next check at the moment `now`. If there is one, runs it and reports its result.
-pub fn round<P: Plugin>(
+pub fn work_once<P: Plugin>(
     rt: &impl Wait,
     desk: &Desk,
     pass: Pass,
@@ -30,7 +30,7 @@ pub fn round<P: Plugin>(
 ) -> (Pass, Tally, Progress)
     requires { IsPassOf desk.now pass }
     ensures desk { IsPassOf desk.now result.0 }
-    ensures came { HasCome (P.allows plugin.now) now (opened_with desk.now).room (pass_of pass)
+    ensures progress { HasProgressed (P.allows plugin.now) now (desk_opening desk.now).room (pass_of pass)
         (pass_of result.0) result.1 result.2 }
     ensures sums { IsSum result.1 }
 {
@@ -63,9 +63,9 @@ fn report<P: Plugin>(
     run: u64,
 ) -> (Pass, Tally, Progress)
     requires desk { IsPassOf desk.now pass }
-    requires taken { EndsInTaken object run (pass_of pass).seen }
+    requires taken { EndsInTake object run (pass_of pass).seen }
     ensures desk { IsPassOf desk.now result.0 }
-    ensures came { HasReported (P.allows plugin.now) now object run (opened_with desk.now).room
+    ensures progress { HasReported (P.allows plugin.now) now object run (desk_opening desk.now).room
         (pass_of pass) (pass_of result.0) result.1 result.2 }
     ensures sums { IsSum result.1 }
 {

@@ -3,7 +3,7 @@
 ghost use Rattle.std.specs.Prelude.{◌≡◌, ℕ, ◌∷◌, []};
 ghost use Rattle.ticket_steps.specs.History.{entry};
 ghost use Rattle.check_sched.specs.declared.call.Call.TheVariants as call;
-ghost use Rattle.check_workers.specs.Tallies.{IsFew, plus, tally_of};
+ghost use Rattle.check_workers.specs.Tallies.{IsBounded, plus, tally_of};
 
 use check_sched::{Refusal, Reply};
 
@@ -101,7 +101,7 @@ impl Tally {
 
     /// Both tallies, added up.
     pub(crate) fn plus(self, other: Tally) -> Tally
-        requires { IsFew self × IsFew other }
+        requires { IsBounded self × IsBounded other }
         ensures { result ≡ plus self other }
     {
         Tally {

@@ -1,13 +1,13 @@
 //! One worker.
 
 ghost use Rattle.std.specs.Prelude.{◌≡◌, ◌+◌};
-ghost use Rattle.check_desk.specs.Desks.{IsHistoryOf, IsPassOf, opened_with};
+ghost use Rattle.check_desk.specs.Desks.{IsHistoryOf, IsPassOf, desk_opening};
 ghost use Rattle.check_desk.specs.Passes.{pass_of};
-ghost use Rattle.check_workers.specs.Shifts.{HasWorked, Shift, open_run, shift_entries, stops_of};
+ghost use Rattle.check_workers.specs.Shifts.{HasWorkedShift, Shift, open_run, shift_entries, stops_of};
 ghost use Rattle.check_workers.specs.Tallies.{IsSum, tally_of};
 
 use crate::plugin::Plugin;
-use crate::round::{Progress, round};
+use crate::round::{Progress, work_once};
 use crate::tally::Tally;
 use check_desk::{Desk, Pass};
 use std::sync::Wait;
@@ -33,7 +33,7 @@ pub fn work<P: Plugin>(
     ensures desk { IsPassOf desk.now result.0 }
     ensures legal { IsHistoryOf desk.now (pass_of result.0).seen }
     ensures worked { (s : Shift)
-        × HasWorked (P.allows plugin.now) moments.now (opened_with desk.now).room s
+        × HasWorkedShift (P.allows plugin.now) moments.now (desk_opening desk.now).room s
         (pass_of pass) (pass_of result.0)
         × (result.1 ≡ tally_of (shift_entries s) (stops_of s.stopped))
         × (result.2 ≡ open_run s.left_open) }
@@ -44,7 +44,7 @@ pub fn work<P: Plugin>(
     let mut pass = pass;
     let mut tally = Tally::default();
     for now in moments {
-        let (back, made, progress) = round(rt, desk, pass, plugin, *now);
+        let (back, made, progress) = work_once(rt, desk, pass, plugin, *now);
         pass = back;
         tally = tally.plus(made);
         if let Progress::Stopped(stop, open) = progress {

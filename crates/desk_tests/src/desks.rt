@@ -3,7 +3,7 @@
 
 ghost use Rattle.check_desk.specs.Desks.{IsHolderAt, IsPassOf, IsWaitingAt};
 
-use crate::openings::{ONE_SERVICE, closed, two_passes};
+use crate::openings::{ONE_SERVICE, close_desk, two_passes};
 use check_desk::{Answer, Desk, Hold, Pass, Poll, Turn};
 use check_rules::{Code, Kind, Standing, State, code};
 use check_sched::{Call, Reply};
@@ -25,7 +25,7 @@ fn begun(rt: &impl Abort, desk: &Desk, pass: Pass) -> Turn
 }
 
 /// The hold of a turn that has come.
-fn mine(rt: &impl Abort, desk: &Desk, turn: Turn) -> Hold
+fn expect_hold(rt: &impl Abort, desk: &Desk, turn: Turn) -> Hold
     requires { IsWaitingAt desk.now turn }
     ensures { IsHolderAt desk.now result }
 {
@@ -36,7 +36,7 @@ fn mine(rt: &impl Abort, desk: &Desk, turn: Turn) -> Hold
 }
 
 /// A turn that has not come.
-fn not_yet(rt: &impl Abort, desk: &Desk, turn: Turn) -> Turn
+fn expect_waiting(rt: &impl Abort, desk: &Desk, turn: Turn) -> Turn
     requires { IsWaitingAt desk.now turn }
     ensures { IsWaitingAt desk.now result }
 {
@@ -51,10 +51,10 @@ fn turns_come_in_the_order_of_their_tickets(rt: HostRuntime) -> Result<(), Fail>
     let (desk, first, second) = two_passes(rt.alloc(), ONE_SERVICE)?;
     let first = begun(&rt, &desk, first);
     let second = begun(&rt, &desk, second);
-    let second = not_yet(&rt, &desk, second);
-    let hold = mine(&rt, &desk, first);
+    let second = expect_waiting(&rt, &desk, second);
+    let hold = expect_hold(&rt, &desk, first);
     let (first, taken) = desk.finish(hold, Call::Take { now: 0 });
-    let hold = mine(&rt, &desk, second);
+    let hold = expect_hold(&rt, &desk, second);
     let (second, told) = desk.finish(hold, STATUS);
     assert_eq!(rt; taken, Answer::Reply(Reply::Taken { object: 1, run: 1 }));
     let Answer::Reply(
@@ -74,7 +74,7 @@ fn turns_come_in_the_order_of_their_tickets(rt: HostRuntime) -> Result<(), Fail>
     };
     let pass = desk.gather(first, second);
     assert_eq!(rt; (pass.number(), pass.gathered(), pass.calls()), (0, 2, 2));
-    let book = closed(&rt, desk, pass);
+    let book = close_desk(&rt, desk, pass);
     let [taken, told] = book.entries() else {
         return Err(Fail::from("not two entries"));
     };
@@ -83,7 +83,7 @@ fn turns_come_in_the_order_of_their_tickets(rt: HostRuntime) -> Result<(), Fail>
 }
 
 /// A glance at an object of the setup.
-fn glanced(rt: &impl Abort, desk: &Desk, pass: Pass, object: u32) -> (Pass, Standing)
+fn glance_at(rt: &impl Abort, desk: &Desk, pass: Pass, object: u32) -> (Pass, Standing)
     requires { IsPassOf desk.now pass }
     ensures { IsPassOf desk.now result.0 }
 {
@@ -99,13 +99,13 @@ fn glanced(rt: &impl Abort, desk: &Desk, pass: Pass, object: u32) -> (Pass, Stan
 #[test]
 fn glances_without_a_turn(rt: HostRuntime) -> Result<(), Fail> {
     let (desk, first, second) = two_passes(rt.alloc(), ONE_SERVICE)?;
-    let (second, standing) = glanced(&rt, &desk, second, 1);
+    let (second, standing) = glance_at(&rt, &desk, second, 1);
     assert_eq!(rt; code(standing), 48, "unchecked OK HARD 1");
     let (first, taken) = desk.ask(&rt, first, Call::Take { now: 0 });
     assert_eq!(rt; taken, Answer::Reply(Reply::Taken { object: 1, run: 1 }));
     let turn = begun(&rt, &desk, first);
-    let hold = mine(&rt, &desk, turn);
-    let (second, standing) = glanced(&rt, &desk, second, 0);
+    let hold = expect_hold(&rt, &desk, turn);
+    let (second, standing) = glance_at(&rt, &desk, second, 0);
     assert_eq!(rt; code(standing), 32_824, "unchecked UP HARD 1");
     let report = Call::Report {
         object: 1,
@@ -114,7 +114,7 @@ fn glances_without_a_turn(rt: HostRuntime) -> Result<(), Fail> {
     };
     let (first, reported) = desk.finish(hold, report);
     assert!(rt; matches!(reported, Answer::Reply(_)));
-    let (second, standing) = glanced(&rt, &desk, second, 1);
+    let (second, standing) = glance_at(&rt, &desk, second, 1);
     assert_eq!(rt; code(standing), 37, "CRITICAL SOFT 1");
     assert_eq!(rt;
         (standing.state, standing.kind),
@@ -126,7 +126,7 @@ fn glances_without_a_turn(rt: HostRuntime) -> Result<(), Fail> {
     assert!(rt; standing.is_none());
     let pass = desk.gather(first, second);
     assert_eq!(rt; pass.calls(), 2);
-    let book = closed(&rt, desk, pass);
+    let book = close_desk(&rt, desk, pass);
     assert_eq!(rt; (book.entries().len(), book.refused()), (2, 0));
     Ok(())
 }

@@ -1,5 +1,5 @@
 #![tactic(auto)]
-//! Tests of books, desks and workers.
+//! Tests of books, desks and workers, with a module for each and one for their openings.
 //!
 //! They are in a crate of their own, because a crate with tests is proved once more for them. It holds
 //! nothing else. A fact that a clause states has no test here.

@@ -23,7 +23,7 @@ pub(crate) const TWO_SERVICES: &[u8] =
 pub(crate) const MOST_CALLS: u32 = 4_294_967_295;
 
 /// A desk on the setup of this text, and its passes with this many calls each.
-pub(crate) fn opened(
+pub(crate) fn open_desk(
     alloc: Global,
     text: &[u8],
     passes: u32,
@@ -49,7 +49,7 @@ pub(crate) fn opened(
 pub(crate) fn one_pass(alloc: Global, text: &[u8]) -> Result<(Desk, Pass), Fail>
     ensures { IfOk result (λ made. IsPassOf made.0 made.1) }
 {
-    let (desk, mut passes) = opened(alloc, text, 1, MOST_CALLS)?;
+    let (desk, mut passes) = open_desk(alloc, text, 1, MOST_CALLS)?;
     let pass = passes.pop().ok_or("no pass")?;
     Ok((desk, pass))
 }
@@ -58,7 +58,7 @@ pub(crate) fn one_pass(alloc: Global, text: &[u8]) -> Result<(Desk, Pass), Fail>
 pub(crate) fn two_passes(alloc: Global, text: &[u8]) -> Result<(Desk, Pass, Pass), Fail>
     ensures { IfOk result (λ made. IsPassOf made.0 made.1 × IsPassOf made.0 made.2) }
 {
-    let (desk, mut passes) = opened(alloc, text, 2, MOST_CALLS)?;
+    let (desk, mut passes) = open_desk(alloc, text, 2, MOST_CALLS)?;
     let second = passes.pop();
     let first = passes.pop();
     let (Some(first), Some(second)) = (first, second) else {
@@ -68,7 +68,7 @@ pub(crate) fn two_passes(alloc: Global, text: &[u8]) -> Result<(Desk, Pass, Pass
 }
 
 /// The book of a desk whose passes are gathered.
-pub(crate) fn closed(rt: &impl Abort, desk: Desk, pass: Pass) -> Book
+pub(crate) fn close_desk(rt: &impl Abort, desk: Desk, pass: Pass) -> Book
     requires { IsPassOf desk pass }
 {
     match desk.close(pass) {

@@ -9,7 +9,7 @@ mod spending;
 mod visiting;
 
 use crate::openings::{
-    MOST_CALLS, ONE_SERVICE, TWO_SERVICES, closed, one_pass, opened, two_passes,
+    MOST_CALLS, ONE_SERVICE, TWO_SERVICES, close_desk, one_pass, open_desk, two_passes,
 };
 use check_rules::Code;
 use check_workers::{CrewError, Plugin, Tally, crew, work};
@@ -105,7 +105,7 @@ fn a_crew_without_a_pass_gives_the_desk_back(rt: HostRuntime) -> Result<(), Fail
     let none = Vec::new(alloc);
     match crew(&rt, alloc, desk, none, &AlwaysOk, &[0]) {
         Err(CrewError::NoPass(desk)) => {
-            let book = closed(&rt, desk, pass);
+            let book = close_desk(&rt, desk, pass);
             assert_eq!(rt; book.entries().len(), 0);
             Ok(())
         }
@@ -123,7 +123,7 @@ fn a_crew_lacks_a_pass_of_the_desk(rt: HostRuntime) -> Result<(), Fail> {
         Err(CrewError::Missing(desk, pass)) => {
             assert_eq!(rt; (pass.number(), pass.gathered(), pass.calls()), (0, 1, 2));
             let pass = desk.gather(second, pass);
-            let book = closed(&rt, desk, pass);
+            let book = close_desk(&rt, desk, pass);
             assert_eq!(rt; book.entries().len(), 2);
             Ok(())
         }
@@ -135,7 +135,7 @@ fn a_crew_lacks_a_pass_of_the_desk(rt: HostRuntime) -> Result<(), Fail> {
 #[test]
 fn the_workers_of_a_crew_work_at_the_same_time(rt: HostRuntime) -> Result<(), Fail> {
     let alloc = rt.alloc();
-    let (desk, passes) = opened(alloc, TWO_SERVICES, 2, MOST_CALLS)?;
+    let (desk, passes) = open_desk(alloc, TWO_SERVICES, 2, MOST_CALLS)?;
     let meeting = Meeting {
         begun: AtomicU64::new(0),
         given_up: AtomicU64::new(0),
@@ -154,7 +154,7 @@ fn the_workers_of_a_crew_work_at_the_same_time(rt: HostRuntime) -> Result<(), Fa
 #[test]
 fn a_crew_of_sixty_five(rt: HostRuntime) -> Result<(), Fail> {
     let alloc = rt.alloc();
-    let (desk, passes) = opened(alloc, TWO_SERVICES, 65, MOST_CALLS)?;
+    let (desk, passes) = open_desk(alloc, TWO_SERVICES, 65, MOST_CALLS)?;
     let Ok((book, tally)) = crew(&rt, alloc, desk, passes, &AlwaysOk, &[0, 60_000]) else {
         return Err(Fail::from("no memory for the threads"));
     };

@@ -6,13 +6,13 @@
 //! nothing, and writes the JSON schema of a setup.
 //!
 //! Here are the program's own words and its streams. What it does with them, and the exit status, is
-//! `session` of `check_session`.
+//! `session` of `nagsched_cli`.
 
 ghost use Rattle.std.specs.Prelude.{◌≡◌, IfOk, map, string_bytes};
 ghost use Rattle.clap.specs.Walk.{texts};
 
-use check_script::DriveError;
-use check_session::session::{Ending, exit_status, refuse_words, session};
+use nagsched_cli::session::{Ending, exit_status, refuse_words, session};
+use nagsched_protocol::DriveError;
 use std::alloc::{AllocError, Global};
 use std::io::{BufWriter, ErrorKind};
 use std::process::ExitCode;
@@ -22,13 +22,13 @@ use std::thread::Threads;
 use std::{env, io};
 
 fn main(rt: HostRuntime) -> ExitCode {
-    ExitCode::from(own_session(&rt))
+    ExitCode::from(run_program(&rt))
 }
 
 /// The session of the program's own words, from standard input to standard output. Writes are
 /// gathered, and flushed once at the end. `live` also flushes before it reads again. Words that are no
 /// text are refused.
-fn own_session<R: Env + Input + Print + AllocGlobal + Threads + Wait + Sync>(rt: &R) -> u8 {
+fn run_program<R: Env + Input + Print + AllocGlobal + Threads + Wait + Sync>(rt: &R) -> u8 {
     let alloc = rt.alloc();
     let Ok(mut writer) = BufWriter::new(alloc, io::writer(rt)) else {
         return exit_status(Err(DriveError::Memory));

@@ -1,9 +1,9 @@
 -- The results for C of gathering passes, closing a desk and renewing a book.
 use Rattle.std.specs.Prelude.{◌≡◌, ◌⊎◌, ℕ, Option, Some, None}
-use Rattle.check_handles.specs.declared.target.NamedBook.{NamedBook}
-use Rattle.check_handles.specs.declared.target.HandleTarget.{HandleTarget}
-use Rattle.check_handles.specs.declared.target.HandleTarget.TheVariants as target
-use Rattle.check_handles.specs.Closing.{HasEnded, HasGoneOn, HasStayed, IsBook, IsGathered, IsResting}
+use Rattle.nagsched_handles.specs.declared.target.NamedBook.{NamedBook}
+use Rattle.nagsched_handles.specs.declared.target.HandleTarget.{HandleTarget}
+use Rattle.nagsched_handles.specs.declared.target.HandleTarget.TheVariants as target
+use Rattle.nagsched_handles.specs.Closing.{HasClosedDesk, HasRenewedBook, IsUnchangedPass, IsBookTarget, IsGathered, IsResting}
 use Rattle.nagsched_c.specs.declared.status.TheConstants.{OK, WRONG}
 
 -- Two passes became one, and the second handle is empty; or nothing was done.
@@ -20,22 +20,22 @@ IsRestingIn None = ⊥
 
 -- the handle had a pass, and has the book of its desk, which was closed
 abbrev pub HasClosed : Option HandleTarget → Option HandleTarget → Type 0
-HasClosed (Some pass) (Some book) = HasEnded pass book
+HasClosed (Some pass) (Some book) = HasClosedDesk pass book
 HasClosed before after = ⊥
 
 -- the handle has the same pass
 abbrev pub IsOpenStill : Option HandleTarget → Option HandleTarget → Type 0
-IsOpenStill (Some pass) (Some same) = HasStayed pass same
+IsOpenStill (Some pass) (Some same) = IsUnchangedPass pass same
 IsOpenStill before after = ⊥
 
 -- a book, in a handle
 abbrev pub IsBookIn : Option HandleTarget → Type 0
-IsBookIn (Some target) = IsBook target
+IsBookIn (Some target) = IsBookTarget target
 IsBookIn None = ⊥
 
 -- the handle's book was renewed with this room, and its history is in the other handle
 abbrev pub HasRenewed : ℕ → Option HandleTarget → Option HandleTarget → Option HandleTarget → Type 0
-HasRenewed room (Some before) (Some after) (Some past) = HasGoneOn room before after (Some past)
+HasRenewed room (Some before) (Some after) (Some past) = HasRenewedBook room before after (Some past)
 HasRenewed room before after past = ⊥
 
 -- the handle has the same book

@@ -1,13 +1,13 @@
 -- The results for C of asking for an object's name, number and host.
 use Rattle.std.specs.Prelude.{◌≡◌, ◌⊎◌, ◌<◌, ◌≤◌, ◌++◌, ℕ, List, length, drop, IsUtf8, Some, None}
-use Rattle.check_objects.specs.Configuration.{Configuration, host_of, name_of, number_of, object_count}
+use Rattle.check_objects.specs.Configuration.{Configuration, host_of, name_of, number_by_name, object_count}
 use Rattle.nagsched_c.specs.declared.status.TheConstants.{MISSING, OK, WRONG}
 
 -- The number of an object was written, or else there is no object of that name. A name that isn't UTF-8 is no object's.
 abbrev pub HasNumber : Configuration → List ℕ → ℕ → ℕ → ℕ → Type 0
 HasNumber setup name before status after =
-    ((status ≡ OK) × (number_of setup name ≡ Some after))
-    ⊎ ((status ≡ MISSING) × (after ≡ before) × (IsUtf8 name → number_of setup name ≡ None))
+    ((status ≡ OK) × (number_by_name setup name ≡ Some after))
+    ⊎ ((status ≡ MISSING) × (after ≡ before) × (IsUtf8 name → number_by_name setup name ≡ None))
 
 -- The text is at the beginning of the room, if it fits; its length was written in any case.
 abbrev pub IsPut : List ℕ → List ℕ → ℕ → List ℕ → ℕ → Type 0

@@ -4,17 +4,16 @@
 //! has. So no pass holds the book between two calls of C.
 
 ghost use Rattle.std.specs.Prelude.{◌≡◌, Option, Some, None};
-ghost use Rattle.check_rules.specs.Numbers.{numbered_code};
+ghost use Rattle.check_rules.specs.Numbers.{code_of_number};
 ghost use Rattle.check_sched.specs.declared.call.Call.TheVariants as call;
-ghost use Rattle.check_handles.specs.Handles.{contents_of};
-ghost use Rattle.check_records.specs.Plain.{flag_of};
+ghost use Rattle.nagsched_handles.specs.Handles.{contents_of};
+ghost use Rattle.nagsched_handles.specs.Structs.{flag_of};
 ghost use Rattle.nagsched_c.specs.Tries.{reply_after, status_of, HasTried, HasTriedIf};
 
 use crate::status::{NO_MEMORY, OK, SPENT, WAIT, WRONG};
-use check_handles::{Handle, HandleTarget, Step};
-use check_records::{PlainReply, flag_of, tell_reply};
 use check_rules::Code;
 use check_sched::Call;
+use nagsched_handles::{CReply, Handle, HandleTarget, Step, flag_of, write_reply};
 use std::alloc::Global;
 
 /// Asks which object is to be checked at the moment `now`, and begins its check.
@@ -29,7 +28,7 @@ pub extern "C" fn nagsched_try_take(
     alloc: Global,
     pass: &mut Handle,
     now: u64,
-    reply: &mut PlainReply,
+    reply: &mut CReply,
 ) -> u32
     ensures { HasTried (call.Take now) (contents_of pass.old) reply.old result
         (contents_of pass.new) reply.new }
@@ -46,12 +45,12 @@ pub extern "C" fn nagsched_try_report(
     object: u32,
     run: u64,
     code: u32,
-    reply: &mut PlainReply,
+    reply: &mut CReply,
 ) -> u32
-    ensures { HasTriedIf (numbered_code code) (λ known. call.Report object run known)
+    ensures { HasTriedIf (code_of_number code) (λ known. call.Report object run known)
         (contents_of pass.old) reply.old result (contents_of pass.new) reply.new }
 {
-    match Code::numbered(u64::from(code)) {
+    match Code::from_number(u64::from(code)) {
         Some(code) => try_call(alloc, pass, Call::Report { object, run, code }, reply),
         None => WRONG,
     }
@@ -66,7 +65,7 @@ pub extern "C" fn nagsched_try_abandon(
     object: u32,
     run: u64,
     now: u64,
-    reply: &mut PlainReply,
+    reply: &mut CReply,
 ) -> u32
     ensures { HasTried (call.Abandon object run now) (contents_of pass.old) reply.old result
         (contents_of pass.new) reply.new }
@@ -83,7 +82,7 @@ pub extern "C" fn nagsched_try_reschedule(
     object: u32,
     time: u64,
     forced: u32,
-    reply: &mut PlainReply,
+    reply: &mut CReply,
 ) -> u32
     ensures { HasTriedIf (flag_of forced) (λ known. call.Reschedule object time known)
         (contents_of pass.old) reply.old result (contents_of pass.new) reply.new }
@@ -109,7 +108,7 @@ pub extern "C" fn nagsched_try_enable(
     pass: &mut Handle,
     object: u32,
     on: u32,
-    reply: &mut PlainReply,
+    reply: &mut CReply,
 ) -> u32
     ensures { HasTriedIf (flag_of on) (λ known. call.Enable object known)
         (contents_of pass.old) reply.old result (contents_of pass.new) reply.new }
@@ -127,7 +126,7 @@ pub extern "C" fn nagsched_try_status(
     alloc: Global,
     pass: &mut Handle,
     object: u32,
-    reply: &mut PlainReply,
+    reply: &mut CReply,
 ) -> u32
     ensures { HasTried (call.Status object) (contents_of pass.old) reply.old result
         (contents_of pass.new) reply.new }
@@ -136,7 +135,7 @@ pub extern "C" fn nagsched_try_status(
 }
 
 /// Tries to make the call.
-fn try_call(alloc: Global, pass: &mut Handle, call: Call, reply: &mut PlainReply) -> u32
+fn try_call(alloc: Global, pass: &mut Handle, call: Call, reply: &mut CReply) -> u32
     ensures { HasTried call (contents_of pass.old) reply.old result (contents_of pass.new)
         reply.new }
 {
@@ -144,7 +143,7 @@ fn try_call(alloc: Global, pass: &mut Handle, call: Call, reply: &mut PlainReply
         return WRONG;
     };
     let status = match &mut *target {
-        HandleTarget::Pass(pass) => tell(pass.step(call), reply),
+        HandleTarget::Pass(pass) => write_outcome(pass.step(call), reply),
         _ => WRONG,
     };
     *pass = Handle::of(target);
@@ -152,13 +151,13 @@ fn try_call(alloc: Global, pass: &mut Handle, call: Call, reply: &mut PlainReply
 }
 
 /// Writes the outcome of a try for C.
-fn tell(step: Step, reply: &mut PlainReply) -> u32
+fn write_outcome(step: Step, reply: &mut CReply) -> u32
     ensures status { result ≡ status_of step }
     ensures reply { reply.new ≡ reply_after step reply.old }
 {
     match step {
         Step::Replied(made) => {
-            tell_reply(made, reply);
+            write_reply(made, reply);
             OK
         }
         Step::NotYet => WAIT,

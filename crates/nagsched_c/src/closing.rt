@@ -1,13 +1,13 @@
 //! Gathers passes, closes a desk, and renews its book.
 
 ghost use Rattle.std.specs.Prelude.{◌≡◌, ◌≢◌, ◌⊎◌, ◌↔◌, is_some, true, None};
-ghost use Rattle.check_handles.specs.Closing.{AreOfOneDesk, MayBeGathered, MissesPasses};
-ghost use Rattle.check_handles.specs.Handles.{contents_of};
+ghost use Rattle.nagsched_handles.specs.Closing.{AreOfOneDesk, MayBeGathered, MissesPasses};
+ghost use Rattle.nagsched_handles.specs.Handles.{contents_of};
 ghost use Rattle.nagsched_c.specs.Closing.{HasClosed, HasGathered, HasRenewed, IsBookIn, IsOpenStill, IsRestingIn, IsSameBook};
 
 use crate::status::{MISSING, NO_MEMORY, OK, WRONG};
-use check_handles::closing::{close, is_book, put_together, renew, rests};
-use check_handles::{Handle, HandleTarget};
+use nagsched_handles::closing::{close, is_book, is_resting, merge_passes, renew};
+use nagsched_handles::{Handle, HandleTarget};
 use std::alloc::Global;
 use std::mem::replace;
 
@@ -31,7 +31,7 @@ pub extern "C" fn nagsched_gather(alloc: Global, pass: &mut Handle, other: &mut 
         *pass = Handle::of(first);
         return WRONG;
     };
-    if put_together(&mut first, &mut second) {
+    if merge_passes(&mut first, &mut second) {
         *pass = Handle::of(first);
         OK
     } else {
@@ -49,7 +49,7 @@ pub extern "C" fn nagsched_gather(alloc: Global, pass: &mut Handle, other: &mut 
 pub extern "C" fn nagsched_close(alloc: Global, pass: &mut Handle) -> u32
     ensures status { (result ≡ OK) ⊎ ((result ≡ MISSING) ⊎ (result ≡ WRONG)) }
     ensures closed { result ≡ OK → HasClosed (contents_of pass.old) (contents_of pass.new) }
-    ensures stayed { result ≡ MISSING → IsOpenStill (contents_of pass.old) (contents_of pass.new) }
+    ensures err { result ≡ MISSING → IsOpenStill (contents_of pass.old) (contents_of pass.new) }
     ensures same { result ≡ WRONG → contents_of pass.new ≡ contents_of pass.old }
     ensures missing { MissesPasses (contents_of pass.old) → result ≡ MISSING }
     ensures wrong { (result ≡ WRONG) ↔ (IsRestingIn (contents_of pass.old) → ⊥) }
@@ -57,7 +57,7 @@ pub extern "C" fn nagsched_close(alloc: Global, pass: &mut Handle) -> u32
     let Some(mut target) = pass.take(alloc) else {
         return WRONG;
     };
-    if !rests(&target) {
+    if !is_resting(&target) {
         *pass = Handle::of(target);
         return WRONG;
     }

@@ -1,11 +1,10 @@
 //! A glance at an object, without a turn.
 
 ghost use Rattle.nagsched_c.specs.Glances.{HasGlanced};
-ghost use Rattle.check_handles.specs.Handles.{contents_of};
+ghost use Rattle.nagsched_handles.specs.Handles.{contents_of};
 
 use crate::status::{OK, WRONG};
-use check_handles::{Handle, HandleTarget};
-use check_records::{PlainStanding, plain_standing};
+use nagsched_handles::{CStanding, Handle, HandleTarget, c_standing};
 use std::alloc::Global;
 
 /// Reads the standing of an object, by one load: it never waits for another call.
@@ -17,7 +16,7 @@ pub extern "C" fn nagsched_glance(
     alloc: Global,
     pass: &mut Handle,
     object: u32,
-    standing: &mut PlainStanding,
+    standing: &mut CStanding,
 ) -> u32
     ensures { HasGlanced object (contents_of pass.old) standing.old result
         (contents_of pass.new) standing.new }
@@ -28,7 +27,7 @@ pub extern "C" fn nagsched_glance(
     let status = match &mut *target {
         HandleTarget::Pass(pass) => match pass.glance(object) {
             Some(known) => {
-                *standing = plain_standing(known);
+                *standing = c_standing(known);
                 OK
             }
             None => WRONG,

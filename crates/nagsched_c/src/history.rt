@@ -2,13 +2,12 @@
 
 ghost use Rattle.std.specs.Prelude.{◌≡◌, length};
 ghost use Rattle.check_book.specs.Books.{refused_of};
-ghost use Rattle.check_handles.specs.Handles.{contents_of};
-ghost use Rattle.nagsched_c.specs.Histories.{book_in, entries_in, HasEntry, MatchKept};
+ghost use Rattle.nagsched_handles.specs.Handles.{contents_of};
+ghost use Rattle.nagsched_c.specs.Histories.{handle_book, handle_entries, HasEntry, MatchPresent};
 
 use crate::status::{OK, WRONG};
-use check_handles::Handle;
-use check_records::{PlainEntry, plain_entry};
 use check_sched::{Call, Reply};
+use nagsched_handles::{CEntry, Handle, c_entry};
 use std::alloc::Global;
 use ticket_steps::{Entry, Kept};
 
@@ -18,7 +17,7 @@ use ticket_steps::{Entry, Kept};
 #[unsafe(no_mangle)]
 pub extern "C" fn nagsched_entries(alloc: Global, kept: &mut Handle, count: &mut u64) -> u32
     ensures handle { contents_of kept.new ≡ contents_of kept.old }
-    ensures told { MatchKept (entries_in (contents_of kept.old))
+    ensures output { MatchPresent (handle_entries (contents_of kept.old))
         (λ entries. (result ≡ OK) × (count.new ≡ length entries))
         ((result ≡ WRONG) × (count.new ≡ count.old)) }
 {
@@ -44,10 +43,10 @@ pub extern "C" fn nagsched_entry(
     alloc: Global,
     kept: &mut Handle,
     index: u64,
-    entry: &mut PlainEntry,
+    entry: &mut CEntry,
 ) -> u32
     ensures handle { contents_of kept.new ≡ contents_of kept.old }
-    ensures told { MatchKept (entries_in (contents_of kept.old))
+    ensures output { MatchPresent (handle_entries (contents_of kept.old))
         (λ entries. HasEntry entries index entry.old result entry.new)
         ((result ≡ WRONG) × (entry.new ≡ entry.old)) }
 {
@@ -63,12 +62,12 @@ pub extern "C" fn nagsched_entry(
 }
 
 /// Writes the entry with this index, if there is one.
-fn put_entry(entries: &[Entry<Call, Reply>], index: u64, entry: &mut PlainEntry) -> u32
+fn put_entry(entries: &[Entry<Call, Reply>], index: u64, entry: &mut CEntry) -> u32
     ensures { HasEntry entries.now index entry.old result entry.new }
 {
     match entries.get(index as usize) {
         Some(found) => {
-            *entry = plain_entry(found);
+            *entry = c_entry(found);
             OK
         }
         None => WRONG,
@@ -81,7 +80,7 @@ fn put_entry(entries: &[Entry<Call, Reply>], index: u64, entry: &mut PlainEntry)
 #[unsafe(no_mangle)]
 pub extern "C" fn nagsched_refused(alloc: Global, book: &mut Handle, count: &mut u64) -> u32
     ensures handle { contents_of book.new ≡ contents_of book.old }
-    ensures told { MatchKept (book_in (contents_of book.old))
+    ensures output { MatchPresent (handle_book (contents_of book.old))
         (λ kept. (result ≡ OK) × (count.new ≡ refused_of kept))
         ((result ≡ WRONG) × (count.new ≡ count.old)) }
 {

@@ -1,16 +1,16 @@
 #![tactic(auto)]
 //! The desk for C: the functions that `nagsched.h` declares.
 //!
-//! C has one type, a [`Handle`](check_handles::Handle), and passes a pointer to it to each function.
+//! C has one type, a [`Handle`](nagsched_handles::Handle), and passes a pointer to it to each function.
 //! All other arguments and results are numbers, texts and structs of numbers. A function that is called
 //! wrongly reports it, if it can see the mistake, and changes nothing. Each function that uses what a
 //! handle leads to takes this target out of the handle, works on it, and puts it back.
 //!
-//! The crate check_handles has the handle and its target, and check_records the structs.
+//! The crate nagsched_handles has the handle, its target, and the structs.
 //!
 //! The modules:
 //!
-//! - `status`: the statuses of the functions; `laws` has their numbers.
+//! - `status`: the statuses of the functions.
 //! - `reading`: reads a setup, and frees a handle.
 //! - `naming`: the objects.
 //! - `opening`: opens a desk.
@@ -27,13 +27,14 @@ mod calls;
 mod closing;
 mod glancing;
 mod history;
-pub mod laws;
 mod naming;
 mod opening;
 mod reading;
 mod saving;
 mod status;
 mod texts;
+
+pub use status::numbers_of_statuses;
 
 /// The version of the interface in `nagsched.h`.
 #[unsafe(no_mangle)]

@@ -2,12 +2,12 @@
 
 ghost use Rattle.std.specs.Prelude.{◌≡◌, ◌<◌, ◌≤◌, ◌++◌, ℕ, ⊤, length, drop, Some};
 ghost use Rattle.check_objects.specs.Configuration.{host_count, object_count};
-ghost use Rattle.check_handles.specs.Handles.{contents_of, named_in, MatchNamed};
+ghost use Rattle.nagsched_handles.specs.Handles.{contents_of, handle_setup, MatchSetup};
 ghost use Rattle.nagsched_c.specs.Names.{HasHostOf, HasName, HasNumber, IsPut};
 
 use crate::status::{MISSING, OK, WRONG};
-use check_handles::Handle;
 use check_objects::Setup;
+use nagsched_handles::Handle;
 use std::alloc::Global;
 use std::str::from_utf8;
 
@@ -23,7 +23,7 @@ pub extern "C" fn nagsched_count(
     hosts: &mut u32,
 ) -> u32
     ensures handle { contents_of named.new ≡ contents_of named.old }
-    ensures told { MatchNamed (named_in (contents_of named.old))
+    ensures output { MatchSetup (handle_setup (contents_of named.old))
         (λ setup. (result ≡ OK) × (objects.new ≡ object_count setup) × (hosts.new ≡ host_count setup))
         ((result ≡ WRONG) × (objects.new ≡ objects.old) × (hosts.new ≡ hosts.old)) }
 {
@@ -59,7 +59,7 @@ pub extern "C" fn nagsched_number(
     number: &mut u32,
 ) -> u32
     ensures handle { contents_of named.new ≡ contents_of named.old }
-    ensures told { MatchNamed (named_in (contents_of named.old))
+    ensures output { MatchSetup (handle_setup (contents_of named.old))
         (λ setup. HasNumber setup name.now number.old result number.new)
         ((result ≡ WRONG) × (number.new ≡ number.old)) }
 {
@@ -103,7 +103,7 @@ pub extern "C" fn nagsched_name(
     bytes: &mut usize,
 ) -> u32
     ensures handle { contents_of named.new ≡ contents_of named.old }
-    ensures told { MatchNamed (named_in (contents_of named.old))
+    ensures output { MatchSetup (handle_setup (contents_of named.old))
         (λ setup. HasName setup number name.old bytes.old result name.new bytes.new)
         ((result ≡ WRONG) × (name.new ≡ name.old) × (bytes.new ≡ bytes.old)) }
 {
@@ -154,7 +154,7 @@ pub extern "C" fn nagsched_host_of(
     host: &mut u32,
 ) -> u32
     ensures handle { contents_of named.new ≡ contents_of named.old }
-    ensures told { MatchNamed (named_in (contents_of named.old))
+    ensures output { MatchSetup (handle_setup (contents_of named.old))
         (λ setup. HasHostOf setup number host.old result host.new)
         ((result ≡ WRONG) × (host.new ≡ host.old)) }
 {

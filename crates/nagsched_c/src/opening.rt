@@ -1,12 +1,12 @@
 //! Opens desks on a setup, or on a book without entries.
 
 ghost use Rattle.std.specs.Prelude.{◌≡◌, ◌≢◌, ◌⊎◌, ◌↔◌, ◌<◌, true};
-ghost use Rattle.check_handles.specs.Handles.{contents_of};
-ghost use Rattle.nagsched_c.specs.Opening.{are_empty, terms_of, ArePlaces, HasOpened, IsBackIn, MayOpen};
+ghost use Rattle.nagsched_handles.specs.Handles.{contents_of};
+ghost use Rattle.nagsched_c.specs.Opening.{are_empty, terms_of, ArePassHandles, HasOpened, IsBackIn, MayOpen};
 
 use crate::status::{NO_MEMORY, OK, WRONG};
-use check_handles::opening::{Terms, is_source, open_source};
-use check_handles::{Handle, HandleTarget};
+use nagsched_handles::opening::{Terms, is_source, open_source};
+use nagsched_handles::{Handle, HandleTarget};
 use std::alloc::Global;
 use std::mem::replace;
 use ticket_steps::DRAWS;
@@ -25,7 +25,7 @@ pub extern "C" fn nagsched_open(
     ensures status { (result ≡ OK) ⊎ ((result ≡ NO_MEMORY) ⊎ (result ≡ WRONG)) }
     ensures opened { result ≡ OK
         → HasOpened (terms_of start room mark 4294967295) (contents_of source.old) (contents_of source.new) passes.new }
-    ensures back { result ≡ NO_MEMORY
+    ensures err { result ≡ NO_MEMORY
         → IsBackIn (terms_of start room mark 4294967295) (contents_of source.old) (contents_of source.new) }
     ensures same { result ≡ WRONG → contents_of source.new ≡ contents_of source.old }
     ensures passes { result ≢ OK → passes.new ≡ passes.old }
@@ -67,7 +67,7 @@ pub extern "C" fn nagsched_open_with(
     ensures status { (result ≡ OK) ⊎ ((result ≡ NO_MEMORY) ⊎ (result ≡ WRONG)) }
     ensures opened { result ≡ OK
         → HasOpened (terms_of start room mark calls) (contents_of source.old) (contents_of source.new) passes.new }
-    ensures back { result ≡ NO_MEMORY
+    ensures err { result ≡ NO_MEMORY
         → IsBackIn (terms_of start room mark calls) (contents_of source.old) (contents_of source.new) }
     ensures same { result ≡ WRONG → contents_of source.new ≡ contents_of source.old }
     ensures passes { result ≢ OK → passes.new ≡ passes.old }
@@ -92,13 +92,13 @@ fn open_desk(alloc: Global, source: &mut Handle, terms: Terms, passes: &mut [Han
     ensures status { (result ≡ OK) ⊎ ((result ≡ NO_MEMORY) ⊎ (result ≡ WRONG)) }
     ensures opened { result ≡ OK
         → HasOpened terms (contents_of source.old) (contents_of source.new) passes.new }
-    ensures back { result ≡ NO_MEMORY
+    ensures err { result ≡ NO_MEMORY
         → IsBackIn terms (contents_of source.old) (contents_of source.new) }
     ensures same { result ≡ WRONG → contents_of source.new ≡ contents_of source.old }
     ensures passes { result ≢ OK → passes.new ≡ passes.old }
     ensures wrong { (result ≡ WRONG) ↔ (MayOpen terms (contents_of source.old) passes.old → ⊥) }
 {
-    if !are_places(passes) {
+    if !are_pass_handles(passes) {
         return WRONG;
     }
     let Some(mut target) = source.take(alloc) else {
@@ -111,8 +111,8 @@ fn open_desk(alloc: Global, source: &mut Handle, terms: Terms, passes: &mut [Han
     let taken = replace(&mut *target, HandleTarget::Nothing);
     match open_source(alloc, taken, terms, passes) {
         Ok(()) => OK,
-        Err(back) => {
-            *target = back;
+        Err(err) => {
+            *target = err;
             *source = Handle::of(target);
             NO_MEMORY
         }
@@ -120,8 +120,8 @@ fn open_desk(alloc: Global, source: &mut Handle, terms: Terms, passes: &mut [Han
 }
 
 /// Whether these are 1 to 1,024 empty handles.
-fn are_places(passes: &[Handle]) -> bool
-    ensures { (result ≡ true) ↔ ArePlaces passes.now }
+fn are_pass_handles(passes: &[Handle]) -> bool
+    ensures { (result ≡ true) ↔ ArePassHandles passes.now }
 {
     let count = passes.len();
     0 < count && count <= 1024 && are_empty(passes)

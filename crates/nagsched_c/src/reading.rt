@@ -1,15 +1,14 @@
 //! Reads a setup from a document, and frees handles.
 
 ghost use Rattle.std.specs.Prelude.{◌≡◌, ◌≢◌, ◌⊎◌, ◌↔◌, true, is_some, None};
-ghost use Rattle.check_handles.specs.Handles.{contents_of};
-ghost use Rattle.check_handles.specs.Reading.{IsSetupOf, IsTurnWaitingIn};
+ghost use Rattle.nagsched_handles.specs.Handles.{contents_of};
+ghost use Rattle.nagsched_handles.specs.Reading.{IsSetupOf, IsTurnWaitingIn};
 ghost use Rattle.nagsched_c.specs.Reading.{IsRefusalOf};
 
 use crate::status::{NO_MEMORY, OK, REFUSED, WRONG};
-use check_drafts::LoadError;
-use check_handles::Handle;
-use check_handles::reading::{prepare, waits};
-use check_records::{PlainRefusal, plain_refusal};
+use nagsched_handles::reading::{is_waiting, load_setup};
+use nagsched_handles::{CRefusal, Handle, c_refusal};
+use setup_model::LoadError;
 use std::alloc::Global;
 
 /// Reads a setup from a JSON document into an empty handle. The document is read twice, since the
@@ -23,26 +22,26 @@ pub extern "C" fn nagsched_read(
     alloc: Global,
     document: &[u8],
     setup: &mut Handle,
-    refusal: &mut PlainRefusal,
+    refusal: &mut CRefusal,
 ) -> u32
     ensures status { (result ≡ OK) ⊎ ((result ≡ NO_MEMORY) ⊎ ((result ≡ REFUSED) ⊎ (result ≡ WRONG))) }
     ensures wrong { (result ≡ WRONG) ↔ (is_some (contents_of setup.old) ≡ true) }
     ensures read { result ≡ OK → IsSetupOf document.now (contents_of setup.new) }
     ensures refused { result ≡ REFUSED → IsRefusalOf document.now refusal.new }
     ensures handle { result ≢ OK → contents_of setup.new ≡ contents_of setup.old }
-    ensures told { result ≢ REFUSED → refusal.new ≡ refusal.old }
+    ensures output { result ≢ REFUSED → refusal.new ≡ refusal.old }
 {
     if !setup.is_empty() {
         return WRONG;
     }
-    match prepare(alloc, document) {
+    match load_setup(alloc, document) {
         Ok(target) => {
             *setup = Handle::of(target);
             OK
         }
         Err(LoadError::Memory) => NO_MEMORY,
         Err(error) => {
-            *refusal = plain_refusal(error);
+            *refusal = c_refusal(error);
             REFUSED
         }
     }
@@ -60,7 +59,7 @@ pub extern "C" fn nagsched_free(alloc: Global, handle: &mut Handle) -> u32
 {
     let target = handle.take(alloc);
     if let Some(target) = target {
-        if waits(&target) {
+        if is_waiting(&target) {
             *handle = Handle::of(target);
             return WRONG;
         }

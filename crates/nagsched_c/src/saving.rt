@@ -3,20 +3,19 @@
 
 ghost use Rattle.std.specs.Prelude.{◌≡◌, ◌≢◌, ◌⊎◌, ◌↔◌, ◌≤◌};
 ghost use Rattle.check_book.specs.Books.{sched_of};
-ghost use Rattle.check_handles.specs.Handles.{contents_of};
-ghost use Rattle.check_handles.specs.Resuming.{IsSetup};
-ghost use Rattle.nagsched_c.specs.Histories.{book_in, MatchKept};
-ghost use Rattle.nagsched_c.specs.Texts.{IsUntold};
-ghost use Rattle.nagsched_c.specs.Saving.{HasResumedFrom, HasRun, HasSavedText, IsFaultOf, IsLeft, IsLeftIn, IsResumedFrom, MayResume};
+ghost use Rattle.nagsched_handles.specs.Handles.{contents_of};
+ghost use Rattle.nagsched_handles.specs.Resuming.{IsSetupTarget};
+ghost use Rattle.nagsched_c.specs.Histories.{handle_book, MatchPresent};
+ghost use Rattle.nagsched_c.specs.Texts.{IsNoOutput};
+ghost use Rattle.nagsched_c.specs.Saving.{HasResumedFrom, HasRun, HasSavedText, IsSavedRefusalOf, IsLeft, IsLeftIn, IsResumedFrom, MayResume};
 
 use crate::naming::put;
 use crate::status::{MISSING, NO_MEMORY, OK, REFUSED, WRONG};
 use check_book::Book;
-use check_handles::resuming::{is_setup, resume};
-use check_handles::{Handle, HandleTarget};
-use check_records::{PlainRefusal, plain_fault};
-use check_saved::{Saved, SavedFault};
+use check_saved_state::{Saved, SavedFault};
 use check_sched::{LAST_MOMENT, Sched};
+use nagsched_handles::resuming::{is_setup, resume};
+use nagsched_handles::{CRefusal, Handle, HandleTarget, c_fault};
 use std::alloc::Global;
 
 /// The text of the saved state of a book's scheduler, into the room at `text`; `bytes` is its length,
@@ -32,9 +31,9 @@ pub extern "C" fn nagsched_save(
     bytes: &mut usize,
 ) -> u32
     ensures handle { contents_of book.new ≡ contents_of book.old }
-    ensures told { MatchKept (book_in (contents_of book.old))
+    ensures output { MatchPresent (handle_book (contents_of book.old))
         (λ kept. HasSavedText (sched_of kept) text.old bytes.old result text.new bytes.new)
-        (IsUntold WRONG text.old bytes.old result text.new bytes.new) }
+        (IsNoOutput WRONG text.old bytes.old result text.new bytes.new) }
 {
     let Some(target) = book.take(alloc) else {
         return WRONG;
@@ -76,14 +75,14 @@ pub extern "C" fn nagsched_resume(
     start: u64,
     room: usize,
     book: &mut Handle,
-    refusal: &mut PlainRefusal,
+    refusal: &mut CRefusal,
 ) -> u32
     ensures status { (result ≡ OK) ⊎ ((result ≡ NO_MEMORY) ⊎ ((result ≡ REFUSED) ⊎ (result ≡ WRONG))) }
     ensures wrong { (result ≡ WRONG)
         ↔ (MayResume start (contents_of setup.old) (contents_of book.old) → ⊥) }
     ensures resumed { result ≡ OK → HasResumedFrom start room text.now (contents_of setup.old)
         (contents_of setup.new) (contents_of book.new) }
-    ensures refused { result ≡ REFUSED → IsFaultOf text.now refusal.new }
+    ensures refused { result ≡ REFUSED → IsSavedRefusalOf text.now refusal.new }
     ensures setup { result ≢ OK → IsLeftIn (contents_of setup.old) (contents_of setup.new) }
     ensures book { result ≢ OK → contents_of book.new ≡ contents_of book.old }
     ensures refusal { result ≢ REFUSED → refusal.new ≡ refusal.old }
@@ -118,13 +117,13 @@ fn resume_text(
     text: &[u8],
     start: u64,
     room: usize,
-    refusal: &mut PlainRefusal,
+    refusal: &mut CRefusal,
 ) -> u32
-    requires setup { IsSetup target.old }
+    requires setup { IsSetupTarget target.old }
     requires start { start ≤ LAST_MOMENT }
     ensures status { (result ≡ OK) ⊎ ((result ≡ NO_MEMORY) ⊎ (result ≡ REFUSED)) }
     ensures resumed { result ≡ OK → IsResumedFrom start room text.now target.old target.new }
-    ensures refused { result ≡ REFUSED → IsFaultOf text.now refusal.new }
+    ensures refused { result ≡ REFUSED → IsSavedRefusalOf text.now refusal.new }
     ensures left { result ≢ OK → IsLeft target.old target.new }
     ensures refusal { result ≢ REFUSED → refusal.new ≡ refusal.old }
 {
@@ -138,7 +137,7 @@ fn resume_text(
         }
         Err(SavedFault::Memory) => NO_MEMORY,
         Err(fault) => {
-            *refusal = plain_fault(fault);
+            *refusal = c_fault(fault);
             REFUSED
         }
     }
@@ -158,7 +157,7 @@ pub extern "C" fn nagsched_running(
     start: &mut u64,
 ) -> u32
     ensures handle { contents_of book.new ≡ contents_of book.old }
-    ensures told { MatchKept (book_in (contents_of book.old))
+    ensures output { MatchPresent (handle_book (contents_of book.old))
         (λ kept. HasRun (sched_of kept) object run.old start.old result run.new start.new)
         ((result ≡ WRONG) × (run.new ≡ run.old) × (start.new ≡ start.old)) }
 {

@@ -1,20 +1,17 @@
 //! The lines that the program writes for a refusal, a reply and an entry.
 
-ghost use Rattle.check_handles.specs.Handles.{contents_of, named_in, MatchNamed};
+ghost use Rattle.nagsched_handles.specs.Handles.{contents_of, handle_setup, MatchSetup};
 ghost use Rattle.std.specs.Prelude.{◌≡◌};
-ghost use Rattle.check_text.specs.Text.{refusal_line};
-ghost use Rattle.nagsched_c.specs.Texts.{HasEntryText, HasRefusalText, HasReplyText, IsTold};
+ghost use Rattle.nagsched_protocol.specs.Text.{refusal_line};
+ghost use Rattle.nagsched_c.specs.Texts.{HasEntryText, HasRefusalText, HasReplyText, IsTextOutput};
 
 use crate::naming::put;
 use crate::status::{NO_MEMORY, WRONG};
-use check_handles::Handle;
 use check_objects::Setup;
-use check_records::{
-    PlainCall, PlainEntry, PlainRefusal, PlainReply, call_of, entry_of, fault_of, refusal_of,
-    reply_of,
+use nagsched_handles::{
+    CCall, CEntry, CRefusal, CReply, Handle, call_of, entry_of, fault_of, refusal_of, reply_of,
 };
-use check_script::InputRefusal;
-use check_text::{push_entry, push_refusal, push_reply};
+use nagsched_protocol::{InputRefusal, push_entry, push_refusal, push_reply};
 use std::alloc::Global;
 
 /// The text of a refusal of a document or of a saved state, into the room at `text`; `bytes` is its
@@ -25,7 +22,7 @@ use std::alloc::Global;
 #[unsafe(no_mangle)]
 pub extern "C" fn nagsched_refusal_text(
     alloc: Global,
-    refusal: &PlainRefusal,
+    refusal: &CRefusal,
     text: &mut [u8],
     bytes: &mut usize,
 ) -> u32
@@ -42,7 +39,7 @@ pub extern "C" fn nagsched_refusal_text(
 
 /// Puts the text of a refusal.
 fn put_refusal(alloc: Global, refusal: InputRefusal, text: &mut [u8], bytes: &mut usize) -> u32
-    ensures { IsTold (refusal_line refusal) text.old bytes.old result text.new bytes.new }
+    ensures { IsTextOutput (refusal_line refusal) text.old bytes.old result text.new bytes.new }
 {
     let mut line = String::new(alloc);
     match push_refusal(&mut line, refusal) {
@@ -61,13 +58,13 @@ fn put_refusal(alloc: Global, refusal: InputRefusal, text: &mut [u8], bytes: &mu
 pub extern "C" fn nagsched_reply_text(
     alloc: Global,
     named: &mut Handle,
-    call: &PlainCall,
-    reply: &PlainReply,
+    call: &CCall,
+    reply: &CReply,
     text: &mut [u8],
     bytes: &mut usize,
 ) -> u32
     ensures handle { contents_of named.new ≡ contents_of named.old }
-    ensures told { MatchNamed (named_in (contents_of named.old))
+    ensures output { MatchSetup (handle_setup (contents_of named.old))
         (λ setup. HasReplyText setup call.now reply.now text.old bytes.old result text.new bytes.new)
         ((result ≡ WRONG) × (text.new ≡ text.old) × (bytes.new ≡ bytes.old)) }
 {
@@ -86,8 +83,8 @@ pub extern "C" fn nagsched_reply_text(
 fn put_reply(
     alloc: Global,
     setup: &Setup,
-    call: &PlainCall,
-    reply: &PlainReply,
+    call: &CCall,
+    reply: &CReply,
     text: &mut [u8],
     bytes: &mut usize,
 ) -> u32
@@ -112,12 +109,12 @@ fn put_reply(
 pub extern "C" fn nagsched_entry_text(
     alloc: Global,
     named: &mut Handle,
-    entry: &PlainEntry,
+    entry: &CEntry,
     text: &mut [u8],
     bytes: &mut usize,
 ) -> u32
     ensures handle { contents_of named.new ≡ contents_of named.old }
-    ensures told { MatchNamed (named_in (contents_of named.old))
+    ensures output { MatchSetup (handle_setup (contents_of named.old))
         (λ setup. HasEntryText setup entry.now text.old bytes.old result text.new bytes.new)
         ((result ≡ WRONG) × (text.new ≡ text.old) × (bytes.new ≡ bytes.old)) }
 {
@@ -136,7 +133,7 @@ pub extern "C" fn nagsched_entry_text(
 fn put_entry(
     alloc: Global,
     setup: &Setup,
-    entry: &PlainEntry,
+    entry: &CEntry,
     text: &mut [u8],
     bytes: &mut usize,
 ) -> u32

@@ -9,10 +9,10 @@ use Rattle.clap.specs.declared.builder.value_parser.ValueParser.TheVariants as v
 use Rattle.clap.specs.declared.error.kind.ErrorKind.{ErrorKind}
 use Rattle.clap.specs.declared.error.kind.ErrorKind.TheVariants as kind
 use Rattle.clap.proofs.ValueTestLemmas.{accepts-Accepts, Accepts-accepts}
-use Rattle.check_words.specs.Words.{number_between, job_asked, program, Explains, Reads, Tells}
-use Rattle.check_words.specs.declared.words.Job.{Job}
-use Rattle.check_words.specs.declared.words.WordsError.{WordsError}
-use Rattle.check_words.specs.declared.words.WordsError.TheVariants as error
+use Rattle.nagsched_cli.specs.Arguments.{number_between, requested_job, program, Explains, IsExpectedJob, IsErrorFor}
+use Rattle.nagsched_cli.specs.declared.arguments.Job.{Job}
+use Rattle.nagsched_cli.specs.declared.arguments.WordsError.{WordsError}
+use Rattle.nagsched_cli.specs.declared.arguments.WordsError.TheVariants as error
 
 -- a text that std reads as a number within the limits
 pub number_some : (least most : ℕ) (text : Text) (n : ℕ)
@@ -34,11 +34,11 @@ number_none least most text h =
 
 -- ---- what a reading says
 
-pub reads_asked : (r : Result Job WordsError) (e f : Option Job) → e ≡ f → Reads r e → IfOk r (λ job. f ≡ Some job)
+pub reads_asked : (r : Result Job WordsError) (e f : Option Job) → e ≡ f → IsExpectedJob r e → IfOk r (λ job. f ≡ Some job)
 reads_asked (Ok job) e f same h = sym same ∙ h
 reads_asked (Err w) e f same h = tt
 
-pub reads_errors : (words : List Text) (r : Result Job WordsError) (e : Option Job) → e ≡ job_asked words → Reads r e → IfErr r (Explains words)
+pub reads_errors : (words : List Text) (r : Result Job WordsError) (e : Option Job) → e ≡ requested_job words → IsExpectedJob r e → IfErr r (Explains words)
 reads_errors words (Ok job) e same h = tt
 reads_errors words (Err (error.Help text)) e same h = absurd h
 reads_errors words (Err error.Refused) e same h = inr (sym same ∙ h)
@@ -46,7 +46,7 @@ reads_errors words (Err error.Memory) e same h = absurd h
 
 -- an error of `clap` that is among the kinds of the words' faults
 pub tells_explains : (words : List Text) (k : ErrorKind) (e : WordsError)
-    → (k ≡ kind.OutOfMemory) ⊎ IsAmong k (fault_of program words) → Tells k e → Explains words e
+    → (k ≡ kind.OutOfMemory) ⊎ IsAmong k (fault_of program words) → IsErrorFor k e → Explains words e
 tells_explains words k (error.Help text) (inl h) (inl t) = let bad : kind.DisplayHelp ≡ kind.OutOfMemory = sym t ∙ h in absurd (search (rules, bad))
 tells_explains words k (error.Help text) (inl h) (inr t) =
     let bad : kind.DisplayVersion ≡ kind.OutOfMemory = sym t.0 ∙ h in absurd (search (rules, bad))

@@ -2,22 +2,23 @@
 use Rattle.std.proofs.Common.{◌≡◌, ◌≢◌, ℕ, List, [], take, Option, Some, None, Result, Ok, Err, refl, ap, ◌∙◌, inl, inr, ◌⊎◌}
 use Rattle.std.specs.Prelude.{IfSome}
 use Rattle.std.specs.Io.KnownBytes.{Keeps, Consumes}
-use Rattle.ticket_steps.specs.declared.kept.Entry.{Entry}
+use Rattle.ticket_steps.specs.declared.books.Entry.{Entry}
 use Rattle.check_sched.specs.declared.call.Call.{Call}
 use Rattle.check_sched.specs.declared.call.Reply.{Reply}
-use Rattle.check_script.specs.declared.input.TheConstants.{MAX_READ_BYTES}
-use Rattle.check_script.specs.declared.drive_error.DriveError.{DriveError}
-use Rattle.check_script.specs.declared.drive_error.DriveError.TheVariants as errors
-use Rattle.check_drive.specs.declared.drive.Outcome.{Outcome}
-use Rattle.check_session.specs.Drill.{AfterDrillFault, IsDrill, IsDrillOnInput, IsDrillWritten, IsTextOf, WroteDrill, WroteDrillFront, WroteDrillShort, drill_outcome}
-use Rattle.check_script.specs.DrillScript.{DrillScript, drill_script_of}
-use Rattle.check_script.specs.declared.refusal.InputRefusal.{InputRefusal}
-use Rattle.check_drive.specs.Drive.{HasRead, outcome_by}
-use Rattle.check_text.specs.Text.{drill_text, refusal_line}
-use Rattle.check_text.specs.Written.{IsTextWritten}
-use Rattle.check_drive.proofs.DriveLemmas.{drill_script_take, has_read, input_of, input_of-is}
-use Rattle.check_text.proofs.WrittenLemmas.{Keeps-same}
-use Rattle.check_text.proofs.OutputLemmas.{Appends-Keeps, front_all}
+use Rattle.nagsched_protocol.specs.declared.input.TheConstants.{MAX_READ_BYTES}
+use Rattle.nagsched_protocol.specs.declared.drive_error.DriveError.{DriveError}
+use Rattle.nagsched_protocol.specs.declared.drive_error.DriveError.TheVariants as errors
+use Rattle.nagsched_run.specs.declared.drive.Outcome.{Outcome}
+use Rattle.nagsched_cli.specs.Drill.{AfterDrillFault, IsDrill, IsDrillOnInput, IsDrillWritten, IsTextOf, WroteDrill, WroteDrillFront, WroteDrillShort}
+use Rattle.nagsched_cli.specs.Drill.{drill_outcome}
+use Rattle.nagsched_protocol.specs.DrillScript.{DrillScript, drill_script_of}
+use Rattle.nagsched_protocol.specs.declared.refusal.InputRefusal.{InputRefusal}
+use Rattle.nagsched_run.specs.Drive.{HasRead, outcome_by}
+use Rattle.nagsched_protocol.specs.Text.{drill_text, refusal_line}
+use Rattle.nagsched_protocol.specs.Written.{IsTextWritten}
+use Rattle.nagsched_run.proofs.DriveLemmas.{drill_script_take, has_read, input_of, input_of-is}
+use Rattle.nagsched_protocol.proofs.WrittenLemmas.{Keeps-same}
+use Rattle.nagsched_protocol.proofs.OutputLemmas.{Appends-Keeps, front_all}
 
 -- the text of a history of the input's script
 pub text_of_drill : (start workers room : ℕ) (input : List ℕ) (s : DrillScript) (history : List (Entry Call Reply)) (refused : ℕ) → drill_script_of input ≡ Ok s

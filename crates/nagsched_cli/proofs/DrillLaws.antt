@@ -4,11 +4,11 @@ use Rattle.std.specs.Prelude.{filter_map, flat_map, sum_by}
 use Rattle.std.specs.List.{cons_option}
 use Rattle.std.proofs.lemmas.List.Concat.{flat_map-cons}
 use Rattle.std.proofs.lemmas.List.Sums.{sum_by-cons}
-use Rattle.ticket_steps.specs.declared.kept.Entry.{Entry}
+use Rattle.ticket_steps.specs.declared.books.Entry.{Entry}
 use Rattle.ticket_steps.specs.History.{entry, of, IsLegal}
-use Rattle.ticket_steps.specs.Sums.{counted, times}
-use Rattle.ticket_steps.proofs.Ofs.{of-append, of-lengths, of-yes}
-use Rattle.ticket_steps.proofs.Totals.{times-same}
+use Rattle.ticket_steps.specs.Sums.{counted, occurrences}
+use Rattle.ticket_steps.proofs.EntryLemmas.{of-append, of-lengths, of-yes}
+use Rattle.ticket_steps.proofs.SumLemmas.{occurrences-same}
 use Rattle.check_rules.specs.declared.state.Code.{Code}
 use Rattle.check_sched.specs.declared.call.Call.{Call}
 use Rattle.check_sched.specs.declared.call.Call.TheVariants as call
@@ -23,15 +23,15 @@ use Rattle.check_desk.specs.Passes.{new_pass, pass_of}
 use Rattle.check_workers.specs.declared.tally.Stop.{Stop}
 use Rattle.check_workers.specs.declared.tally.Stop.TheVariants as stop
 use Rattle.check_workers.specs.declared.tally.Tally.{Tally}
-use Rattle.check_workers.specs.Crews.{AreShiftsOf, IsShiftOf, calls_in, tally_of_all}
-use Rattle.check_workers.specs.Shifts.{IsReason, Open, Round, Shift, open_entries, round_entries, shift_entries, stops_of, unanswered}
+use Rattle.check_workers.specs.Crews.{AreShiftsOf, IsShiftOf, calls_of_passes, tally_of_all}
+use Rattle.check_workers.specs.Shifts.{IsStopReason, OpenCheck, Round, Shift, open_entries, round_entries, shift_entries, stops_of, unanswered}
 use Rattle.check_workers.specs.Tallies.{plus, tally_of}
 use Rattle.check_workers.proofs.CrewLemmas.{shift_short}
 use Rattle.check_workers.proofs.ShiftLemmas.{rounds_entries, shift_calls}
 use Rattle.check_workers.proofs.TallyLemmas.{tally_append}
-use Rattle.check_session.specs.Drill.{AreWorkersOf, IsDrill, IsWorkerOf, gives_scripted, stopped_in}
-use Rattle.check_script.specs.declared.script.TheConstants.{MAX_INPUT_BYTES}
-use Rattle.check_script.specs.DrillScript.{DrillScript}
+use Rattle.nagsched_cli.specs.Drill.{AreWorkersOf, IsDrill, IsWorkerOf, returns_scripted, stop_count}
+use Rattle.nagsched_protocol.specs.declared.script.TheConstants.{MAX_INPUT_BYTES}
+use Rattle.nagsched_protocol.specs.DrillScript.{DrillScript}
 
 -- ---- the entries of a shift are all of its own number
 
@@ -60,7 +60,7 @@ of_rounds n (r ∷ rounds) =
     subst (λ l. of n l ≡ l) (sym (flat_map-cons (round_entries n) r rounds))
     (of_both n (round_entries n r) (rounds_entries n rounds) (of_round n r.now r.reply r.result) (of_rounds n rounds))
 
-of_open : (n : ℕ) (o : Option Open) → of n (open_entries n o) ≡ open_entries n o
+of_open : (n : ℕ) (o : Option OpenCheck) → of n (open_entries n o) ≡ open_entries n o
 of_open n None = refl
 of_open n (Some o) = of_one n (call.Take o.now) (reply.Taken o.object o.run) [] refl
 
@@ -76,24 +76,24 @@ new_history : (allows : ℕ → ℕ → ℕ → Code → Type 0) (moments : List
 new_history allows moments room n history pass s e h =
     let number : s.number ≡ n = h.number ∙ ap (λ c. c.own) e in
     let numbers : (pass_of pass).numbers ≡ n ∷ [] = ap (λ c. c.numbers) e in
-    let once = times-same n [] in
-    let among : 0 < times n (n ∷ []) = omega arith in
+    let once = occurrences-same n [] in
+    let among : 0 < occurrences n (n ∷ []) = omega arith in
     let seen : of n (pass_of pass).seen ≡ [] = ap (λ c. of n c.seen) e in
-    h.new n (subst (λ l. 0 < times n l) (sym numbers) among) ∙ ap (λ l. l ++ of n (shift_entries s)) seen
+    h.new n (subst (λ l. 0 < occurrences n l) (sym numbers) among) ∙ ap (λ l. l ++ of n (shift_entries s)) seen
     ∙ subst (λ m. of m (shift_entries s) ≡ shift_entries s) number (of_shift s)
 
 one_worker : (s : DrillScript) (room n : ℕ) (history : List (Entry Call Reply)) (pass : Pass) (shift : Shift) → pass_of pass ≡ new_pass n
-    → IsShiftOf (gives_scripted s.returns) s.moments room history (pass_of pass) shift → IsWorkerOf s n (of n history) shift
+    → IsShiftOf (returns_scripted s.returns) s.moments room history (pass_of pass) shift → IsWorkerOf s n (of n history) shift
 one_worker s room n history pass shift e h = record {
   number_is = h.number ∙ ap (λ c. c.own) e;
   worked = h.shift;
-  entries_are = new_history (gives_scripted s.returns) s.moments room n history pass shift e h;
+  entries_are = new_history (returns_scripted s.returns) s.moments room n history pass shift e h;
 }
 
 -- ---- all workers
 
 each_worker : (s : DrillScript) (room : ℕ) (history : List (Entry Call Reply)) (desk : Desk) (n : ℕ) (ps : List Pass) (ss : List Shift) → AreNewPasses desk n ps
-    → AreShiftsOf (gives_scripted s.returns) s.moments room history ps ss → AreWorkersOf s history n ss
+    → AreShiftsOf (returns_scripted s.returns) s.moments room history ps ss → AreWorkersOf s history n ss
 each_worker s room history desk n [] [] new are = tt
 each_worker s room history desk n [] (shift ∷ ss) new are = absurd are
 each_worker s room history desk n (p ∷ ps) [] new are = absurd are
@@ -119,7 +119,7 @@ length_cons None xs = sym (zero-add (length xs))
 length_cons (Some x) xs = omega arith
 
 -- a worker stops only when out of memory, since its pass has calls enough
-one_stop : (room recorded left before calls moments : ℕ) (o : Option Stop) → IsReason room recorded left o → before ≡ left + calls + unanswered o
+one_stop : (room recorded left before calls moments : ℕ) (o : Option Stop) → IsStopReason room recorded left o → before ≡ left + calls + unanswered o
     → calls ≤ 2 * moments → 2 * moments < before
     → unanswered o ≡ length (cons_option o [])
 one_stop room recorded left before calls moments None r e short many = refl
@@ -129,18 +129,18 @@ one_stop room recorded left before calls moments (Some stop.Spent) r e short man
 -- the calls without an answer are the shifts that stopped
 stops_counted : (allows : ℕ → ℕ → ℕ → Code → Type 0) (moments : List ℕ) (room : ℕ) (history : List (Entry Call Reply)) (desk : Desk) (n : ℕ)
     (ps : List Pass) (ss : List Shift)
-    → length moments ≤ MAX_INPUT_BYTES → AreNewPasses desk n ps → AreShiftsOf allows moments room history ps ss → unanswered_in ss ≡ stopped_in ss
+    → length moments ≤ MAX_INPUT_BYTES → AreNewPasses desk n ps → AreShiftsOf allows moments room history ps ss → unanswered_in ss ≡ stop_count ss
 unfolding unanswered_in
-stops_counted allows moments room history desk n [] [] few new are = refl
-stops_counted allows moments room history desk n [] (s ∷ ss) few new are = absurd are
-stops_counted allows moments room history desk n (p ∷ ps) [] few new are = absurd are
-stops_counted allows moments room history desk n (p ∷ ps) (s ∷ ss) few new are =
+stops_counted allows moments room history desk n [] [] bounded new are = refl
+stops_counted allows moments room history desk n [] (s ∷ ss) bounded new are = absurd are
+stops_counted allows moments room history desk n (p ∷ ps) [] bounded new are = absurd are
+stops_counted allows moments room history desk n (p ∷ ps) (s ∷ ss) bounded new are =
     let h = are.0 in
     let brought : (pass_of p).left ≡ 4294967295 = ap (λ c. c.left) new.1 in
     let short = shift_short s moments h.shift.in_order in
     let here = one_stop room (length history) h.left (pass_of p).left (length (shift_entries s)) (length moments) s.stopped h.reason h.left_is short
     (omega arith) in
-    let rest = stops_counted allows moments room history desk (n + 1) ps ss few new.2 are.1 in
+    let rest = stops_counted allows moments room history desk (n + 1) ps ss bounded new.2 are.1 in
     let sum = sum_by-cons (λ v. unanswered v.stopped) s ss in
     let stops = length_cons s.stopped (filter_map (λ v. v.stopped) ss) in
     omega arith
@@ -183,7 +183,7 @@ all_calls (s ∷ ss) =
     omega arith
 
 -- new passes have made no call
-no_calls : (desk : Desk) (n : ℕ) (ps : List Pass) → AreNewPasses desk n ps → calls_in ps ≡ 0
+no_calls : (desk : Desk) (n : ℕ) (ps : List Pass) → AreNewPasses desk n ps → calls_of_passes ps ≡ 0
 no_calls desk n [] new = refl
 no_calls desk n (p ∷ ps) new =
     let here = ap (λ c. c.calls) new.1 in
@@ -191,7 +191,7 @@ no_calls desk n (p ∷ ps) new =
     let sum = sum_by-cons (λ q. (pass_of q).calls) p ps in
     omega arith
 
-none_below : (room recorded left : ℕ) (o : Option Stop) → IsReason room recorded left o → recorded < room → unanswered o ≡ 0
+none_below : (room recorded left : ℕ) (o : Option Stop) → IsStopReason room recorded left o → recorded < room → unanswered o ≡ 0
 none_below room recorded left None r below = refl
 none_below room recorded left (Some stop.NoMemory) r below = absurd (omega (arith, r, below))
 none_below room recorded left (Some stop.Spent) r below = refl
@@ -214,7 +214,7 @@ refused_is : (allows : ℕ → ℕ → ℕ → Code → Type 0) (moments : List 
     (ps : List Pass) (ss : List Shift) (t : Tally)
     → AreNewPasses desk 0 ps → AreShiftsOf allows moments room history ps ss → t ≡ tally_of_all ss
     → ((number : ℕ) → length ps ≤ number → of number history ≡ [])
-    → length history + refused ≡ calls_in ps + t.takes + t.reports + t.unanswered → refused ≡ unanswered_in ss
+    → length history + refused ≡ calls_of_passes ps + t.takes + t.reports + t.unanswered → refused ≡ unanswered_in ss
 refused_is allows moments room history refused desk ps ss t new are sum numbers calls =
     let all = of-lengths (length ps) history numbers in
     let shifts = shifts_length allows moments room history desk 0 ps ss new are in
@@ -229,12 +229,12 @@ refused_is allows moments room history refused desk ps ss t new are sum numbers 
 pub drill_is : (s : DrillScript) (start workers room : ℕ) (history : List (Entry Call Reply)) (refused : ℕ) (desk : Desk) (ps : List Pass)
     (ss : List Shift) (t : Tally)
     → length s.moments ≤ MAX_INPUT_BYTES
-    → length ps ≡ workers → AreNewPasses desk 0 ps → AreShiftsOf (gives_scripted s.returns) s.moments room history ps ss → t ≡ tally_of_all ss
+    → length ps ≡ workers → AreNewPasses desk 0 ps → AreShiftsOf (returns_scripted s.returns) s.moments room history ps ss → t ≡ tally_of_all ss
     → ((number : ℕ) → workers ≤ number → of number history ≡ [])
-    → length history + refused ≡ calls_in ps + t.takes + t.reports + t.unanswered → IsLegal step (opening s.setup start) history
+    → length history + refused ≡ calls_of_passes ps + t.takes + t.reports + t.unanswered → IsLegal step (opening s.setup start) history
     → IsDrill s start workers room history refused
-drill_is s start workers room history refused desk ps ss t few count new are sum numbers calls legal =
-    let allows = gives_scripted s.returns in
+drill_is s start workers room history refused desk ps ss t bounded count new are sum numbers calls legal =
+    let allows = returns_scripted s.returns in
     let is = refused_is allows s.moments room history refused desk ps ss t new are sum (λ number from. numbers number (omega arith)) calls in
     record {
       legal = legal;
@@ -242,6 +242,6 @@ drill_is s start workers room history refused desk ps ss t few count new are sum
       shifts = ss;
       one_each = as_many allows s.moments room history ps ss are ∙ count;
       each = each_worker s room history desk 0 ps ss new are;
-      refusals = is ∙ stops_counted allows s.moments room history desk 0 ps ss few new are;
+      refusals = is ∙ stops_counted allows s.moments room history desk 0 ps ss bounded new are;
       within_room = (λ below. is ∙ answered_below allows s.moments room history ps ss are below);
     }

@@ -1,3 +1,4 @@
+pub mod ArgumentLemmas
 pub mod DrillDriveLemmas
 pub mod DrillLaws
 pub mod ReadingLemmas

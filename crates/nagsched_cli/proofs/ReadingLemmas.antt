@@ -9,11 +9,11 @@ use Rattle.std.proofs.lemmas.Bool.{eqb-true}
 use Rattle.std.proofs.lemmas.Bool.Decides.{nat_tests}
 use Rattle.std.proofs.lemmas.List.{take_all}
 use Rattle.std.proofs.Math.Seq.{take-append-add}
-use Rattle.check_script.specs.Input.{HasBegun, HasBegunBy, without_last_feed}
-use Rattle.check_script.proofs.InputLemmas.{some_there}
-use Rattle.check_script.proofs.LiveInputLemmas.{Consumes-then}
-use Rattle.check_session.specs.Reading.{is_undecided, read_of}
-use Rattle.check_session.specs.declared.reading.TheConstants.{MAX_CHECKED_BYTES}
+use Rattle.nagsched_protocol.specs.Input.{HasStartedReading, HasStartedReadingBy, without_last_feed}
+use Rattle.nagsched_protocol.proofs.InputLemmas.{some_there}
+use Rattle.nagsched_protocol.proofs.LiveInputLemmas.{Consumes-then}
+use Rattle.nagsched_cli.specs.Reading.{is_full_with_feed, document_input_of}
+use Rattle.nagsched_cli.specs.declared.reading.TheConstants.{MAX_DOCUMENT_INPUT}
 
 -- ---- the document of an input
 
@@ -53,63 +53,63 @@ undecided_by : (b : Bool) (n m : ℕ) (bytes : List ℕ) → b ≡ true → take
 undecided_by true n m bytes e = refl
 undecided_by false n m bytes e = cc
 
-pub decided : (had : Option (List ℕ)) (input : List ℕ) → IfSome had (λ bytes. input ≡ take MAX_CHECKED_BYTES bytes) → is_undecided input ≡ false
-    → IfSome had (λ bytes. input ≡ read_of bytes)
+pub decided : (had : Option (List ℕ)) (input : List ℕ) → IfSome had (λ bytes. input ≡ take MAX_DOCUMENT_INPUT bytes) → is_full_with_feed input ≡ false
+    → IfSome had (λ bytes. input ≡ document_input_of bytes)
 decided None input all e = tt
 decided (Some bytes) input all e =
-    all ∙ decided_by (is_undecided (take MAX_CHECKED_BYTES bytes)) (MAX_CHECKED_BYTES + 1) MAX_CHECKED_BYTES bytes (ap is_undecided (sym all) ∙ e)
+    all ∙ decided_by (is_full_with_feed (take MAX_DOCUMENT_INPUT bytes)) (MAX_DOCUMENT_INPUT + 1) MAX_DOCUMENT_INPUT bytes (ap is_full_with_feed (sym all) ∙ e)
 
 both : (a b : Bool) → (a && b) ≡ true → a ≡ true
 both true b e = refl
 both false b e = cc
 
-pub is_long : (input : List ℕ) → is_undecided input ≡ true → length input ≡ MAX_CHECKED_BYTES
-is_long input e = eqb-true (length input) MAX_CHECKED_BYTES (both (length input == MAX_CHECKED_BYTES) _ e)
+pub is_long : (input : List ℕ) → is_full_with_feed input ≡ true → length input ≡ MAX_DOCUMENT_INPUT
+is_long input e = eqb-true (length input) MAX_DOCUMENT_INPUT (both (length input == MAX_DOCUMENT_INPUT) _ e)
 
 -- behind so many bytes it doesn't matter what else was read
-pub begun_long : (had mid left : Option (List ℕ)) (input : List ℕ) → HasBegunBy had mid input → is_undecided input ≡ true → HasBegun mid left
-    → HasBegun had left
+pub begun_long : (had mid left : Option (List ℕ)) (input : List ℕ) → HasStartedReadingBy had mid input → is_full_with_feed input ≡ true → HasStartedReading mid left
+    → HasStartedReading had left
 begun_long had mid left input h e b =
     let long : length input ≡ 16777217 = is_long input e in (
       input ++ b.0,
       (Consumes-then had mid left input b.0 h.0 b.1.0, some_there (input ++ b.0) (omega (arith, length-append input b.0, long))),
     )
 
-pub undecided : (had mid : Option (List ℕ)) (input behind : List ℕ) → IfSome had (λ bytes. input ≡ take MAX_CHECKED_BYTES bytes)
-    → Consumes had mid input → IfSome mid (λ bytes. behind ≡ take 1 bytes) → is_undecided input ≡ true
-    → IfSome had (λ bytes. input ++ behind ≡ read_of bytes)
+pub undecided : (had mid : Option (List ℕ)) (input behind : List ℕ) → IfSome had (λ bytes. input ≡ take MAX_DOCUMENT_INPUT bytes)
+    → Consumes had mid input → IfSome mid (λ bytes. behind ≡ take 1 bytes) → is_full_with_feed input ≡ true
+    → IfSome had (λ bytes. input ++ behind ≡ document_input_of bytes)
 undecided None mid input behind all c more e = tt
 undecided (Some bytes) None input behind all c more e = absurd c
 undecided (Some bytes) (Some rest) input behind all c more e =
-    let whole : take (MAX_CHECKED_BYTES + 1) bytes ≡ input ++ take 1 rest =
-    ap (take (MAX_CHECKED_BYTES + 1)) c ∙ ap (λ n. take (n + 1) (input ++ rest)) (sym (is_long input e)) ∙ take-append-add input rest 1 in
+    let whole : take (MAX_DOCUMENT_INPUT + 1) bytes ≡ input ++ take 1 rest =
+    ap (take (MAX_DOCUMENT_INPUT + 1)) c ∙ ap (λ n. take (n + 1) (input ++ rest)) (sym (is_long input e)) ∙ take-append-add input rest 1 in
     ap (λ l. input ++ l) more ∙ sym whole
-    ∙ undecided_by (is_undecided (take MAX_CHECKED_BYTES bytes)) (MAX_CHECKED_BYTES + 1) MAX_CHECKED_BYTES bytes (ap is_undecided (sym all) ∙ e)
+    ∙ undecided_by (is_full_with_feed (take MAX_DOCUMENT_INPUT bytes)) (MAX_DOCUMENT_INPUT + 1) MAX_DOCUMENT_INPUT bytes (ap is_full_with_feed (sym all) ∙ e)
 
 -- ---- what is read shows whether the document is too long
 
-all_by : (b : Bool) (bytes : List ℕ) → length bytes ≤ 16777217 → take (if b then MAX_CHECKED_BYTES + 1 else MAX_CHECKED_BYTES) bytes ≡ bytes
-all_by true bytes short = take_all (MAX_CHECKED_BYTES + 1) bytes (omega (arith, short))
-all_by false bytes short = take_all MAX_CHECKED_BYTES bytes (omega (arith, short))
+all_by : (b : Bool) (bytes : List ℕ) → length bytes ≤ 16777217 → take (if b then MAX_DOCUMENT_INPUT + 1 else MAX_DOCUMENT_INPUT) bytes ≡ bytes
+all_by true bytes short = take_all (MAX_DOCUMENT_INPUT + 1) bytes (omega (arith, short))
+all_by false bytes short = take_all MAX_DOCUMENT_INPUT bytes (omega (arith, short))
 
-pub read_all : (bytes : List ℕ) → length bytes ≤ 16777217 → read_of bytes ≡ bytes
-read_all bytes short = all_by (is_undecided (take MAX_CHECKED_BYTES bytes)) bytes short
+pub read_all : (bytes : List ℕ) → length bytes ≤ 16777217 → document_input_of bytes ≡ bytes
+read_all bytes short = all_by (is_full_with_feed (take MAX_DOCUMENT_INPUT bytes)) bytes short
 
 other : (a b : Bool) → a ≡ true → (a && b) ≡ false → b ≡ false
 other true b h e = e
 other false b h e = cc
 
-long_by : (b : Bool) (bytes : List ℕ) → 16777217 < length bytes → is_undecided (take MAX_CHECKED_BYTES bytes) ≡ b
-    → 16777216 < length (without_last_feed (take (if b then MAX_CHECKED_BYTES + 1 else MAX_CHECKED_BYTES) bytes))
+long_by : (b : Bool) (bytes : List ℕ) → 16777217 < length bytes → is_full_with_feed (take MAX_DOCUMENT_INPUT bytes) ≡ b
+    → 16777216 < length (without_last_feed (take (if b then MAX_DOCUMENT_INPUT + 1 else MAX_DOCUMENT_INPUT) bytes))
 long_by true bytes long e =
-    let read = length-take (MAX_CHECKED_BYTES + 1) bytes in
-    let cut = cut_length (take (MAX_CHECKED_BYTES + 1) bytes) in
+    let read = length-take (MAX_DOCUMENT_INPUT + 1) bytes in
+    let cut = cut_length (take (MAX_DOCUMENT_INPUT + 1) bytes) in
     omega (arith, read, cut, long)
 long_by false bytes long e =
-    let read = length-take MAX_CHECKED_BYTES bytes in
-    let full : length (take MAX_CHECKED_BYTES bytes) ≡ MAX_CHECKED_BYTES = omega (arith, read, long) in
-    let same : (length (take MAX_CHECKED_BYTES bytes) == MAX_CHECKED_BYTES) ≡ true = grind (arith, nat_tests, full) in
-    ltb-false _ _ (other (length (take MAX_CHECKED_BYTES bytes) == MAX_CHECKED_BYTES) _ same e)
+    let read = length-take MAX_DOCUMENT_INPUT bytes in
+    let full : length (take MAX_DOCUMENT_INPUT bytes) ≡ MAX_DOCUMENT_INPUT = omega (arith, read, long) in
+    let same : (length (take MAX_DOCUMENT_INPUT bytes) == MAX_DOCUMENT_INPUT) ≡ true = grind (arith, nat_tests, full) in
+    ltb-false _ _ (other (length (take MAX_DOCUMENT_INPUT bytes) == MAX_DOCUMENT_INPUT) _ same e)
 
-pub read_long : (bytes : List ℕ) → 16777217 < length bytes → 16777216 < length (without_last_feed (read_of bytes))
-read_long bytes long = long_by (is_undecided (take MAX_CHECKED_BYTES bytes)) bytes long refl
+pub read_long : (bytes : List ℕ) → 16777217 < length bytes → 16777216 < length (without_last_feed (document_input_of bytes))
+read_long bytes long = long_by (is_full_with_feed (take MAX_DOCUMENT_INPUT bytes)) bytes long refl

@@ -10,13 +10,13 @@ use Rattle.clap.specs.Words.{App, IsAmong, Row, Rule, Text, fault_of, first_of, 
 use Rattle.clap.specs.declared.builder.action.ArgAction.TheVariants as action
 use Rattle.clap.specs.declared.error.kind.ErrorKind.{ErrorKind}
 use Rattle.clap.specs.declared.error.kind.ErrorKind.TheVariants as kind
-use Rattle.check_script.specs.declared.start.Start.{Start}
-use Rattle.check_script.specs.declared.start.Start.TheVariants as start
-use Rattle.check_script.specs.Start.{CanStart}
-use Rattle.check_words.specs.declared.words.Job.{Job}
-use Rattle.check_words.specs.declared.words.Job.TheVariants as job
-use Rattle.check_words.specs.declared.words.WordsError.{WordsError}
-use Rattle.check_words.specs.declared.words.WordsError.TheVariants as error
+use Rattle.nagsched_protocol.specs.declared.start.Start.{Start}
+use Rattle.nagsched_protocol.specs.declared.start.Start.TheVariants as start
+use Rattle.nagsched_protocol.specs.Start.{CanStart}
+use Rattle.nagsched_cli.specs.declared.arguments.Job.{Job}
+use Rattle.nagsched_cli.specs.declared.arguments.Job.TheVariants as job
+use Rattle.nagsched_cli.specs.declared.arguments.WordsError.{WordsError}
+use Rattle.nagsched_cli.specs.declared.arguments.WordsError.TheVariants as error
 
 -- ---- the arguments that the program takes
 
@@ -41,42 +41,42 @@ abbrev pub room_option : Rule
 room_option = number_option (codes "room") (codes "1000")
 
 -- the option `--start N` of `run`, `live` and `check`, without a default
-abbrev pub open_start_option : Rule
-open_start_option = record (new_rule (codes "start")) {
+abbrev pub optional_start_option : Rule
+optional_start_option = record (new_rule (codes "start")) {
   long = Some (codes "start");
   value_names = 1;
 }
 
 -- a flag `--name`, which takes no value
-abbrev pub flag : Text → Rule
-flag name = record (new_rule name) {
+abbrev pub flag_argument : Text → Rule
+flag_argument name = record (new_rule name) {
   long = Some name;
   action = Some action.SetTrue;
 }
 
 -- the flag `--line`
 abbrev pub line_flag : Rule
-line_flag = flag (codes "line")
+line_flag = flag_argument (codes "line")
 
 -- the flag `--resume`
 abbrev pub resume_flag : Rule
-resume_flag = flag (codes "resume")
+resume_flag = flag_argument (codes "resume")
 
 -- a subcommand of this name, with the option `--start` and the flag `--resume`
-abbrev pub opener : Text → App
-opener name = with_rule (with_rule (new_app name) open_start_option) resume_flag
+abbrev pub subcommand_with_start : Text → App
+subcommand_with_start name = with_rule (with_rule (new_app name) optional_start_option) resume_flag
 
 -- the subcommand `run`, with its option and its flag
 abbrev pub run_subcommand : App
-run_subcommand = opener (codes "run")
+run_subcommand = subcommand_with_start (codes "run")
 
 -- the subcommand `live`, with its option and its flag
 abbrev pub live_subcommand : App
-live_subcommand = opener (codes "live")
+live_subcommand = subcommand_with_start (codes "live")
 
 -- the subcommand `check`, with its option and its two flags
 abbrev pub check_subcommand : App
-check_subcommand = with_rule (opener (codes "check")) line_flag
+check_subcommand = with_rule (subcommand_with_start (codes "check")) line_flag
 
 -- the subcommand `drill`, with its three options
 abbrev pub drill_subcommand : App
@@ -102,40 +102,40 @@ abbrev pub number_between : ℕ → ℕ → Text → Option ℕ
 number_between least most text = if is_unsigned_in least most text then Some (digits_value 10 (without_leading_plus text)) else None
 
 -- the number of an option, within these limits, by the options that were read
-abbrev pub number_of : Text → ℕ → ℕ → List Row → Option ℕ
-number_of name least most options = option_and_then (number_between least most) (first_of name options)
+abbrev pub option_number : Text → ℕ → ℕ → List Row → Option ℕ
+option_number name least most options = option_and_then (number_between least most) (first_of name options)
 
 -- the moment at which the scheduler starts, 0 to 2^60, by the options that were read
-abbrev pub start_of : List Row → Option ℕ
-start_of = number_of (codes "start") 0 (2 ^ 60)
+abbrev pub drill_start_of : List Row → Option ℕ
+drill_start_of = option_number (codes "start") 0 (2 ^ 60)
 
 -- the number of workers, 1 to 64, by the options that were read
-abbrev pub workers_of : List Row → Option ℕ
-workers_of = number_of (codes "workers") 1 64
+abbrev pub drill_workers_of : List Row → Option ℕ
+drill_workers_of = option_number (codes "workers") 1 64
 
 -- the number of entries for which there is room, 0 to 1,000,000, by the options that were read
-abbrev pub room_of : List Row → Option ℕ
-room_of = number_of (codes "room") 0 1000000
+abbrev pub drill_room_of : List Row → Option ℕ
+drill_room_of = option_number (codes "room") 0 1000000
 
 -- whether a flag was given, by the options that were read: `clap` then has the text "true" for it
-abbrev pub flag_of : Text → List Row → Bool
-flag_of name options = option_map_or (λ text. bytes_eq text (codes "true")) (first_of name options) false
+abbrev pub has_flag : Text → List Row → Bool
+has_flag name options = option_map_or (λ text. bytes_eq text (codes "true")) (first_of name options) false
 
 -- whether `--line` was given
-abbrev pub line_of : List Row → Bool
-line_of options = flag_of (codes "line") options
+abbrev pub has_line_flag : List Row → Bool
+has_line_flag options = has_flag (codes "line") options
 
 -- whether `--resume` was given
-abbrev pub resume_of : List Row → Bool
-resume_of options = flag_of (codes "resume") options
+abbrev pub has_resume_flag : List Row → Bool
+has_resume_flag options = has_flag (codes "resume") options
 
 -- the start of `run`, `live` and `check`: none if the option isn't given, otherwise the moment that it gives, 0 to 2^60
-abbrev pub start_by : Option Text → Option (Option ℕ)
-start_by None = Some None
-start_by (Some text) = option_map Some (number_between 0 (2 ^ 60) text)
+abbrev pub start_of_text : Option Text → Option (Option ℕ)
+start_of_text None = Some None
+start_of_text (Some text) = option_map Some (number_between 0 (2 ^ 60) text)
 
-abbrev pub open_start_of : List Row → Option (Option ℕ)
-open_start_of options = start_by (first_of (codes "start") options)
+abbrev pub optional_start_of : List Row → Option (Option ℕ)
+optional_start_of options = start_of_text (first_of (codes "start") options)
 
 -- how a scheduler starts with this flag `--resume` and this moment: from a saved state, or fresh, at 0 if no moment is given
 abbrev pub start_from : Bool → Option ℕ → Start
@@ -144,47 +144,47 @@ start_from false moment = start.Fresh (unwrap_or moment 0)
 
 -- how the scheduler of `run`, `live` or `check` starts, by the options that were read
 abbrev pub scheduler_start_of : List Row → Option Start
-scheduler_start_of options = option_map (start_from (resume_of options)) (open_start_of options)
+scheduler_start_of options = option_map (start_from (has_resume_flag options)) (optional_start_of options)
 
 -- `run`, by the options that were read for it
-abbrev pub run_of : List Row → Option Job
-run_of options = option_map job.Run (scheduler_start_of options)
+abbrev pub run_job_of : List Row → Option Job
+run_job_of options = option_map job.Run (scheduler_start_of options)
 
 -- `live`, by the options that were read for it
-abbrev pub live_of : List Row → Option Job
-live_of options = option_map job.Live (scheduler_start_of options)
+abbrev pub live_job_of : List Row → Option Job
+live_job_of options = option_map job.Live (scheduler_start_of options)
 
 -- `check` with this flag `--line` and this start: a setup that is written as one line has no saved state
-abbrev pub check_from : Bool → Start → Option Job
-check_from false how = Some (job.Check how)
-check_from true (start.Fresh moment) = Some job.SetupLine
-check_from true (start.Resumed moment) = None
+abbrev pub check_job : Bool → Start → Option Job
+check_job false how = Some (job.Check how)
+check_job true (start.Fresh moment) = Some job.SetupLine
+check_job true (start.Resumed moment) = None
 
 -- `check`, by the options that were read for it
-abbrev pub check_of : List Row → Option Job
-check_of options = option_and_then (check_from (line_of options)) (scheduler_start_of options)
+abbrev pub check_job_of : List Row → Option Job
+check_job_of options = option_and_then (check_job (has_line_flag options)) (scheduler_start_of options)
 
 -- `drill`, by the options that were read for it
-abbrev pub drill_of : List Row → Option Job
-drill_of options = option_and_then (λ start.
+abbrev pub drill_job_of : List Row → Option Job
+drill_job_of options = option_and_then (λ start.
     option_and_then (λ workers.
-    option_map (job.Drill start workers) (room_of options))
-    (workers_of options)) (start_of options)
+    option_map (job.Drill start workers) (drill_room_of options))
+    (drill_workers_of options)) (drill_start_of options)
 
 -- the job of a subcommand with its options; without a subcommand it is `run` from the start 0
 abbrev pub job_of : Option (Text × List Row) → Option Job
 job_of None = Some (job.Run (start.Fresh 0))
 job_of (Some (name, options)) =
-    if bytes_eq name (codes "run") then run_of options
-    else (if bytes_eq name (codes "live") then live_of options
-    else (if bytes_eq name (codes "check") then check_of options
-    else (if bytes_eq name (codes "drill") then drill_of options
+    if bytes_eq name (codes "run") then run_job_of options
+    else (if bytes_eq name (codes "live") then live_job_of options
+    else (if bytes_eq name (codes "check") then check_job_of options
+    else (if bytes_eq name (codes "drill") then drill_job_of options
     else (if bytes_eq name (codes "schema") then Some job.Schema else None))))
 
 -- The job that the arguments ask for. The first argument is the program's name. It is the job of the subcommand that `clap` reads from them, with the
 -- first value of each of its options.
-abbrev pub job_asked : List Text → Option Job
-job_asked words = job_of (subcommand_of program words)
+abbrev pub requested_job : List Text → Option Job
+requested_job words = job_of (subcommand_of program words)
 
 -- the numbers of a job are within their limits
 abbrev pub IsWithinLimits : Job → Type 0
@@ -223,7 +223,7 @@ HasFault words = (k : ErrorKind) × IsFault k × IsAmong k (fault_of program wor
 
 -- the arguments are no job, and ask for no text
 abbrev pub IsRefused : List Text → Type 0
-IsRefused words = HasFault words ⊎ (job_asked words ≡ None)
+IsRefused words = HasFault words ⊎ (requested_job words ≡ None)
 
 -- why the arguments are no job; out of memory says nothing about them
 abbrev pub Explains : List Text → WordsError → Type 0
@@ -234,13 +234,13 @@ Explains words error.Memory = ⊤
 -- ---- steps of the reading
 
 -- the job that was read is the expected one; a refusal comes only if no job is expected
-abbrev pub Reads : Result Job WordsError → Option Job → Type 0
-Reads (Ok job) expected = expected ≡ Some job
-Reads (Err error.Refused) expected = expected ≡ None
-Reads (Err e) expected = ⊥
+abbrev pub IsExpectedJob : Result Job WordsError → Option Job → Type 0
+IsExpectedJob (Ok job) expected = expected ≡ Some job
+IsExpectedJob (Err error.Refused) expected = expected ≡ None
+IsExpectedJob (Err e) expected = ⊥
 
 -- the meaning of an error of this kind; making its text may run out of memory too
-abbrev pub Tells : ErrorKind → WordsError → Type 0
-Tells k (error.Help text) = (k ≡ kind.DisplayHelp) ⊎ ((k ≡ kind.DisplayVersion) × (string_bytes text ≡ version_line))
-Tells k error.Refused = IsFault k × (k ≢ kind.OutOfMemory)
-Tells k error.Memory = (k ≡ kind.OutOfMemory) ⊎ ((k ≡ kind.DisplayHelp) ⊎ (k ≡ kind.DisplayVersion))
+abbrev pub IsErrorFor : ErrorKind → WordsError → Type 0
+IsErrorFor k (error.Help text) = (k ≡ kind.DisplayHelp) ⊎ ((k ≡ kind.DisplayVersion) × (string_bytes text ≡ version_line))
+IsErrorFor k error.Refused = IsFault k × (k ≢ kind.OutOfMemory)
+IsErrorFor k error.Memory = (k ≡ kind.OutOfMemory) ⊎ ((k ≡ kind.DisplayHelp) ⊎ (k ≡ kind.DisplayVersion))

@@ -1,7 +1,8 @@
 -- The history that the workers of a drill leave, and the text that a drill writes.
-use Rattle.std.specs.Prelude.{◌≡◌, ◌≢◌, ◌⊎◌, ℕ, ◌+◌, ◌<◌, ◌≤◌, ⊤, List, [], ◌∷◌, filter_map, length, Option, Some, None, Result, Ok, Err, IfErr, IfOk, IfSome, OnErr, OnOk}
+use Rattle.std.specs.Prelude.{◌≡◌, ◌≢◌, ◌⊎◌, ℕ, ◌+◌, ◌<◌, ◌≤◌, ⊤, List, [], ◌∷◌, filter_map, length, Option, Some, None, Result, Ok, Err, IfErr, IfOk, IfSome}
+use Rattle.std.specs.Prelude.{OnErr, OnOk}
 use Rattle.std.specs.Io.KnownBytes.{Appends, Keeps}
-use Rattle.ticket_steps.specs.declared.kept.Entry.{Entry}
+use Rattle.ticket_steps.specs.declared.books.Entry.{Entry}
 use Rattle.ticket_steps.specs.History.{of, IsLegal}
 use Rattle.check_rules.specs.declared.state.Code.{Code}
 use Rattle.check_sched.specs.declared.call.Call.{Call}
@@ -9,26 +10,26 @@ use Rattle.check_sched.specs.declared.call.Reply.{Reply}
 use Rattle.check_sched.specs.State.{opening}
 use Rattle.check_sched.specs.Step.{step}
 use Rattle.check_workers.specs.Shifts.{IsShift, Shift, shift_entries}
-use Rattle.check_script.specs.declared.drive_error.DriveError.{DriveError}
-use Rattle.check_script.specs.declared.drive_error.DriveError.TheVariants as errors
-use Rattle.check_drive.specs.declared.drive.Outcome.{Outcome}
-use Rattle.check_script.specs.declared.refusal.InputRefusal.{InputRefusal}
-use Rattle.check_script.specs.DrillScript.{DrillScript, drill_script_of}
-use Rattle.check_drive.specs.Drive.{HasRead, IsInput, outcome_by}
-use Rattle.check_drive.specs.Streams.{Streams}
-use Rattle.check_text.specs.Output.{WroteFront, WroteLinesUpTo}
-use Rattle.check_session.specs.ScriptedCodes.{scripted_code}
-use Rattle.check_text.specs.Text.{drill_text, refusal_line}
+use Rattle.nagsched_protocol.specs.declared.drive_error.DriveError.{DriveError}
+use Rattle.nagsched_protocol.specs.declared.drive_error.DriveError.TheVariants as errors
+use Rattle.nagsched_run.specs.declared.drive.Outcome.{Outcome}
+use Rattle.nagsched_protocol.specs.declared.refusal.InputRefusal.{InputRefusal}
+use Rattle.nagsched_protocol.specs.DrillScript.{DrillScript, drill_script_of}
+use Rattle.nagsched_run.specs.Drive.{HasRead, IsInput, outcome_by}
+use Rattle.nagsched_run.specs.Streams.{Streams}
+use Rattle.nagsched_protocol.specs.Output.{WroteFront, WroteLinesUpTo}
+use Rattle.nagsched_cli.specs.ScriptedCodes.{scripted_code}
+use Rattle.nagsched_protocol.specs.Text.{drill_text, refusal_line}
 
 -- the plugin of a drill gives the scripted code and no other, at any moment
-abbrev pub gives_scripted : List (List Code) → ℕ → ℕ → ℕ → Code → Type 0
-gives_scripted codes object run now code = code ≡ scripted_code codes object run
+abbrev pub returns_scripted : List (List Code) → ℕ → ℕ → ℕ → Code → Type 0
+returns_scripted codes object run now code = code ≡ scripted_code codes object run
 
 -- The entries of the pass with this number are those of this shift. They are a take for each moment in order, and after each check that was taken its
 -- report with the scripted code. If the worker stopped early, they are only a beginning of that.
 pub record IsWorkerOf (s : DrillScript) (number : ℕ) (entries : List (Entry Call Reply)) (shift : Shift) : Type 0 where
   pub number_is : shift.number ≡ number
-  pub worked : IsShift (gives_scripted s.returns) s.moments shift
+  pub worked : IsShift (returns_scripted s.returns) s.moments shift
   pub entries_are : entries ≡ shift_entries shift
 
 -- these are the shifts of the passes from this number on, in order
@@ -37,8 +38,8 @@ AreWorkersOf s history number [] = ⊤
 AreWorkersOf s history number (shift ∷ shifts) = IsWorkerOf s number (of number history) shift × AreWorkersOf s history (number + 1) shifts
 
 -- the number of shifts that stopped early
-abbrev pub stopped_in : List Shift → ℕ
-stopped_in shifts = length (filter_map (λ shift. shift.stopped) shifts)
+abbrev pub stop_count : List Shift → ℕ
+stop_count shifts = length (filter_map (λ shift. shift.stopped) shifts)
 
 -- A history that this many workers can leave over a script, from this start and with this room. With it comes the number of calls that were refused
 -- when out of memory.
@@ -52,7 +53,7 @@ pub record IsDrill (s : DrillScript) (start workers room : ℕ) (history : List 
   pub one_each : length shifts ≡ workers
   pub each : AreWorkersOf s history 0 shifts
   -- a worker stops at its first call without memory, and there are no other refusals
-  pub refusals : refused ≡ stopped_in shifts
+  pub refusals : refused ≡ stop_count shifts
   -- no call is refused below the room
   pub within_room : length history < room → refused ≡ 0
 
@@ -126,7 +127,7 @@ pub record IsDrillOnInput (start workers room : ℕ) (ended : Result Outcome Dri
   pub front : OnErr ended (Keeps held holds ⊎ WroteDrillFront start workers room input held holds)
 
 -- all that is known about how a drill ended
-pub record Drilled (start workers room : ℕ) (ended : Result Outcome DriveError) (io : Streams) : Type 0 where
+pub record DrillEnded (start workers room : ℕ) (ended : Result Outcome DriveError) (io : Streams) : Type 0 where
   pub input : IsDrillOnInput start workers room ended io.had io.held io.holds
   pub read : OnOk ended (IfSome io.had (HasRead io.had io.left))
   -- the output that an error leaves; out of memory it is never the whole text

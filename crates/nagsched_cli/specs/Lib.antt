@@ -1,8 +1,9 @@
+pub mod Arguments
 pub mod Check
 pub mod CheckResumed
-pub mod Checked
+pub mod CheckEnded
 pub mod Drill
 pub mod Reading
 pub mod Session
 pub mod ScriptedCodes
-pub mod Examined
+pub mod SetupReading

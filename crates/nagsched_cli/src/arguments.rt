@@ -1,6 +1,6 @@
 //! The jobs that the program's arguments can ask for. The module `job` reads the arguments.
 
-use check_script::Start;
+use nagsched_protocol::Start;
 use std::alloc::AllocError;
 use thiserror::Error;
 
@@ -54,7 +54,7 @@ pub enum WordsError {
 
 impl From<AllocError> for WordsError {
     ghost use Rattle.std.specs.Prelude.{◌≡◌};
-    ghost use Rattle.check_words.specs.declared.words.WordsError.TheVariants.{Memory};
+    ghost use Rattle.nagsched_cli.specs.declared.arguments.WordsError.TheVariants.{Memory};
 
     ghost from_gives = { λ _ e. e ≡ Memory };
 

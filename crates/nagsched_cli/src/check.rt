@@ -1,35 +1,35 @@
 //! A check: reads a setup, and a saved state where there is to be one, and reports what is in them, or why
 //! one of the two is refused.
+
 ghost use Rattle.std.specs.Prelude.{◌≡◌, ◌≤◌, ℕ, List, Ok, IfOk, IfErr, option_map};
 ghost use Rattle.serde_json.specs.View.{view};
-ghost use Rattle.check_drafts.specs.Fault.{seen};
-ghost use Rattle.check_explain.specs.Explanation.{tree_or_null};
+ghost use Rattle.setup_model.specs.Fault.{view_of};
+ghost use Rattle.setup_diagnostics.specs.Explanation.{tree_or_null};
 ghost use Rattle.check_objects.specs.Configuration.{Configuration};
-ghost use Rattle.check_objects.specs.Setup.{document_of};
-ghost use Rattle.check_session.specs.Check.{IsFaultTold, IsGood, IsLineTold, IsSummaryTold, IsTold};
-ghost use Rattle.check_session.specs.Checked.{Checked, IsSetupLineTold, IsToldFrom};
-ghost use Rattle.check_session.specs.Reading.{read_for, read_of};
-ghost use Rattle.check_session.specs.Examined.{IsExamined};
-ghost use Rattle.check_script.specs.Start.{CanStart};
-ghost use Rattle.check_drive.specs.Streams.{streams};
+ghost use Rattle.check_objects.specs.Setup.{document_tree};
+ghost use Rattle.nagsched_cli.specs.Check.{IsFaultReport, IsGood, IsLineReport, IsSummaryReport, IsDocumentReport};
+ghost use Rattle.nagsched_cli.specs.CheckEnded.{CheckEnded, IsSetupLineReport, IsReportFrom};
+ghost use Rattle.nagsched_cli.specs.Reading.{check_input_of, document_input_of};
+ghost use Rattle.nagsched_cli.specs.SetupReading.{IsSetupReading};
+ghost use Rattle.nagsched_protocol.specs.Start.{CanStart};
+ghost use Rattle.nagsched_run.specs.Streams.{streams};
 
-use crate::check_resumed::tell_resumed;
+use crate::check_resumed::render_resumed_input;
 use crate::printing::print_text;
-use crate::reading::{MAX_CHECKED_BYTES, document, read_checked, read_input};
-use check_drive::drive::Outcome;
-use check_explain::{explain, write_line};
+use crate::reading::{MAX_DOCUMENT_INPUT, document, read_document_input, read_input};
 use check_objects::{Fault, LoadError, Setup, read_document};
 use check_sched::LAST_MOMENT;
-use check_script::{DriveError, InputRefusal, Start};
-use check_summary::{Summary, push_summary};
-use check_text::push_refusal;
+use nagsched_protocol::{DriveError, InputRefusal, Start, push_refusal};
+use nagsched_run::drive::Outcome;
 use serde_json::Value;
+use setup_diagnostics::{compact_document, explain};
+use setup_summary::{Summary, push_summary};
 use std::alloc::{AllocError, Global};
 use std::io::{Read, Write};
 
 /// What is reported of a document.
 #[derive(Drop)]
-pub(crate) struct Told {
+pub(crate) struct Report {
     pub(crate) text: Vec<u8>,
     pub(crate) outcome: Outcome,
 }
@@ -57,15 +57,15 @@ pub fn check<R: Read, W: Write>(
     writer: &mut W,
 ) -> Result<Outcome, DriveError>
     requires { CanStart start }
-    ensures checked { Checked (IsToldFrom start) (read_for start) result
+    ensures ending { CheckEnded (IsReportFrom start) (check_input_of start) result
         (streams (R.remaining reader.old) (R.remaining reader.new)
         (W.contents writer.old) (W.contents writer.new)) }
-    ensures limit { MAX_CHECKED_BYTES ≡ 16777217 }
+    ensures limit { MAX_DOCUMENT_INPUT ≡ 16777217 }
 {
     let input = read_input(alloc, start, reader)?;
-    let told = tell(alloc, start, &input)?;
-    print_text(writer, &told.text)?;
-    Ok(told.outcome)
+    let report = render_input(alloc, start, &input)?;
+    print_text(writer, &report.text)?;
+    Ok(report.outcome)
 }
 
 /// Reads one setup document, as [`check`] does, and writes it on one line, which is read to the same setup.
@@ -76,57 +76,57 @@ pub fn write_setup_line<R: Read, W: Write>(
     reader: &mut R,
     writer: &mut W,
 ) -> Result<Outcome, DriveError>
-    ensures { Checked IsSetupLineTold read_of result
+    ensures { CheckEnded IsSetupLineReport document_input_of result
         (streams (R.remaining reader.old) (R.remaining reader.new)
         (W.contents writer.old) (W.contents writer.new)) }
 {
-    let input = read_checked(alloc, reader)?;
-    let told = tell_line(alloc, document(&input))?;
-    print_text(writer, &told.text)?;
-    Ok(told.outcome)
+    let input = read_document_input(alloc, reader)?;
+    let report = render_line(alloc, document(&input))?;
+    print_text(writer, &report.text)?;
+    Ok(report.outcome)
 }
 
 /// What is to be printed of an input. An Err is `Memory`.
-fn tell(alloc: Global, start: Start, input: &[u8]) -> Result<Told, DriveError>
+fn render_input(alloc: Global, start: Start, input: &[u8]) -> Result<Report, DriveError>
     requires { CanStart start }
-    ensures told { IfOk result (λ told.
-        IsToldFrom start input.now told.text.items told.outcome) }
+    ensures report { IfOk result (λ report.
+        IsReportFrom start input.now report.text.items report.outcome) }
     ensures kind { IfErr result (λ e. e ≡ DriveError.Memory) }
 {
     match start {
-        Start::Fresh(moment) => tell_document(alloc, moment, document(input)),
-        Start::Resumed(moment) => tell_resumed(alloc, moment, input),
+        Start::Fresh(moment) => render_document(alloc, moment, document(input)),
+        Start::Resumed(moment) => render_resumed_input(alloc, moment, input),
     }
 }
 
 /// What is to be printed of a document. An Err is `Memory`.
-fn tell_document(alloc: Global, start: u64, document: &[u8]) -> Result<Told, DriveError>
+fn render_document(alloc: Global, start: u64, document: &[u8]) -> Result<Report, DriveError>
     requires start { start ≤ LAST_MOMENT }
-    ensures told { IfOk result (λ told.
-        IsTold start document.now told.text.items told.outcome) }
+    ensures report { IfOk result (λ report.
+        IsDocumentReport start document.now report.text.items report.outcome) }
     ensures kind { IfErr result (λ e. e ≡ DriveError.Memory) }
 {
-    match examine(alloc, document)? {
-        Examined::Good { setup, .. } => Ok(tell_summary(alloc, start, &setup)?),
-        Examined::Refused(told) => Ok(told),
+    match read_with_fault(alloc, document)? {
+        SetupReading::Good { setup, .. } => Ok(render_summary(alloc, start, &setup)?),
+        SetupReading::Refused(report) => Ok(report),
     }
 }
 
 /// The line of a document, or why there is none. An Err is `Memory`.
-fn tell_line(alloc: Global, document: &[u8]) -> Result<Told, DriveError>
-    ensures told { IfOk result (λ told.
-        IsLineTold document.now told.text.items told.outcome) }
+fn render_line(alloc: Global, document: &[u8]) -> Result<Report, DriveError>
+    ensures report { IfOk result (λ report.
+        IsLineReport document.now report.text.items report.outcome) }
     ensures kind { IfErr result (λ e. e ≡ DriveError.Memory) }
 {
-    match examine(alloc, document)? {
-        Examined::Good { tree, .. } => tell_tree(alloc, &tree),
-        Examined::Refused(told) => Ok(told),
+    match read_with_fault(alloc, document)? {
+        SetupReading::Good { tree, .. } => render_tree(alloc, &tree),
+        SetupReading::Refused(report) => Ok(report),
     }
 }
 
 /// A setup document that was examined.
 #[derive(Drop)]
-pub(crate) enum Examined {
+pub(crate) enum SetupReading {
     /// Its setup and its tree.
     Good {
         /// The setup.
@@ -135,83 +135,83 @@ pub(crate) enum Examined {
         tree: Value,
     },
     /// What is to be printed of its refusal.
-    Refused(Told),
+    Refused(Report),
 }
 
 /// The setup of a document, or what is to be printed of its refusal. An Err is `Memory`.
-pub(crate) fn examine(alloc: Global, document: &[u8]) -> Result<Examined, DriveError>
-    ensures examined { IfOk result (IsExamined document.now) }
+pub(crate) fn read_with_fault(alloc: Global, document: &[u8]) -> Result<SetupReading, DriveError>
+    ensures reading { IfOk result (IsSetupReading document.now) }
     ensures kind { IfErr result (λ e. e ≡ DriveError.Memory) }
 {
     match read_document(alloc, document) {
-        Ok(tree) => examine_tree(alloc, tree),
+        Ok(tree) => read_tree_with_fault(alloc, tree),
         Err(Fault::Memory) => Err(DriveError::Memory),
-        Err(fault) => Ok(Examined::Refused(tell_refusal(alloc, None, fault)?)),
+        Err(fault) => Ok(SetupReading::Refused(render_refusal(alloc, None, fault)?)),
     }
 }
 
 /// The setup of a tree, or what is to be printed of its refusal. An Err is `Memory`.
-fn examine_tree(alloc: Global, tree: Value) -> Result<Examined, DriveError>
-    ensures examined { IfOk result (λ examined. (document : List ℕ)
-        → document_of document ≡ Ok (view tree) → IsExamined document examined) }
+fn read_tree_with_fault(alloc: Global, tree: Value) -> Result<SetupReading, DriveError>
+    ensures reading { IfOk result (λ reading. (document : List ℕ)
+        → document_tree document ≡ Ok (view tree) → IsSetupReading document reading) }
     ensures kind { IfErr result (λ e. e ≡ DriveError.Memory) }
 {
-    match Setup::examine_tree(alloc, &tree) {
-        Ok(setup) => Ok(Examined::Good { setup, tree }),
+    match Setup::read_tree_with_fault(alloc, &tree) {
+        Ok(setup) => Ok(SetupReading::Good { setup, tree }),
         Err(Fault::Memory) => Err(DriveError::Memory),
-        Err(fault) => Ok(Examined::Refused(tell_refusal(alloc, Some(&tree), fault)?)),
+        Err(fault) => Ok(SetupReading::Refused(render_refusal(alloc, Some(&tree), fault)?)),
     }
 }
 
 /// The line of the document with this tree, or that the line is too long. An Err is `Memory`.
-fn tell_tree(alloc: Global, tree: &Value) -> Result<Told, DriveError>
-    ensures told { IfOk result (λ told. (document : List ℕ) (setup : Configuration)
+fn render_tree(alloc: Global, tree: &Value) -> Result<Report, DriveError>
+    ensures report { IfOk result (λ report. (document : List ℕ) (setup : Configuration)
         → IsGood document setup (view tree.now)
-        → IsLineTold document told.text.items told.outcome) }
+        → IsLineReport document report.text.items report.outcome) }
     ensures kind { IfErr result (λ e. e ≡ DriveError.Memory) }
 {
-    match write_line(alloc, tree) {
+    match compact_document(alloc, tree) {
         Ok(mut text) => {
             if text.push(b'\n').is_err() {
                 return Err(DriveError::Memory);
             }
-            Ok(Told {
+            Ok(Report {
                 text,
                 outcome: Outcome::Ran,
             })
         }
-        Err(Fault::TooLong) => Ok(tell_refusal(alloc, Some(tree), Fault::TooLong)?),
+        Err(Fault::TooLong) => Ok(render_refusal(alloc, Some(tree), Fault::TooLong)?),
         Err(_) => Err(DriveError::Memory),
     }
 }
 
 /// The figures of a setup.
-fn tell_summary(alloc: Global, start: u64, setup: &Setup) -> Result<Told, AllocError>
+fn render_summary(alloc: Global, start: u64, setup: &Setup) -> Result<Report, AllocError>
     requires start { start ≤ LAST_MOMENT }
-    ensures { IfOk result (λ told.
-        IsSummaryTold start setup.now told.text.items told.outcome) }
+    ensures { IfOk result (λ report.
+        IsSummaryReport start setup.now report.text.items report.outcome) }
 {
     let summary = Summary::of(alloc, setup, start)?;
     let mut text = String::new(alloc);
     push_summary(&mut text, &summary)?;
-    Ok(Told {
+    Ok(Report {
         text: text.into_bytes(),
         outcome: Outcome::Ran,
     })
 }
 
 /// The line of a refusal, and the line that explains it over the tree, if there is one.
-fn tell_refusal(alloc: Global, tree: Option<&Value>, fault: Fault) -> Result<Told, AllocError>
-    ensures { IfOk result (λ told.
-        IsFaultTold (tree_or_null (option_map (λ v. view v.now) tree.entry)) (seen fault)
-        told.text.items told.outcome) }
+fn render_refusal(alloc: Global, tree: Option<&Value>, fault: Fault) -> Result<Report, AllocError>
+    ensures { IfOk result (λ report.
+        IsFaultReport (tree_or_null (option_map (λ v. view v.now) tree.entry)) (view_of fault)
+        report.text.items report.outcome) }
 {
     let words = explain(alloc, tree, &fault)?;
     let mut text = String::new(alloc);
     push_refusal(&mut text, InputRefusal::Setup(LoadError::from(fault)))?;
     text.push_str(words.as_str())?;
     text.push_str("\n")?;
-    Ok(Told {
+    Ok(Report {
         text: text.into_bytes(),
         outcome: Outcome::Refused,
     })

@@ -1,24 +1,27 @@
 //! A drill: reads a setup, return codes and moments, lets many workers work on one scheduler, and
 //! writes the history that they made.
+
 ghost use Rattle.std.specs.Prelude.{◌≡◌, ◌<◌, ◌≤◌, OnOk, IfOk, IfErr, IfSome, length};
 ghost use Rattle.check_book.specs.Books.{entries_of, refused_of, sched_of};
-ghost use Rattle.check_session.specs.Drill.{AfterDrillFault, IsDrill, IsDrillOnInput, IsDrillWritten};
-ghost use Rattle.check_session.specs.Drill.{WroteDrill, WroteDrillShort, drill_outcome};
-ghost use Rattle.check_script.specs.DrillScript.{drill_script_of};
-ghost use Rattle.check_script.specs.DrillScripted.{drill_script};
-ghost use Rattle.check_drive.specs.Drive.{HasRead};
-ghost use Rattle.check_text.specs.Text.{drill_text, entry_line, total_line};
-ghost use Rattle.check_text.specs.Written.{IsLineWritten, IsTextWritten};
+ghost use Rattle.nagsched_cli.specs.Drill.{AfterDrillFault, IsDrill, IsDrillOnInput, IsDrillWritten};
+ghost use Rattle.nagsched_cli.specs.Drill.{WroteDrill, WroteDrillShort, drill_outcome};
+ghost use Rattle.nagsched_protocol.specs.DrillScript.{drill_script_of};
+ghost use Rattle.nagsched_protocol.specs.DrillScripted.{drill_script};
+ghost use Rattle.nagsched_run.specs.Drive.{HasRead};
+ghost use Rattle.nagsched_protocol.specs.Text.{drill_text, entry_line, total_line};
+ghost use Rattle.nagsched_protocol.specs.Written.{IsLineWritten, IsTextWritten};
 
-use crate::scripted::Scripted;
+use crate::scripted_plugin::ScriptedPlugin;
 use check_book::Book;
 use check_desk::Desk;
-use check_drive::drive::Outcome;
 use check_objects::Setup;
 use check_sched::{Call, LAST_MOMENT, Reply};
-use check_script::{DrillScript, DriveError, MAX_INPUT_BYTES, MAX_READ_BYTES, read_at_most};
-use check_text::{flush, push_entry, push_total, write_refusal, write_text};
 use check_workers::crew;
+use nagsched_protocol::{
+    DrillScript, DriveError, MAX_INPUT_BYTES, MAX_READ_BYTES, flush, push_entry, push_total,
+    read_at_most, write_refusal, write_text,
+};
+use nagsched_run::drive::Outcome;
 use std::alloc::Global;
 use std::io::{Read, Write};
 use std::sync::Wait;
@@ -75,7 +78,7 @@ pub fn drill<H: Threads + Wait + Sync, R: Read, W: Write>(
 }
 
 /// Writes the text of an input that was read.
-#[tactic(auto, unfolding(check_script::specs::DrillScript::drill_script_of))]
+#[tactic(auto, unfolding(nagsched_protocol::specs::DrillScript::drill_script_of))]
 fn answer<H: Threads + Wait + Sync, W: Write>(
     rt: &H,
     alloc: Global,
@@ -114,7 +117,7 @@ fn work_all<H: Threads + Wait + Sync>(
 ) -> Result<Book, DriveError>
     requires start { start ≤ LAST_MOMENT }
     requires workers { (0 < workers) × (workers ≤ 64) }
-    requires few { length script.moments.items ≤ MAX_INPUT_BYTES }
+    requires bounded { length script.moments.items ≤ MAX_INPUT_BYTES }
     ensures drill { IfOk result (λ book. IsDrill (drill_script script) start workers room
         (entries_of book) (refused_of book)) }
     ensures setup { IfOk result (λ book. (sched_of book).setup ≡ script.setup) }
@@ -131,7 +134,7 @@ fn work_all<H: Threads + Wait + Sync>(
     let Ok((desk, passes)) = Desk::open(alloc, book, workers) else {
         return Err(DriveError::Memory);
     };
-    match crew(rt, alloc, desk, passes, &Scripted { codes }, &moments) {
+    match crew(rt, alloc, desk, passes, &ScriptedPlugin { codes }, &moments) {
         Ok((book, _tally)) => Ok(book),
         Err(_) => Err(DriveError::Memory),
     }
@@ -177,7 +180,7 @@ pub fn write_history<W: Write>(
 }
 
 /// Writes the line of an entry through the buffer `line`.
-#[tactic(auto, using(check_text::proofs::WrittenLemmas::line_written, check_text::proofs::WrittenLemmas::line_unwritten))]
+#[tactic(auto, using(nagsched_protocol::proofs::WrittenLemmas::line_written, nagsched_protocol::proofs::WrittenLemmas::line_unwritten))]
 fn write_entry<W: Write>(
     setup: &Setup,
     entry: &Entry<Call, Reply>,
@@ -193,7 +196,7 @@ fn write_entry<W: Write>(
 }
 
 /// Writes the total through the buffer `line`.
-#[tactic(auto, using(check_text::proofs::WrittenLemmas::line_written, check_text::proofs::WrittenLemmas::line_unwritten))]
+#[tactic(auto, using(nagsched_protocol::proofs::WrittenLemmas::line_written, nagsched_protocol::proofs::WrittenLemmas::line_unwritten))]
 fn write_total<W: Write>(
     entries: usize,
     refused: u64,

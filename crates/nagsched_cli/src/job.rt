@@ -1,25 +1,27 @@
 //! Reads the program's arguments with `clap`. This crate doesn't do the jobs that they ask for.
+
 ghost use Rattle.std.specs.Prelude.{◌≡◌, ◌≤◌, ◌^◌, if◌then◌else◌, Some, [], false, option_map, IfOk, OnOk, IfErr, IfSome, string_bytes};
 ghost use Rattle.clap.specs.declared.builder.command.Command.TheViews.{out-Command};
 ghost use Rattle.clap.specs.Words.{app_of, fault_of, kind_of, new_app, rows_of, rule_of, found_of, subcommand_rows_of};
 ghost use Rattle.clap.specs.Walk.{texts};
-ghost use Rattle.check_words.specs.Words.{program, run_subcommand, live_subcommand, check_subcommand, drill_subcommand, schema_subcommand};
-ghost use Rattle.check_words.specs.Words.{number_option, open_start_option, opener};
-ghost use Rattle.check_words.specs.Words.{flag, flag_of, resume_of};
-ghost use Rattle.check_script.specs.Start.{CanStart};
-ghost use Rattle.check_words.specs.Words.{check_from, open_start_of, scheduler_start_of, start_by, start_from};
-ghost use Rattle.check_words.specs.Words.{job_asked, job_of, run_of, live_of, check_of, drill_of, start_of, workers_of, room_of};
-ghost use Rattle.check_words.specs.Words.{number_of, number_between, Explains, IsWithinLimits, Reads, Tells, version_line};
+ghost use Rattle.nagsched_cli.specs.Arguments.{program, run_subcommand, live_subcommand, check_subcommand, drill_subcommand, schema_subcommand};
+ghost use Rattle.nagsched_cli.specs.Arguments.{number_option, optional_start_option, subcommand_with_start};
+ghost use Rattle.nagsched_cli.specs.Arguments.{flag_argument, has_flag, has_resume_flag};
+ghost use Rattle.nagsched_protocol.specs.Start.{CanStart};
+ghost use Rattle.nagsched_cli.specs.Arguments.{check_job, optional_start_of, scheduler_start_of, start_of_text, start_from};
+ghost use Rattle.nagsched_cli.specs.Arguments.{requested_job, job_of, run_job_of, live_job_of, check_job_of, drill_job_of, drill_start_of, drill_workers_of};
+ghost use Rattle.nagsched_cli.specs.Arguments.{drill_room_of};
+ghost use Rattle.nagsched_cli.specs.Arguments.{option_number, number_between, Explains, IsWithinLimits, IsExpectedJob, IsErrorFor, version_line};
 
+use crate::arguments::{Job, VERSION, WordsError};
 use crate::help::{
     ABOUT_CHECK_RESUME, ABOUT_LINE, ABOUT_OPEN_START, ABOUT_RESUME, ABOUT_ROOM, ABOUT_START,
     ABOUT_WORKERS, HELP, HELP_CHECK, HELP_DRILL, HELP_LIVE, HELP_RUN, HELP_SCHEMA, Help,
 };
-use crate::words::{Job, VERSION, WordsError};
 use check_sched::LAST_MOMENT;
-use check_script::Start;
 use clap::error::ErrorKind;
 use clap::{Arg, ArgAction, ArgMatches, Command};
+use nagsched_protocol::Start;
 use std::alloc::{AllocError, Global};
 
 /// The most workers that a drill may have.
@@ -47,14 +49,14 @@ const MAX_ROOM: u64 = 1_000_000;
 /// - `Refused`: the arguments ask for nothing that there is.
 /// - `Memory`: out of memory.
 pub fn job(alloc: Global, words: &[&str]) -> Result<Job, WordsError>
-    ensures asked { IfOk result (λ job. job_asked (texts words.now) ≡ Some job) }
+    ensures request { IfOk result (λ job. requested_job (texts words.now) ≡ Some job) }
     ensures faultless { OnOk result (fault_of program (texts words.now) ≡ []) }
     ensures limits { IfOk result IsWithinLimits }
     ensures errors { IfErr result (Explains (texts words.now)) }
 {
     match build_program(alloc)?.try_get_matches_from(words) {
         Ok(matches) => read_job(&matches),
-        Err(error) => Err(explain(alloc, &error)),
+        Err(error) => Err(words_error_of(alloc, &error)),
     }
 }
 
@@ -62,7 +64,7 @@ pub fn job(alloc: Global, words: &[&str]) -> Result<Job, WordsError>
 fn build_program<'a>(alloc: Global) -> Result<Command<'a>, AllocError>
     ensures { IfOk result (λ c. app_of c ≡ program) }
 {
-    begin(alloc, "nagsched", HELP)
+    new_command(alloc, "nagsched", HELP)
         .version(VERSION)
         .subcommand(build_run(alloc)?)?
         .subcommand(build_live(alloc)?)?
@@ -76,7 +78,7 @@ fn build_run<'a>(alloc: Global) -> Result<Command<'a>, AllocError>
     ensures { IfOk result (λ c.
         (app_of c ≡ run_subcommand) × ((out-Command c).has_globals ≡ false)) }
 {
-    build_opener(alloc, "run", HELP_RUN, ABOUT_RESUME)
+    build_with_start(alloc, "run", HELP_RUN, ABOUT_RESUME)
 }
 
 /// The subcommand `live`.
@@ -84,7 +86,7 @@ fn build_live<'a>(alloc: Global) -> Result<Command<'a>, AllocError>
     ensures { IfOk result (λ c.
         (app_of c ≡ live_subcommand) × ((out-Command c).has_globals ≡ false)) }
 {
-    build_opener(alloc, "live", HELP_LIVE, ABOUT_RESUME)
+    build_with_start(alloc, "live", HELP_LIVE, ABOUT_RESUME)
 }
 
 /// The subcommand `check`.
@@ -92,25 +94,25 @@ fn build_check<'a>(alloc: Global) -> Result<Command<'a>, AllocError>
     ensures { IfOk result (λ c.
         (app_of c ≡ check_subcommand) × ((out-Command c).has_globals ≡ false)) }
 {
-    build_opener(alloc, "check", HELP_CHECK, ABOUT_CHECK_RESUME)?.arg(flag(
+    build_with_start(alloc, "check", HELP_CHECK, ABOUT_CHECK_RESUME)?.arg(flag_argument(
         alloc, "line", ABOUT_LINE,
     ))
 }
 
 /// A subcommand of this name, with the option `--start` and the flag `--resume`, and with these help
 /// texts.
-fn build_opener<'a>(
+fn build_with_start<'a>(
     alloc: Global,
     name: &'a str,
     help: Help,
     about_resume: &'a str,
 ) -> Result<Command<'a>, AllocError>
     ensures { IfOk result (λ c.
-        (app_of c ≡ opener name.now) × ((out-Command c).has_globals ≡ false)) }
+        (app_of c ≡ subcommand_with_start name.now) × ((out-Command c).has_globals ≡ false)) }
 {
-    begin(alloc, name, help)
-        .arg(open_start_option(alloc))?
-        .arg(flag(alloc, "resume", about_resume))
+    new_command(alloc, name, help)
+        .arg(optional_start_option(alloc))?
+        .arg(flag_argument(alloc, "resume", about_resume))
 }
 
 /// The subcommand `drill`.
@@ -118,7 +120,7 @@ fn build_drill<'a>(alloc: Global) -> Result<Command<'a>, AllocError>
     ensures { IfOk result (λ c.
         (app_of c ≡ drill_subcommand) × ((out-Command c).has_globals ≡ false)) }
 {
-    begin(alloc, "drill", HELP_DRILL)
+    new_command(alloc, "drill", HELP_DRILL)
         .arg(number_option(alloc, "start", "0", ABOUT_START))?
         .arg(number_option(alloc, "workers", "2", ABOUT_WORKERS))?
         .arg(number_option(alloc, "room", "1000", ABOUT_ROOM))
@@ -129,11 +131,11 @@ fn build_schema<'a>(alloc: Global) -> Command<'a>
     ensures app { app_of result ≡ schema_subcommand }
     ensures local { (out-Command result).has_globals ≡ false }
 {
-    begin(alloc, "schema", HELP_SCHEMA)
+    new_command(alloc, "schema", HELP_SCHEMA)
 }
 
 /// The program or a subcommand, by its name and its help, without arguments of its own.
-fn begin<'a>(alloc: Global, name: &'a str, help: Help) -> Command<'a>
+fn new_command<'a>(alloc: Global, name: &'a str, help: Help) -> Command<'a>
     ensures app { app_of result ≡ new_app name.now }
     ensures local { (out-Command result).has_globals ≡ false }
 {
@@ -143,8 +145,8 @@ fn begin<'a>(alloc: Global, name: &'a str, help: Help) -> Command<'a>
 }
 
 /// The option `--start N` of `run`, `live` and `check`.
-fn open_start_option<'a>(alloc: Global) -> Arg<'a>
-    ensures rule { rule_of result ≡ open_start_option }
+fn optional_start_option<'a>(alloc: Global) -> Arg<'a>
+    ensures rule { rule_of result ≡ optional_start_option }
     ensures local { result.global ≡ false }
 {
     Arg::new(alloc, "start")
@@ -154,8 +156,8 @@ fn open_start_option<'a>(alloc: Global) -> Arg<'a>
 }
 
 /// The flag `--name`, with this help text.
-fn flag<'a>(alloc: Global, name: &'a str, about: &'a str) -> Arg<'a>
-    ensures rule { rule_of result ≡ flag name.now }
+fn flag_argument<'a>(alloc: Global, name: &'a str, about: &'a str) -> Arg<'a>
+    ensures rule { rule_of result ≡ flag_argument name.now }
     ensures local { result.global ≡ false }
 {
     Arg::new(alloc, name)
@@ -178,7 +180,7 @@ fn number_option<'a>(alloc: Global, name: &'a str, otherwise: &'a str, about: &'
 
 /// The job that was read.
 fn read_job(matches: &ArgMatches<'_>) -> Result<Job, WordsError>
-    ensures asked { Reads result (job_of (subcommand_rows_of matches.now)) }
+    ensures request { IsExpectedJob result (job_of (subcommand_rows_of matches.now)) }
     ensures limits { IfOk result IsWithinLimits }
 {
     match matches.subcommand() {
@@ -196,7 +198,7 @@ fn read_job(matches: &ArgMatches<'_>) -> Result<Job, WordsError>
 
 /// The job of `run` with these options.
 fn read_run(options: &ArgMatches<'_>) -> Option<Job>
-    ensures asked { result ≡ run_of (rows_of (found_of options.now)) }
+    ensures request { result ≡ run_job_of (rows_of (found_of options.now)) }
     ensures limits { IfSome result IsWithinLimits }
 {
     Some(Job::Run {
@@ -206,7 +208,7 @@ fn read_run(options: &ArgMatches<'_>) -> Option<Job>
 
 /// The job of `live` with these options.
 fn read_live(options: &ArgMatches<'_>) -> Option<Job>
-    ensures asked { result ≡ live_of (rows_of (found_of options.now)) }
+    ensures request { result ≡ live_job_of (rows_of (found_of options.now)) }
     ensures limits { IfSome result IsWithinLimits }
 {
     Some(Job::Live {
@@ -216,16 +218,16 @@ fn read_live(options: &ArgMatches<'_>) -> Option<Job>
 
 /// The job of `check` with these options.
 fn read_check(options: &ArgMatches<'_>) -> Option<Job>
-    ensures asked { result ≡ check_of (rows_of (found_of options.now)) }
+    ensures request { result ≡ check_job_of (rows_of (found_of options.now)) }
     ensures limits { IfSome result IsWithinLimits }
 {
     let start = read_scheduler_start(options)?;
-    check_from(read_flag(options, "line"), start)
+    check_job(has_flag(options, "line"), start)
 }
 
 /// The job of `check` with this flag `--line` and this start, if the two can be combined.
-fn check_from(line: bool, start: Start) -> Option<Job>
-    ensures asked { result ≡ check_from line start }
+fn check_job(line: bool, start: Start) -> Option<Job>
+    ensures request { result ≡ check_job line start }
     ensures limits { CanStart start → IfSome result IsWithinLimits }
 {
     match (line, start) {
@@ -240,8 +242,8 @@ fn read_scheduler_start(options: &ArgMatches<'_>) -> Option<Start>
     ensures value { result ≡ scheduler_start_of (rows_of (found_of options.now)) }
     ensures limits { IfSome result CanStart }
 {
-    let moment = read_open_start(options)?;
-    Some(start_from(is_resumed(options), moment))
+    let moment = read_optional_start(options)?;
+    Some(start_from(has_resume_flag(options), moment))
 }
 
 /// How a scheduler starts with this flag `--resume` and this moment.
@@ -258,7 +260,7 @@ fn start_from(resumes: bool, moment: Option<u64>) -> Start
 
 /// The job of `drill` with these options.
 fn read_drill(options: &ArgMatches<'_>) -> Option<Job>
-    ensures asked { result ≡ drill_of (rows_of (found_of options.now)) }
+    ensures request { result ≡ drill_job_of (rows_of (found_of options.now)) }
     ensures limits { IfSome result IsWithinLimits }
 {
     Some(Job::Drill {
@@ -270,7 +272,7 @@ fn read_drill(options: &ArgMatches<'_>) -> Option<Job>
 
 /// The number of the option `--start`, if a scheduler may start then.
 fn read_start(options: &ArgMatches<'_>) -> Option<u64>
-    ensures value { result ≡ start_of (rows_of (found_of options.now)) }
+    ensures value { result ≡ drill_start_of (rows_of (found_of options.now)) }
     ensures limits { IfSome result (λ start. start ≤ 2 ^ 60) }
 {
     read_number(options, "start", 0, LAST_MOMENT)
@@ -278,17 +280,17 @@ fn read_start(options: &ArgMatches<'_>) -> Option<u64>
 
 /// The number of the option `--start` of `run`, `live` and `check`. None if a scheduler may not start
 /// then, and `Some(None)` if the option isn't given.
-fn read_open_start(options: &ArgMatches<'_>) -> Option<Option<u64>>
-    ensures value { result ≡ open_start_of (rows_of (found_of options.now)) }
+fn read_optional_start(options: &ArgMatches<'_>) -> Option<Option<u64>>
+    ensures value { result ≡ optional_start_of (rows_of (found_of options.now)) }
     ensures limits { IfSome result (λ start. IfSome start (λ moment. moment ≤ 2 ^ 60)) }
 {
-    start_by(options.get_str("start"))
+    start_of_text(options.get_str("start"))
 }
 
 /// The start that the text of the option `--start` gives. None if a scheduler may not start then, and
 /// `Some(None)` if there is no text.
-fn start_by(text: Option<&str>) -> Option<Option<u64>>
-    ensures value { result ≡ start_by (option_map (λ t. t.now) text.entry) }
+fn start_of_text(text: Option<&str>) -> Option<Option<u64>>
+    ensures value { result ≡ start_of_text (option_map (λ t. t.now) text.entry) }
     ensures limits { IfSome result (λ start. IfSome start (λ moment. moment ≤ 2 ^ 60)) }
 {
     match text {
@@ -298,15 +300,15 @@ fn start_by(text: Option<&str>) -> Option<Option<u64>>
 }
 
 /// Whether the flag `--resume` was given.
-fn is_resumed(options: &ArgMatches<'_>) -> bool
-    ensures { result ≡ resume_of (rows_of (found_of options.now)) }
+fn has_resume_flag(options: &ArgMatches<'_>) -> bool
+    ensures { result ≡ has_resume_flag (rows_of (found_of options.now)) }
 {
-    read_flag(options, "resume")
+    has_flag(options, "resume")
 }
 
 /// Whether a flag was given.
-fn read_flag(options: &ArgMatches<'_>, name: &str) -> bool
-    ensures { result ≡ flag_of name.now (rows_of (found_of options.now)) }
+fn has_flag(options: &ArgMatches<'_>, name: &str) -> bool
+    ensures { result ≡ has_flag name.now (rows_of (found_of options.now)) }
 {
     match options.get_str(name) {
         Some(text) => text == "true",
@@ -316,7 +318,7 @@ fn read_flag(options: &ArgMatches<'_>, name: &str) -> bool
 
 /// The number of the option `--workers`, if a drill may have this many.
 fn read_workers(options: &ArgMatches<'_>) -> Option<u32>
-    ensures value { result ≡ workers_of (rows_of (found_of options.now)) }
+    ensures value { result ≡ drill_workers_of (rows_of (found_of options.now)) }
     ensures limits { IfSome result (λ workers. (1 ≤ workers) × (workers ≤ 64)) }
 {
     let workers = read_number(options, "workers", 1, MAX_WORKERS)?;
@@ -325,7 +327,7 @@ fn read_workers(options: &ArgMatches<'_>) -> Option<u32>
 
 /// The number of the option `--room`, if a drill may have that room.
 fn read_room(options: &ArgMatches<'_>) -> Option<usize>
-    ensures value { result ≡ room_of (rows_of (found_of options.now)) }
+    ensures value { result ≡ drill_room_of (rows_of (found_of options.now)) }
     ensures limits { IfSome result (λ room. room ≤ 1000000) }
 {
     let room = read_number(options, "room", 0, MAX_ROOM)?;
@@ -334,7 +336,7 @@ fn read_room(options: &ArgMatches<'_>) -> Option<usize>
 
 /// The number of an option, if it is within these limits.
 fn read_number(options: &ArgMatches<'_>, name: &str, least: u64, most: u64) -> Option<u64>
-    ensures value { result ≡ number_of name.now least most (rows_of (found_of options.now)) }
+    ensures value { result ≡ option_number name.now least most (rows_of (found_of options.now)) }
     ensures limits { IfSome result (λ number. (least ≤ number) × (number ≤ most)) }
 {
     parse_number(options.get_str(name)?, least, most)
@@ -353,8 +355,8 @@ fn parse_number(text: &str, least: u64, most: u64) -> Option<u64>
 }
 
 /// The meaning of an error of `clap` for the arguments.
-fn explain(alloc: Global, error: &clap::Error) -> WordsError
-    ensures { Tells (kind_of error.now) result }
+fn words_error_of(alloc: Global, error: &clap::Error) -> WordsError
+    ensures { IsErrorFor (kind_of error.now) result }
 {
     match error.kind() {
         ErrorKind::OutOfMemory => WordsError::Memory,

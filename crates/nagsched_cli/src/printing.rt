@@ -1,10 +1,10 @@
 //! Prints the whole text of a job, and flushes it.
+
 ghost use Rattle.std.specs.Prelude.{IsOkUnless, OnErr, OnOk};
 ghost use Rattle.std.specs.Io.KnownBytes.{Appends};
-ghost use Rattle.check_text.specs.Output.{WroteFront};
+ghost use Rattle.nagsched_protocol.specs.Output.{WroteFront};
 
-use check_script::DriveError;
-use check_text::{flush, write_text};
+use nagsched_protocol::{DriveError, flush, write_text};
 use std::io::Write;
 
 /// Writes a text and flushes it. The error is `Write`, and a prefix of the text was written then.

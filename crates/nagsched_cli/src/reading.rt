@@ -1,54 +1,58 @@
 //! Reads the input of a check, and finds the document in it.
-ghost use Rattle.std.specs.Prelude.{◌≡◌, ◌≢◌, IfOk, IfErr, IfSome};
-ghost use Rattle.check_script.specs.Input.{HasBegun, HasBegunBy, without_last_feed};
-ghost use Rattle.check_session.specs.Reading.{is_undecided, read_for, read_of};
 
-use check_script::{DriveError, MAX_READ_BYTES, Start, read_at_most};
+ghost use Rattle.std.specs.Prelude.{◌≡◌, ◌≢◌, IfOk, IfErr, IfSome};
+ghost use Rattle.nagsched_protocol.specs.Input.{HasStartedReading, HasStartedReadingBy, without_last_feed};
+ghost use Rattle.nagsched_cli.specs.Reading.{is_full_with_feed, check_input_of, document_input_of};
+
+use nagsched_protocol::{DriveError, MAX_READ_BYTES, Start, read_at_most};
 use std::alloc::Global;
 use std::io::Read;
 
 /// The most bytes of a document that are read at first: one more than it may have. So a longer document
 /// is known to be too long.
-pub const MAX_CHECKED_BYTES: usize = 16_777_217;
+pub const MAX_DOCUMENT_INPUT: usize = 16_777_217;
 
 /// Reads the part of its input that a check needs: of a document alone, or of the input of a run that
-/// starts from a saved state. The errors are those of [`read_checked`].
+/// starts from a saved state. The errors are those of [`read_document_input`].
 pub(crate) fn read_input<R: Read>(
     alloc: Global,
     start: Start,
     reader: &mut R,
 ) -> Result<Vec<u8>, DriveError>
     ensures all { IfOk result (λ input.
-        IfSome (R.remaining reader.old) (λ bytes. input.items ≡ read_for start bytes)) }
+        IfSome (R.remaining reader.old) (λ bytes. input.items ≡ check_input_of start bytes)) }
     ensures left { IfOk result (λ input.
-        HasBegunBy (R.remaining reader.old) (R.remaining reader.new) input.items) }
+        HasStartedReadingBy (R.remaining reader.old) (R.remaining reader.new) input.items) }
     ensures errors { IfErr result (λ e. e ≢ DriveError.Write) }
     ensures memory { IfErr result (λ e. e ≡ DriveError.Memory
-        → HasBegun (R.remaining reader.old) (R.remaining reader.new)) }
+        → HasStartedReading (R.remaining reader.old) (R.remaining reader.new)) }
 {
     match start {
-        Start::Fresh(_) => read_checked(alloc, reader),
+        Start::Fresh(_) => read_document_input(alloc, reader),
         Start::Resumed(_) => read_at_most(alloc, reader, MAX_READ_BYTES),
     }
 }
 
-/// Reads to the end of the input or to `MAX_CHECKED_BYTES` bytes, whichever comes first. If the last of
+/// Reads to the end of the input or to `MAX_DOCUMENT_INPUT` bytes, whichever comes first. If the last of
 /// these bytes is a line feed, it reads one byte more: the line feed isn't part of the document if the
 /// input ends after it.
 ///
 /// Each error of the reader is a fault, an interruption too: nothing is tried again. `Memory` comes
 /// only if a byte was read, or if the reader had none.
-pub(crate) fn read_checked<R: Read>(alloc: Global, reader: &mut R) -> Result<Vec<u8>, DriveError>
+pub(crate) fn read_document_input<R: Read>(
+    alloc: Global,
+    reader: &mut R,
+) -> Result<Vec<u8>, DriveError>
     ensures all { IfOk result (λ input.
-        IfSome (R.remaining reader.old) (λ bytes. input.items ≡ read_of bytes)) }
+        IfSome (R.remaining reader.old) (λ bytes. input.items ≡ document_input_of bytes)) }
     ensures left { IfOk result (λ input.
-        HasBegunBy (R.remaining reader.old) (R.remaining reader.new) input.items) }
+        HasStartedReadingBy (R.remaining reader.old) (R.remaining reader.new) input.items) }
     ensures errors { IfErr result (λ e. e ≢ DriveError.Write) }
     ensures memory { IfErr result (λ e. e ≡ DriveError.Memory
-        → HasBegun (R.remaining reader.old) (R.remaining reader.new)) }
+        → HasStartedReading (R.remaining reader.old) (R.remaining reader.new)) }
 {
-    let mut input = read_at_most(alloc, reader, MAX_CHECKED_BYTES)?;
-    if is_undecided(&input) {
+    let mut input = read_at_most(alloc, reader, MAX_DOCUMENT_INPUT)?;
+    if is_full_with_feed(&input) {
         let behind = read_at_most(alloc, reader, 1)?;
         input.extend_from_slice(&behind)?;
     }
@@ -57,10 +61,10 @@ pub(crate) fn read_checked<R: Read>(alloc: Global, reader: &mut R) -> Result<Vec
 
 /// Whether these bytes are one more than a document may have and the last is a line feed. If the input
 /// ends after them, they hold a document. Otherwise the document is too long.
-fn is_undecided(read: &[u8]) -> bool
-    ensures { result ≡ is_undecided read.now }
+fn is_full_with_feed(read: &[u8]) -> bool
+    ensures { result ≡ is_full_with_feed read.now }
 {
-    read.len() == MAX_CHECKED_BYTES && document(read).len() < MAX_CHECKED_BYTES
+    read.len() == MAX_DOCUMENT_INPUT && document(read).len() < MAX_DOCUMENT_INPUT
 }
 
 /// The document of an input: its bytes without the line feed at their end, if they end with one.

@@ -1,18 +1,19 @@
 //! The plugin of a drill: it checks nothing, and returns the codes that its script gives.
+
 ghost use Rattle.std.specs.Prelude.{◌≡◌, map};
-ghost use Rattle.check_session.specs.ScriptedCodes.{code_of_run, scripted_code};
+ghost use Rattle.nagsched_cli.specs.ScriptedCodes.{code_of_run, scripted_code};
 
 use check_rules::Code;
 use check_workers::Plugin;
 
 /// A plugin that returns the codes of a script, at any moment.
 #[derive(Drop)]
-pub struct Scripted {
+pub struct ScriptedPlugin {
     /// The return codes of each object, by the object's number, in the order of its runs.
     pub codes: Vec<Vec<Code>>,
 }
 
-impl Scripted {
+impl ScriptedPlugin {
     /// The code that the check of the object returns under the number `run`. Run 1 returns the first of
     /// the object's codes, run 2 the second, and after the last code the first comes again. It is `Ok`
     /// for run 0, which no check has, for an object without codes, and for a number that no object has.
@@ -27,11 +28,11 @@ impl Scripted {
     }
 }
 
-impl Plugin for Scripted {
+impl Plugin for ScriptedPlugin {
     ghost use Rattle.std.specs.Prelude.{map};
-    ghost use Rattle.check_session.specs.Drill.{gives_scripted};
+    ghost use Rattle.nagsched_cli.specs.Drill.{returns_scripted};
 
-    ghost allows = { λ s. gives_scripted (map (λ list. list.items) s.codes.items) };
+    ghost allows = { λ s. returns_scripted (map (λ list. list.items) s.codes.items) };
 
     fn check(&self, object: u32, run: u64, _now: u64) -> Code {
         self.code(object, run)

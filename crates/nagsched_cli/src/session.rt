@@ -1,23 +1,24 @@
 //! Does the job that the program's arguments ask for, and gives the exit status.
+
 ghost use Rattle.std.specs.Prelude.{◌≡◌, codes, Result, OnOk, OnErr, IsOkUnless};
 ghost use Rattle.std.specs.Io.KnownBytes.{Appends};
 ghost use Rattle.clap.specs.Walk.{texts};
-ghost use Rattle.check_script.specs.declared.drive_error.DriveError.{DriveError};
-ghost use Rattle.check_session.specs.declared.session.Ending.{Ending};
-ghost use Rattle.check_text.specs.Output.{WroteFront};
-ghost use Rattle.check_drive.specs.Streams.{streams};
-ghost use Rattle.check_session.specs.Session.{exit_status, Ends, HasDone, IsSchemaTold, IsTextTold, Tells};
-ghost use Rattle.check_words.specs.Words.{IsWithinLimits};
+ghost use Rattle.nagsched_protocol.specs.declared.drive_error.DriveError.{DriveError};
+ghost use Rattle.nagsched_cli.specs.declared.session.Ending.{Ending};
+ghost use Rattle.nagsched_protocol.specs.Output.{WroteFront};
+ghost use Rattle.nagsched_run.specs.Streams.{streams};
+ghost use Rattle.nagsched_cli.specs.Session.{exit_status, SessionEnds, JobEnded, IsSchemaOutput, IsJobTextOutput, IsWordsOutput};
+ghost use Rattle.nagsched_cli.specs.Arguments.{IsWithinLimits};
 
+use crate::arguments::{Job, WordsError};
 use crate::check::{check, write_setup_line};
 use crate::drill::drill;
+use crate::job::job;
 use crate::printing::print_text;
-use check_drive::drive::{Outcome, run};
-use check_drive::live::live;
-use check_explain::write_schema;
-use check_script::DriveError;
-use check_words::job::job;
-use check_words::words::{Job, WordsError};
+use nagsched_protocol::DriveError;
+use nagsched_run::drive::{Outcome, run};
+use nagsched_run::live::live;
+use setup_diagnostics::json_schema;
 use std::alloc::Global;
 use std::io::{Read, Write};
 use std::sync::Wait;
@@ -28,7 +29,7 @@ use std::thread::Threads;
 pub enum Ending {
     /// The arguments were accepted, and the input was run or refused. Or the schema was written, which
     /// reads no input.
-    Drove(Outcome),
+    RunEnded(Outcome),
     /// The arguments asked for help or for the version, and it was written. The input wasn't read.
     Helped,
     /// The arguments were refused, and the line that says so was written. The input wasn't read.
@@ -54,7 +55,7 @@ pub fn session<H: Threads + Wait + Sync, R: Read, W: Write>(
     writer: &mut W,
 ) -> u8
     ensures { (ended : Result Ending DriveError) × (result ≡ exit_status ended)
-        × Ends (texts words.now) ended
+        × SessionEnds (texts words.now) ended
         (streams (R.remaining reader.old) (R.remaining reader.new)
         (W.contents writer.old) (W.contents writer.new)) }
 {
@@ -69,16 +70,16 @@ fn serve<H: Threads + Wait + Sync, R: Read, W: Write>(
     reader: &mut R,
     writer: &mut W,
 ) -> Result<Ending, DriveError>
-    ensures { Ends (texts words.now) result
+    ensures { SessionEnds (texts words.now) result
         (streams (R.remaining reader.old) (R.remaining reader.new)
         (W.contents writer.old) (W.contents writer.new)) }
 {
     match job(alloc, words) {
-        Ok(asked) => {
-            let outcome = do_job(rt, alloc, asked, reader, writer)?;
-            Ok(Ending::Drove(outcome))
+        Ok(request) => {
+            let outcome = do_job(rt, alloc, request, reader, writer)?;
+            Ok(Ending::RunEnded(outcome))
         }
-        Err(error) => tell_words(error, writer),
+        Err(error) => print_words_error(error, writer),
     }
 }
 
@@ -86,16 +87,16 @@ fn serve<H: Threads + Wait + Sync, R: Read, W: Write>(
 fn do_job<H: Threads + Wait + Sync, R: Read, W: Write>(
     rt: &H,
     alloc: Global,
-    asked: Job,
+    request: Job,
     reader: &mut R,
     writer: &mut W,
 ) -> Result<Outcome, DriveError>
-    requires { IsWithinLimits asked }
-    ensures { HasDone asked result
+    requires { IsWithinLimits request }
+    ensures { JobEnded request result
         (streams (R.remaining reader.old) (R.remaining reader.new)
         (W.contents writer.old) (W.contents writer.new)) }
 {
-    match asked {
+    match request {
         Job::Run { start } => run(alloc, start, reader, writer),
         Job::Live { start } => live(alloc, start, reader, writer),
         Job::Check { start } => check(alloc, start, reader, writer),
@@ -105,32 +106,32 @@ fn do_job<H: Threads + Wait + Sync, R: Read, W: Write>(
             workers,
             room,
         } => drill(rt, alloc, start, workers, room, reader, writer),
-        Job::Schema => tell_schema(alloc, writer),
+        Job::Schema => print_schema(alloc, writer),
     }
 }
 
 /// Writes the JSON schema of a setup. Out of memory it writes nothing.
-fn tell_schema<W: Write>(alloc: Global, writer: &mut W) -> Result<Outcome, DriveError>
-    ensures { IsSchemaTold result (W.contents writer.old) (W.contents writer.new) }
+fn print_schema<W: Write>(alloc: Global, writer: &mut W) -> Result<Outcome, DriveError>
+    ensures { IsSchemaOutput result (W.contents writer.old) (W.contents writer.new) }
 {
-    match write_schema(alloc) {
-        Ok(schema) => tell_text(writer, schema.as_str()),
+    match json_schema(alloc) {
+        Ok(schema) => print_job_text(writer, schema.as_str()),
         Err(_) => Err(DriveError::Memory),
     }
 }
 
 /// Writes the whole text of a job, and flushes it.
-fn tell_text<W: Write>(writer: &mut W, told: &str) -> Result<Outcome, DriveError>
-    ensures { IsTextTold told.now result (W.contents writer.old) (W.contents writer.new) }
+fn print_job_text<W: Write>(writer: &mut W, report: &str) -> Result<Outcome, DriveError>
+    ensures { IsJobTextOutput report.now result (W.contents writer.old) (W.contents writer.new) }
 {
-    print_text(writer, told.as_bytes())?;
+    print_text(writer, report.as_bytes())?;
     Ok(Outcome::Ran)
 }
 
 /// Answers arguments that ask for no job: by the text that they ask for, or by the line that refuses
 /// them. Out of memory it writes nothing.
-fn tell_words<W: Write>(error: WordsError, writer: &mut W) -> Result<Ending, DriveError>
-    ensures { Tells error result (W.contents writer.old) (W.contents writer.new) }
+fn print_words_error<W: Write>(error: WordsError, writer: &mut W) -> Result<Ending, DriveError>
+    ensures { IsWordsOutput error result (W.contents writer.old) (W.contents writer.new) }
 {
     match error {
         WordsError::Help(text) => {
@@ -168,8 +169,8 @@ pub fn exit_status(ended: Result<Ending, DriveError>) -> u8
     ensures { result ≡ exit_status ended }
 {
     match ended {
-        Ok(Ending::Drove(Outcome::Ran) | Ending::Helped) => 0,
-        Ok(Ending::Drove(Outcome::Refused)) => 1,
+        Ok(Ending::RunEnded(Outcome::Ran) | Ending::Helped) => 0,
+        Ok(Ending::RunEnded(Outcome::Refused)) => 1,
         Ok(Ending::RefusedWords) => 2,
         Err(DriveError::Read | DriveError::Write) => 3,
         Err(DriveError::Memory) => 4,

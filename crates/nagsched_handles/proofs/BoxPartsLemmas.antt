@@ -1,4 +1,4 @@
--- What both walks of `Unboxed` share: the type at its parameters, what each begins with, and what the calls that take a box apart and make
+-- What both walks of `BoxParts` share: the type at its parameters, what each begins with, and what the calls that take a box apart and make
 -- it whole again ask and give. Parts own what the box owned: the two are one to the logic.
 use mathlib.Core.List.{[], ◌∷◌}
 use mathlib.Core.Path.{◌≡◌}
@@ -31,7 +31,7 @@ use Rattle.std_alloc.specs.Box.Ownership.{box_owns}
 use Rattle.std_alloc.proofs.BoxSteps.Form.{Bx, D, R, P, B}
 use Rattle.std_alloc.specs.contracts.boxed.Box.from_raw as shutting
 use Rattle.std_alloc.specs.contracts.boxed.Box.into_raw_with_allocator as opening
-use Rattle.check_handles.specs.contracts.unboxed.Unboxed as unboxed
+use Rattle.nagsched_handles.specs.contracts.box_parts.BoxParts as box_parts
 
 -- the box type of these parameters, with their laws
 abbrev pub box_at : (T A : RattleType) → Laws T → Laws A → Ghosts A.Denot → Dict → Dict → Bx
@@ -48,7 +48,7 @@ module _ (E : Bx) where
 
   -- the parts of a box of E
   abbrev pub Apart : RattleType
-  Apart = unboxed.the_row (R E) (P E) E.al.g
+  Apart = box_parts.the_row (R E) (P E) E.al.g
 
   abbrev pub parts : Ptr → E.al.row.Denot → E.row.Denot → Apart.Denot
   parts at alloc value = record { at = at; alloc = alloc; value = value }

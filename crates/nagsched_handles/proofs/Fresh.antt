@@ -6,27 +6,27 @@ use Rattle.std.proofs.Math.Seq.{get_or-append_seam}
 use Rattle.std.proofs.lemmas.List.Elements.{All-cons, All-nil}
 use Rattle.std_alloc.specs.Arc.{arc_value}
 use Rattle.check_book.specs.BookState.{BookState}
-use Rattle.ticket_lock.specs.Callers.{Caller, joined}
+use Rattle.ticket_lock.specs.Callers.{Caller, gathered_caller}
 use Rattle.check_sched.specs.declared.call.Call.{Call}
 use Rattle.check_sched.specs.declared.call.Reply.{Reply}
 use Rattle.check_desk.specs.declared.desk.Desk.{Desk}
 use Rattle.check_desk.specs.declared.passes.Pass.{Pass}
-use Rattle.check_desk.specs.Desks.{opened_with, passes_of, AreNewPassesWith, IsPassOf}
-use Rattle.check_handles.specs.declared.handle.Handle.{Handle}
-use Rattle.check_handles.specs.declared.opening.Terms.{Terms}
-use Rattle.check_handles.specs.declared.shared.Shared.{Shared}
-use Rattle.check_handles.specs.declared.target.HandleTarget.{HandleTarget}
-use Rattle.check_handles.specs.declared.target.HandleTarget.TheVariants as target
-use Rattle.check_handles.specs.Handles.{contents_of}
-use Rattle.check_handles.specs.Opening.{IsFreshPassOf, IsOpenedWith}
-use Rattle.check_handles.specs.Seats.{HasPass, HavePasses, IsSeatFor, IsSeatOf, IsTaken}
+use Rattle.check_desk.specs.Desks.{desk_opening, passes_of, AreNewPassesWith, IsPassOf}
+use Rattle.nagsched_handles.specs.declared.handle.Handle.{Handle}
+use Rattle.nagsched_handles.specs.declared.opening.Terms.{Terms}
+use Rattle.nagsched_handles.specs.declared.shared.Shared.{Shared}
+use Rattle.nagsched_handles.specs.declared.target.HandleTarget.{HandleTarget}
+use Rattle.nagsched_handles.specs.declared.target.HandleTarget.TheVariants as target
+use Rattle.nagsched_handles.specs.Handles.{contents_of}
+use Rattle.nagsched_handles.specs.Opening.{IsFreshPassOf, IsOpenedWith}
+use Rattle.nagsched_handles.specs.Seats.{HasPass, HavePasses, IsSeatFor, IsSeatOf, IsSeatWithPass}
 
 -- ---- passes put together
 
-pub joined_numbers : (a b : Caller Call Reply) → length (joined a b).numbers ≡ length a.numbers + length b.numbers
+pub joined_numbers : (a b : Caller Call Reply) → length (gathered_caller a b).numbers ≡ length a.numbers + length b.numbers
 joined_numbers a b = length-append a.numbers b.numbers
 
-pub joined_seen : (a b : Caller Call Reply) → a.seen ≡ [] → b.seen ≡ [] → (joined a b).seen ≡ []
+pub joined_seen : (a b : Caller Call Reply) → a.seen ≡ [] → b.seen ≡ [] → (gathered_caller a b).seen ≡ []
 joined_seen a b none nothing = rw (none, nothing) refl
 
 -- ---- lists from which the last item is taken
@@ -68,7 +68,7 @@ seat_for desk pass (target.Book named) of own = absurd of
 seat_for desk pass (target.History entries) of own = absurd of
 
 -- and with such a pass it has the pass
-pub seated : (desk : Shared) (pass : Pass) (seat taken : HandleTarget) → IsSeatOf desk seat → IsTaken pass seat taken → HasPass desk pass (Some taken)
+pub seated : (desk : Shared) (pass : Pass) (seat taken : HandleTarget) → IsSeatOf desk seat → IsSeatWithPass pass seat taken → HasPass desk pass (Some taken)
 seated desk pass (target.Pass place) (target.Pass filled) of has = (ap arc_value has.0 ∙ of, has.1)
 seated desk pass (target.Pass place) target.Nothing of has = absurd has
 seated desk pass (target.Pass place) (target.Setup named) of has = absurd has
@@ -92,7 +92,7 @@ same_length desk (p ∷ ps) (h ∷ hs) has = ap suc (same_length desk ps hs has.
 
 -- they are the passes of a desk that opened with this state on these terms
 pub opened : (terms : Terms) (opening : BookState) (desk : Shared) (ps : List Pass) (hs : List Handle) → desk.mark ≡ terms.mark
-    → opened_with desk.desk ≡ opening → passes_of desk.desk ≡ length ps → AreNewPassesWith terms.calls desk.desk 0 ps → HavePasses desk ps hs → IsOpenedWith terms opening hs
+    → desk_opening desk.desk ≡ opening → passes_of desk.desk ≡ length ps → AreNewPassesWith terms.calls desk.desk 0 ps → HavePasses desk ps hs → IsOpenedWith terms opening hs
 opened terms opening desk ps hs marked with all new has = record {
   shared = desk;
   marked = marked;

@@ -1,5 +1,7 @@
+pub mod StructLaws
+pub mod FaultLaws
 pub mod Walks
-pub mod Unboxing
+pub mod BoxPartsLemmas
 pub mod Raws
 pub mod Options
 pub mod Books

@@ -24,10 +24,10 @@ use Rattle.std.specs.Prelude.{Option}
 use Rattle.std.specs.contracts.alloc.Global.{the_row as global_row}
 use Rattle.std.proofs.alloc.Global.TheLaws.{the_row_laws as global_laws}
 use Rattle.std.specs.contracts.impls.GlobalAllocator.TheImpl.{ghosts}
-use Rattle.check_handles.specs.Held.{held}
-use Rattle.check_handles.specs.contracts.target.HandleTarget.{the_row as target_row}
-use Rattle.check_handles.specs.contracts.raw.Raw as raws
-use Rattle.check_handles.specs.contracts.unboxed.Unboxed as unboxed
+use Rattle.nagsched_handles.specs.Ownership.{owned_at}
+use Rattle.nagsched_handles.specs.contracts.target.HandleTarget.{the_row as target_row}
+use Rattle.nagsched_handles.specs.contracts.raw.Raw as raws
+use Rattle.nagsched_handles.specs.contracts.box_parts.BoxParts as box_parts
 
 -- an address, and an address with the allocator, as the machine has them
 abbrev pub address : Ptr → Val
@@ -40,7 +40,7 @@ abbrev pub Raw : RattleType
 Raw = raws.the_row
 
 abbrev pub Apart : RattleType
-Apart = unboxed.the_row target_row global_row ghosts
+Apart = box_parts.the_row target_row global_row ghosts
 
 abbrev pub the_heap : Al
 the_heap = record { row = global_row; laws = global_laws; g = ghosts; d = impl [] tnil dnil; drops = impl [] tnil dnil }
@@ -50,11 +50,11 @@ is_typed b o h fits = (and_tt (has_ty (layout global_row) h) fits.0, (tt, (fits.
 
 module _ {M : Type 1} {𝓤 : Ura M} {𝓛 : Logic 𝓤} {K : Type 0} {Γ : List (Item 𝓤)} {G : Goal 𝓤 𝓛.H} where
   -- an address apart: what it owns
-  pub raw_out : K → (d : Raw.Denot) (vs : List Val) → (vs ≡ address d.at ∷ [] → Seq K 𝓛 (‵ (held target_row d.at d.value) ∷ Γ) G) → Seq K 𝓛 (‵ (Raw.own_val d vs) ∷ Γ) G
+  pub raw_out : K → (d : Raw.Denot) (vs : List Val) → (vs ≡ address d.at ∷ [] → Seq K 𝓛 (‵ (owned_at target_row d.at d.value) ∷ Γ) G) → Seq K 𝓛 (‵ (Raw.own_val d vs) ∷ Γ) G
   raw_out t d vs k = fsplit t $ fpick t (λ vss. fsplit t $ feq_l t (λ ev. fsplit t $ feq_l t (λ ep. drop t $ k (ev ∙ (λ i. vstruct (of_list (ep i ++ [])) ∷ [])))))
 
   -- and together again
-  pub raw_in : K → (p : Ptr) (x : Option target_row.Denot) → Step K 𝓛 (‵ (Raw.own_val (record { at = p; value = x }) (address p ∷ [])) ∷ Γ) G (‵ (held target_row p x) ∷ Γ) G
+  pub raw_in : K → (p : Ptr) (x : Option target_row.Denot) → Step K 𝓛 (‵ (Raw.own_val (record { at = p; value = x }) (address p ∷ [])) ∷ Γ) G (‵ (owned_at target_row p x) ∷ Γ) G
   raw_in t p x = step (λ s. nothing t $ feq_i t (List Val) (ptr_val p ∷ []) (ptr_val p ∷ []) refl $ fjoin t $ feq_i t (List Val) (address p ∷ []) (address p ∷ []) refl $ fjoin t $
       fpack t (Valss (RawPtr ∷ [])) (within (shape raws.the_type) (p, tt) (address p ∷ [])) (ptr_val p ∷ [], tt) $ fjoin t $ s)
 
@@ -73,4 +73,4 @@ module _ {M : Type 1} {𝓤 : Ura M} {𝓛 : Logic 𝓤} {K : Type 0} {Γ : List
       → Step K 𝓛 (‵ (Apart.own_val (record { at = block_ptr b o; alloc = a; value = x }) (with_alloc b o h ∷ [])) ∷ Γ) G (‵ (box_owns (ghosts.dealloc_token a) target_row (block_ptr b o) x) ∷ ‵ (global_row.own_val a (h ∷ [])) ∷ Γ) G
   apart_in t b o h a x = step (λ s. let v : Val = with_alloc b o h in
       nothing t $ move t (2 ∷ 0 ∷ []) $ fjoin t $ feq_i t (List Val) (vptr b o ∷ []) (vptr b o ∷ []) refl $ fjoin t $ feq_i t (List Val) (v ∷ []) (v ∷ []) refl $ fjoin t $
-      fpack t (Valss (RawPtr ∷ global_row ∷ [])) (within (shape (unboxed.the_type target_row global_row ghosts)) (block_ptr b o, (a, tt)) (v ∷ [])) (vptr b o ∷ [], (h ∷ [], tt)) $ fjoin t $ s)
+      fpack t (Valss (RawPtr ∷ global_row ∷ [])) (within (shape (box_parts.the_type target_row global_row ghosts)) (block_ptr b o, (a, tt)) (v ∷ [])) (vptr b o ∷ [], (h ∷ [], tt)) $ fjoin t $ s)

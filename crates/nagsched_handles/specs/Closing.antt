@@ -1,18 +1,18 @@
 -- The results of gathering passes, closing a desk and renewing a book.
 use Rattle.std.specs.Prelude.{◌≡◌, ◌+◌, ◌<◌, ◌≤◌, ⊤, ℕ, [], length, Option, Some, None}
 use Rattle.check_desk.specs.declared.desk.Desk.{Desk}
-use Rattle.check_desk.specs.Desks.{opened_with, passes_of}
+use Rattle.check_desk.specs.Desks.{desk_opening, passes_of}
 use Rattle.check_desk.specs.Passes.{pass_of}
 use Rattle.check_book.specs.BookState.{book_at}
 use Rattle.check_book.specs.Books.{entries_of, opening_of, refused_of, sched_of, state_of}
-use Rattle.check_handles.specs.declared.desk_pass.DeskPass.{DeskPass}
-use Rattle.check_handles.specs.declared.target.NamedBook.{NamedBook}
-use Rattle.check_handles.specs.declared.target.HandleTarget.{HandleTarget}
-use Rattle.check_handles.specs.declared.target.HandleTarget.TheVariants as target
-use Rattle.check_handles.specs.declared.pass_state.PassState.{PassState}
-use Rattle.check_handles.specs.declared.pass_state.PassState.TheVariants as state
-use Rattle.check_handles.specs.Desks.{AreOneDesk, IsSamePass, desk_of, mark_of, pass_state_of}
-use Rattle.check_handles.specs.Joining.{HasJoined}
+use Rattle.nagsched_handles.specs.declared.desk_pass.DeskPass.{DeskPass}
+use Rattle.nagsched_handles.specs.declared.target.NamedBook.{NamedBook}
+use Rattle.nagsched_handles.specs.declared.target.HandleTarget.{HandleTarget}
+use Rattle.nagsched_handles.specs.declared.target.HandleTarget.TheVariants as target
+use Rattle.nagsched_handles.specs.declared.pass_state.PassState.{PassState}
+use Rattle.nagsched_handles.specs.declared.pass_state.PassState.TheVariants as state
+use Rattle.nagsched_handles.specs.Desks.{AreOneDesk, IsSamePass, desk_of, mark_of, pass_state_of}
+use Rattle.nagsched_handles.specs.Joining.{HasJoined}
 
 -- two passes are of one desk; the caller in C has to ensure it
 abbrev pub AreOfOneDesk : Option HandleTarget → Option HandleTarget → Type 0
@@ -53,36 +53,36 @@ IsResting other = ⊥
 -- The book of a desk whose passes are all gathered in this one. It opened as the desk did, and has the history that the pass has seen. Its entries and
 -- refusals are all calls that were made.
 abbrev pub IsBookAfter : Desk → PassState → NamedBook → Type 0
-IsBookAfter desk (state.Resting pass) named = (opening_of named.book ≡ opened_with desk) × (passes_of desk ≤ length (pass_of pass).numbers)
+IsBookAfter desk (state.Resting pass) named = (opening_of named.book ≡ desk_opening desk) × (passes_of desk ≤ length (pass_of pass).numbers)
     × (entries_of named.book ≡ (pass_of pass).seen) × (length (entries_of named.book) + refused_of named.book ≡ (pass_of pass).calls)
 IsBookAfter desk other named = ⊥
 
 -- a pass, and the book of its desk, which was closed
-abbrev pub HasEnded : HandleTarget → HandleTarget → Type 0
-HasEnded before after = (pass : DeskPass) × (before ≡ target.Pass pass)
+abbrev pub HasClosedDesk : HandleTarget → HandleTarget → Type 0
+HasClosedDesk before after = (pass : DeskPass) × (before ≡ target.Pass pass)
     × ((named : NamedBook) × (after ≡ target.Book named) × IsBookAfter (desk_of pass) (pass_state_of pass) named)
 
 -- a pass is unchanged
-abbrev pub HasStayed : HandleTarget → HandleTarget → Type 0
-HasStayed before after = (pass : DeskPass) × (before ≡ target.Pass pass) × ((same : DeskPass) × (after ≡ target.Pass same) × IsSamePass pass same)
+abbrev pub IsUnchangedPass : HandleTarget → HandleTarget → Type 0
+IsUnchangedPass before after = (pass : DeskPass) × (before ≡ target.Pass pass) × ((same : DeskPass) × (after ≡ target.Pass same) × IsSamePass pass same)
 
 -- a renewed book, in the scheduler's state of the old one, with this room and without entries
-abbrev pub IsNext : ℕ → NamedBook → NamedBook → Type 0
-IsNext room before after = (opening_of after.book ≡ book_at (sched_of before.book) room) × (state_of after.book ≡ book_at (sched_of before.book) room)
+abbrev pub IsNextBook : ℕ → NamedBook → NamedBook → Type 0
+IsNextBook room before after = (opening_of after.book ≡ book_at (sched_of before.book) room) × (state_of after.book ≡ book_at (sched_of before.book) room)
     × (entries_of after.book ≡ []) × (refused_of after.book ≡ 0)
 
 -- the old book's history is handed out; or the book is unchanged
 abbrev pub IsRenewed : ℕ → NamedBook → NamedBook → Option HandleTarget → Type 0
-IsRenewed room before after (Some (target.History entries)) = IsNext room before after × (entries.items ≡ entries_of before.book)
+IsRenewed room before after (Some (target.History entries)) = IsNextBook room before after × (entries.items ≡ entries_of before.book)
 IsRenewed room before after None = after.book ≡ before.book
 IsRenewed room before after other = ⊥
 
 -- a book
-abbrev pub IsBook : HandleTarget → Type 0
-IsBook (target.Book named) = ⊤
-IsBook other = ⊥
+abbrev pub IsBookTarget : HandleTarget → Type 0
+IsBookTarget (target.Book named) = ⊤
+IsBookTarget other = ⊥
 
 -- a book was renewed, or is unchanged
-abbrev pub HasGoneOn : ℕ → HandleTarget → HandleTarget → Option HandleTarget → Type 0
-HasGoneOn room before after past = (book : NamedBook) × (next : NamedBook) × (before ≡ target.Book book) × (after ≡ target.Book next)
+abbrev pub HasRenewedBook : ℕ → HandleTarget → HandleTarget → Option HandleTarget → Type 0
+HasRenewedBook room before after past = (book : NamedBook) × (next : NamedBook) × (before ≡ target.Book book) × (after ≡ target.Book next)
     × IsRenewed room book next past

@@ -2,8 +2,8 @@
 use Rattle.std.specs.Prelude.{◌≡◌, ℕ}
 use Rattle.std_alloc.specs.Arc.{arc_value}
 use Rattle.check_desk.specs.declared.desk.Desk.{Desk}
-use Rattle.check_handles.specs.declared.desk_pass.DeskPass.{DeskPass}
-use Rattle.check_handles.specs.declared.pass_state.PassState.{PassState}
+use Rattle.nagsched_handles.specs.declared.desk_pass.DeskPass.{DeskPass}
+use Rattle.nagsched_handles.specs.declared.pass_state.PassState.{PassState}
 
 -- the desk of a pass
 abbrev pub desk_of : DeskPass → Desk

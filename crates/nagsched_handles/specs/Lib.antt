@@ -1,4 +1,6 @@
-pub mod Held
+pub mod Structs
+pub mod SavedFaults
+pub mod Ownership
 pub mod PassStates
 pub mod Desks
 pub mod Handles

@@ -2,22 +2,22 @@
 use Rattle.std.specs.Prelude.{◌≡◌, ◌≤◌, ◌^◌, ⊤, List, [], length, Option, Some, None}
 use Rattle.check_desk.specs.declared.desk.Desk.{Desk}
 use Rattle.check_desk.specs.declared.passes.Pass.{Pass}
-use Rattle.check_desk.specs.Desks.{opened_with, passes_of, AreNewPassesWith, IsPassOf}
+use Rattle.check_desk.specs.Desks.{desk_opening, passes_of, AreNewPassesWith, IsPassOf}
 use Rattle.check_desk.specs.Passes.{pass_of}
 use Rattle.check_book.specs.BookState.{BookState, book_opening}
 use Rattle.check_book.specs.Books.{entries_of, opening_of, refused_of}
-use Rattle.check_handles.specs.declared.desk_pass.DeskPass.{DeskPass}
-use Rattle.check_handles.specs.declared.handle.Handle.{Handle}
-use Rattle.check_handles.specs.declared.target.NamedBook.{NamedBook}
-use Rattle.check_handles.specs.declared.target.HandleTarget.{HandleTarget}
-use Rattle.check_handles.specs.declared.target.HandleTarget.TheVariants as target
-use Rattle.check_handles.specs.declared.target.NamedSetup.{NamedSetup}
-use Rattle.check_handles.specs.declared.opening.Terms.{Terms}
-use Rattle.check_handles.specs.declared.shared.Shared.{Shared}
-use Rattle.check_handles.specs.declared.pass_state.PassState.{PassState}
-use Rattle.check_handles.specs.declared.pass_state.PassState.TheVariants as state
-use Rattle.check_handles.specs.Desks.{desk_of, pass_state_of}
-use Rattle.check_handles.specs.Seats.{HavePasses}
+use Rattle.nagsched_handles.specs.declared.desk_pass.DeskPass.{DeskPass}
+use Rattle.nagsched_handles.specs.declared.handle.Handle.{Handle}
+use Rattle.nagsched_handles.specs.declared.target.NamedBook.{NamedBook}
+use Rattle.nagsched_handles.specs.declared.target.HandleTarget.{HandleTarget}
+use Rattle.nagsched_handles.specs.declared.target.HandleTarget.TheVariants as target
+use Rattle.nagsched_handles.specs.declared.target.NamedSetup.{NamedSetup}
+use Rattle.nagsched_handles.specs.declared.opening.Terms.{Terms}
+use Rattle.nagsched_handles.specs.declared.shared.Shared.{Shared}
+use Rattle.nagsched_handles.specs.declared.pass_state.PassState.{PassState}
+use Rattle.nagsched_handles.specs.declared.pass_state.PassState.TheVariants as state
+use Rattle.nagsched_handles.specs.Desks.{desk_of, pass_state_of}
+use Rattle.nagsched_handles.specs.Seats.{HavePasses}
 
 -- A desk can be opened on this target, on these terms. The target is a setup, or a book without entries and refusals, whose start and room are its own.
 abbrev pub IsSource : Terms → HandleTarget → Type 0
@@ -43,7 +43,7 @@ pub record IsFreshPassOf (desk : Desk) (pass : Pass) : Type 0 where
 pub record IsOpenedWith (terms : Terms) (opening : BookState) (handles : List Handle) : Type 0 where
   pub shared : Shared
   pub marked : shared.mark ≡ terms.mark
-  pub opened : opened_with shared.desk ≡ opening
+  pub opened : desk_opening shared.desk ≡ opening
   pub all : passes_of shared.desk ≡ length handles
   pub passes : List Pass
   pub new : AreNewPassesWith terms.calls shared.desk 0 passes
@@ -62,17 +62,17 @@ IsWholeAtRest desk other = ⊥
 
 -- the only pass of a desk that opened with this state
 abbrev pub IsOnlyPassOf : BookState → DeskPass → Type 0
-IsOnlyPassOf opening pass = (opened_with (desk_of pass) ≡ opening) × IsWholeAtRest (desk_of pass) (pass_state_of pass)
+IsOnlyPassOf opening pass = (desk_opening (desk_of pass) ≡ opening) × IsWholeAtRest (desk_of pass) (pass_state_of pass)
 
 -- The target that is handed back of a desk that opened with this state: a book without entries, or else its only pass. The pass would need a count of
 -- owners that is at its limit.
-abbrev pub IsBackOf : BookState → HandleTarget → Type 0
-IsBackOf opening (target.Book named) = (opening_of named.book ≡ opening) × (entries_of named.book ≡ []) × (refused_of named.book ≡ 0)
-IsBackOf opening (target.Pass pass) = IsOnlyPassOf opening pass
-IsBackOf opening other = ⊥
+abbrev pub IsHandedBackOf : BookState → HandleTarget → Type 0
+IsHandedBackOf opening (target.Book named) = (opening_of named.book ≡ opening) × (entries_of named.book ≡ []) × (refused_of named.book ≡ 0)
+IsHandedBackOf opening (target.Pass pass) = IsOnlyPassOf opening pass
+IsHandedBackOf opening other = ⊥
 
 abbrev pub IsBookBack : NamedBook → HandleTarget → Type 0
-IsBookBack named back = IsBackOf (opening_of named.book) back
+IsBookBack named back = IsHandedBackOf (opening_of named.book) back
 
 abbrev pub IsSetupBack : Terms → NamedSetup → HandleTarget → Type 0
 IsSetupBack terms named (target.Setup back) = back.setup ≡ named.setup
@@ -80,10 +80,10 @@ IsSetupBack terms named (target.Pass pass) = IsOnlyPassOf (book_opening named.se
 IsSetupBack terms named other = ⊥
 
 -- the target that is handed back if memory was refused
-abbrev pub IsBack : Terms → HandleTarget → HandleTarget → Type 0
-IsBack terms (target.Setup named) back = IsSetupBack terms named back
-IsBack terms (target.Book named) back = IsBookBack named back
-IsBack terms other back = ⊥
+abbrev pub IsHandedBack : Terms → HandleTarget → HandleTarget → Type 0
+IsHandedBack terms (target.Setup named) back = IsSetupBack terms named back
+IsHandedBack terms (target.Book named) back = IsBookBack named back
+IsHandedBack terms other back = ⊥
 
 -- a book that is handed back has no entries
 abbrev pub IsEmptyBack : HandleTarget → Type 0

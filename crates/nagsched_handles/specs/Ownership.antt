@@ -11,6 +11,6 @@ use Rattle.std.specs.Box.Ownership.{box_owns}
 abbrev pub heap : Global
 heap = record { memory = record { seal = tt } }
 
-abbrev pub held : (R : RattleType) → Ptr → Option R.Denot → Fml
-held R at None = ftrue
-held R at (Some value) = box_owns (ghosts.dealloc_token heap) R at value
+abbrev pub owned_at : (R : RattleType) → Ptr → Option R.Denot → Fml
+owned_at R at None = ftrue
+owned_at R at (Some value) = box_owns (ghosts.dealloc_token heap) R at value

@@ -5,8 +5,8 @@ use Rattle.core.specs.Mem.{manually_drop_value}
 use Rattle.check_desk.specs.declared.desk.Desk.{Desk}
 use Rattle.check_desk.specs.Belonging.{IsPassOf-prop, IsWaitingAt-prop}
 use Rattle.check_desk.specs.Desks.{IsPassOf, IsWaitingAt}
-use Rattle.check_handles.specs.declared.pass_state.PassState.{PassState}
-use Rattle.check_handles.specs.declared.pass_state.PassState.TheVariants as state
+use Rattle.nagsched_handles.specs.declared.pass_state.PassState.{PassState}
+use Rattle.nagsched_handles.specs.declared.pass_state.PassState.TheVariants as state
 
 abbrev pub IsPassStateOf : Desk → PassState → Type 0
 IsPassStateOf desk state.Gone = ⊤

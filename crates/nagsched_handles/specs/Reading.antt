@@ -1,11 +1,11 @@
 -- The setup of a document, and the handles that can't be freed.
 use Rattle.std.specs.Prelude.{◌≡◌, ⊤, ℕ, List, Ok, Option, Some}
 use Rattle.check_objects.specs.Setup.{setup_of}
-use Rattle.check_handles.specs.declared.target.HandleTarget.{HandleTarget}
-use Rattle.check_handles.specs.declared.target.HandleTarget.TheVariants as target
-use Rattle.check_handles.specs.declared.pass_state.PassState.{PassState}
-use Rattle.check_handles.specs.declared.pass_state.PassState.TheVariants as state
-use Rattle.check_handles.specs.Desks.{pass_state_of}
+use Rattle.nagsched_handles.specs.declared.target.HandleTarget.{HandleTarget}
+use Rattle.nagsched_handles.specs.declared.target.HandleTarget.TheVariants as target
+use Rattle.nagsched_handles.specs.declared.pass_state.PassState.{PassState}
+use Rattle.nagsched_handles.specs.declared.pass_state.PassState.TheVariants as state
+use Rattle.nagsched_handles.specs.Desks.{pass_state_of}
 
 -- the setup of the document
 abbrev pub IsSetupOf : List ℕ → Option HandleTarget → Type 0

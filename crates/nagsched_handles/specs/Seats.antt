@@ -3,13 +3,13 @@ use Rattle.std.specs.Prelude.{◌≡◌, ⊤, List, [], ◌∷◌, Option, Some}
 use Rattle.std_alloc.specs.Arc.{arc_value}
 use Rattle.check_desk.specs.declared.passes.Pass.{Pass}
 use Rattle.check_desk.specs.Desks.{IsPassOf}
-use Rattle.check_handles.specs.declared.handle.Handle.{Handle}
-use Rattle.check_handles.specs.declared.pass_state.PassState.TheVariants as state
-use Rattle.check_handles.specs.declared.shared.Shared.{Shared}
-use Rattle.check_handles.specs.declared.target.HandleTarget.{HandleTarget}
-use Rattle.check_handles.specs.declared.target.HandleTarget.TheVariants as target
-use Rattle.check_handles.specs.Desks.{desk_of, pass_state_of}
-use Rattle.check_handles.specs.Handles.{contents_of}
+use Rattle.nagsched_handles.specs.declared.handle.Handle.{Handle}
+use Rattle.nagsched_handles.specs.declared.pass_state.PassState.TheVariants as state
+use Rattle.nagsched_handles.specs.declared.shared.Shared.{Shared}
+use Rattle.nagsched_handles.specs.declared.target.HandleTarget.{HandleTarget}
+use Rattle.nagsched_handles.specs.declared.target.HandleTarget.TheVariants as target
+use Rattle.nagsched_handles.specs.Desks.{desk_of, pass_state_of}
+use Rattle.nagsched_handles.specs.Handles.{contents_of}
 
 -- a seat of this desk
 abbrev pub IsSeatOf : Shared → HandleTarget → Type 0
@@ -22,9 +22,9 @@ IsSeatFor pass (target.Pass seat) = IsPassOf (desk_of seat) pass
 IsSeatFor pass other = ⊥
 
 -- the seat with the pass
-abbrev pub IsTaken : Pass → HandleTarget → HandleTarget → Type 0
-IsTaken pass (target.Pass seat) (target.Pass taken) = (taken.shared ≡ seat.shared) × (pass_state_of taken ≡ state.Resting pass)
-IsTaken pass seat taken = ⊥
+abbrev pub IsSeatWithPass : Pass → HandleTarget → HandleTarget → Type 0
+IsSeatWithPass pass (target.Pass seat) (target.Pass taken) = (taken.shared ≡ seat.shared) × (pass_state_of taken ≡ state.Resting pass)
+IsSeatWithPass pass seat taken = ⊥
 
 -- this pass rests in a seat of this desk
 abbrev pub HasPass : Shared → Pass → Option HandleTarget → Type 0

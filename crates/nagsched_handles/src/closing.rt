@@ -1,15 +1,16 @@
 //! Joins passes, ends a desk, and renews its book.
 
 ghost use Rattle.std.specs.Prelude.{◌≡◌, ◌↔◌, true, false, IfErr, IfOk, Some};
-ghost use Rattle.check_handles.specs.Closing.{AreOfOneDesk, HasEnded, HasGoneOn, HasStayed, IsBook, IsGathered, IsRenewed, IsResting, MayBeGathered};
-ghost use Rattle.check_handles.specs.Handles.{boxed};
+ghost use Rattle.nagsched_handles.specs.Closing.{AreOfOneDesk, HasClosedDesk, HasRenewedBook, IsUnchangedPass, IsBookTarget, IsGathered, IsRenewed, IsResting};
+ghost use Rattle.nagsched_handles.specs.Closing.{MayBeGathered};
+ghost use Rattle.nagsched_handles.specs.Handles.{box_value};
 
 use crate::pass_state::PassState;
 use crate::target::{HandleTarget, NamedBook};
 use std::alloc::Global;
 
 /// Joins the second pass to the first, exactly if both are passes at rest and their desks have one mark.
-pub fn put_together(first: &mut HandleTarget, second: &mut HandleTarget) -> bool
+pub fn merge_passes(first: &mut HandleTarget, second: &mut HandleTarget) -> bool
     requires { AreOfOneDesk (Some first.old) (Some second.old) }
     ensures exactly { (result ≡ true) ↔ MayBeGathered (Some first.old) (Some second.old) }
     ensures gathered { result ≡ true → IsGathered first.old second.old first.new }
@@ -25,7 +26,7 @@ pub fn put_together(first: &mut HandleTarget, second: &mut HandleTarget) -> bool
 }
 
 /// Whether the target is a pass at rest.
-pub fn rests(target: &HandleTarget) -> bool
+pub fn is_resting(target: &HandleTarget) -> bool
     ensures { (result ≡ true) ↔ IsResting target.now }
 {
     match target {
@@ -37,8 +38,8 @@ pub fn rests(target: &HandleTarget) -> bool
 /// The book of a pass's desk, if all passes were gathered into this one. Otherwise the pass.
 pub fn close(target: HandleTarget) -> Result<HandleTarget, HandleTarget>
     requires { IsResting target }
-    ensures ended { IfOk result (λ book. HasEnded target book) }
-    ensures stayed { IfErr result (λ pass. HasStayed target pass) }
+    ensures ended { IfOk result (λ book. HasClosedDesk target book) }
+    ensures err { IfErr result (λ pass. IsUnchangedPass target pass) }
 {
     match target {
         HandleTarget::Pass(pass) => match pass.close() {
@@ -51,7 +52,7 @@ pub fn close(target: HandleTarget) -> Result<HandleTarget, HandleTarget>
 
 /// Whether the target is a book.
 pub fn is_book(target: &HandleTarget) -> bool
-    ensures { (result ≡ true) ↔ IsBook target.now }
+    ensures { (result ≡ true) ↔ IsBookTarget target.now }
 {
     matches!(target, HandleTarget::Book(_))
 }
@@ -63,8 +64,8 @@ pub fn renew(
     target: HandleTarget,
     room: usize,
 ) -> (HandleTarget, Option<Box<HandleTarget>>)
-    requires { IsBook target }
-    ensures { HasGoneOn room target result.0 (boxed result.1) }
+    requires { IsBookTarget target }
+    ensures { HasRenewedBook room target result.0 (box_value result.1) }
 {
     match target {
         HandleTarget::Book(named) => {
@@ -81,7 +82,7 @@ fn renew_book(
     named: NamedBook,
     room: usize,
 ) -> (NamedBook, Option<Box<HandleTarget>>)
-    ensures { IsRenewed room named result.0 (boxed result.1) }
+    ensures { IsRenewed room named result.0 (box_value result.1) }
 {
     let Ok(mut place) = Box::new(alloc, HandleTarget::Nothing) else {
         return (named, None);

@@ -2,7 +2,7 @@
 
 ghost use Rattle.std.specs.Prelude.{◌≡◌};
 ghost use Rattle.std_alloc.specs.Arc.{arc_value};
-ghost use Rattle.check_handles.specs.PassStates.{IsPassStateOf, IsPassStateOf-prop};
+ghost use Rattle.nagsched_handles.specs.PassStates.{IsPassStateOf, IsPassStateOf-prop};
 
 use crate::pass_state::{PassState, Step, advance};
 use crate::shared::Shared;
@@ -27,11 +27,11 @@ pub struct DeskPass {
 impl DeskPass {
     ghost use Rattle.std.specs.Prelude.{◌↔◌, true, false, IfOk, IfErr};
     ghost use Rattle.check_desk.specs.Desks.{IsPassOf};
-    ghost use Rattle.check_handles.specs.Closing.{IsAtRest, IsBookAfter, MayJoin};
-    ghost use Rattle.check_handles.specs.Desks.{AreOneDesk, IsSamePass, desk_of, pass_state_of};
-    ghost use Rattle.check_handles.specs.Glances.{HasLookedAt};
-    ghost use Rattle.check_handles.specs.Joining.{HasJoined};
-    ghost use Rattle.check_handles.specs.Tries.{HasAdvanced};
+    ghost use Rattle.nagsched_handles.specs.Closing.{IsAtRest, IsBookAfter, MayJoin};
+    ghost use Rattle.nagsched_handles.specs.Desks.{AreOneDesk, IsSamePass, desk_of, pass_state_of};
+    ghost use Rattle.nagsched_handles.specs.Glances.{IsGlanceResult};
+    ghost use Rattle.nagsched_handles.specs.Joining.{HasJoined};
+    ghost use Rattle.nagsched_handles.specs.Tries.{HasAdvanced};
 
     /// Tries to make the call. A pass that answers for all passes of its desk never waits.
     pub fn step(&mut self, call: Call) -> Step
@@ -45,7 +45,7 @@ impl DeskPass {
     /// The standing of an object. None if there is no such object, or if the pass waits.
     pub fn glance(&mut self, object: u32) -> Option<Standing>
         ensures desk { AreOneDesk self.old self.new }
-        ensures seen { HasLookedAt (desk_of self.old) object (pass_state_of self.old) result (pass_state_of self.new) }
+        ensures seen { IsGlanceResult (desk_of self.old) object (pass_state_of self.old) result (pass_state_of self.new) }
     {
         match replace(&mut self.state, PassState::Gone) {
             PassState::Resting(pass) => {
@@ -66,10 +66,10 @@ impl DeskPass {
         requires { AreOneDesk self.old other.old }
         ensures desk { AreOneDesk self.old self.new }
         ensures exactly { (result ≡ true) ↔ MayJoin self.old other.old }
-        ensures joined { result ≡ true → HasJoined (pass_state_of self.old) (pass_state_of other.old) (pass_state_of self.new) }
+        ensures gathered_caller { result ≡ true → HasJoined (pass_state_of self.old) (pass_state_of other.old) (pass_state_of self.new) }
         ensures same { result ≡ false → (self.new ≡ self.old) × (other.new ≡ other.old) }
     {
-        if !self.rests() || !other.rests() || !self.shared.has_mark_of(&other.shared) {
+        if !self.is_resting() || !other.is_resting() || !self.shared.has_mark_of(&other.shared) {
             return false;
         }
         let PassState::Resting(own) = replace(&mut self.state, PassState::Gone) else {
@@ -83,7 +83,7 @@ impl DeskPass {
     }
 
     /// Whether the pass is at rest.
-    pub(crate) fn rests(&self) -> bool
+    pub(crate) fn is_resting(&self) -> bool
         ensures { (result ≡ true) ↔ IsAtRest (pass_state_of self.now) }
     {
         matches!(self.state, PassState::Resting(_))
@@ -100,19 +100,19 @@ impl DeskPass {
             unreachable!()
         };
         if pass.gathered() < shared.passes {
-            return Err(DeskPass::resting(shared, pass));
+            return Err(DeskPass::at_rest(shared, pass));
         }
         match Arc::try_unwrap(shared) {
             Ok(Shared { desk, names, .. }) => match desk.close(pass) {
                 Ok(book) => Ok(NamedBook { book, names }),
                 Err(_) => unreachable!(),
             },
-            Err(shared) => Err(DeskPass::resting(shared, pass)),
+            Err(shared) => Err(DeskPass::at_rest(shared, pass)),
         }
     }
 
     /// A place for a pass of the desk, without the pass.
-    pub(crate) fn vacant(shared: Arc<Shared, Global>) -> DeskPass
+    pub(crate) fn without_pass(shared: Arc<Shared, Global>) -> DeskPass
         ensures { result.shared ≡ shared }
     {
         DeskPass {
@@ -122,7 +122,7 @@ impl DeskPass {
     }
 
     /// Puts the pass into its place. It rests there.
-    pub(crate) fn sit(&mut self, pass: Pass)
+    pub(crate) fn set_pass(&mut self, pass: Pass)
         requires { IsPassOf (desk_of self.old) pass }
         ensures shared { self.new.shared ≡ self.old.shared }
         ensures state { self.new.state ≡ PassState.Resting pass }
@@ -131,7 +131,7 @@ impl DeskPass {
     }
 
     /// A pass at rest.
-    pub(crate) fn resting(shared: Arc<Shared, Global>, pass: Pass) -> DeskPass
+    pub(crate) fn at_rest(shared: Arc<Shared, Global>, pass: Pass) -> DeskPass
         requires { IsPassOf (arc_value shared).desk pass }
         ensures shared { result.shared ≡ shared }
         ensures state { result.state ≡ PassState.Resting pass }

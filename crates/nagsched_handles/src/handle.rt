@@ -5,9 +5,9 @@
 
 ghost use Rattle.std.specs.Prelude.{◌≡◌, ◌==◌, not, is_some, Some, None};
 
+use crate::box_parts::BoxParts;
 use crate::raw::Raw;
 use crate::target::HandleTarget;
-use crate::unboxed::Unboxed;
 use std::alloc::Global;
 use std::mem::replace;
 
@@ -17,18 +17,18 @@ use std::mem::replace;
 pub struct Handle {
     raw: Raw,
     full: u64,
-    ghost told: { is_some raw.value ≡ not (full == 0) },
+    ghost consistent: { is_some raw.value ≡ not (full == 0) },
 }
 
 /// The value. Each call of this function proves that the value may go to another thread.
-fn sent<T: Send>(value: T) -> T
+fn assert_send<T: Send>(value: T) -> T
     ensures { result ≡ value }
 {
     value
 }
 
 impl Handle {
-    ghost use Rattle.check_handles.specs.Handles.{boxed, contents_of};
+    ghost use Rattle.nagsched_handles.specs.Handles.{box_value, contents_of};
 
     /// An empty handle.
     pub fn none() -> Handle
@@ -44,8 +44,8 @@ impl Handle {
     pub fn of(value: Box<HandleTarget>) -> Handle
         ensures { contents_of result ≡ Some value.value }
     {
-        sent(Handle {
-            raw: Raw::of(Unboxed::of(value)),
+        assert_send(Handle {
+            raw: Raw::of(BoxParts::of(value)),
             full: 1,
         })
     }
@@ -59,14 +59,14 @@ impl Handle {
 
     /// The target of the handle, which is empty afterwards.
     pub fn take(&mut self, alloc: Global) -> Option<Box<HandleTarget>>
-        ensures value { boxed result ≡ contents_of self.old }
+        ensures value { box_value result ≡ contents_of self.old }
         ensures empty { contents_of self.new ≡ None }
     {
         let Handle { raw, full } = replace(self, Handle::none());
         if full == 0 {
             None
         } else {
-            Some(raw.into_unboxed(alloc).into_box())
+            Some(raw.into_box_parts(alloc).into_box())
         }
     }
 }

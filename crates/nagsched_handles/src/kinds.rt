@@ -1,4 +1,5 @@
-//! The numbers of calls, replies and refusals, named as in `nagsched.h`.
+//! The numbers of calls, replies and refusals of a saved state, named as in `nagsched.h`. Those of the refusals of a
+//! setup are numbers of `LoadError`.
 
 /// A call that asks for the next check.
 pub(crate) const CALL_TAKE: u32 = 0;
@@ -54,39 +55,6 @@ pub(crate) const REPLY_WRONG_RUN: u32 = 10;
 /// The refusal of a take after the last run number.
 pub(crate) const REPLY_RUNS_SPENT: u32 = 11;
 
-/// A document over the limit of its length.
-pub(crate) const REFUSAL_TOO_LONG: u32 = 0;
-
-/// A document that isn't JSON.
-pub(crate) const REFUSAL_NOT_JSON: u32 = 1;
-
-/// A value of a document with the wrong shape.
-pub(crate) const REFUSAL_SHAPE: u32 = 2;
-
-/// A document with too many objects or dependencies.
-pub(crate) const REFUSAL_TOO_MANY: u32 = 3;
-
-/// A name of a document that isn't allowed.
-pub(crate) const REFUSAL_BAD_NAME: u32 = 4;
-
-/// A name that a document has twice.
-pub(crate) const REFUSAL_DUPLICATE: u32 = 5;
-
-/// A name of a host that the document doesn't have.
-pub(crate) const REFUSAL_UNKNOWN_HOST: u32 = 6;
-
-/// A name of a master that the document doesn't have.
-pub(crate) const REFUSAL_UNKNOWN_MASTER: u32 = 7;
-
-/// A number of a document that is out of its range.
-pub(crate) const REFUSAL_RANGE: u32 = 8;
-
-/// A cycle of dependencies.
-pub(crate) const REFUSAL_DEPENDENCY_CYCLE: u32 = 9;
-
-/// A cycle of parents.
-pub(crate) const REFUSAL_PARENT_CYCLE: u32 = 10;
-
 /// A saved state over the limit of its length.
 pub(crate) const REFUSAL_SAVED_TOO_LONG: u32 = 11;
 
@@ -116,6 +84,3 @@ pub(crate) const REFUSAL_SAVED_UNLAWFUL: u32 = 19;
 
 /// Out of memory while a saved state is read. The header doesn't have this number: C gets a status.
 pub(crate) const REFUSAL_SAVED_MEMORY: u32 = 20;
-
-/// Out of memory while a document is read. The header doesn't have this number: C gets a status.
-pub(crate) const REFUSAL_MEMORY: u32 = 21;

@@ -6,13 +6,13 @@
 ghost use Rattle.std.specs.Prelude.{◌≡◌, ◌↔◌, ◌<◌, ◌≤◌, [], length, true, IfOk, IfErr, OnOk};
 ghost use Rattle.std.specs.List.{All};
 ghost use Rattle.std_alloc.specs.Arc.{arc_value};
-ghost use Rattle.check_desk.specs.Desks.{opened_with, passes_of, AreNewPassesWith, IsPassOf};
+ghost use Rattle.check_desk.specs.Desks.{desk_opening, passes_of, AreNewPassesWith, IsPassOf};
 ghost use Rattle.check_desk.specs.Passes.{pass_of};
 ghost use Rattle.check_book.specs.BookState.{book_opening};
 ghost use Rattle.check_book.specs.Books.{entries_of, opening_of, refused_of};
-ghost use Rattle.check_handles.specs.Seats.{HavePasses, IsSeatFor, IsSeatOf, IsTaken};
-ghost use Rattle.check_handles.specs.Opening.{IsAsSetup, IsBack, IsBackOf, IsBookBack, IsEmptyBack, IsSetupBack};
-ghost use Rattle.check_handles.specs.Opening.{IsFreshPassOf, IsOpenedBy, IsOpenedWith, IsSource};
+ghost use Rattle.nagsched_handles.specs.Seats.{HavePasses, IsSeatFor, IsSeatOf, IsSeatWithPass};
+ghost use Rattle.nagsched_handles.specs.Opening.{IsAsSetup, IsHandedBack, IsHandedBackOf, IsBookBack, IsEmptyBack, IsSetupBack};
+ghost use Rattle.nagsched_handles.specs.Opening.{IsFreshPassOf, IsOpenedBy, IsOpenedWith, IsSource};
 
 use crate::desk_pass::DeskPass;
 use crate::handle::Handle;
@@ -56,7 +56,7 @@ pub fn is_source(target: &HandleTarget, terms: Terms) -> bool
 
 /// Opens a desk on a setup or a book, with a pass for each handle. If memory is refused, it leaves the
 /// handles as they were, and hands back the setup or the book, or else the only pass of the desk. The
-/// pass would need a count of owners that is at its limit (`IsBackOf`).
+/// pass would need a count of owners that is at its limit (`IsHandedBackOf`).
 pub fn open_source(
     alloc: Global,
     source: HandleTarget,
@@ -65,9 +65,9 @@ pub fn open_source(
 ) -> Result<(), HandleTarget>
     requires source { IsSource terms source }
     requires calls { 0 < terms.calls }
-    requires some { (0 < length handles.old) × (length handles.old ≤ 1024) }
+    requires nonempty { (0 < length handles.old) × (length handles.old ≤ 1024) }
     ensures ok { OnOk result (IsOpenedBy terms source handles.new) }
-    ensures err { IfErr result (λ back. IsBack terms source back × (handles.new ≡ handles.old)) }
+    ensures err { IfErr result (λ back. IsHandedBack terms source back × (handles.new ≡ handles.old)) }
 {
     match source {
         HandleTarget::Setup(named) => open_setup(alloc, named, terms, handles),
@@ -85,7 +85,7 @@ fn open_setup(
 ) -> Result<(), HandleTarget>
     requires start { terms.start ≤ LAST_MOMENT }
     requires calls { 0 < terms.calls }
-    requires some { (0 < length handles.old) × (length handles.old ≤ 1024) }
+    requires nonempty { (0 < length handles.old) × (length handles.old ≤ 1024) }
     ensures ok { OnOk result (IsOpenedWith terms (book_opening named.setup terms.start terms.room) handles.new) }
     ensures err { IfErr result (λ back. IsSetupBack terms named back × (handles.new ≡ handles.old)) }
 {
@@ -125,7 +125,7 @@ fn open_book(
 ) -> Result<(), HandleTarget>
     requires empty { (entries_of named.book ≡ []) × (refused_of named.book ≡ 0) }
     requires calls { 0 < terms.calls }
-    requires some { (0 < length handles.old) × (length handles.old ≤ 1024) }
+    requires nonempty { (0 < length handles.old) × (length handles.old ≤ 1024) }
     ensures ok { OnOk result (IsOpenedWith terms (opening_of named.book) handles.new) }
     ensures err { IfErr result (λ back. IsBookBack named back × (handles.new ≡ handles.old)) }
 {
@@ -168,19 +168,19 @@ fn seat_all(
     handles: &mut [Handle],
 ) -> Result<(), HandleTarget>
     requires fresh { All (IsFreshPassOf shared.desk) passes.items }
-    requires some { (0 < length passes.items) × (length passes.items ≤ 1024) }
+    requires nonempty { (0 < length passes.items) × (length passes.items ≤ 1024) }
     requires passes { length passes.items ≡ passes_of shared.desk }
     requires seats { length seats.items ≡ length passes.items }
     requires handles { length handles.old ≡ length passes.items }
     ensures ok { OnOk result (HavePasses shared passes.items handles.new) }
     ensures err { IfErr result (λ back.
-        IsBackOf (opened_with shared.desk) back × (handles.new ≡ handles.old)) }
+        IsHandedBackOf (desk_opening shared.desk) back × (handles.new ≡ handles.old)) }
 {
     match Arc::new(alloc, shared) {
         Ok(shared) => {
             let mut seats = seats;
             if share(&shared, &mut seats).is_err() {
-                return Err(unshared(shared, passes));
+                return Err(reclaim_shared(shared, passes));
             }
             hand_out(shared, passes, seats, handles);
             Ok(())
@@ -195,24 +195,24 @@ fn share(shared: &Arc<Shared, Global>, seats: &mut Vec<Box<HandleTarget>>) -> Re
     ensures shared { OnOk result (All (λ seat. IsSeatOf (arc_value shared.now) seat.value) seats.new.items) }
 {
     for at in 0..seats.len() {
-        *seats[at] = HandleTarget::Pass(DeskPass::vacant(Arc::try_clone(shared)?));
+        *seats[at] = HandleTarget::Pass(DeskPass::without_pass(Arc::try_clone(shared)?));
     }
     Ok(())
 }
 
 /// The book of a desk that nothing else shares. If the desk is shared nevertheless, its only pass: that
 /// would need a count of 2^63 owners.
-fn unshared(shared: Arc<Shared, Global>, passes: Vec<Pass>) -> HandleTarget
+fn reclaim_shared(shared: Arc<Shared, Global>, passes: Vec<Pass>) -> HandleTarget
     requires fresh { All (IsFreshPassOf (arc_value shared).desk) passes.items }
     requires count { length passes.items ≡ passes_of (arc_value shared).desk }
-    requires some { (0 < length passes.items) × (length passes.items ≤ 1024) }
-    ensures { IsBackOf (opened_with (arc_value shared).desk) result }
+    requires nonempty { (0 < length passes.items) × (length passes.items ≤ 1024) }
+    ensures { IsHandedBackOf (desk_opening (arc_value shared).desk) result }
 {
     match Arc::try_unwrap(shared) {
         Ok(shared) => HandleTarget::Book(reclaim(shared, passes)),
         Err(shared) => {
             let pass = gather_all(&shared.desk, passes);
-            HandleTarget::Pass(DeskPass::resting(shared, pass))
+            HandleTarget::Pass(DeskPass::at_rest(shared, pass))
         }
     }
 }
@@ -221,8 +221,8 @@ fn unshared(shared: Arc<Shared, Global>, passes: Vec<Pass>) -> HandleTarget
 fn reclaim(shared: Shared, passes: Vec<Pass>) -> NamedBook
     requires fresh { All (IsFreshPassOf shared.desk) passes.items }
     requires count { length passes.items ≡ passes_of shared.desk }
-    requires some { 0 < length passes.items }
-    ensures { (opening_of result.book ≡ opened_with shared.desk) × (entries_of result.book ≡ [])
+    requires nonempty { 0 < length passes.items }
+    ensures { (opening_of result.book ≡ desk_opening shared.desk) × (entries_of result.book ≡ [])
         × (refused_of result.book ≡ 0) }
 {
     let Shared { desk, names, .. } = shared;
@@ -236,7 +236,7 @@ fn reclaim(shared: Shared, passes: Vec<Pass>) -> NamedBook
 /// All passes of a desk, which have made no call, as one.
 fn gather_all(desk: &Desk, passes: Vec<Pass>) -> Pass
     requires fresh { All (IsFreshPassOf desk.now) passes.items }
-    requires some { 0 < length passes.items }
+    requires nonempty { 0 < length passes.items }
     ensures desk { IsPassOf desk.now result }
     ensures all { length (pass_of result).numbers ≡ length passes.items }
     ensures fresh { ((pass_of result).seen ≡ []) × ((pass_of result).calls ≡ 0) }
@@ -280,10 +280,10 @@ fn hand_out(
 /// Puts a pass into a vacant seat of its desk.
 fn take_seat(seat: &mut HandleTarget, pass: Pass)
     requires { IsSeatFor pass seat.old }
-    ensures { IsTaken pass seat.old seat.new }
+    ensures { IsSeatWithPass pass seat.old seat.new }
 {
     match seat {
-        HandleTarget::Pass(place) => place.sit(pass),
+        HandleTarget::Pass(place) => place.set_pass(pass),
         _ => unreachable!(),
     }
 }

@@ -2,8 +2,8 @@
 
 ghost use Rattle.std.specs.Prelude.{◌≡◌, IfSome, None};
 ghost use Rattle.check_desk.specs.Desks.{IsWaitingAt};
-ghost use Rattle.check_handles.specs.PassStates.{IsPassStateOf};
-ghost use Rattle.check_handles.specs.Tries.{HasAdvanced, HasLooked, HasTurn, MayGoOn, step_of};
+ghost use Rattle.nagsched_handles.specs.PassStates.{IsPassStateOf};
+ghost use Rattle.nagsched_handles.specs.Tries.{HasAdvanced, HasLooked, HasTurn, MayContinue, step_of};
 
 use check_desk::{Answer, Desk, Pass, Poll, Turn};
 use check_sched::{Call, Reply};
@@ -44,7 +44,7 @@ pub(crate) fn advance(desk: &Desk, state: &mut PassState, call: Call) -> Step
     ensures own { IsPassStateOf desk.now state.new }
     ensures advanced { HasAdvanced desk.now call state.old result state.new }
 {
-    if let Some(step) = hindrance(state, call) {
+    if let Some(step) = blocking_step(state, call) {
         return step;
     }
     let turn = take_turn(desk, state, call);
@@ -53,10 +53,10 @@ pub(crate) fn advance(desk: &Desk, state: &mut PassState, call: Call) -> Step
 
 /// The reason why the pass can't continue with the call: the pass has no call left, or waits for the turn of
 /// another call.
-fn hindrance(state: &PassState, call: Call) -> Option<Step>
-    ensures hindered { IfSome result (λ step.
+fn blocking_step(state: &PassState, call: Call) -> Option<Step>
+    ensures blocking { IfSome result (λ step.
         (desk : Desk) → HasAdvanced desk call state.now step state.now) }
-    ensures free { result ≡ None → MayGoOn call state.now }
+    ensures unblocked { result ≡ None → MayContinue call state.now }
 {
     match state {
         PassState::Resting(pass) => (pass.left() == 0).then_some(Step::Spent),
@@ -69,8 +69,8 @@ fn hindrance(state: &PassState, call: Call) -> Option<Step>
 /// call is a parameter only for the proof: the pass can continue with it.
 fn take_turn(desk: &Desk, state: &mut PassState, call: Call) -> Turn
     requires own { IsPassStateOf desk.now state.old }
-    requires free { MayGoOn call state.old }
-    ensures waits { IsWaitingAt desk.now result }
+    requires unblocked { MayContinue call state.old }
+    ensures is_waiting { IsWaitingAt desk.now result }
     ensures turn { HasTurn state.old result }
 {
     match replace(state, PassState::Gone) {

@@ -2,12 +2,12 @@
 
 ghost use Rattle.std.specs.Prelude.{◌≡◌, Some, None, Option};
 ghost use Rattle.std.specs.Coded.{coded_option};
-ghost use Rattle.check_handles.specs.contracts.target.HandleTarget.{the_row as target_row};
-ghost use Rattle.check_handles.specs.declared.target.HandleTarget.{HandleTarget};
-ghost use Rattle.check_handles.specs.Held.{held};
+ghost use Rattle.nagsched_handles.specs.contracts.target.HandleTarget.{the_row as target_row};
+ghost use Rattle.nagsched_handles.specs.declared.target.HandleTarget.{HandleTarget};
+ghost use Rattle.nagsched_handles.specs.Ownership.{owned_at};
 
+use crate::box_parts::BoxParts;
 use crate::target::HandleTarget;
-use crate::unboxed::Unboxed;
 use std::alloc::Global;
 use std::marker::Model;
 use std::ptr::null_mut;
@@ -27,7 +27,7 @@ pub struct Raw {
 }
 
 impl Model for Raw {
-    ghost also_owns = { λ raw. held target_row raw.at raw.value };
+    ghost also_owns = { λ raw. owned_at target_row raw.at raw.value };
 }
 
 unsafe impl Send for Raw {}
@@ -41,22 +41,22 @@ impl Raw {
     }
 
     /// The address of the value that was boxed.
-    pub(crate) fn of(apart: Unboxed<HandleTarget, Global>) -> Raw
+    pub(crate) fn of(apart: BoxParts<HandleTarget, Global>) -> Raw
         ensures { result.value ≡ Some apart.value }
     {
-        let Unboxed { at, alloc: _ } = apart;
+        let BoxParts { at, alloc: _ } = apart;
         Raw {
             at: at as *mut Opaque,
         }
     }
 
     /// The parts of the box.
-    pub(crate) fn into_unboxed(self, alloc: Global) -> Unboxed<HandleTarget, Global>
+    pub(crate) fn into_box_parts(self, alloc: Global) -> BoxParts<HandleTarget, Global>
         requires { (x : HandleTarget) × (self.value ≡ Some x) }
         ensures { self.value ≡ Some result.value }
     {
         let Raw { at } = self;
-        Unboxed {
+        BoxParts {
             at: at as *mut HandleTarget,
             alloc,
         }

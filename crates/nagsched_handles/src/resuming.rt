@@ -1,7 +1,7 @@
 //! Makes a book over a setup that resumes a saved state.
 
 ghost use Rattle.std.specs.Prelude.{◌≡◌, ◌↔◌, ◌≤◌, true, false};
-ghost use Rattle.check_handles.specs.Resuming.{IsResumed, IsSameSetup, IsSetup};
+ghost use Rattle.nagsched_handles.specs.Resuming.{IsResumedBook, IsSameSetup, IsSetupTarget};
 
 use crate::target::{HandleTarget, NamedBook, NamedSetup};
 use check_book::Book;
@@ -11,7 +11,7 @@ use std::mem::replace;
 
 /// Whether the target is a setup.
 pub fn is_setup(target: &HandleTarget) -> bool
-    ensures { (result ≡ true) ↔ IsSetup target.now }
+    ensures { (result ≡ true) ↔ IsSetupTarget target.now }
 {
     matches!(target, HandleTarget::Setup(_))
 }
@@ -26,9 +26,9 @@ pub fn resume(
     start: u64,
     room: usize,
 ) -> bool
-    requires setup { IsSetup target.old }
+    requires setup { IsSetupTarget target.old }
     requires start { start ≤ LAST_MOMENT }
-    ensures resumed { result ≡ true → IsResumed start room saved.now target.old target.new }
+    ensures resumed { result ≡ true → IsResumedBook start room saved.now target.old target.new }
     ensures same { result ≡ false → IsSameSetup target.old target.new }
 {
     let before = replace(target, HandleTarget::Nothing);
@@ -46,9 +46,9 @@ fn resume_over(
     start: u64,
     room: usize,
 ) -> (HandleTarget, bool)
-    requires setup { IsSetup target }
+    requires setup { IsSetupTarget target }
     requires start { start ≤ LAST_MOMENT }
-    ensures resumed { result.1 ≡ true → IsResumed start room saved.now target result.0 }
+    ensures resumed { result.1 ≡ true → IsResumedBook start room saved.now target result.0 }
     ensures same { result.1 ≡ false → IsSameSetup target result.0 }
 {
     match target {

@@ -1,7 +1,7 @@
 //! The parts of a desk that its passes share.
 
 ghost use Rattle.std.specs.Prelude.{◌≡◌, ◌↔◌, true};
-ghost use Rattle.check_desk.specs.Desks.{opened_with, passes_of};
+ghost use Rattle.check_desk.specs.Desks.{desk_opening, passes_of};
 
 use check_desk::Desk;
 use check_objects::Setup;
@@ -17,7 +17,7 @@ pub struct Shared {
     pub(crate) passes: u32,
     /// A number that no other desk of the process has. The program that opens desks chooses it.
     pub(crate) mark: u64,
-    ghost named: { names ≡ (opened_with desk).sched.setup },
+    ghost named: { names ≡ (desk_opening desk).sched.setup },
     ghost passes_are: { passes_of desk ≡ passes },
 }
 

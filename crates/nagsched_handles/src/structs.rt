@@ -5,12 +5,10 @@
 
 ghost use Rattle.std.specs.Prelude.{◌≡◌, None};
 ghost use Rattle.check_sched.specs.declared.call.Reply.TheVariants as reply;
-ghost use Rattle.check_records.specs.Plain.{is_there, number_or_0};
-ghost use Rattle.check_records.specs.Plain.{plain_call, plain_entry, plain_refusal, plain_reply, plain_standing, refusal_at, refusal_nowhere, reply_struct, with_time};
+ghost use Rattle.nagsched_handles.specs.Structs.{call_struct, c_call, c_entry, c_reply, c_standing, reply_struct, with_time};
 
 use crate::kinds;
-use crate::numbers::flag;
-use check_drafts::{LoadError, Place};
+use crate::numbers::{flag, number_or_0, presence};
 use check_rules::Standing;
 use check_sched::{Call, Refusal, Reply};
 use ticket_steps::Entry;
@@ -18,7 +16,7 @@ use ticket_steps::Entry;
 /// The standing of an object.
 #[repr(C)]
 #[derive(Clone, Copy, PartialEq)]
-pub struct PlainStanding {
+pub struct CStanding {
     /// 1 if a result has come in, otherwise 0.
     pub checked: u32,
     /// A state: OK, WARNING, CRITICAL, UNKNOWN are 0 to 3, UP, DOWN, UNREACHABLE 4 to 6.
@@ -36,7 +34,7 @@ pub struct PlainStanding {
 /// A call, as a history stores it.
 #[repr(C)]
 #[derive(Clone, Copy, PartialEq)]
-pub struct PlainCall {
+pub struct CCall {
     /// Take, report, abandon, reschedule, enable and status are 0 to 5.
     pub kind: u32,
     /// The number of the object, for all calls except take.
@@ -54,7 +52,7 @@ pub struct PlainCall {
 /// The reply to a call.
 #[repr(C)]
 #[derive(Clone, Copy, PartialEq)]
-pub struct PlainReply {
+pub struct CReply {
     /// Taken, put off, idle, at limit, standing, freed and done are 0 to 6; 7 to 11 are refusals.
     pub kind: u32,
     /// The number of the object, for taken and put off.
@@ -68,25 +66,25 @@ pub struct PlainReply {
     /// 1 if the state differs from the one before, otherwise 0, for standing.
     pub changed: u32,
     /// The object's standing, for standing.
-    pub standing: PlainStanding,
+    pub standing: CStanding,
 }
 
 /// An entry of a history: the pass that made the call, the call, the reply.
 #[repr(C)]
 #[derive(Clone, Copy, PartialEq)]
-pub struct PlainEntry {
+pub struct CEntry {
     /// The number of the pass, from 0.
     pub pass: u64,
     /// The call.
-    pub call: PlainCall,
+    pub call: CCall,
     /// The reply.
-    pub reply: PlainReply,
+    pub reply: CReply,
 }
 
 /// Why a document isn't a setup, or a text isn't a saved state, and the place of the fault.
 #[repr(C)]
 #[derive(Clone, Copy, PartialEq)]
-pub struct PlainRefusal {
+pub struct CRefusal {
     /// The reason: 0 to 10 for a document, 11 to 19 for a saved state.
     pub kind: u32,
     /// The part of the document, 1 to 6. It is 0 if the kind has no place, and for a saved state.
@@ -98,7 +96,7 @@ pub struct PlainRefusal {
 }
 
 /// A take at the moment 0. The struct of every call is made from it.
-const FIRST_TAKE: PlainCall = PlainCall {
+const FIRST_TAKE: CCall = CCall {
     kind: kinds::CALL_TAKE,
     object: 0,
     run: 0,
@@ -108,7 +106,7 @@ const FIRST_TAKE: PlainCall = PlainCall {
 };
 
 /// The standing in a reply that has no standing.
-const NO_STANDING: PlainStanding = PlainStanding {
+const NO_STANDING: CStanding = CStanding {
     checked: 0,
     state: 0,
     kind: 0,
@@ -118,7 +116,7 @@ const NO_STANDING: PlainStanding = PlainStanding {
 };
 
 /// A reply with nothing written yet.
-const NO_REPLY: PlainReply = PlainReply {
+const NO_REPLY: CReply = CReply {
     kind: kinds::REPLY_TAKEN,
     object: 0,
     run: 0,
@@ -129,10 +127,10 @@ const NO_REPLY: PlainReply = PlainReply {
 };
 
 /// The standing of an object, for C.
-pub fn plain_standing(standing: Standing) -> PlainStanding
-    ensures { result ≡ plain_standing standing }
+pub fn c_standing(standing: Standing) -> CStanding
+    ensures { result ≡ c_standing standing }
 {
-    PlainStanding {
+    CStanding {
         checked: flag(standing.checked),
         state: standing.state.number(),
         kind: standing.kind.number(),
@@ -142,92 +140,71 @@ pub fn plain_standing(standing: Standing) -> PlainStanding
     }
 }
 
+/// A call of this kind for an object. All other fields are 0.
+fn call_for(kind: u32, object: u32) -> CCall
+    ensures { result ≡ call_struct kind object 0 0 0 0 }
+{
+    CCall {
+        kind,
+        object,
+        ..FIRST_TAKE
+    }
+}
+
 /// A call, for C.
-pub fn plain_call(call: Call) -> PlainCall
-    ensures { result ≡ plain_call call }
+pub fn c_call(call: Call) -> CCall
+    ensures { result ≡ c_call call }
 {
     match call {
-        Call::Take { now } => PlainCall {
+        Call::Take { now } => CCall {
             moment: now,
             ..FIRST_TAKE
         },
-        Call::Report { object, run, code } => PlainCall {
-            kind: kinds::CALL_REPORT,
-            object,
+        Call::Report { object, run, code } => CCall {
             run,
             code: code.number(),
-            ..FIRST_TAKE
+            ..call_for(kinds::CALL_REPORT, object)
         },
-        Call::Abandon { object, run, now } => PlainCall {
-            kind: kinds::CALL_ABANDON,
-            object,
+        Call::Abandon { object, run, now } => CCall {
             run,
             moment: now,
-            ..FIRST_TAKE
+            ..call_for(kinds::CALL_ABANDON, object)
         },
         Call::Reschedule {
             object,
             time,
             forced,
-        } => PlainCall {
-            kind: kinds::CALL_RESCHEDULE,
-            object,
+        } => CCall {
             moment: time,
             flag: flag(forced),
-            ..FIRST_TAKE
+            ..call_for(kinds::CALL_RESCHEDULE, object)
         },
-        Call::Enable { object, on } => PlainCall {
-            kind: kinds::CALL_ENABLE,
-            object,
+        Call::Enable { object, on } => CCall {
             flag: flag(on),
-            ..FIRST_TAKE
+            ..call_for(kinds::CALL_ENABLE, object)
         },
-        Call::Status { object } => PlainCall {
-            kind: kinds::CALL_STATUS,
-            object,
-            ..FIRST_TAKE
-        },
-    }
-}
-
-/// The number, or 0 for None.
-fn number_or_0(number: Option<u64>) -> u64
-    ensures { result ≡ number_or_0 number }
-{
-    match number {
-        Some(number) => number,
-        None => 0,
-    }
-}
-
-/// Whether there is a number: 1 or 0.
-fn is_there(number: Option<u64>) -> u32
-    ensures { result ≡ is_there number }
-{
-    match number {
-        Some(_) => 1,
-        None => 0,
+        Call::Status { object } => call_for(kinds::CALL_STATUS, object),
     }
 }
 
 /// Writes a time. Without a time, it writes 0, with `has_time` 0.
-fn tell_time(time: Option<u64>, told: &mut PlainReply)
-    ensures { told.new ≡ with_time time told.old }
+fn write_time(time: Option<u64>, output: &mut CReply)
+    ensures { output.new ≡ with_time time output.old }
 {
-    told.time = number_or_0(time);
-    told.has_time = is_there(time);
+    output.time = number_or_0(time);
+    output.has_time = presence(time);
 }
 
 /// A reply of this kind without other fields.
-fn bare_reply(kind: u32) -> PlainReply
+fn bare_reply(kind: u32) -> CReply
     ensures { result ≡ reply_struct kind 0 0 None }
 {
-    PlainReply { kind, ..NO_REPLY }
+    CReply { kind, ..NO_REPLY }
 }
 
 /// The refusal of a call, for C.
-fn plain_refused(refusal: Refusal) -> PlainReply
-    ensures { result ≡ plain_reply (reply.Refused refusal) }
+fn c_refused_reply(refusal: Refusal) -> CReply
+    ensures { result ≡ c_reply (reply.Refused refusal) }
 {
     match refusal {
         Refusal::UnknownObject => bare_reply(kinds::REPLY_UNKNOWN_OBJECT),
@@ -239,118 +216,62 @@ fn plain_refused(refusal: Refusal) -> PlainReply
 }
 
 /// Writes the reply to a call, for C: first an empty struct, and then the fields of the reply.
-pub fn tell_reply(reply: Reply, told: &mut PlainReply)
-    ensures { told.new ≡ plain_reply reply }
+pub fn write_reply(reply: Reply, output: &mut CReply)
+    ensures { output.new ≡ c_reply reply }
 {
-    *told = NO_REPLY;
+    *output = NO_REPLY;
     match reply {
         Reply::Taken { object, run } => {
-            told.kind = kinds::REPLY_TAKEN;
-            told.object = object;
-            told.run = run;
+            output.kind = kinds::REPLY_TAKEN;
+            output.object = object;
+            output.run = run;
         }
         Reply::PutOff { object, until } => {
-            told.kind = kinds::REPLY_PUT_OFF;
-            told.object = object;
-            tell_time(until, told);
+            output.kind = kinds::REPLY_PUT_OFF;
+            output.object = object;
+            write_time(until, output);
         }
         Reply::Idle { next } => {
-            told.kind = kinds::REPLY_IDLE;
-            tell_time(next, told);
+            output.kind = kinds::REPLY_IDLE;
+            write_time(next, output);
         }
-        Reply::AtLimit => told.kind = kinds::REPLY_AT_LIMIT,
+        Reply::AtLimit => output.kind = kinds::REPLY_AT_LIMIT,
         Reply::Standing {
             standing,
             changed,
             next,
         } => {
-            told.kind = kinds::REPLY_STANDING;
-            told.changed = flag(changed);
-            told.standing = plain_standing(standing);
-            tell_time(next, told);
+            output.kind = kinds::REPLY_STANDING;
+            output.changed = flag(changed);
+            output.standing = c_standing(standing);
+            write_time(next, output);
         }
         Reply::Freed { next } => {
-            told.kind = kinds::REPLY_FREED;
-            tell_time(Some(next), told);
+            output.kind = kinds::REPLY_FREED;
+            write_time(Some(next), output);
         }
-        Reply::Done => told.kind = kinds::REPLY_DONE,
-        Reply::Refused(refusal) => *told = plain_refused(refusal),
+        Reply::Done => output.kind = kinds::REPLY_DONE,
+        Reply::Refused(refusal) => *output = c_refused_reply(refusal),
     }
 }
 
 /// The reply to a call, for C.
-pub fn plain_reply(reply: Reply) -> PlainReply
-    ensures { result ≡ plain_reply reply }
+pub fn c_reply(reply: Reply) -> CReply
+    ensures { result ≡ c_reply reply }
 {
-    let mut told = NO_REPLY;
-    tell_reply(reply, &mut told);
-    told
+    let mut output = NO_REPLY;
+    write_reply(reply, &mut output);
+    output
 }
 
 /// An entry of a history, for C.
-pub fn plain_entry(entry: &Entry<Call, Reply>) -> PlainEntry
-    ensures { result ≡ plain_entry entry.now }
+pub fn c_entry(entry: &Entry<Call, Reply>) -> CEntry
+    ensures { result ≡ c_entry entry.now }
 {
     let Entry { pass, call, reply } = *entry;
-    PlainEntry {
+    CEntry {
         pass: pass as u64,
-        call: plain_call(call),
-        reply: plain_reply(reply),
-    }
-}
-
-/// A refusal of this kind that has no place.
-fn refusal_nowhere(kind: u32) -> PlainRefusal
-    ensures { result ≡ refusal_nowhere kind }
-{
-    PlainRefusal {
-        kind,
-        part: 0,
-        has_index: 0,
-        index: 0,
-    }
-}
-
-/// An index as two fields of a struct: whether there is one, 1 or 0, and the index, or 0.
-pub(crate) fn index_parts(index: Option<usize>) -> (u64, u64)
-    ensures there { result.0 ≡ is_there index }
-    ensures number { result.1 ≡ number_or_0 index }
-{
-    match index {
-        Some(index) => (1, index as u64),
-        None => (0, 0),
-    }
-}
-
-/// A refusal of this kind at this place.
-fn refusal_at(kind: u32, place: Place) -> PlainRefusal
-    ensures { result ≡ refusal_at kind place }
-{
-    let (has_index, index) = index_parts(place.index);
-    PlainRefusal {
-        kind,
-        part: place.part.number(),
-        has_index,
-        index,
-    }
-}
-
-/// Why a document isn't a setup, for C. Out of memory is a status, so C never gets its struct.
-pub fn plain_refusal(error: LoadError) -> PlainRefusal
-    ensures { result ≡ plain_refusal error }
-{
-    match error {
-        LoadError::TooLong => refusal_nowhere(kinds::REFUSAL_TOO_LONG),
-        LoadError::NotJson => refusal_nowhere(kinds::REFUSAL_NOT_JSON),
-        LoadError::Shape(place) => refusal_at(kinds::REFUSAL_SHAPE, place),
-        LoadError::TooMany => refusal_nowhere(kinds::REFUSAL_TOO_MANY),
-        LoadError::BadName(place) => refusal_at(kinds::REFUSAL_BAD_NAME, place),
-        LoadError::Duplicate(place) => refusal_at(kinds::REFUSAL_DUPLICATE, place),
-        LoadError::UnknownHost(place) => refusal_at(kinds::REFUSAL_UNKNOWN_HOST, place),
-        LoadError::UnknownMaster(place) => refusal_at(kinds::REFUSAL_UNKNOWN_MASTER, place),
-        LoadError::Range(place) => refusal_at(kinds::REFUSAL_RANGE, place),
-        LoadError::DependencyCycle => refusal_nowhere(kinds::REFUSAL_DEPENDENCY_CYCLE),
-        LoadError::ParentCycle => refusal_nowhere(kinds::REFUSAL_PARENT_CYCLE),
-        LoadError::Memory => refusal_nowhere(kinds::REFUSAL_MEMORY),
+        call: c_call(call),
+        reply: c_reply(reply),
     }
 }

@@ -52,12 +52,12 @@ fn shared<T: Sync>(value: &T) -> &T
 }
 
 impl HandleTarget {
-    ghost use Rattle.check_handles.specs.Handles.{book_by, named_by};
-    ghost use Rattle.check_handles.specs.Histories.{entries_by};
+    ghost use Rattle.nagsched_handles.specs.Handles.{target_book, target_setup};
+    ghost use Rattle.nagsched_handles.specs.Histories.{target_entries};
 
     /// The setup that names the objects. A history has none.
     pub fn setup(&self) -> Option<&Setup>
-        ensures { option_map (λ setup. setup.now) result ≡ named_by self.now }
+        ensures { option_map (λ setup. setup.now) result ≡ target_setup self.now }
     {
         match self {
             HandleTarget::Setup(named) => Some(shared(&named.setup)),
@@ -69,7 +69,7 @@ impl HandleTarget {
 
     /// The book, if the target is one.
     pub fn book(&self) -> Option<&Book>
-        ensures { option_map (λ book. book.now) result ≡ book_by self.now }
+        ensures { option_map (λ book. book.now) result ≡ target_book self.now }
     {
         match self {
             HandleTarget::Book(named) => Some(shared(&named.book)),
@@ -79,7 +79,7 @@ impl HandleTarget {
 
     /// The entries of a book or a history, oldest first.
     pub fn entries(&self) -> Option<&[Entry<Call, Reply>]>
-        ensures { option_map (λ entries. entries.now) result ≡ entries_by self.now }
+        ensures { option_map (λ entries. entries.now) result ≡ target_entries self.now }
     {
         match self {
             HandleTarget::Book(named) => Some(shared(&named.book).entries()),

@@ -1,8 +1,9 @@
 -- Generations, one after another.
 use Rattle.std.proofs.Common.{◌≡◌, ℕ, ◌+◌, List, [], ◌∷◌, ◌++◌, refl, sym, ap, subst, ◌∙◌}
+use Rattle.std.proofs.lemmas.List.{flat_map_more}
 use Rattle.ticket_steps.specs.Books.{IsLawfulBook, book_state}
 use Rattle.ticket_steps.specs.History.{IsLegal, replay}
-use Rattle.ticket_steps.specs.declared.kept.Entry.{Entry}
+use Rattle.ticket_steps.specs.declared.books.Entry.{Entry}
 use Rattle.check_objects.specs.Configuration.{Configuration}
 use Rattle.check_sched.specs.State.{State}
 use Rattle.check_sched.specs.Step.{step}
@@ -16,9 +17,10 @@ use Rattle.check_desk.specs.Desks.{AreNewPassesWith}
 use Rattle.check_desk.specs.Passes.{pass_of}
 use Rattle.check_desk.specs.declared.desk.Desk.{Desk}
 use Rattle.check_desk.specs.declared.passes.Pass.{Pass}
-use Rattle.machine_room.specs.Loop.{IsKept, KeepsRuns}
-use Rattle.machine_room.specs.Months.{AreGenerations, IsGeneration}
-use Rattle.machine_room.specs.declared.runs.Run.{Run}
+use Rattle.nagsched_loop.specs.Loop.{KeepsOtherRuns, KeepsRuns}
+use Rattle.nagsched_loop.specs.Months.{AreGenerations, IsGeneration, entries_in}
+use Rattle.nagsched_loop.specs.declared.runs.Run.{Run}
+use Rattle.nagsched_loop.proofs.RunLemmas.{kept_then}
 
 -- a book without entries stands where it was opened
 pub opened_at : (book : Book) → entries_of book ≡ [] → (opening_of book).sched ≡ sched_of book
@@ -36,15 +38,22 @@ history_leads past opened state history refused from to h e f told = record {
 
 -- what is new to a caller that had seen nothing is all that it has seen
 pub all_new : (before after history : List (Entry Call Reply)) (runs left : List Run)
-    → before ≡ [] → history ≡ after → KeepsRuns before after runs left → IsKept history runs left
+    → before ≡ [] → history ≡ after → KeepsRuns before after runs left → KeepsOtherRuns history runs left
 all_new before after history runs left none is k =
-    subst (λ es. IsKept es runs left) (ap (λ es. es ++ k.0) (sym none) ∙ k.1 ∙ sym is) k.2
+    subst (λ es. KeepsOtherRuns es runs left) (ap (λ es. es ++ k.0) (sym none) ∙ k.1 ∙ sym is) k.2
 
 -- one generation more
 pub generations_more : (past : Configuration → List (Entry Call Reply) → Type 0) (histories : List (List (Entry Call Reply))) (history : List (Entry Call Reply)) (from mid to : State)
     → AreGenerations past histories from mid → IsGeneration past history mid to → AreGenerations past (histories ++ history ∷ []) from to
 generations_more past [] history from mid to f g = (to, subst (λ s. IsGeneration past history s to) (sym f) g, refl)
 generations_more past (h ∷ hs) history from mid to f g = (f.0, f.1, generations_more past hs history f.0 mid to f.2 g)
+
+-- and the runs that it keeps
+pub kept_generation : (histories : List (List (Entry Call Reply))) (history : List (Entry Call Reply)) (first runs left : List Run)
+    → KeepsOtherRuns (entries_in histories) first runs → KeepsOtherRuns history runs left → KeepsOtherRuns (entries_in (histories ++ history ∷ [])) first left
+kept_generation histories history first runs left f g =
+    subst (λ es. KeepsOtherRuns es first left) (flat_map_more (λ h. h) [] histories history)
+    (kept_then (entries_in histories) history first runs left f g)
 
 -- a pass as a desk hands it out has seen nothing
 pub new_unseen : (calls n : ℕ) (desk : Desk) (passes : List Pass) (pass : Pass) → AreNewPassesWith calls desk n (passes ++ pass ∷ []) → (pass_of pass).seen ≡ []

@@ -1,22 +1,22 @@
--- The deeds of a loop in its environment.
+-- The effects of a loop in its environment.
 use Rattle.std.specs.Prelude.{◌≡◌, ℕ, Bool, List, [], ◌∷◌, Option}
 use Rattle.check_sched.specs.declared.call.Call.{Call}
 use Rattle.check_sched.specs.declared.call.Reply.{Reply}
-use Rattle.machine_room.specs.declared.outside.News.{News}
+use Rattle.nagsched_loop.specs.declared.environment.Event.{Event}
 
-pub data Deed : Type 0 where
+pub data Effect : Type 0 where
   -- it reads the clock, which returns this moment
-  reads : ℕ → Deed
+  reads : ℕ → Effect
   -- it asks for the next event, and gets this
-  asks : Option News → Deed
+  asks : Option Event → Effect
   -- it hands over the reply to a call that came in
-  answers : Call → Reply → Deed
+  answers : Call → Reply → Effect
   -- it starts the plugin of an object, under a run and at a moment, and sees whether this was possible
-  begins : ℕ → ℕ → ℕ → Bool → Deed
+  begins : ℕ → ℕ → ℕ → Bool → Effect
   -- it sleeps until this moment at most
-  sleeps : ℕ → Deed
+  sleeps : ℕ → Effect
 
--- these deeds, one after another, and no others
-abbrev pub Does : {S : Type 0} → (S → Deed → S → Type 0) → List Deed → S → S → Type 0
-Does does [] s t = s ≡ t
-Does {S} does (deed ∷ deeds) s t = (u : S) × does s deed u × Does does deeds u t
+-- these effects, one after another, and no others
+abbrev pub HasEffects : {S : Type 0} → (S → Effect → S → Type 0) → List Effect → S → S → Type 0
+HasEffects does [] s t = s ≡ t
+HasEffects {S} does (effect ∷ effects) s t = (u : S) × does s effect u × HasEffects does effects u t

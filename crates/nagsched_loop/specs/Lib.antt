@@ -1,4 +1,4 @@
-pub mod Deeds
+pub mod Effects
 pub mod Faults
 pub mod Loop
 pub mod Months

@@ -11,7 +11,7 @@ use ticket_steps::Entry;
 
 /// An event from outside.
 #[derive(Clone, Copy)]
-pub(crate) enum News {
+pub(crate) enum Event {
     /// A plugin's report, or an operator's call.
     Call(Call),
     /// The generation is to end.
@@ -33,13 +33,13 @@ pub(crate) enum End {
 /// The clock, the plugins and the operators. A program runs the plugins in threads or processes of its own,
 /// and no call of this trait waits for them.
 ///
-/// `does` is for contracts only: it relates a state of the outside, a deed, and the state after it. A program
-/// without proofs of its own allows all: `ghost does = { λ before deed after. ⊤ };`.
-pub(crate) trait Outside {
+/// `does` is for contracts only: it relates a state of the environment, an effect, and the state after it. A program
+/// without proofs of its own allows all: `ghost does = { λ before effect after. ⊤ };`.
+pub(crate) trait Environment {
     ghost use Rattle.std.specs.Prelude.{◌≤◌};
-    ghost use Rattle.machine_room.specs.Deeds.{Deed, answers, asks, begins, reads, sleeps};
+    ghost use Rattle.nagsched_loop.specs.Effects.{Effect, answers, asks, begins, reads, sleeps};
 
-    ghost does: { Self → Deed → Self → Type 0 };
+    ghost does: { Self → Effect → Self → Type 0 };
 
     /// The moment now, in milliseconds of a clock that never goes back.
     fn now(&mut self) -> u64
@@ -52,12 +52,12 @@ pub(crate) trait Outside {
 
     /// The next event. A call stays until it is answered: if there was no memory for it, it is returned
     /// again.
-    fn came_in(&mut self) -> Option<News>
+    fn next_event(&mut self) -> Option<Event>
         ensures { does self.old (asks result) self.new };
 
-    /// Takes the reply to the last call that `came_in` returned, for example the standing of an object after
+    /// Takes the reply to the last call that `next_event` returned, for example the standing of an object after
     /// a report, or why the call was refused. The call is then finished.
-    fn answered(&mut self, call: Call, reply: Reply)
+    fn accept_reply(&mut self, call: Call, reply: Reply)
         ensures { does self.old (answers call reply) self.new };
 
     /// Sleeps until this moment, or until an event comes in. It may end earlier.
@@ -67,17 +67,17 @@ pub(crate) trait Outside {
 
 /// The setup file, the file with the stored state, and the destination of the history.
 ///
-/// For contracts only: `kept` is the text that was stored last. `gives` is the set of setups that the file
+/// For contracts only: `stored` is the text that was stored last. `gives` is the set of setups that the file
 /// can contain, and `past` the set of histories that it can get. A program without proofs about these two
 /// allows all, by `⊤`.
 pub(crate) trait Files {
     ghost use Rattle.std.specs.Prelude.{ℕ, List, Option};
-    ghost use Rattle.ticket_steps.specs.declared.kept.Entry.{Entry as EntryOf};
+    ghost use Rattle.ticket_steps.specs.declared.books.Entry.{Entry as EntryOf};
     ghost use Rattle.check_objects.specs.Configuration.{Configuration};
     ghost use Rattle.check_sched.specs.declared.call.Call.{Call as CallOf};
     ghost use Rattle.check_sched.specs.declared.call.Reply.{Reply as ReplyOf};
 
-    ghost kept: { Self → Option (List ℕ) };
+    ghost stored: { Self → Option (List ℕ) };
 
     ghost gives: { Configuration → Type 0 };
 
@@ -85,19 +85,19 @@ pub(crate) trait Files {
 
     /// The present setup.
     fn setup(&mut self, alloc: Global) -> Result<Setup, Fault>
-        ensures kept { kept self.new ≡ kept self.old }
+        ensures stored { stored self.new ≡ stored self.old }
         ensures given { IfOk result gives };
 
     /// The text that was stored last, by this run of the program or by an earlier one.
     fn state(&self, alloc: Global) -> Result<Option<Vec<u8>>, Fault>
-        ensures { IfOk result (λ text. option_map (λ bytes. bytes.items) text ≡ kept self.now) };
+        ensures { IfOk result (λ text. option_map (λ bytes. bytes.items) text ≡ stored self.now) };
 
     /// Stores a text in place of the one before, so that one of the two is always complete.
-    fn keep(&mut self, text: &[u8]) -> Result<(), Fault>
-        ensures { OnOk result (kept self.new ≡ Some text.now) };
+    fn store_state(&mut self, text: &[u8]) -> Result<(), Fault>
+        ensures { OnOk result (stored self.new ≡ Some text.now) };
 
     /// Takes the history of a generation that has ended.
     fn past(&mut self, setup: &Setup, entries: &[Entry<Call, Reply>]) -> Result<(), Fault>
-        ensures kept { kept self.new ≡ kept self.old }
+        ensures stored { stored self.new ≡ stored self.old }
         ensures past { OnOk result (past setup.now entries.now) };
 }

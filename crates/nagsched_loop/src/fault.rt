@@ -1,7 +1,7 @@
 //! Why the program ends early.
 
 use check_objects::LoadError;
-use check_saved::SavedFault;
+use check_saved_state::SavedFault;
 use std::alloc::AllocError;
 
 /// Why the program ends early.
@@ -34,7 +34,7 @@ impl Fault {
 
 impl From<AllocError> for Fault {
     ghost use Rattle.std.specs.Prelude.{◌≡◌};
-    ghost use Rattle.machine_room.specs.declared.fault.Fault.TheVariants as fault;
+    ghost use Rattle.nagsched_loop.specs.declared.fault.Fault.TheVariants as fault;
 
     ghost from_gives = { λ _ e. e ≡ fault.Memory };
 
@@ -45,7 +45,7 @@ impl From<AllocError> for Fault {
 
 impl From<LoadError> for Fault {
     ghost use Rattle.std.specs.Prelude.{◌≡◌};
-    ghost use Rattle.machine_room.specs.Faults.{fault_of_setup};
+    ghost use Rattle.nagsched_loop.specs.Faults.{fault_of_setup};
 
     ghost from_gives = { λ refusal e. e ≡ fault_of_setup refusal };
 
@@ -59,7 +59,7 @@ impl From<LoadError> for Fault {
 
 impl From<SavedFault> for Fault {
     ghost use Rattle.std.specs.Prelude.{◌≡◌};
-    ghost use Rattle.machine_room.specs.Faults.{fault_of_text};
+    ghost use Rattle.nagsched_loop.specs.Faults.{fault_of_text};
 
     ghost from_gives = { λ refusal e. e ≡ fault_of_text refusal };
 

@@ -1,5 +1,5 @@
 #![tactic(auto)]
-//! The program `machine_room` monitors a simulated machine room for some days. It shows embedders how a desk
+//! The program `nagsched_loop` monitors a simulated machine room for some days. It shows embedders how a desk
 //! runs for months. It runs the loop of `months`, which a program that embeds the scheduler can use
 //! unchanged. The clock, the machines and the operator are simulated: some machines answer late or never, and
 //! the setup changes after half of the days.
@@ -19,20 +19,20 @@
 //!
 //! The modules:
 //! - `months`: the loop; `round`: a round of it;
-//! - `outside`: the traits for the loop's environment; `simulated`: the simulated environment;
-//! - `runs`: the running checks; `restart`: the saved text;
-//! - `room`: the setups and the machines;
-//! - `told`: the lines of output; `fault`: the errors.
+//! - `environment`: the traits for the loop's environment; `simulated`: the simulated environment;
+//! - `runs`: the running checks; `resuming`: the saved text;
+//! - `machines`: the setups and the machines;
+//! - `output`: the lines of output; `fault`: the errors.
 
+mod environment;
 mod fault;
+mod machines;
 mod months;
-mod outside;
-mod restart;
-mod room;
+mod output;
+mod resuming;
 mod round;
 mod runs;
 mod simulated;
-mod told;
 
 use fault::Fault;
 use months::watch_months;
@@ -60,12 +60,12 @@ fn main(rt: HostRuntime) -> ExitCode {
 /// Monitors the room for the number of days in the argument, and writes everything to standard output.
 fn watch<R: Env + Print + AllocGlobal + Wait>(rt: &R) -> Result<(), Fault> {
     let alloc = rt.alloc();
-    let mut outside = Days::of(asked(rt, alloc)?);
+    let mut environment = Days::of(asked(rt, alloc)?);
     let Ok(writer) = BufWriter::new(alloc, io::writer(rt)) else {
         return Err(Fault::Memory);
     };
     let mut files = Memory::empty(alloc, writer);
-    watch_months(rt, alloc, &mut outside, &mut files, ROOM)?;
+    watch_months(rt, alloc, &mut environment, &mut files, ROOM)?;
     files.flush()
 }
 

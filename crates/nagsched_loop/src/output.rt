@@ -3,7 +3,7 @@
 use crate::fault::Fault;
 use check_objects::Setup;
 use check_sched::{Call, Reply};
-use check_text::push_entry;
+use nagsched_protocol::push_entry;
 use std::alloc::{AllocError, Global};
 use std::io::Write;
 use ticket_steps::Entry;

@@ -3,8 +3,8 @@
 
 ghost use Rattle.std.specs.Prelude.{◌≡◌, ◌≤◌, [], option_map, IfErr, IfNone, IfOk, IfSome};
 ghost use Rattle.check_book.specs.Books.{entries_of, refused_of, sched_of};
-ghost use Rattle.machine_room.specs.Faults.{IsNotTakenUp};
-ghost use Rattle.machine_room.specs.Months.{IsFirst, IsResumed, saved_text_of};
+ghost use Rattle.nagsched_loop.specs.Faults.{IsNotResumed};
+ghost use Rattle.nagsched_loop.specs.Months.{IsFirst, IsResumedState, saved_text_of};
 
 use crate::fault::Fault;
 use check_book::Book;
@@ -21,7 +21,7 @@ pub(crate) fn saved_text(alloc: Global, book: &Book) -> Result<Vec<u8>, AllocErr
 
 /// The book that is resumed from a saved text from this moment on. It is over this setup, which can differ
 /// from the saved one.
-pub(crate) fn take_up(
+pub(crate) fn resume_book(
     alloc: Global,
     setup: Setup,
     text: &[u8],
@@ -30,8 +30,8 @@ pub(crate) fn take_up(
 ) -> Result<Book, Fault>
     requires { start ≤ LAST_MOMENT }
     ensures empty { IfOk result (λ book. (entries_of book ≡ []) × (refused_of book ≡ 0)) }
-    ensures resumed { IfOk result (λ book. IsResumed setup text.now start (sched_of book)) }
-    ensures refused { IfErr result (IsNotTakenUp text.now) }
+    ensures resumed { IfOk result (λ book. IsResumedState setup text.now start (sched_of book)) }
+    ensures refused { IfErr result (IsNotResumed text.now) }
 {
     let saved = Saved::read(alloc, text)?;
     match Book::resume(alloc, setup, &saved, start, room) {
@@ -44,19 +44,19 @@ pub(crate) fn take_up(
 pub(crate) fn begin(
     alloc: Global,
     setup: Setup,
-    kept: Option<Vec<u8>>,
+    stored: Option<Vec<u8>>,
     start: u64,
     room: usize,
 ) -> Result<Book, Fault>
     requires { start ≤ LAST_MOMENT }
     ensures empty { IfOk result (λ book. (entries_of book ≡ []) × (refused_of book ≡ 0)) }
     ensures first { IfOk result (λ book.
-        IsFirst setup (option_map (λ text. text.items) kept) start (sched_of book)) }
-    ensures refused { IfSome kept (λ text. IfErr result (IsNotTakenUp text.items)) }
-    ensures memory { IfNone kept (IfErr result (λ fault. fault ≡ Fault.Memory)) }
+        IsFirst setup (option_map (λ text. text.items) stored) start (sched_of book)) }
+    ensures refused { IfSome stored (λ text. IfErr result (IsNotResumed text.items)) }
+    ensures memory { IfNone stored (IfErr result (λ fault. fault ≡ Fault.Memory)) }
 {
-    match kept {
-        Some(text) => take_up(alloc, setup, &text, start, room),
+    match stored {
+        Some(text) => resume_book(alloc, setup, &text, start, room),
         None => match Book::open(alloc, setup, start, room) {
             Ok(book) => Ok(book),
             Err(_setup) => Err(Fault::Memory),

@@ -5,7 +5,7 @@ ghost use Rattle.std.specs.Prelude.{Any, Contains, IfOk, IfSome};
 ghost use Rattle.std.specs.List.{All};
 ghost use Rattle.check_book.specs.Books.{sched_of};
 ghost use Rattle.check_sched.specs.State.{run_number_of};
-ghost use Rattle.machine_room.specs.Loop.{IsOut, IsWake, due_after, left_by, limit_at, names, run_of};
+ghost use Rattle.nagsched_loop.specs.Loop.{IsRunning, IsWakeTime, due_after, runs_after_call, limit_at, is_call_for, run_with_limit};
 
 use check_book::Book;
 use check_sched::{Call, LAST_MOMENT, Reply};
@@ -28,12 +28,12 @@ pub(crate) struct Run {
 }
 
 /// Lists the runs of all running checks of a book's scheduler, each with this limit.
-pub(crate) fn out_at(alloc: Global, book: &Book, limit: u64) -> Result<Vec<Run>, AllocError>
+pub(crate) fn running_checks(alloc: Global, book: &Book, limit: u64) -> Result<Vec<Run>, AllocError>
     ensures out { IfOk result (λ runs.
-        All (λ run. IsOut (sched_of book.now) run × (run.limit ≡ limit)) runs.items) }
+        All (λ run. IsRunning (sched_of book.now) run × (run.limit ≡ limit)) runs.items) }
     ensures all { IfOk result (λ runs. (object number : ℕ)
         → run_number_of object (sched_of book.now) ≡ Some number
-        → Contains runs.items (run_of object number limit)) }
+        → Contains runs.items (run_with_limit object number limit)) }
 {
     let sched = book.sched();
     let mut runs = Vec::new(alloc);
@@ -51,8 +51,8 @@ pub(crate) fn out_at(alloc: Global, book: &Book, limit: u64) -> Result<Vec<Run>,
 }
 
 /// The first run that is past its limit.
-pub(crate) fn overdue(runs: &[Run], now: u64) -> Option<Run>
-    ensures there { IfSome result (λ run. Contains runs.now run) }
+pub(crate) fn overdue_run(runs: &[Run], now: u64) -> Option<Run>
+    ensures listed { IfSome result (λ run. Contains runs.now run) }
     ensures past { IfSome result (λ run. run.limit ≤ now) }
     ensures none { result ≡ None → All (λ run. now < run.limit) runs.now }
 {
@@ -66,14 +66,14 @@ pub(crate) fn overdue(runs: &[Run], now: u64) -> Option<Run>
 
 /// Drops the run that a call reports or abandons, and no other.
 pub(crate) fn forget(runs: &mut Vec<Run>, call: Call)
-    ensures { runs.new.items ≡ left_by call runs.old.items }
+    ensures { runs.new.items ≡ runs_after_call call runs.old.items }
 {
-    runs.retain(|run| !is_named(call, *run));
+    runs.retain(|run| !is_call_for(call, *run));
 }
 
 /// Whether a call reports or abandons this run.
-fn is_named(call: Call, run: Run) -> bool
-    ensures { result ≡ names call run }
+fn is_call_for(call: Call, run: Run) -> bool
+    ensures { result ≡ is_call_for call run }
 {
     match call {
         Call::Report {
@@ -100,11 +100,11 @@ pub(crate) fn limit_of(is_begun: bool, now: u64) -> u64
 
 /// The time until which to sleep if no check was taken. It is the time of the next check, a second later at
 /// the limit of running checks, or an hour later if no check is due. It is never past the limit of a run.
-pub(crate) fn wake(now: u64, reply: Reply, runs: &[Run]) -> u64
+pub(crate) fn wake_time(now: u64, reply: Reply, runs: &[Run]) -> u64
     requires { now ≤ LAST_MOMENT }
-    ensures { IsWake now reply runs.now result }
+    ensures { IsWakeTime now reply runs.now result }
 {
-    earliest(due(now, reply), runs)
+    earliest(due_time(now, reply), runs)
 }
 
 /// The time `until`, or the least limit of the runs if that is earlier.
@@ -120,7 +120,7 @@ fn earliest(until: u64, runs: &[Run]) -> u64
 }
 
 /// The time until which to sleep by the reply alone.
-fn due(now: u64, reply: Reply) -> u64
+fn due_time(now: u64, reply: Reply) -> u64
     requires { now ≤ LAST_MOMENT }
     ensures { result ≡ due_after now reply }
 {

@@ -3,12 +3,12 @@
 
 ghost use Rattle.std.specs.Prelude.{⊤, option_map};
 
+use crate::environment::{End, Environment, Event, Files};
 use crate::fault::Fault;
-use crate::outside::{End, Files, News, Outside};
-use crate::room::{
+use crate::machines::{
     ANSWER, CHANGED_ROOM, GATEWAY, HOUR, MACHINE_ROOM, OBJECTS, code_at, morning, next_noon,
 };
-use crate::told;
+use crate::output;
 use check_objects::Setup;
 use check_sched::{Call, LAST_MOMENT, Reply};
 use std::alloc::Global;
@@ -70,7 +70,7 @@ impl Days {
     }
 }
 
-impl Outside for Days {
+impl Environment for Days {
     ghost does = { λ before deed after. ⊤ };
 
     fn now(&mut self) -> u64 {
@@ -95,16 +95,16 @@ impl Outside for Days {
         true
     }
 
-    fn came_in(&mut self) -> Option<News> {
+    fn next_event(&mut self) -> Option<Event> {
         if let Some(call) = self.report() {
-            return Some(News::Call(call));
+            return Some(Event::Call(call));
         }
         if self.now >= self.end {
-            return Some(News::Ends(End::Program));
+            return Some(Event::Ends(End::Program));
         }
         if self.now >= self.noon {
             let time = self.noon.saturating_add(HOUR);
-            return Some(News::Call(Call::Reschedule {
+            return Some(Event::Call(Call::Reschedule {
                 object: GATEWAY,
                 time,
                 forced: true,
@@ -114,13 +114,13 @@ impl Outside for Days {
             Some(change) if self.now >= change => {
                 self.change = None;
                 self.pending = [None; OBJECTS];
-                Some(News::Ends(End::Setup))
+                Some(Event::Ends(End::Setup))
             }
             _ => None,
         }
     }
 
-    fn answered(&mut self, call: Call, _reply: Reply) {
+    fn accept_reply(&mut self, call: Call, _reply: Reply) {
         match call {
             Call::Report { object, .. } => {
                 if let Some(place) = self.pending.get_mut(object as usize) {
@@ -165,7 +165,7 @@ impl<W: Write> Memory<W> {
 }
 
 impl<W: Write> Files for Memory<W> {
-    ghost kept = { λ files. option_map (λ text. text.items) files.text };
+    ghost stored = { λ files. option_map (λ text. text.items) files.text };
 
     ghost gives = { λ setup. ⊤ };
 
@@ -179,8 +179,8 @@ impl<W: Write> Files for Memory<W> {
             MACHINE_ROOM
         };
         self.is_changed = true;
-        told::write(&mut self.writer, document)?;
-        told::write(&mut self.writer, "\n")?;
+        output::write(&mut self.writer, document)?;
+        output::write(&mut self.writer, "\n")?;
         Ok(Setup::read(alloc, document.as_bytes())?)
     }
 
@@ -191,13 +191,13 @@ impl<W: Write> Files for Memory<W> {
         }
     }
 
-    fn keep(&mut self, text: &[u8]) -> Result<(), Fault> {
+    fn store_state(&mut self, text: &[u8]) -> Result<(), Fault> {
         self.text = Some(text.to_vec(self.alloc)?);
-        told::write_bytes(&mut self.writer, text)?;
-        told::write(&mut self.writer, "\n")
+        output::write_bytes(&mut self.writer, text)?;
+        output::write(&mut self.writer, "\n")
     }
 
     fn past(&mut self, setup: &Setup, entries: &[Entry<Call, Reply>]) -> Result<(), Fault> {
-        told::write_entries(self.alloc, setup, entries, &mut self.writer)
+        output::write_entries(self.alloc, setup, entries, &mut self.writer)
     }
 }

@@ -7,11 +7,11 @@ use Rattle.serde_json.specs.Data.{Data, Items}
 use Rattle.serde_json.specs.Read.{read}
 use Rattle.serde_json.specs.View.{items_view}
 use Rattle.serde_json.specs.declared.value.Value.{Value}
-use Rattle.check_objects.specs.Tree.{tree_of}
+use Rattle.check_objects.specs.JsonTree.{tree_of}
 use Rattle.check_objects.specs.Configuration.{Configuration}
-use Rattle.check_script.specs.Command.{call_by, one_of, save_command, take_call, three_of, two_of}
-use Rattle.check_script.specs.declared.refusal.InputRefusal.{InputRefusal}
-use Rattle.check_script.specs.declared.refusal.LineFault.TheVariants as fault
+use Rattle.nagsched_protocol.specs.Command.{call_by, one_of, save_command, take_call, three_of, two_of}
+use Rattle.nagsched_protocol.specs.declared.refusal.InputRefusal.{InputRefusal}
+use Rattle.nagsched_protocol.specs.declared.refusal.LineFault.TheVariants as fault
 
 -- a line that serde_json reads
 pub tree_some : (line : List ℕ) (d : Data) (r : InputRefusal) → IsUtf8 line → read line ≡ Some d → ok_or (tree_of line) r ≡ Ok d

@@ -12,25 +12,25 @@ use Rattle.std.proofs.lemmas.Bool.{cases_eq, eq-eqb, ne_eqb}
 use Rattle.serde_json.specs.View.{view, items_view}
 use Rattle.serde_json.specs.declared.value.Value.{Value}
 use Rattle.check_objects.specs.Configuration.{Configuration, object_count}
-use Rattle.check_objects.specs.Tree.{◌>=>◌, whole_number}
+use Rattle.check_objects.specs.JsonTree.{◌>=>◌, whole_number}
 use Rattle.check_rules.specs.declared.state.Code.{Code}
-use Rattle.check_script.specs.DrillCommand.{Command, PluginOf, MomentAt, are_numbers, are_some_numbers, drill_command_by}
-use Rattle.check_script.specs.DrillCommanded.{drill_command}
-use Rattle.check_script.specs.DrillScript.{DrillScript, drill_over, drill_script_of, given_by, moment_of, moments_in}
-use Rattle.check_script.specs.DrillScript.{returns_below, returns_by, returns_of}
-use Rattle.check_drafts.specs.Agreement.{◌>>=◌}
-use Rattle.check_script.specs.Input.{first_line_of, lines_of}
-use Rattle.check_script.specs.LiveInput.{behind_line}
-use Rattle.check_script.specs.Script.{commands_behind, in_setup}
-use Rattle.check_script.specs.declared.refusal.InputRefusal.TheVariants as refusal
-use Rattle.check_script.specs.declared.refusal.LineFault.TheVariants as fault
+use Rattle.nagsched_protocol.specs.DrillCommand.{Command, PluginOf, MomentAt, are_numbers, are_nonempty_numbers, drill_command_by}
+use Rattle.nagsched_protocol.specs.DrillCommanded.{drill_command}
+use Rattle.nagsched_protocol.specs.DrillScript.{DrillScript, drill_over, drill_script_of, returns_after, moment_of, moments_in}
+use Rattle.nagsched_protocol.specs.DrillScript.{returns_below, returns_by, returns_of}
+use Rattle.setup_model.specs.Agreement.{◌>>=◌}
+use Rattle.nagsched_protocol.specs.Input.{first_line_of, lines_of}
+use Rattle.nagsched_protocol.specs.LiveInput.{rest_after_line}
+use Rattle.nagsched_protocol.specs.Script.{commands_of_lines, with_setup_refusal}
+use Rattle.nagsched_protocol.specs.declared.refusal.InputRefusal.TheVariants as refusal
+use Rattle.nagsched_protocol.specs.declared.refusal.LineFault.TheVariants as fault
 use borrow.Author.Tests.{ltb-false}
 use Rattle.check_objects.specs.Setup.{setup_of}
-use Rattle.check_script.proofs.InputLemmas.{behind_fewer}
-use Rattle.check_script.specs.declared.drill_command.DrillCommand.{DrillCommand}
-use Rattle.check_script.specs.declared.script.TheConstants.{MAX_INPUT_BYTES}
-use Rattle.check_script.specs.declared.refusal.InputRefusal.{InputRefusal}
-use Rattle.check_script.proofs.ScriptLemmas.{few_behind}
+use Rattle.nagsched_protocol.proofs.InputLemmas.{behind_fewer}
+use Rattle.nagsched_protocol.specs.declared.drill_command.DrillCommand.{DrillCommand}
+use Rattle.nagsched_protocol.specs.declared.script.TheConstants.{MAX_INPUT_BYTES}
+use Rattle.nagsched_protocol.specs.declared.refusal.InputRefusal.{InputRefusal}
+use Rattle.nagsched_protocol.proofs.ScriptLemmas.{few_behind}
 
 -- ---- members
 
@@ -44,7 +44,7 @@ are_numbers_all [] = refl
 are_numbers_all (v ∷ vs) = ap (λ b. is_some (whole_number (view v)) && b) (are_numbers_all vs)
 
 -- the same of one member or more
-pub are_some_all : (vs : List Value) → 1 ≤ length vs → list_all (λ v. is_some (whole_number (view v))) vs ≡ are_some_numbers (items_view vs)
+pub are_some_all : (vs : List Value) → 1 ≤ length vs → list_all (λ v. is_some (whole_number (view v))) vs ≡ are_nonempty_numbers (items_view vs)
 are_some_all [] h = absurd (omega arith)
 are_some_all (v ∷ vs) h = are_numbers_all (v ∷ vs)
 
@@ -71,24 +71,24 @@ few_over_by c (Ok l) s n h e = let k : drill_over c l ≡ s = cc in rw (← k) (
 few_over_by c (Err r) s n h e = cc
 
 few_by_setup : (setup : Result Configuration InputRefusal) (bytes : List ℕ) (s : DrillScript)
-    → (setup >>= λ c. (commands_behind 2 (drill_command_by c) (lines_of bytes) >>= λ all. Ok (drill_over c all))) ≡ Ok s
+    → (setup >>= λ c. (commands_of_lines 2 (drill_command_by c) (lines_of bytes) >>= λ all. Ok (drill_over c all))) ≡ Ok s
     → length s.moments ≤ length bytes
 few_by_setup (Ok c) bytes s e =
-    few_over_by c (commands_behind 2 (drill_command_by c) (lines_of bytes)) s (length bytes) (few_behind (drill_command_by c) 2 bytes) e
+    few_over_by c (commands_of_lines 2 (drill_command_by c) (lines_of bytes)) s (length bytes) (few_behind (drill_command_by c) 2 bytes) e
 few_by_setup (Err r) bytes s e = cc
 
 few_by_length : (long : Bool) (input : List ℕ) (r : Result DrillScript InputRefusal) (s : DrillScript)
     → nat_lt MAX_INPUT_BYTES (length input) ≡ long → (r ≡ Ok s → length s.moments ≤ length input)
     → cond long (Err (refusal.Line fault.TooLong 0)) r ≡ Ok s → length s.moments ≤ MAX_INPUT_BYTES
 few_by_length true input r s l h e = cc
-few_by_length false input r s l h e = let few : length input ≤ MAX_INPUT_BYTES = ltb-false _ _ l in omega (arith, few, h e)
+few_by_length false input r s l h e = let bounded : length input ≤ MAX_INPUT_BYTES = ltb-false _ _ l in omega (arith, bounded, h e)
 
 -- a script has no more moments than an input may have bytes
 pub few_moments : (input : List ℕ) (s : DrillScript) → drill_script_of input ≡ Ok s → length s.moments ≤ MAX_INPUT_BYTES
 unfolding drill_script_of
 few_moments input s e =
     few_by_length (nat_lt MAX_INPUT_BYTES (length input)) input _ s refl
-    (λ h. let few = few_by_setup (in_setup (setup_of (first_line_of input))) (behind_line input) s h in omega (arith, few, behind_fewer input)) e
+    (λ h. let bounded = few_by_setup (with_setup_refusal (setup_of (first_line_of input))) (rest_after_line input) s h in omega (arith, bounded, behind_fewer input)) e
 
 -- ---- return codes
 
@@ -100,23 +100,23 @@ last_or-more o (y ∷ xs) x = last_or-more (Some y) xs x
 returns_own : (done : List Command) (named object : ℕ) (r : List Code) → (named == object) ≡ true
     → returns_of (done ++ PluginOf named r ∷ []) object ≡ r
 returns_own done named object r e =
-    let given = filter_map (returns_by object) done in
+    let lists = filter_map (returns_by object) done in
     ap (λ l. unwrap_or (last_or None l) [])
-    (filter_map-append (returns_by object) done (PluginOf named r ∷ []) ∙ ap (λ b. given ++ cons_option (cond b (Some r) None) []) e)
-    ∙ ap (λ o. unwrap_or o []) (last_or-more None given r)
+    (filter_map-append (returns_by object) done (PluginOf named r ∷ []) ∙ ap (λ b. lists ++ cons_option (cond b (Some r) None) []) e)
+    ∙ ap (λ o. unwrap_or o []) (last_or-more None lists r)
 
 returns_other : (done : List Command) (named object : ℕ) (r : List Code) → (named == object) ≡ false
     → returns_of (done ++ PluginOf named r ∷ []) object ≡ returns_of done object
 returns_other done named object r e =
-    let given = filter_map (returns_by object) done in
+    let lists = filter_map (returns_by object) done in
     ap (λ l. unwrap_or (last_or None l) [])
     (filter_map-append (returns_by object) done (PluginOf named r ∷ [])
-    ∙ ap (λ b. given ++ cons_option (cond b (Some r) None) []) e ∙ append-nil given)
+    ∙ ap (λ b. lists ++ cons_option (cond b (Some r) None) []) e ∙ append-nil lists)
 
 returns_moment : (done : List Command) (now object : ℕ) → returns_of (done ++ MomentAt now ∷ []) object ≡ returns_of done object
 returns_moment done now object =
-    let given = filter_map (returns_by object) done in
-    ap (λ l. unwrap_or (last_or None l) []) (filter_map-append (returns_by object) done (MomentAt now ∷ []) ∙ append-nil given)
+    let lists = filter_map (returns_by object) done in
+    ap (λ l. unwrap_or (last_or None l) []) (filter_map-append (returns_by object) done (MomentAt now ∷ []) ∙ append-nil lists)
 
 length-returns_below : (count : ℕ) (commands : List Command) → length (returns_below count commands) ≡ count
 length-returns_below count commands = length-map-range_with_len (returns_of commands) 0 count
@@ -133,7 +133,7 @@ pub returns_none : (count : ℕ) → replicate count [] ≡ returns_below count 
 returns_none count = none_from 0 count
 
 -- after one command more
-pub returns_next : (count : ℕ) (done : List Command) (c : Command) → given_by c (returns_below count done) ≡ returns_below count (done ++ c ∷ [])
+pub returns_next : (count : ℕ) (done : List Command) (c : Command) → returns_after c (returns_below count done) ≡ returns_below count (done ++ c ∷ [])
 returns_next count done (MomentAt now) =
     let same : returns_of done ≡ returns_of (done ++ MomentAt now ∷ []) = λ i object. sym (returns_moment done now object) i in
     ap (λ f. map f (range_with_len 0 count)) same

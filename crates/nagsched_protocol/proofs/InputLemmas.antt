@@ -8,11 +8,11 @@ use Rattle.std.proofs.lemmas.List.Sums.{position_or_len_is}
 use Rattle.std.proofs.Math.Seq.{take-append_seam}
 use Rattle.std.specs.Prelude.{IfSome, nat_lt}
 use borrow.Author.Tests.{ltb-false}
-use Rattle.check_script.specs.Input.{HasBegun, lines_of, first_line_of}
-use Rattle.check_script.specs.LiveInput.{behind_line}
+use Rattle.nagsched_protocol.specs.Input.{HasStartedReading, lines_of, first_line_of}
+use Rattle.nagsched_protocol.specs.LiveInput.{rest_after_line}
 use Rattle.std.specs.Io.KnownBytes.{Consumes, IsAtEnd}
 use Rattle.memchr.specs.Find.{IsFirstByte}
-use Rattle.check_script.proofs.LiveInputLemmas.{Consumes-then, behind_at, lines_apart}
+use Rattle.nagsched_protocol.proofs.LiveInputLemmas.{Consumes-then, behind_at, lines_apart}
 use Rattle.std.proofs.lemmas.Grind.{common_steps}
 
 one_first : (n : ℕ) → suc n ≡ 1 + n
@@ -62,13 +62,13 @@ positive (suc n) h = omega arith
 
 -- what was read before, and a read that gave something
 pub begun_by : (had mid left : Option (List ℕ)) (input piece : List ℕ) (n : ℕ) → Consumes had mid input → Consumes mid left (take n piece)
-    → n ≤ length piece → (n ≡ 0 → ⊥) → HasBegun had left
-begun_by had mid left input piece n h k few some =
+    → n ≤ length piece → (n ≡ 0 → ⊥) → HasStartedReading had left
+begun_by had mid left input piece n h k bounded some =
     let more = positive n some in (
       input ++ take n piece,
       (
         Consumes-then had mid left input (take n piece) h k,
-        some_there (input ++ take n piece) (omega (arith, length-append input (take n piece), length-take n piece, few, more)),
+        some_there (input ++ take n piece) (omega (arith, length-append input (take n piece), length-take n piece, bounded, more)),
       ),
     )
 
@@ -112,20 +112,20 @@ line_end_none bs e =
     sym (first_line_of-take bs ∙ take_all _ bs past)
 
 -- the bytes after the first line feed
-pub behind_some : (bs : List ℕ) (i : ℕ) → Some i ≡ position (λ b. b == 10) bs → take (length bs - (i + 1)) (drop (i + 1) bs) ≡ behind_line bs
+pub behind_some : (bs : List ℕ) (i : ℕ) → Some i ≡ position (λ b. b == 10) bs → take (length bs - (i + 1)) (drop (i + 1) bs) ≡ rest_after_line bs
 behind_some bs i e = take_rest bs (i + 1) ∙ sym (behind_at bs i e)
 
-pub behind_fewer : (bs : List ℕ) → length (behind_line bs) ≤ length bs
+pub behind_fewer : (bs : List ℕ) → length (rest_after_line bs) ≤ length bs
 behind_fewer [] = omega arith
 behind_fewer (b ∷ bs) =
     let again = behind_fewer bs in
-    elim (b == 10) as (λ v. length (cond v bs (behind_line bs)) ≤ suc (length bs)) [
+    elim (b == 10) as (λ v. length (cond v bs (rest_after_line bs)) ≤ suc (length bs)) [
       | true ↦ omega arith
       | false ↦ omega (arith, again)
     ]
 
 -- bytes that are split are their first line and those after it
-pub lines_next : (bs line rest : List ℕ) → (length bs == 0) ≡ false → line ≡ first_line_of bs → rest ≡ behind_line bs
+pub lines_next : (bs line rest : List ℕ) → (length bs == 0) ≡ false → line ≡ first_line_of bs → rest ≡ rest_after_line bs
     → lines_of bs ≡ line ∷ lines_of rest
 lines_next [] line rest e h k = cc
 lines_next (b ∷ bs) line rest e h k = rw (h, k) (lines_apart b bs)

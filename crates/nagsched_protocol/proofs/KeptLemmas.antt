@@ -7,16 +7,16 @@ use Rattle.std.proofs.lemmas.Bool.Decides.{nat_tests}
 use Rattle.std.proofs.lemmas.List.{take_all}
 use Rattle.serde_json.specs.Data.{Items}
 use Rattle.check_objects.specs.Setup.{setup_of}
-use Rattle.check_drafts.specs.Agreement.{Fails, ◌>>=◌}
-use Rattle.check_drafts.specs.declared.error.LoadError.TheVariants as load
-use Rattle.check_script.specs.Input.{first_line_of}
-use Rattle.check_script.specs.Line.{command_of, is_blank}
-use Rattle.check_script.specs.LiveInput.{LineFront, front_of, has_feed, said_by}
-use Rattle.check_script.specs.declared.line.TheConstants.{MAX_LINE_BYTES}
-use Rattle.check_script.specs.declared.live_input.TheConstants.{KEPT_LINE_BYTES, KEPT_SETUP_BYTES}
-use Rattle.check_script.specs.declared.refusal.InputRefusal.{InputRefusal}
-use Rattle.check_script.specs.declared.refusal.LineFault.{LineFault}
-use Rattle.check_script.proofs.LiveInputLemmas.{first_all, first_on, first_stays}
+use Rattle.setup_model.specs.Agreement.{IsExpectedError, ◌>>=◌}
+use Rattle.setup_model.specs.declared.error.LoadError.TheVariants as load
+use Rattle.nagsched_protocol.specs.Input.{first_line_of}
+use Rattle.nagsched_protocol.specs.Line.{command_of, is_blank}
+use Rattle.nagsched_protocol.specs.LiveInput.{LinePrefix, prefix_of, has_feed, line_meaning_by}
+use Rattle.nagsched_protocol.specs.declared.line.TheConstants.{MAX_LINE_BYTES}
+use Rattle.nagsched_protocol.specs.declared.line_reader.TheConstants.{KEPT_LINE_BYTES, KEPT_SETUP_BYTES}
+use Rattle.nagsched_protocol.specs.declared.refusal.InputRefusal.{InputRefusal}
+use Rattle.nagsched_protocol.specs.declared.refusal.LineFault.{LineFault}
+use Rattle.nagsched_protocol.proofs.LiveInputLemmas.{first_all, first_on, first_stays}
 
 -- ---- a command
 
@@ -37,25 +37,25 @@ kept_command meaning n line = kept_command_by meaning n line (cases_lt MAX_LINE_
 
 -- ---- what a line says
 
-pub kept_blank : (kept : LineFront) (line : List ℕ) (blank : Bool) → kept ≡ front_of KEPT_LINE_BYTES line → kept.blank ≡ blank → is_blank line ≡ blank
-kept_blank kept line blank k e = sym (ap (λ (x : LineFront). x.blank) k) ∙ e
+pub kept_blank : (kept : LinePrefix) (line : List ℕ) (blank : Bool) → kept ≡ prefix_of KEPT_LINE_BYTES line → kept.blank ≡ blank → is_blank line ≡ blank
+kept_blank kept line blank k e = sym (ap (λ (x : LinePrefix). x.blank) k) ∙ e
 
-pub kept_bytes : (kept : LineFront) (line : List ℕ) → kept ≡ front_of KEPT_LINE_BYTES line → kept.bytes ≡ take KEPT_LINE_BYTES line
-kept_bytes kept line k = ap (λ (x : LineFront). x.bytes) k
+pub kept_bytes : (kept : LinePrefix) (line : List ℕ) → kept ≡ prefix_of KEPT_LINE_BYTES line → kept.bytes ≡ take KEPT_LINE_BYTES line
+kept_bytes kept line k = ap (λ (x : LinePrefix). x.bytes) k
 
-pub said_command : {K : Type 0} (meaning : List ℕ → Items → Result K LineFault) (n : ℕ) (kept : LineFront) (line : List ℕ) (x : K)
-    → kept ≡ front_of KEPT_LINE_BYTES line → kept.blank ≡ false → command_of meaning n kept.bytes ≡ Ok x → said_by meaning n line ≡ Ok (Some x)
+pub said_command : {K : Type 0} (meaning : List ℕ → Items → Result K LineFault) (n : ℕ) (kept : LinePrefix) (line : List ℕ) (x : K)
+    → kept ≡ prefix_of KEPT_LINE_BYTES line → kept.blank ≡ false → command_of meaning n kept.bytes ≡ Ok x → line_meaning_by meaning n line ≡ Ok (Some x)
 said_command meaning n kept line x k e f =
     let b = kept_blank kept line false k e in
     let c : command_of meaning n line ≡ Ok x = sym (ap (command_of meaning n) (kept_bytes kept line k) ∙ kept_command meaning n line) ∙ f in
     rw (b, c) refl
 
-fails_by : {A B : Type 0} (o : Option InputRefusal) (r : Result A InputRefusal) (f : A → Result B InputRefusal) → Fails o r → Fails o (r >>= f)
+fails_by : {A B : Type 0} (o : Option InputRefusal) (r : Result A InputRefusal) (f : A → Result B InputRefusal) → IsExpectedError o r → IsExpectedError o (r >>= f)
 fails_by None r f h = tt
 fails_by (Some why) r f h = rw h refl
 
-pub said_fails : {K : Type 0} (meaning : List ℕ → Items → Result K LineFault) (n : ℕ) (kept : LineFront) (line : List ℕ) (o : Option InputRefusal)
-    → kept ≡ front_of KEPT_LINE_BYTES line → kept.blank ≡ false → Fails o (command_of meaning n kept.bytes) → Fails o (said_by meaning n line)
+pub said_fails : {K : Type 0} (meaning : List ℕ → Items → Result K LineFault) (n : ℕ) (kept : LinePrefix) (line : List ℕ) (o : Option InputRefusal)
+    → kept ≡ prefix_of KEPT_LINE_BYTES line → kept.blank ≡ false → IsExpectedError o (command_of meaning n kept.bytes) → IsExpectedError o (line_meaning_by meaning n line)
 said_fails meaning n kept line o k e f =
     let b = kept_blank kept line false k e in
     let c : command_of meaning n kept.bytes ≡ command_of meaning n line = ap (command_of meaning n) (kept_bytes kept line k) ∙ kept_command meaning n line in
@@ -81,17 +81,17 @@ kept_setup line = kept_setup_by line (cases_lt 16777216 (length line))
 
 -- What comes later says nothing of a document's line: where its line feed came, or more bytes of it than a document may have, or nothing
 -- does come.
-pub line_stays : {A : Type 0} (says : List ℕ → A) (long : A) → ((line : List ℕ) → 16777216 < length line → says line ≡ long) → (given more : List ℕ)
-    → (has_feed given ≡ true) ⊎ ((has_feed given ≡ false) × ((more ≡ []) ⊎ (16777217 ≤ length given)))
-    → says (first_line_of (given ++ more)) ≡ says (first_line_of given)
-line_stays says long same given more (inl feed) = ap says (first_stays given more feed)
-line_stays says long same given more (inr (free, inl none)) = ap (λ l. says (first_line_of l)) (ap (λ l. given ++ l) none ∙ append-nil given)
-line_stays says long same given more (inr (free, inr many)) =
-    let all = ap length (first_all given free) in
-    let front = ap length (first_on given more free) in
-    let more' = length-append given (first_line_of more) in
-    same (first_line_of (given ++ more)) (omega (arith, many, front, more')) ∙ sym (same (first_line_of given) (omega (arith, many, all)))
+pub line_stays : {A : Type 0} (says : List ℕ → A) (long : A) → ((line : List ℕ) → 16777216 < length line → says line ≡ long) → (bytes_read more : List ℕ)
+    → (has_feed bytes_read ≡ true) ⊎ ((has_feed bytes_read ≡ false) × ((more ≡ []) ⊎ (16777217 ≤ length bytes_read)))
+    → says (first_line_of (bytes_read ++ more)) ≡ says (first_line_of bytes_read)
+line_stays says long same bytes_read more (inl feed) = ap says (first_stays bytes_read more feed)
+line_stays says long same bytes_read more (inr (free, inl none)) = ap (λ l. says (first_line_of l)) (ap (λ l. bytes_read ++ l) none ∙ append-nil bytes_read)
+line_stays says long same bytes_read more (inr (free, inr many)) =
+    let all = ap length (first_all bytes_read free) in
+    let front = ap length (first_on bytes_read more free) in
+    let more' = length-append bytes_read (first_line_of more) in
+    same (first_line_of (bytes_read ++ more)) (omega (arith, many, front, more')) ∙ sym (same (first_line_of bytes_read) (omega (arith, many, all)))
 
-pub setup_stays : (given more : List ℕ) → (has_feed given ≡ true) ⊎ ((has_feed given ≡ false) × ((more ≡ []) ⊎ (KEPT_SETUP_BYTES ≤ length given)))
-    → setup_of (first_line_of (given ++ more)) ≡ setup_of (first_line_of given)
-setup_stays given more h = line_stays setup_of (Err load.TooLong) too_long given more h
+pub setup_stays : (bytes_read more : List ℕ) → (has_feed bytes_read ≡ true) ⊎ ((has_feed bytes_read ≡ false) × ((more ≡ []) ⊎ (KEPT_SETUP_BYTES ≤ length bytes_read)))
+    → setup_of (first_line_of (bytes_read ++ more)) ≡ setup_of (first_line_of bytes_read)
+setup_stays bytes_read more h = line_stays setup_of (Err load.TooLong) too_long bytes_read more h

@@ -5,3 +5,8 @@ pub mod KeptLemmas
 pub mod CommandLemmas
 pub mod ScriptLemmas
 pub mod DrillLemmas
+pub mod OutputLemmas
+pub mod WrittenLemmas
+pub mod TextLemmas
+pub mod LiveLaws
+pub mod NameLengthLemmas

@@ -3,8 +3,8 @@ use Rattle.std.proofs.Common.{◌≡◌, ◌≢◌, ℕ, ◌==◌, false, cond, 
 use Rattle.std.specs.Prelude.{if◌then◌else◌}
 use Rattle.std.specs.List.{AllByRecursion, join_with_byte}
 use Rattle.std.proofs.lemmas.Bool.{cases_eq, ne_eqb}
-use Rattle.check_documents.specs.Feeds.{HasNoFeed}
-use Rattle.check_script.specs.Input.{AreLines, lines_of, onto_first, without_last_feed}
+use Rattle.setup_reader.specs.Feeds.{HasNoLineFeed}
+use Rattle.nagsched_protocol.specs.Input.{AreLines, lines_of, onto_first, without_last_feed}
 
 -- the pieces between line feeds, of which there is always one
 split_of : List ℕ → List (List ℕ)
@@ -13,21 +13,21 @@ split_of (b ∷ bs) = if b == 10 then [] ∷ split_of bs else onto_first b (spli
 
 -- ---- a split undoes a join
 
-split_line : (line : List ℕ) → HasNoFeed line → split_of line ≡ line ∷ []
+split_line : (line : List ℕ) → HasNoLineFeed line → split_of line ≡ line ∷ []
 unfolding split_of
 split_line [] h = refl
 split_line (b ∷ line) h =
     let e : (b == 10) ≡ false = ne_eqb b 10 h.0 in
     rw (e, split_line line h.1) refl
 
-split_first : (line rest : List ℕ) → HasNoFeed line → split_of (line ++ (10 ∷ rest)) ≡ line ∷ split_of rest
+split_first : (line rest : List ℕ) → HasNoLineFeed line → split_of (line ++ (10 ∷ rest)) ≡ line ∷ split_of rest
 unfolding split_of
 split_first [] rest h = refl
 split_first (b ∷ line) rest h =
     let e : (b == 10) ≡ false = ne_eqb b 10 h.0 in
     rw (e, split_first line rest h.1) refl
 
-split_join : (lines : List (List ℕ)) (line : List ℕ) → AllByRecursion HasNoFeed (line ∷ lines)
+split_join : (lines : List (List ℕ)) (line : List ℕ) → AllByRecursion HasNoLineFeed (line ∷ lines)
     → split_of (join_with_byte 10 (line ∷ lines)) ≡ line ∷ lines
 split_join [] line h = split_line line h.0
 split_join (next ∷ lines) line h =
@@ -75,11 +75,11 @@ split_without b [] = elim (cases_eq b 10) [
 ]
 split_without b (c ∷ cs) = ap (λ l. cond (b == 10) ([] ∷ l) (onto_first b l)) (split_without c cs)
 
-feedless_onto : (b : ℕ) (lines : List (List ℕ)) → b ≢ 10 → AllByRecursion HasNoFeed lines → AllByRecursion HasNoFeed (onto_first b lines)
+feedless_onto : (b : ℕ) (lines : List (List ℕ)) → b ≢ 10 → AllByRecursion HasNoLineFeed lines → AllByRecursion HasNoLineFeed (onto_first b lines)
 feedless_onto b [] other h = ((other, tt), tt)
 feedless_onto b (line ∷ lines) other h = ((other, h.0), h.1)
 
-feedless_lines : (bs : List ℕ) → AllByRecursion HasNoFeed (lines_of bs)
+feedless_lines : (bs : List ℕ) → AllByRecursion HasNoLineFeed (lines_of bs)
 feedless_lines [] = tt
 feedless_lines (b ∷ bs) = elim (cases_eq b 10) [
   | inl same ↦ rw same (tt, feedless_lines bs)

@@ -1,5 +1,6 @@
 -- Lines that are taken as they come.
-use Rattle.std.proofs.Common.{◌≡◌, ℕ, zero, suc, ◌+◌, ◌-◌, min, ◌==◌, ◌&&◌, Bool, true, false, not, cond, length, List, [], ◌∷◌, ◌++◌, take, drop, Option, None, Some}
+use Rattle.std.proofs.Common.{◌≡◌, ℕ, zero, suc, ◌+◌, ◌-◌, min, ◌==◌, ◌&&◌, Bool, true, false, not, cond, length, List, [], ◌∷◌, ◌++◌, take, drop, Option, None}
+use Rattle.std.proofs.Common.{Some}
 use Rattle.std.proofs.Common.{refl, sym, ◌∙◌, ap, arith, ◌≤◌, ◌<◌, length-append, length-take, append-nil, append_assoc, subst}
 use Rattle.std.specs.List.{position_or_len, position}
 use Rattle.std.specs.Prelude.{nat_lt, IfOk, Result, Ok, Err}
@@ -7,13 +8,13 @@ use Rattle.std.specs.Result.{IsErr}
 use Rattle.std.proofs.lemmas.Bool.Decides.{nat_tests}
 use Rattle.std.proofs.lemmas.List.Folds.{list_all-append}
 use Rattle.std.proofs.lemmas.List.{take_min}
-use Rattle.check_script.specs.Input.{lines_of, first_line_of, onto_first}
-use Rattle.check_script.specs.Line.{is_blank}
-use Rattle.check_script.specs.LiveError.{AfterReads, IsOfInput}
-use Rattle.check_script.specs.declared.live_error.LiveError.{LiveError}
-use Rattle.check_script.specs.declared.live_error.LiveError.TheVariants as errors
-use Rattle.check_script.specs.LiveInput.{LineFront, StopsSoon, TookLine, behind_line, front_of, has_feed}
-use Rattle.check_script.specs.declared.live_input.TheConstants.{ASKED_BYTES}
+use Rattle.nagsched_protocol.specs.Input.{lines_of, first_line_of, onto_first}
+use Rattle.nagsched_protocol.specs.Line.{is_blank}
+use Rattle.nagsched_protocol.specs.LiveError.{IsReadingError, IsInputError}
+use Rattle.nagsched_protocol.specs.declared.live_error.LiveError.{LiveError}
+use Rattle.nagsched_protocol.specs.declared.live_error.LiveError.TheVariants as errors
+use Rattle.nagsched_protocol.specs.LiveInput.{LinePrefix, IsBoundedReading, TookLine, rest_after_line, prefix_of, has_feed}
+use Rattle.nagsched_protocol.specs.declared.line_reader.TheConstants.{ASKED_BYTES}
 use Rattle.std.specs.Io.KnownBytes.{Consumes}
 
 -- ---- where the first line feed is
@@ -22,11 +23,11 @@ suc_more : (n : ℕ) → suc (n + 1) ≡ 1 + n + 1
 suc_more n = omega arith
 
 -- what stands behind the first place of a line feed
-pub behind_line-drop : (bs : List ℕ) → behind_line bs ≡ drop (position_or_len (λ b. b == 10) bs + 1) bs
+pub behind_line-drop : (bs : List ℕ) → rest_after_line bs ≡ drop (position_or_len (λ b. b == 10) bs + 1) bs
 behind_line-drop [] = refl
 behind_line-drop (b ∷ bs) =
     let again = behind_line-drop bs in
-    elim (b == 10) as (λ v. cond v bs (behind_line bs) ≡ drop (cond (not v) (1 + position_or_len (λ c. c == 10) bs) 0 + 1) (b ∷ bs)) [
+    elim (b == 10) as (λ v. cond v bs (rest_after_line bs) ≡ drop (cond (not v) (1 + position_or_len (λ c. c == 10) bs) 0 + 1) (b ∷ bs)) [
       | true ↦ refl
       | false ↦ again ∙ ap (λ k. drop k (b ∷ bs)) (suc_more (position_or_len (λ c. c == 10) bs))
     ]
@@ -34,10 +35,10 @@ behind_line-drop (b ∷ bs) =
 below_suc : (n m : ℕ) → nat_lt n m ≡ nat_lt (1 + n) (suc m)
 below_suc n m = grind (arith, nat_tests)
 
-pub has_feed-place : (bs : List ℕ) → has_feed bs ≡ nat_lt (position_or_len (λ b. b == 10) bs) (length bs)
-has_feed-place [] = refl
-has_feed-place (b ∷ bs) =
-    let again = has_feed-place bs in
+pub has_feed-index : (bs : List ℕ) → has_feed bs ≡ nat_lt (position_or_len (λ b. b == 10) bs) (length bs)
+has_feed-index [] = refl
+has_feed-index (b ∷ bs) =
+    let again = has_feed-index bs in
     elim (b == 10) as (λ v. cond v true (has_feed bs) ≡ nat_lt (cond (not v) (1 + position_or_len (λ c. c == 10) bs) 0) (suc (length bs))) [
       | true ↦ grind (arith, nat_tests)
       | false ↦ again ∙ below_suc _ _
@@ -52,13 +53,13 @@ no_place true n e = cc
 no_place false n e = refl
 
 pub feed_at : (bs : List ℕ) (i : ℕ) → Some i ≡ position (λ b. b == 10) bs → has_feed bs ≡ true
-feed_at bs i e = has_feed-place bs ∙ (some_place (nat_lt (position_or_len (λ b. b == 10) bs) (length bs)) _ i e).0
+feed_at bs i e = has_feed-index bs ∙ (some_place (nat_lt (position_or_len (λ b. b == 10) bs) (length bs)) _ i e).0
 
-pub behind_at : (bs : List ℕ) (i : ℕ) → Some i ≡ position (λ b. b == 10) bs → behind_line bs ≡ drop (i + 1) bs
+pub behind_at : (bs : List ℕ) (i : ℕ) → Some i ≡ position (λ b. b == 10) bs → rest_after_line bs ≡ drop (i + 1) bs
 behind_at bs i e = behind_line-drop bs ∙ ap (λ k. drop (k + 1) bs) (some_place (nat_lt (position_or_len (λ b. b == 10) bs) (length bs)) _ i e).1
 
 pub no_feed : (bs : List ℕ) → None ≡ position (λ b. b == 10) bs → has_feed bs ≡ false
-no_feed bs e = has_feed-place bs ∙ no_place (nat_lt (position_or_len (λ b. b == 10) bs) (length bs)) _ e
+no_feed bs e = has_feed-index bs ∙ no_place (nat_lt (position_or_len (λ b. b == 10) bs) (length bs)) _ e
 
 -- ---- without a line feed
 
@@ -70,7 +71,7 @@ pub first_all : (bs : List ℕ) → has_feed bs ≡ false → first_line_of bs �
 first_all [] h = refl
 first_all (b ∷ bs) h = by_feed (b == 10) (has_feed bs) h (λ e k. rw e (ap (λ l. b ∷ l) (first_all bs k)))
 
-pub behind_none : (bs : List ℕ) → has_feed bs ≡ false → behind_line bs ≡ []
+pub behind_none : (bs : List ℕ) → has_feed bs ≡ false → rest_after_line bs ≡ []
 behind_none [] h = refl
 behind_none (b ∷ bs) h = by_feed (b == 10) (has_feed bs) h (λ e k. rw e (behind_none bs k))
 
@@ -78,7 +79,7 @@ pub first_on : (xs bs : List ℕ) → has_feed xs ≡ false → first_line_of (x
 first_on [] bs h = refl
 first_on (a ∷ xs) bs h = by_feed (a == 10) (has_feed xs) h (λ e k. rw e (ap (λ l. a ∷ l) (first_on xs bs k)))
 
-pub behind_on : (xs bs : List ℕ) → has_feed xs ≡ false → behind_line (xs ++ bs) ≡ behind_line bs
+pub behind_on : (xs bs : List ℕ) → has_feed xs ≡ false → rest_after_line (xs ++ bs) ≡ rest_after_line bs
 behind_on [] bs h = refl
 behind_on (a ∷ xs) bs h = by_feed (a == 10) (has_feed xs) h (λ e k. rw e (behind_on xs bs k))
 
@@ -96,10 +97,10 @@ first_stays (b ∷ bs) more h =
       | false ↦ λ k. ap (λ l. b ∷ l) (first_stays bs more k)
     ]) h
 
-pub behind_stays : (bs more : List ℕ) → has_feed bs ≡ true → behind_line (bs ++ more) ≡ behind_line bs ++ more
+pub behind_stays : (bs more : List ℕ) → has_feed bs ≡ true → rest_after_line (bs ++ more) ≡ rest_after_line bs ++ more
 behind_stays [] more h = cc
 behind_stays (b ∷ bs) more h =
-    (elim (b == 10) as (λ v. cond v true (has_feed bs) ≡ true → cond v (bs ++ more) (behind_line (bs ++ more)) ≡ cond v bs (behind_line bs) ++ more) [
+    (elim (b == 10) as (λ v. cond v true (has_feed bs) ≡ true → cond v (bs ++ more) (rest_after_line (bs ++ more)) ≡ cond v bs (rest_after_line bs) ++ more) [
       | true ↦ λ k. refl
       | false ↦ λ k. behind_stays bs more k
     ]) h
@@ -114,19 +115,19 @@ first_free [] = refl
 first_free (b ∷ bs) = free_by b (first_line_of bs) (b == 10) refl (first_free bs)
 
 split_by : (b : ℕ) (bs : List ℕ) (is : Bool) → (b == 10) ≡ is → cond is true (has_feed bs) ≡ true
-    → (has_feed bs ≡ true → bs ≡ first_line_of bs ++ 10 ∷ behind_line bs)
-    → b ∷ bs ≡ cond is [] (b ∷ first_line_of bs) ++ 10 ∷ cond is bs (behind_line bs)
+    → (has_feed bs ≡ true → bs ≡ first_line_of bs ++ 10 ∷ rest_after_line bs)
+    → b ∷ bs ≡ cond is [] (b ∷ first_line_of bs) ++ 10 ∷ cond is bs (rest_after_line bs)
 split_by b bs true e h again = let feed : b ≡ 10 = grind (arith, nat_tests, e) in ap (λ x. x ∷ bs) feed
 split_by b bs false e h again = ap (λ l. b ∷ l) (again h)
 
 -- it stands before the line feed, and what comes later behind it
-pub feed_split : (bs : List ℕ) → has_feed bs ≡ true → bs ≡ first_line_of bs ++ 10 ∷ behind_line bs
+pub feed_split : (bs : List ℕ) → has_feed bs ≡ true → bs ≡ first_line_of bs ++ 10 ∷ rest_after_line bs
 feed_split [] h = cc
 feed_split (b ∷ bs) h = split_by b bs (b == 10) refl h (λ k. feed_split bs k)
 
 -- ---- the lines of bytes are the first and those behind it
 
-pub lines_apart : (b : ℕ) (bs : List ℕ) → lines_of (b ∷ bs) ≡ first_line_of (b ∷ bs) ∷ lines_of (behind_line (b ∷ bs))
+pub lines_apart : (b : ℕ) (bs : List ℕ) → lines_of (b ∷ bs) ≡ first_line_of (b ∷ bs) ∷ lines_of (rest_after_line (b ∷ bs))
 lines_apart b [] =
     elim (b == 10) as (λ v. cond v ([] ∷ []) ((b ∷ []) ∷ []) ≡ cond v [] (b ∷ []) ∷ lines_of (cond v [] [])) [
       | true ↦ refl
@@ -135,7 +136,7 @@ lines_apart b [] =
 lines_apart b (c ∷ cs) =
     let again = lines_apart c cs in
     elim (b == 10) as (λ v. cond v ([] ∷ lines_of (c ∷ cs)) (onto_first b (lines_of (c ∷ cs)))
-    ≡ cond v [] (b ∷ first_line_of (c ∷ cs)) ∷ lines_of (cond v (c ∷ cs) (behind_line (c ∷ cs)))) [
+    ≡ cond v [] (b ∷ first_line_of (c ∷ cs)) ∷ lines_of (cond v (c ∷ cs) (rest_after_line (c ∷ cs)))) [
       | true ↦ refl
       | false ↦ ap (onto_first b) again
     ]
@@ -156,12 +157,12 @@ room_left (suc most) (b ∷ line) bytes =
     (ap (λ k. take most line ++ take (min (length bytes) k) bytes) (let e : suc most - suc n ≡ most - n = omega arith in e) ∙ room_left most line bytes)
 
 -- what is kept after more bytes
-pub front_goes_on : (v : LineFront) (line bytes new : List ℕ) (room : ℕ) → v ≡ front_of v.most line
+pub front_goes_on : (v : LinePrefix) (line bytes new : List ℕ) (room : ℕ) → v ≡ prefix_of v.most line
     → room ≡ min (length bytes) (v.most - length v.bytes) → new ≡ v.bytes ++ take room bytes
-    → record { most = v.most; bytes = new; blank = v.blank && is_blank bytes } ≡ front_of v.most (line ++ bytes)
+    → record { most = v.most; bytes = new; blank = v.blank && is_blank bytes } ≡ prefix_of v.most (line ++ bytes)
 front_goes_on v line bytes new room f r n =
-    let k : v.bytes ≡ take v.most line = ap (λ (x : LineFront). x.bytes) f in
-    let b : v.blank ≡ is_blank line = ap (λ (x : LineFront). x.blank) f in
+    let k : v.bytes ≡ take v.most line = ap (λ (x : LinePrefix). x.bytes) f in
+    let b : v.blank ≡ is_blank line = ap (λ (x : LinePrefix). x.blank) f in
     let front : new ≡ take v.most (line ++ bytes) = n ∙ ap (λ i. v.bytes ++ take i bytes) r
     ∙ ap (λ l. l ++ take (min (length bytes) (v.most - length l)) bytes) k ∙ room_left v.most line bytes in
     let all : (v.blank && is_blank bytes) ≡ is_blank (line ++ bytes) = ap (λ x. x && is_blank bytes) b
@@ -182,180 +183,180 @@ Consumes-none None = tt
 Consumes-none (Some xs) = refl
 
 -- the part that is at hand was taken behind one without a line feed
-pub took_on : (most : ℕ) (begun part hand rest : List ℕ) (line new : LineFront) (whole : Bool) (end : Type 0)
-    → has_feed begun ≡ false → line ≡ front_of most begun → hand ≡ part → whole ≡ has_feed hand → rest ≡ behind_line hand
-    → ((b : List ℕ) → line ≡ front_of line.most b → new ≡ front_of line.most (b ++ first_line_of hand)) → (whole ≡ false → end)
+pub took_on : (most : ℕ) (begun part hand rest : List ℕ) (line new : LinePrefix) (whole : Bool) (end : Type 0)
+    → has_feed begun ≡ false → line ≡ prefix_of most begun → hand ≡ part → whole ≡ has_feed hand → rest ≡ rest_after_line hand
+    → ((b : List ℕ) → line ≡ prefix_of line.most b → new ≡ prefix_of line.most (b ++ first_line_of hand)) → (whole ≡ false → end)
     → TookLine most (begun ++ part) new rest end whole
 took_on most begun part hand rest line new whole end free kept same w r n e =
-    let m : line.most ≡ most = ap (λ (x : LineFront). x.most) kept in
-    let now : new ≡ front_of most (begun ++ first_line_of part) = n begun (kept ∙ ap (λ i. front_of i begun) (sym m))
-    ∙ ap (λ i. front_of i (begun ++ first_line_of hand)) m ∙ ap (λ h. front_of most (begun ++ first_line_of h)) same in
+    let m : line.most ≡ most = ap (λ (x : LinePrefix). x.most) kept in
+    let now : new ≡ prefix_of most (begun ++ first_line_of part) = n begun (kept ∙ ap (λ i. prefix_of i begun) (sym m))
+    ∙ ap (λ i. prefix_of i (begun ++ first_line_of hand)) m ∙ ap (λ h. prefix_of most (begun ++ first_line_of h)) same in
     record {
-      line_is = now ∙ ap (front_of most) (sym (first_on begun part free));
-      rest_is = r ∙ ap behind_line same ∙ sym (behind_on begun part free);
+      line_is = now ∙ ap (prefix_of most) (sym (first_on begun part free));
+      rest_is = r ∙ ap rest_after_line same ∙ sym (behind_on begun part free);
       whole_is = w ∙ ap has_feed same ∙ sym (feed_on begun part free);
       ended = e;
     }
 
 -- the reader gave nothing more behind such a part
-pub took_all : (most : ℕ) (begun part hand : List ℕ) (line : LineFront) (end : Type 0) → has_feed begun ≡ false → line ≡ front_of most begun
+pub took_all : (most : ℕ) (begun part hand : List ℕ) (line : LinePrefix) (end : Type 0) → has_feed begun ≡ false → line ≡ prefix_of most begun
     → hand ≡ part → hand ≡ [] → end → TookLine most (begun ++ part) line hand end false
 took_all most begun part hand line end free kept same none e =
     let all : begun ++ part ≡ begun = ap (λ l. begun ++ l) (sym same ∙ none) ∙ append-nil begun in
     record {
-      line_is = kept ∙ ap (front_of most) (sym (ap first_line_of all ∙ first_all begun free));
-      rest_is = none ∙ sym (ap behind_line all ∙ behind_none begun free);
+      line_is = kept ∙ ap (prefix_of most) (sym (ap first_line_of all ∙ first_all begun free));
+      rest_is = none ∙ sym (ap rest_after_line all ∙ behind_none begun free);
       whole_is = sym (ap has_feed all ∙ free);
       ended = λ _. e;
     }
 
 -- no line feed has come yet
-pub record Begun (most : ℕ) (bytes : List ℕ) (line : LineFront) (rest : List ℕ) : Type 0 where
+pub record Begun (most : ℕ) (bytes : List ℕ) (line : LinePrefix) (rest : List ℕ) : Type 0 where
   pub feedless : has_feed bytes ≡ false
-  pub kept : line ≡ front_of most bytes
+  pub kept : line ≡ prefix_of most bytes
   pub nothing : rest ≡ []
 
-pub not_yet : (most : ℕ) (bytes rest : List ℕ) (line : LineFront) (end : Type 0) (whole : Bool) → TookLine most bytes line rest end whole
+pub not_yet : (most : ℕ) (bytes rest : List ℕ) (line : LinePrefix) (end : Type 0) (whole : Bool) → TookLine most bytes line rest end whole
     → whole ≡ false → Begun most bytes line rest
 not_yet most bytes rest line end whole t e =
     let free : has_feed bytes ≡ false = sym t.whole_is ∙ e in
-    record { feedless = free; kept = t.line_is ∙ ap (front_of most) (first_all bytes free); nothing = t.rest_is ∙ behind_none bytes free }
+    record { feedless = free; kept = t.line_is ∙ ap (prefix_of most) (first_all bytes free); nothing = t.rest_is ∙ behind_none bytes free }
 
 -- ---- a document's line
 
 -- What is at hand of a line and of what comes later: what was taken of it has no line feed, and not as many bytes as are kept of the line at
 -- most; the rest is at hand, and is no more than one read gave. Each read gave some.
-pub record Coming (most : ℕ) (hand : List ℕ) (had left : Option (List ℕ)) (line : LineFront) (rest : List ℕ) (reads : ℕ) : Type 0 where
-  pub given : List ℕ
+pub record Coming (most : ℕ) (hand : List ℕ) (had left : Option (List ℕ)) (line : LinePrefix) (rest : List ℕ) (reads : ℕ) : Type 0 where
+  pub bytes_read : List ℕ
   pub taken : List ℕ
-  pub consumed : Consumes had left given
-  pub parts : hand ++ given ≡ taken ++ rest
+  pub consumed : Consumes had left bytes_read
+  pub parts : hand ++ bytes_read ≡ taken ++ rest
   pub feedless : has_feed taken ≡ false
-  pub kept : line ≡ front_of most taken
-  pub few : length taken < most
+  pub kept : line ≡ prefix_of most taken
+  pub bounded : length taken < most
   pub size : length rest ≤ ASKED_BYTES
-  pub many : reads ≤ length given
+  pub many : reads ≤ length bytes_read
 
 -- nothing was taken yet
-pub comes_first : (most : ℕ) (hand : List ℕ) (had : Option (List ℕ)) (line : LineFront) → line ≡ front_of most [] → 0 < most
+pub comes_first : (most : ℕ) (hand : List ℕ) (had : Option (List ℕ)) (line : LinePrefix) → line ≡ prefix_of most [] → 0 < most
     → length hand ≤ ASKED_BYTES → Coming most hand had had line hand 0
 comes_first most hand had line kept some size = record {
-  given = [];
+  bytes_read = [];
   taken = [];
   consumed = Consumes-none had;
   parts = append-nil hand;
   feedless = refl;
   kept = kept;
-  few = some;
+  bounded = some;
   size = size;
   many = omega arith;
 }
 
-pub stops_soon : (most : ℕ) (given part : List ℕ) → has_feed given ≡ false → length given < most → length part ≤ ASKED_BYTES
-    → StopsSoon most (given ++ part)
-stops_soon most given part free few h =
-    let first : length (first_line_of (given ++ part)) ≡ length (given ++ first_line_of part) = ap length (first_on given part free) in
-    let whole = length-append given part in
-    let front = length-append given (first_line_of part) in
-    record { at_the_bound = omega (arith, whole, few, h); at_the_feed = omega (arith, whole, front, first, h) }
+pub stops_soon : (most : ℕ) (bytes_read part : List ℕ) → has_feed bytes_read ≡ false → length bytes_read < most → length part ≤ ASKED_BYTES
+    → IsBoundedReading most (bytes_read ++ part)
+stops_soon most bytes_read part free bounded h =
+    let first : length (first_line_of (bytes_read ++ part)) ≡ length (bytes_read ++ first_line_of part) = ap length (first_on bytes_read part free) in
+    let whole = length-append bytes_read part in
+    let front = length-append bytes_read (first_line_of part) in
+    record { at_the_bound = omega (arith, whole, bounded, h); at_the_feed = omega (arith, whole, front, first, h) }
 
 -- what is so of all that was given, where the reader isn't asked again
-pub given_so : {most reads : ℕ} {hand rest : List ℕ} {had left : Option (List ℕ)} {line : LineFront} (s : Coming most hand had left line rest reads)
-    (took after : List ℕ → Type 0) → took s.given → after s.given
-    → (given : List ℕ) × Consumes had left given × took given × StopsSoon most (hand ++ given) × after given
-given_so {most} {reads} {hand} {rest} s took after t a =
-    (s.given, s.consumed, t, subst (StopsSoon most) (sym s.parts) (stops_soon most s.taken rest s.feedless s.few s.size), a)
+pub given_so : {most reads : ℕ} {hand rest : List ℕ} {had left : Option (List ℕ)} {line : LinePrefix} (s : Coming most hand had left line rest reads)
+    (reading after : List ℕ → Type 0) → reading s.bytes_read → after s.bytes_read
+    → (bytes_read : List ℕ) × Consumes had left bytes_read × reading bytes_read × IsBoundedReading most (hand ++ bytes_read) × after bytes_read
+given_so {most} {reads} {hand} {rest} s reading after t a =
+    (s.bytes_read, s.consumed, t, subst (IsBoundedReading most) (sym s.parts) (stops_soon most s.taken rest s.feedless s.bounded s.size), a)
 
 -- the line behind what is at hand, of which as much was taken as stands before a line feed
-pub took_hand : {most reads : ℕ} {hand rest : List ℕ} {had left : Option (List ℕ)} {line : LineFront} (s : Coming most hand had left line rest reads)
-    (behind : List ℕ) (new : LineFront) (whole : Bool) (end : Type 0) → whole ≡ has_feed rest → behind ≡ behind_line rest
-    → ((b : List ℕ) → line ≡ front_of line.most b → new ≡ front_of line.most (b ++ first_line_of rest)) → (whole ≡ false → end)
-    → TookLine most (hand ++ s.given) new behind end whole
+pub took_hand : {most reads : ℕ} {hand rest : List ℕ} {had left : Option (List ℕ)} {line : LinePrefix} (s : Coming most hand had left line rest reads)
+    (behind : List ℕ) (new : LinePrefix) (whole : Bool) (end : Type 0) → whole ≡ has_feed rest → behind ≡ rest_after_line rest
+    → ((b : List ℕ) → line ≡ prefix_of line.most b → new ≡ prefix_of line.most (b ++ first_line_of rest)) → (whole ≡ false → end)
+    → TookLine most (hand ++ s.bytes_read) new behind end whole
 took_hand {most} {reads} {hand} {rest} s behind new whole end w r n e =
     subst (λ l. TookLine most l new behind end whole) (sym s.parts) (took_on most s.taken rest rest behind _ new whole end s.feedless s.kept refl w r n e)
 
 -- that line, where it isn't whole
-pub begun_hand : {most reads : ℕ} {hand rest : List ℕ} {had left : Option (List ℕ)} {line : LineFront} (s : Coming most hand had left line rest reads)
-    (behind : List ℕ) (new : LineFront) (whole : Bool) → whole ≡ has_feed rest → behind ≡ behind_line rest
-    → ((b : List ℕ) → line ≡ front_of line.most b → new ≡ front_of line.most (b ++ first_line_of rest)) → whole ≡ false
-    → Begun most (hand ++ s.given) new behind
+pub begun_hand : {most reads : ℕ} {hand rest : List ℕ} {had left : Option (List ℕ)} {line : LinePrefix} (s : Coming most hand had left line rest reads)
+    (behind : List ℕ) (new : LinePrefix) (whole : Bool) → whole ≡ has_feed rest → behind ≡ rest_after_line rest
+    → ((b : List ℕ) → line ≡ prefix_of line.most b → new ≡ prefix_of line.most (b ++ first_line_of rest)) → whole ≡ false
+    → Begun most (hand ++ s.bytes_read) new behind
 begun_hand {most} {reads} {hand} s behind new whole w r n none =
-    not_yet most (hand ++ s.given) behind new (Unit {0}) whole (took_hand s behind new whole (Unit {0}) w r n (λ _. tt)) none
+    not_yet most (hand ++ s.bytes_read) behind new (Unit {0}) whole (took_hand s behind new whole (Unit {0}) w r n (λ _. tt)) none
 
 -- behind the line there is no more than one read gave
-behind_few : (most : ℕ) (bytes : List ℕ) (feed : Bool) → has_feed bytes ≡ feed → StopsSoon most bytes → length (behind_line bytes) ≤ ASKED_BYTES
+behind_few : (most : ℕ) (bytes : List ℕ) (feed : Bool) → has_feed bytes ≡ feed → IsBoundedReading most bytes → length (rest_after_line bytes) ≤ ASKED_BYTES
 behind_few most bytes true e soon =
     let parts = ap length (feed_split bytes e) in
-    let sizes = length-append (first_line_of bytes) (10 ∷ behind_line bytes) in
+    let sizes = length-append (first_line_of bytes) (10 ∷ rest_after_line bytes) in
     omega (arith, parts, sizes, soon.at_the_feed)
 behind_few most bytes false e soon = rw (behind_none bytes e) (omega arith)
 
-pub behind_size : (most : ℕ) (bytes : List ℕ) → StopsSoon most bytes → length (behind_line bytes) ≤ ASKED_BYTES
+pub behind_size : (most : ℕ) (bytes : List ℕ) → IsBoundedReading most bytes → length (rest_after_line bytes) ≤ ASKED_BYTES
 behind_size most bytes soon = behind_few most bytes (has_feed bytes) refl soon
 
-pub behind_soon : (most : ℕ) (bytes : List ℕ) → 0 < most → StopsSoon most bytes → StopsSoon most (behind_line bytes)
+pub behind_soon : (most : ℕ) (bytes : List ℕ) → 0 < most → IsBoundedReading most bytes → IsBoundedReading most (rest_after_line bytes)
 behind_soon most bytes some soon =
     let size = behind_size most bytes soon in
     record { at_the_bound = omega (arith, size, some); at_the_feed = omega (arith, size) }
 
 -- as many bytes are kept as may be exactly where as many have come
-pub full_is : (most : ℕ) (bytes : List ℕ) (line : LineFront) → line ≡ front_of most bytes → (length line.bytes == line.most) ≡ true → most ≤ length bytes
+pub full_is : (most : ℕ) (bytes : List ℕ) (line : LinePrefix) → line ≡ prefix_of most bytes → (length line.bytes == line.most) ≡ true → most ≤ length bytes
 full_is most bytes line k e =
     let e' : (length (take most bytes) == most) ≡ true = rw k at e in
     let l = length-take most bytes in
     grind (arith, nat_tests, e', l)
 
-pub not_full : (most : ℕ) (bytes : List ℕ) (line : LineFront) → line ≡ front_of most bytes → (length line.bytes == line.most) ≡ false → length bytes < most
+pub not_full : (most : ℕ) (bytes : List ℕ) (line : LinePrefix) → line ≡ prefix_of most bytes → (length line.bytes == line.most) ≡ false → length bytes < most
 not_full most bytes line k e =
     let e' : (length (take most bytes) == most) ≡ false = rw k at e in
     let l = length-take most bytes in
     grind (arith, nat_tests, e', l)
 
 -- one more read gave something
-pub more_reads : (reads : ℕ) (given part hand : List ℕ) → reads ≤ length given → hand ≡ part → 0 < length hand → reads + 1 ≤ length (given ++ part)
-more_reads reads given part hand many same some =
-    let all = length-append given part in
+pub more_reads : (reads : ℕ) (bytes_read part hand : List ℕ) → reads ≤ length bytes_read → hand ≡ part → 0 < length hand → reads + 1 ≤ length (bytes_read ++ part)
+more_reads reads bytes_read part hand many same some =
+    let all = length-append bytes_read part in
     let sizes = ap length same in
     omega (arith, all, sizes, many, some)
 
 -- what is so of all that was given, where what was at hand was taken, and the reader was asked again
-pub asked_so : {most reads : ℕ} {hand rest : List ℕ} {had mid : Option (List ℕ)} {line : LineFront} (s : Coming most hand had mid line rest reads)
-    (behind : List ℕ) (new : LineFront) (left : Option (List ℕ)) (part : List ℕ) (took after : List ℕ → Type 0)
-    → Begun most (hand ++ s.given) new behind → (length new.bytes == new.most) ≡ false → Consumes mid left part → length part ≤ ASKED_BYTES
-    → took (s.given ++ part) → after (s.given ++ part)
-    → (given : List ℕ) × Consumes had left given × took given × StopsSoon most (hand ++ given) × after given
-asked_so {most} {reads} {hand} {rest} {had} {mid} s behind new left part took after begun short now size t a =
-    let few = not_full most (hand ++ s.given) new begun.kept short in (
-      s.given ++ part,
-      Consumes-then had mid left s.given part s.consumed now,
+pub asked_so : {most reads : ℕ} {hand rest : List ℕ} {had mid : Option (List ℕ)} {line : LinePrefix} (s : Coming most hand had mid line rest reads)
+    (behind : List ℕ) (new : LinePrefix) (left : Option (List ℕ)) (part : List ℕ) (reading after : List ℕ → Type 0)
+    → Begun most (hand ++ s.bytes_read) new behind → (length new.bytes == new.most) ≡ false → Consumes mid left part → length part ≤ ASKED_BYTES
+    → reading (s.bytes_read ++ part) → after (s.bytes_read ++ part)
+    → (bytes_read : List ℕ) × Consumes had left bytes_read × reading bytes_read × IsBoundedReading most (hand ++ bytes_read) × after bytes_read
+asked_so {most} {reads} {hand} {rest} {had} {mid} s behind new left part reading after begun short now size t a =
+    let bounded = not_full most (hand ++ s.bytes_read) new begun.kept short in (
+      s.bytes_read ++ part,
+      Consumes-then had mid left s.bytes_read part s.consumed now,
       t,
-      subst (StopsSoon most) (append_assoc hand s.given part) (stops_soon most (hand ++ s.given) part begun.feedless few size),
+      subst (IsBoundedReading most) (append_assoc hand s.bytes_read part) (stops_soon most (hand ++ s.bytes_read) part begun.feedless bounded size),
       a,
     )
 
 -- it gave nothing
-pub took_rest : {most reads : ℕ} {hand rest : List ℕ} {had mid : Option (List ℕ)} {line : LineFront} (s : Coming most hand had mid line rest reads)
-    (behind : List ℕ) (new : LineFront) (part now_hand : List ℕ) (end : Type 0) → Begun most (hand ++ s.given) new behind
-    → now_hand ≡ part → now_hand ≡ [] → end → TookLine most (hand ++ (s.given ++ part)) new now_hand end false
+pub took_rest : {most reads : ℕ} {hand rest : List ℕ} {had mid : Option (List ℕ)} {line : LinePrefix} (s : Coming most hand had mid line rest reads)
+    (behind : List ℕ) (new : LinePrefix) (part now_hand : List ℕ) (end : Type 0) → Begun most (hand ++ s.bytes_read) new behind
+    → now_hand ≡ part → now_hand ≡ [] → end → TookLine most (hand ++ (s.bytes_read ++ part)) new now_hand end false
 took_rest {most} {reads} {hand} s behind new part now_hand end begun same none e =
-    subst (λ l. TookLine most l new now_hand end false) (append_assoc hand s.given part)
-    (took_all most (hand ++ s.given) part now_hand new end begun.feedless begun.kept same none e)
+    subst (λ l. TookLine most l new now_hand end false) (append_assoc hand s.bytes_read part)
+    (took_all most (hand ++ s.bytes_read) part now_hand new end begun.feedless begun.kept same none e)
 
 -- it gave some
-pub comes_more : {most reads : ℕ} {hand rest : List ℕ} {had mid : Option (List ℕ)} {line : LineFront} (s : Coming most hand had mid line rest reads)
-    (behind : List ℕ) (new : LineFront) (left : Option (List ℕ)) (part now_hand : List ℕ) → Begun most (hand ++ s.given) new behind
+pub comes_more : {most reads : ℕ} {hand rest : List ℕ} {had mid : Option (List ℕ)} {line : LinePrefix} (s : Coming most hand had mid line rest reads)
+    (behind : List ℕ) (new : LinePrefix) (left : Option (List ℕ)) (part now_hand : List ℕ) → Begun most (hand ++ s.bytes_read) new behind
     → (length new.bytes == new.most) ≡ false → Consumes mid left part → length part ≤ ASKED_BYTES → now_hand ≡ part → 0 < length now_hand
     → Coming most hand had left new now_hand (reads + 1)
 comes_more {most} {reads} {hand} {rest} {had} {mid} s behind new left part now_hand begun short now size same some = record {
-  given = s.given ++ part;
-  taken = hand ++ s.given;
-  consumed = Consumes-then had mid left s.given part s.consumed now;
-  parts = sym (append_assoc hand s.given part) ∙ ap (λ l. (hand ++ s.given) ++ l) (sym same);
+  bytes_read = s.bytes_read ++ part;
+  taken = hand ++ s.bytes_read;
+  consumed = Consumes-then had mid left s.bytes_read part s.consumed now;
+  parts = sym (append_assoc hand s.bytes_read part) ∙ ap (λ l. (hand ++ s.bytes_read) ++ l) (sym same);
   feedless = begun.feedless;
   kept = begun.kept;
-  few = not_full most (hand ++ s.given) new begun.kept short;
+  bounded = not_full most (hand ++ s.bytes_read) new begun.kept short;
   size = (let sizes = ap length same in omega (arith, sizes, size));
-  many = more_reads reads s.given part now_hand s.many same some;
+  many = more_reads reads s.bytes_read part now_hand s.many same some;
 }
 
 -- the reader is asked only where no line feed was at hand
@@ -363,18 +364,18 @@ front_free : (xs bs : List ℕ) → has_feed (xs ++ bs) ≡ false → has_feed x
 front_free [] bs h = refl
 front_free (a ∷ xs) bs h = by_feed (a == 10) (has_feed (xs ++ bs)) h (λ e k. rw e (front_free xs bs k))
 
-pub never_asked : {P : Type 0} (most : ℕ) (hand given rest : List ℕ) (line : LineFront) → Begun most (hand ++ given) line rest → has_feed hand ≡ true → P
-never_asked most hand given rest line begun feed = let both : true ≡ false = sym feed ∙ front_free hand given begun.feedless in cc
+pub never_asked : {P : Type 0} (most : ℕ) (hand bytes_read rest : List ℕ) (line : LinePrefix) → Begun most (hand ++ bytes_read) line rest → has_feed hand ≡ true → P
+never_asked most hand bytes_read rest line begun feed = let both : true ≡ false = sym feed ∙ front_free hand bytes_read begun.feedless in cc
 
 -- ---- errors
 
 -- no read is spent where the reader failed, or memory was wanting
-pub after_input : (given : List ℕ) (e : LiveError) → IsOfInput e → AfterReads given e
-after_input given (errors.Reader fault) h = tt
-after_input given errors.Memory h = tt
-after_input given errors.Writer h = absurd h
-after_input given errors.LinesSpent h = absurd h
-after_input given errors.ReadsSpent h = absurd h
+pub after_input : (bytes_read : List ℕ) (e : LiveError) → IsInputError e → IsReadingError bytes_read e
+after_input bytes_read (errors.Reader fault) h = tt
+after_input bytes_read errors.Memory h = tt
+after_input bytes_read errors.Writer h = absurd h
+after_input bytes_read errors.LinesSpent h = absurd h
+after_input bytes_read errors.ReadsSpent h = absurd h
 
 -- of an error nothing is said that holds of a value
 pub if_ok_never : {T E : Type 0} (r : Result T E) (P : T → Type 0) → IsErr r → IfOk r P

@@ -1,32 +1,34 @@
 -- Laws of the text of a conversation.
-use Rattle.std.proofs.Common.{◌≡◌, ℕ, suc, ◌+◌, ◌==◌, Bool, true, false, cond, List, [], ◌∷◌, ◌++◌, length, Option, Some, None, Result, Ok, Err, refl, sym, ap, ◌∙◌}
+use Rattle.std.proofs.Common.{◌≡◌, ℕ, suc, ◌+◌, ◌==◌, Bool, true, false, cond, List, [], ◌∷◌, ◌++◌, length, Option, Some, None, Result, Ok, Err, refl, sym, ap}
+use Rattle.std.proofs.Common.{◌∙◌}
 use Rattle.std.proofs.Common.{arith, append_assoc, append-nil, inl, inr, subst}
 use Rattle.std.specs.Prelude.{nat_lt}
 use Rattle.check_objects.specs.Configuration.{Configuration}
 use Rattle.check_objects.specs.Setup.{setup_of}
-use Rattle.check_drafts.specs.Agreement.{◌>>=◌}
-use Rattle.check_saved.specs.Saved.{Saved}
-use Rattle.check_saved.specs.Text.{saved_of_text}
-use Rattle.check_sched.specs.Saved.{resumed}
+use Rattle.setup_model.specs.Agreement.{◌>>=◌}
+use Rattle.check_saved_state.specs.Saved.{Saved}
+use Rattle.check_saved_state.specs.Text.{saved_of_text}
+use Rattle.check_sched.specs.Saved.{state_after_resume}
 use Rattle.check_sched.specs.State.{State, opening}
-use Rattle.check_script.specs.declared.command.RunCommand.{RunCommand}
-use Rattle.check_text.proofs.TextLemmas.{command_keeps}
-use Rattle.check_script.specs.declared.refusal.InputRefusal.{InputRefusal}
-use Rattle.check_script.specs.declared.refusal.InputRefusal.TheVariants as refusal
-use Rattle.check_script.specs.declared.refusal.LineFault.TheVariants as fault
-use Rattle.check_script.specs.declared.script.TheConstants.{MAX_INPUT_BYTES}
-use Rattle.check_script.specs.declared.start.Start.{Start}
-use Rattle.check_script.specs.declared.start.Start.TheVariants as start
-use Rattle.check_script.specs.Command.{command_by}
-use Rattle.check_script.specs.Input.{first_line_of, lines_of, onto_first}
-use Rattle.check_script.specs.Line.{command_of, is_blank}
-use Rattle.check_script.specs.LiveInput.{behind_line, has_feed, said_by}
-use Rattle.check_script.specs.Script.{Beginning, Script, beginning_of, beginning_over, commands_behind, in_saved, in_setup, resumed_from, script_behind, script_of, within_limit}
-use Rattle.check_script.proofs.LiveInputLemmas.{behind_stays, first_stays, lines_apart}
-use Rattle.check_script.proofs.ScriptLemmas.{commands_by_number, commands_from}
-use Rattle.check_text.specs.LiveText.{BeginsWith, HasStart, answer_to, answers_from, answers_over, live_text, said, state_after}
-use Rattle.check_text.specs.Output.{AreWholeLines}
-use Rattle.check_text.specs.Text.{answer_line, refusal_line, script_text, state_by, text, text_from}
+use Rattle.nagsched_protocol.specs.declared.command.RunCommand.{RunCommand}
+use Rattle.nagsched_protocol.proofs.TextLemmas.{command_keeps}
+use Rattle.nagsched_protocol.specs.declared.refusal.InputRefusal.{InputRefusal}
+use Rattle.nagsched_protocol.specs.declared.refusal.InputRefusal.TheVariants as refusal
+use Rattle.nagsched_protocol.specs.declared.refusal.LineFault.TheVariants as fault
+use Rattle.nagsched_protocol.specs.declared.script.TheConstants.{MAX_INPUT_BYTES}
+use Rattle.nagsched_protocol.specs.declared.start.Start.{Start}
+use Rattle.nagsched_protocol.specs.declared.start.Start.TheVariants as start
+use Rattle.nagsched_protocol.specs.Command.{command_by}
+use Rattle.nagsched_protocol.specs.Input.{first_line_of, lines_of, onto_first}
+use Rattle.nagsched_protocol.specs.Line.{command_of, is_blank}
+use Rattle.nagsched_protocol.specs.LiveInput.{rest_after_line, has_feed, line_meaning_by}
+use Rattle.nagsched_protocol.specs.Script.{Beginning, Script, beginning_of, beginning_over, commands_of_lines, with_saved_refusal, with_setup_refusal}
+use Rattle.nagsched_protocol.specs.Script.{state_after_resume_at, script_from, script_of, if_within_limit}
+use Rattle.nagsched_protocol.proofs.LiveInputLemmas.{behind_stays, first_stays, lines_apart}
+use Rattle.nagsched_protocol.proofs.ScriptLemmas.{commands_by_number, commands_from}
+use Rattle.nagsched_protocol.specs.LiveText.{BeginsWith, HasStart, line_answer, answers_from, answers_over, live_text, line_meaning, state_after_line}
+use Rattle.nagsched_protocol.specs.Output.{AreWholeLines}
+use Rattle.nagsched_protocol.specs.Text.{answer_line, refusal_line, script_text, state_after_command, text, text_from}
 
 abbrev pub script_with : State → List RunCommand → Script
 script_with s all = record { state = s; commands = all }
@@ -48,7 +50,7 @@ onto_command (Ok x) rest = refl
 onto_command (Err e) rest = refl
 
 commands_said : (c : Configuration) (n : ℕ) (line : List ℕ) (lines : List (List ℕ))
-    → commands_from (command_by c) n (line ∷ lines) ≡ onto (said_by (command_by c) n line) (commands_from (command_by c) (n + 1) lines)
+    → commands_from (command_by c) n (line ∷ lines) ≡ onto (line_meaning_by (command_by c) n line) (commands_from (command_by c) (n + 1) lines)
 commands_said c n line lines =
     elim (is_blank line) as (λ v. cond v (commands_from (command_by c) (n + 1) lines)
     (command_of (command_by c) n line >>= λ first. (commands_from (command_by c) (n + 1) lines >>= λ more. Ok (first ∷ more)))
@@ -60,11 +62,11 @@ commands_said c n line lines =
 agree_by : (s : State) (n : ℕ) (lines : List (List ℕ)) (said_here : Result (Option RunCommand) InputRefusal) (rest : Result (List RunCommand) InputRefusal) (all : List RunCommand)
     → ((t : State) (more : List RunCommand) → t.setup ≡ s.setup → rest ≡ Ok more → answers_from t (n + 1) lines ≡ text_from t more)
     → onto said_here rest ≡ Ok all
-    → answer_to s said_here ++ answers_from (state_after s said_here) (n + 1) lines ≡ text_from s all
+    → line_answer s said_here ++ answers_from (state_after_line s said_here) (n + 1) lines ≡ text_from s all
 agree_by s n lines (Ok None) rest all again e = again s all refl e
 agree_by s n lines (Ok (Some call)) (Ok more) all again e =
     let same : call ∷ more ≡ all = cc in
-    ap (λ l. answer_line s call ++ l) (again (state_by s call) more (command_keeps s call) refl) ∙ ap (text_from s) same
+    ap (λ l. answer_line s call ++ l) (again (state_after_command s call) more (command_keeps s call) refl) ∙ ap (text_from s) same
 agree_by s n lines (Ok (Some call)) (Err why) all again e = cc
 agree_by s n lines (Err why) rest all again e = cc
 
@@ -72,7 +74,7 @@ pub answers_agree : (lines : List (List ℕ)) (c : Configuration) (s : State) (n
     → commands_from (command_by c) n lines ≡ Ok all → answers_from s n lines ≡ text_from s all
 answers_agree [] c s n all same e = let none : [] ≡ all = cc in ap (text_from s) none
 answers_agree (line ∷ lines) c s n all same e =
-    agree_by s n lines (said s n line) (commands_from (command_by s.setup) (n + 1) lines) all
+    agree_by s n lines (line_meaning s n line) (commands_from (command_by s.setup) (n + 1) lines) all
     (λ t more kept f. answers_agree lines s.setup t (n + 1) more kept f)
     (sym (commands_said s.setup n line lines) ∙ ap (λ d. commands_from (command_by d) n (line ∷ lines)) same ∙ e)
 
@@ -85,11 +87,11 @@ over_commands b script (Ok l) same h =
     let is : (script_with b.state l) ≡ script = cc in
     answers_agree (lines_of b.rest) b.state.setup b.state b.number l refl same ∙ ap (λ (s : Script). text_from s.state s.commands) is
 
-over_agrees : (r : Result Beginning InputRefusal) (script : Script) → (r >>= script_behind) ≡ Ok script
+over_agrees : (r : Result Beginning InputRefusal) (script : Script) → (r >>= script_from) ≡ Ok script
     → answers_over r ≡ text_from script.state script.commands
 over_agrees (Err e) script h = cc
 over_agrees (Ok b) script h =
-    over_commands b script (commands_behind b.number (command_by b.state.setup) (lines_of b.rest))
+    over_commands b script (commands_of_lines b.number (command_by b.state.setup) (lines_of b.rest))
     (sym (commands_by_number (command_by b.state.setup) b.number (lines_of b.rest))) h
 
 accepted_by : {X : Type 0} (long : Bool) (r : Result X InputRefusal) (script : X)
@@ -98,9 +100,9 @@ accepted_by true r script e = cc
 accepted_by false r script e = e
 
 -- what is accepted is within the limit
-pub accepted : (how : Start) (input : List ℕ) (script : Script) → script_of how input ≡ Ok script → (beginning_of how input >>= script_behind) ≡ Ok script
+pub accepted : (how : Start) (input : List ℕ) (script : Script) → script_of how input ≡ Ok script → (beginning_of how input >>= script_from) ≡ Ok script
 unfolding script_of
-accepted how input script e = accepted_by (nat_lt MAX_INPUT_BYTES (length input)) (beginning_of how input >>= script_behind) script e
+accepted how input script e = accepted_by (nat_lt MAX_INPUT_BYTES (length input)) (beginning_of how input >>= script_from) script e
 
 run_text : (how : Start) (input : List ℕ) (script : Script) → script_of how input ≡ Ok script → text how input ≡ text_from script.state script.commands
 unfolding text
@@ -119,18 +121,18 @@ behind_state b (Ok l) script h = let is : script ≡ (script_with b.state l) = c
 behind_state b (Err e) script h = cc
 
 resumed_state : (moment : Option ℕ) (input : List ℕ) (setup : Configuration) (saved : Saved) (script : Script) → BeginsWith input setup saved
-    → script_of (start.Resumed moment) input ≡ Ok script → script.state ≡ resumed_from setup saved moment
+    → script_of (start.Resumed moment) input ≡ Ok script → script.state ≡ state_after_resume_at setup saved moment
 resumed_state moment input setup saved script w e =
-    let b = begun (resumed_from setup saved moment) 3 (behind_line (behind_line input)) in
+    let b = begun (state_after_resume_at setup saved moment) 3 (rest_after_line (rest_after_line input)) in
     let begins : beginning_of (start.Resumed moment) input ≡ Ok b =
-    ap (λ r. in_setup r >>= λ c. beginning_over (start.Resumed moment) c (behind_line input)) w.document
-    ∙ ap (λ r. in_saved r >>= λ s. Ok (begun (resumed_from setup s moment) 3 (behind_line (behind_line input)))) w.text in
-    behind_state b (commands_behind 3 (command_by b.state.setup) (lines_of b.rest)) script
-    (sym (ap (λ r. r >>= script_behind) begins) ∙ accepted (start.Resumed moment) input script e)
+    ap (λ r. with_setup_refusal r >>= λ c. beginning_over (start.Resumed moment) c (rest_after_line input)) w.document
+    ∙ ap (λ r. with_saved_refusal r >>= λ s. Ok (begun (state_after_resume_at setup s moment) 3 (rest_after_line (rest_after_line input)))) w.text in
+    behind_state b (commands_of_lines 3 (command_by b.state.setup) (lines_of b.rest)) script
+    (sym (ap (λ r. r >>= script_from) begins) ∙ accepted (start.Resumed moment) input script e)
 
 pub given_start : (moment : ℕ) (input : List ℕ) (setup : Configuration) (saved : Saved) (script : Script) → BeginsWith input setup saved
     → script_of (start.Resumed (Some moment)) input ≡ Ok script
-    → text (start.Resumed (Some moment)) input ≡ text_from (resumed setup saved moment) script.commands
+    → text (start.Resumed (Some moment)) input ≡ text_from (state_after_resume setup saved moment) script.commands
 given_start moment input setup saved script w e =
     run_text (start.Resumed (Some moment)) input script e
     ∙ ap (λ s. text_from s script.commands) (resumed_state (Some moment) input setup saved script w e)
@@ -142,7 +144,7 @@ pub start_replaced : (moment : ℕ) (input other : List ℕ) (setup : Configurat
 start_replaced moment input other setup saved script there w v e f same =
     run_text (start.Resumed None) other there f
     ∙ ap (λ s. text_from s there.commands) (resumed_state None other setup (record saved { start = moment }) there v f)
-    ∙ ap (text_from (resumed setup saved moment)) same ∙ sym (given_start moment input setup saved script w e)
+    ∙ ap (text_from (state_after_resume setup saved moment)) same ∙ sym (given_start moment input setup saved script w e)
 
 -- ---- what comes later
 
@@ -166,10 +168,10 @@ lines_of-whole (b ∷ bs) back =
     ]
 
 -- what stands behind line 1 of whole lines is whole lines, or nothing
-pub behind_whole : (front : List ℕ) → AreWholeLines (behind_line (front ++ 10 ∷ []))
+pub behind_whole : (front : List ℕ) → AreWholeLines (rest_after_line (front ++ 10 ∷ []))
 behind_whole [] = inl refl
 behind_whole (b ∷ bs) =
-    elim (b == 10) as (λ v. AreWholeLines (cond v (bs ++ 10 ∷ []) (behind_line (bs ++ 10 ∷ [])))) [
+    elim (b == 10) as (λ v. AreWholeLines (cond v (bs ++ 10 ∷ []) (rest_after_line (bs ++ 10 ∷ [])))) [
       | true ↦ inr (bs, refl)
       | false ↦ behind_whole bs
     ]
@@ -188,8 +190,8 @@ feed_last (b ∷ bs) = elim (b == 10) as (λ v. cond v true (has_feed (bs ++ 10 
 pub answers_apart : (s : State) (n : ℕ) (xs ys : List (List ℕ)) → (rest : List ℕ) × (answers_from s n (xs ++ ys) ≡ answers_from s n xs ++ rest)
 answers_apart s n [] ys = (answers_from s n ys, refl)
 answers_apart s n (x ∷ xs) ys =
-    let again = answers_apart (state_after s (said s n x)) (n + 1) xs ys in
-    let first = answer_to s (said s n x) in
+    let again = answers_apart (state_after_line s (line_meaning s n x)) (n + 1) xs ys in
+    let first = line_answer s (line_meaning s n x) in
     (again.0, ap (λ l. first ++ l) again.1 ∙ sym (append_assoc first _ again.0))
 
 -- a beginning with more bytes behind it
@@ -198,8 +200,8 @@ more back (Ok b) = Ok (record b { rest = b.rest ++ back })
 more back (Err e) = Err e
 
 saved_more : (moment : Option ℕ) (c : Configuration) (r : Result Saved InputRefusal) (rest back : List ℕ)
-    → (r >>= λ s. Ok (begun (resumed_from c s moment) 3 (rest ++ back)))
-    ≡ more back (r >>= λ s. Ok (begun (resumed_from c s moment) 3 rest))
+    → (r >>= λ s. Ok (begun (state_after_resume_at c s moment) 3 (rest ++ back)))
+    ≡ more back (r >>= λ s. Ok (begun (state_after_resume_at c s moment) 3 rest))
 saved_more moment c (Ok s) rest back = refl
 saved_more moment c (Err e) rest back = refl
 
@@ -207,9 +209,9 @@ over_more : (how : Start) (c : Configuration) (bytes back : List ℕ) → HasSta
     → beginning_over how c (bytes ++ back) ≡ more back (beginning_over how c bytes)
 over_more (start.Fresh moment) c bytes back h = refl
 over_more (start.Resumed moment) c bytes back h =
-    ap (λ l. in_saved (saved_of_text l) >>= λ s. Ok (begun (resumed_from c s moment) 3 (behind_line (bytes ++ back)))) (first_stays bytes back h)
-    ∙ ap (λ l. in_saved (saved_of_text (first_line_of bytes)) >>= λ s. Ok (begun (resumed_from c s moment) 3 l)) (behind_stays bytes back h)
-    ∙ saved_more moment c (in_saved (saved_of_text (first_line_of bytes))) (behind_line bytes) back
+    ap (λ l. with_saved_refusal (saved_of_text l) >>= λ s. Ok (begun (state_after_resume_at c s moment) 3 (rest_after_line (bytes ++ back)))) (first_stays bytes back h)
+    ∙ ap (λ l. with_saved_refusal (saved_of_text (first_line_of bytes)) >>= λ s. Ok (begun (state_after_resume_at c s moment) 3 l)) (behind_stays bytes back h)
+    ∙ saved_more moment c (with_saved_refusal (saved_of_text (first_line_of bytes))) (rest_after_line bytes) back
 
 setup_more : (how : Start) (setup : Result Configuration InputRefusal) (bytes back : List ℕ) → HasStart how bytes
     → (setup >>= λ c. beginning_over how c (bytes ++ back)) ≡ more back (setup >>= λ c. beginning_over how c bytes)
@@ -217,20 +219,20 @@ setup_more how (Ok c) bytes back h = over_more how c bytes back h
 setup_more how (Err e) bytes back h = refl
 
 -- the beginning of whole lines and of what comes later
-begins_on : (how : Start) (front back : List ℕ) → HasStart how (behind_line (front ++ 10 ∷ []))
+begins_on : (how : Start) (front back : List ℕ) → HasStart how (rest_after_line (front ++ 10 ∷ []))
     → beginning_of how ((front ++ 10 ∷ []) ++ back) ≡ more back (beginning_of how (front ++ 10 ∷ []))
 begins_on how front back h =
     let whole = front ++ 10 ∷ [] in
     let feed = feed_last front in
-    ap (λ l. in_setup (setup_of l) >>= λ c. beginning_over how c (behind_line (whole ++ back))) (first_stays whole back feed)
-    ∙ ap (λ l. in_setup (setup_of (first_line_of whole)) >>= λ c. beginning_over how c l) (behind_stays whole back feed)
-    ∙ setup_more how (in_setup (setup_of (first_line_of whole))) (behind_line whole) back h
+    ap (λ l. with_setup_refusal (setup_of l) >>= λ c. beginning_over how c (rest_after_line (whole ++ back))) (first_stays whole back feed)
+    ∙ ap (λ l. with_setup_refusal (setup_of (first_line_of whole)) >>= λ c. beginning_over how c l) (behind_stays whole back feed)
+    ∙ setup_more how (with_setup_refusal (setup_of (first_line_of whole))) (rest_after_line whole) back h
 
-behind_two : (bytes : List ℕ) → AreWholeLines bytes → AreWholeLines (behind_line bytes)
+behind_two : (bytes : List ℕ) → AreWholeLines bytes → AreWholeLines (rest_after_line bytes)
 behind_two bytes (inl none) = rw none (inl refl)
-behind_two bytes (inr (xs, e)) = subst (λ l. AreWholeLines (behind_line l)) (sym e) (behind_whole xs)
+behind_two bytes (inr (xs, e)) = subst (λ l. AreWholeLines (rest_after_line l)) (sym e) (behind_whole xs)
 
-first_apart : (bytes : List ℕ) → has_feed bytes ≡ true → length (lines_of bytes) ≡ suc (length (lines_of (behind_line bytes)))
+first_apart : (bytes : List ℕ) → has_feed bytes ≡ true → length (lines_of bytes) ≡ suc (length (lines_of (rest_after_line bytes)))
 first_apart [] feed = cc
 first_apart (b ∷ bs) feed = ap length (lines_apart b bs)
 
@@ -241,11 +243,11 @@ record IsLeft (b : Beginning) (lines : ℕ) : Type 0 where
 
 saved_left : (moment : Option ℕ) (c : Configuration) (r : Result Saved InputRefusal) (bytes : List ℕ) (b : Beginning) → has_feed bytes ≡ true
     → AreWholeLines bytes
-    → (r >>= λ s. Ok (begun (resumed_from c s moment) 3 (behind_line bytes))) ≡ Ok b
+    → (r >>= λ s. Ok (begun (state_after_resume_at c s moment) 3 (rest_after_line bytes))) ≡ Ok b
     → IsLeft b (length (lines_of bytes) + 2)
 saved_left moment c (Err e) bytes b feed whole h = cc
 saved_left moment c (Ok s) bytes b feed whole h =
-    let d = begun (resumed_from c s moment) 3 (behind_line bytes) in
+    let d = begun (state_after_resume_at c s moment) 3 (rest_after_line bytes) in
     let is : d ≡ b = cc in
     let first = first_apart bytes feed in
     rw (← is) (record { whole = behind_two bytes whole; count = omega (arith, first) })
@@ -256,20 +258,20 @@ over_left (start.Fresh moment) c bytes b start whole h =
     let d = begun (opening c moment) 2 bytes in
     let is : d ≡ b = cc in
     rw (← is) (record { whole = whole; count = omega arith })
-over_left (start.Resumed moment) c bytes b start whole h = saved_left moment c (in_saved (saved_of_text (first_line_of bytes))) bytes b start whole h
+over_left (start.Resumed moment) c bytes b start whole h = saved_left moment c (with_saved_refusal (saved_of_text (first_line_of bytes))) bytes b start whole h
 
 setup_left : (how : Start) (setup : Result Configuration InputRefusal) (bytes : List ℕ) (b : Beginning) → HasStart how bytes → AreWholeLines bytes
     → (setup >>= λ c. beginning_over how c bytes) ≡ Ok b → IsLeft b (length (lines_of bytes) + 2)
 setup_left how (Ok c) bytes b start whole h = over_left how c bytes b start whole h
 setup_left how (Err e) bytes b start whole h = cc
 
-left_by : (how : Start) (front : List ℕ) (b : Beginning) → HasStart how (behind_line (front ++ 10 ∷ []))
-    → beginning_of how (front ++ 10 ∷ []) ≡ Ok b → IsLeft b (length (lines_of (behind_line (front ++ 10 ∷ []))) + 2)
+left_by : (how : Start) (front : List ℕ) (b : Beginning) → HasStart how (rest_after_line (front ++ 10 ∷ []))
+    → beginning_of how (front ++ 10 ∷ []) ≡ Ok b → IsLeft b (length (lines_of (rest_after_line (front ++ 10 ∷ []))) + 2)
 left_by how front b start h =
-    setup_left how (in_setup (setup_of (first_line_of (front ++ 10 ∷ [])))) (behind_line (front ++ 10 ∷ [])) b start (behind_whole front) h
+    setup_left how (with_setup_refusal (setup_of (first_line_of (front ++ 10 ∷ [])))) (rest_after_line (front ++ 10 ∷ [])) b start (behind_whole front) h
 
 -- the text of whole lines and of what comes later
-parts : (how : Start) (front back : List ℕ) (b : Beginning) → HasStart how (behind_line (front ++ 10 ∷ []))
+parts : (how : Start) (front back : List ℕ) (b : Beginning) → HasStart how (rest_after_line (front ++ 10 ∷ []))
     → beginning_of how (front ++ 10 ∷ []) ≡ Ok b
     → live_text how ((front ++ 10 ∷ []) ++ back) ≡ answers_from b.state b.number (lines_of b.rest ++ lines_of back)
 unfolding live_text
@@ -277,7 +279,7 @@ parts how front back b h e =
     ap answers_over (begins_on how front back h ∙ ap (more back) e)
     ∙ ap (answers_from b.state b.number) (lines_by b.rest back (left_by how front b h e).whole)
 
-goes_on_by : (how : Start) (front back : List ℕ) (r : Result Beginning InputRefusal) → HasStart how (behind_line (front ++ 10 ∷ []))
+goes_on_by : (how : Start) (front back : List ℕ) (r : Result Beginning InputRefusal) → HasStart how (rest_after_line (front ++ 10 ∷ []))
     → beginning_of how (front ++ 10 ∷ []) ≡ r
     → (rest : List ℕ) × (live_text how ((front ++ 10 ∷ []) ++ back) ≡ answers_over r ++ rest)
 unfolding live_text
@@ -286,14 +288,14 @@ goes_on_by how front back (Ok b) h e =
     (apart.0, parts how front back b h e ∙ apart.1)
 goes_on_by how front back (Err why) h e = ([], ap answers_over (begins_on how front back h ∙ ap (more back) e) ∙ sym (append-nil _))
 
-pub goes_on : (how : Start) (front back : List ℕ) → HasStart how (behind_line (front ++ 10 ∷ []))
+pub goes_on : (how : Start) (front back : List ℕ) → HasStart how (rest_after_line (front ++ 10 ∷ []))
     → (rest : List ℕ) × (live_text how ((front ++ 10 ∷ []) ++ back) ≡ live_text how (front ++ 10 ∷ []) ++ rest)
 unfolding live_text
 goes_on how front back h = goes_on_by how front back (beginning_of how (front ++ 10 ∷ [])) h refl
 
 -- ---- a refused line
 
-state_after-setup : (s : State) (r : Result (Option RunCommand) InputRefusal) → (state_after s r).setup ≡ s.setup
+state_after-setup : (s : State) (r : Result (Option RunCommand) InputRefusal) → (state_after_line s r).setup ≡ s.setup
 state_after-setup s (Ok None) = refl
 state_after-setup s (Ok (Some call)) = command_keeps s call
 state_after-setup s (Err why) = refl
@@ -303,17 +305,17 @@ abbrev pub Passes : List ℕ → List ℕ → InputRefusal → Type 0
 Passes refused passed why = (before : List ℕ) × (behind : List ℕ) × (refused ≡ before ++ (refusal_line why ++ behind)) × (passed ≡ before ++ behind)
 
 pub passes_in : (xs : List (List ℕ)) (s : State) (n : ℕ) (line : List ℕ) (ys : List (List ℕ)) (why : InputRefusal)
-    → said_by (command_by s.setup) (n + length xs) line ≡ Err why
+    → line_meaning_by (command_by s.setup) (n + length xs) line ≡ Err why
     → Passes (answers_from s n (xs ++ line ∷ ys)) (answers_from s n (xs ++ [] ∷ ys)) why
 passes_in [] s n line ys why e =
-    let here : said s n line ≡ Err why = ap (λ k. said_by (command_by s.setup) k line) (let z : n ≡ n + 0 = omega arith in z) ∙ e in
-    ([], answers_from s (n + 1) ys, ap (λ r. answer_to s r ++ answers_from (state_after s r) (n + 1) ys) here, refl)
+    let here : line_meaning s n line ≡ Err why = ap (λ k. line_meaning_by (command_by s.setup) k line) (let z : n ≡ n + 0 = omega arith in z) ∙ e in
+    ([], answers_from s (n + 1) ys, ap (λ r. line_answer s r ++ answers_from (state_after_line s r) (n + 1) ys) here, refl)
 passes_in (x ∷ xs) s n line ys why e =
-    let r = said s n x in
-    let first = answer_to s r in
+    let r = line_meaning s n x in
+    let first = line_answer s r in
     let kept = state_after-setup s r in
-    let there = ap (λ k. said_by (command_by s.setup) k line) (let z : n + 1 + length xs ≡ n + suc (length xs) = omega arith in z) ∙ e in
-    let again = passes_in xs (state_after s r) (n + 1) line ys why (ap (λ c. said_by (command_by c) (n + 1 + length xs) line) kept ∙ there) in
+    let there = ap (λ k. line_meaning_by (command_by s.setup) k line) (let z : n + 1 + length xs ≡ n + suc (length xs) = omega arith in z) ∙ e in
+    let again = passes_in xs (state_after_line s r) (n + 1) line ys why (ap (λ c. line_meaning_by (command_by c) (n + 1 + length xs) line) kept ∙ there) in
     (first ++ again.0, again.1, ap (λ l. first ++ l) again.2 ∙ sym (append_assoc first again.0 _), ap (λ l. first ++ l) again.3 ∙ sym (append_assoc first again.0 again.1))
 
 -- a line without a line feed, and those behind it
@@ -327,19 +329,19 @@ line_first (b ∷ bs) back h =
     ]) h
 
 -- how many lines there are
-pub count_apart : (front : List ℕ) → length (lines_of (front ++ 10 ∷ [])) ≡ suc (length (lines_of (behind_line (front ++ 10 ∷ []))))
+pub count_apart : (front : List ℕ) → length (lines_of (front ++ 10 ∷ [])) ≡ suc (length (lines_of (rest_after_line (front ++ 10 ∷ []))))
 count_apart [] = ap length (lines_apart 10 [])
 count_apart (b ∷ bs) = ap length (lines_apart b (bs ++ 10 ∷ []))
 
 pub passes : (how : Start) (b : Beginning) (front line back : List ℕ) (why : InputRefusal)
-    → HasStart how (behind_line (front ++ 10 ∷ [])) → beginning_of how (front ++ 10 ∷ []) ≡ Ok b → has_feed line ≡ false
-    → said_by (command_by b.state.setup) (length (lines_of (front ++ 10 ∷ [])) + 1) line ≡ Err why
+    → HasStart how (rest_after_line (front ++ 10 ∷ [])) → beginning_of how (front ++ 10 ∷ []) ≡ Ok b → has_feed line ≡ false
+    → line_meaning_by (command_by b.state.setup) (length (lines_of (front ++ 10 ∷ [])) + 1) line ≡ Err why
     → Passes (live_text how ((front ++ 10 ∷ []) ++ (line ++ 10 ∷ back))) (live_text how ((front ++ 10 ∷ []) ++ (10 ∷ back))) why
 passes how b front line back why h s free e =
     let xs = lines_of b.rest in
     let left = left_by how front b h s in
     let number : b.number + length xs ≡ length (lines_of (front ++ 10 ∷ [])) + 1 = omega (arith, count_apart front, left.count) in
-    let p = passes_in xs b.state b.number line (lines_of back) why (ap (λ k. said_by (command_by b.state.setup) k line) number ∙ e) in (
+    let p = passes_in xs b.state b.number line (lines_of back) why (ap (λ k. line_meaning_by (command_by b.state.setup) k line) number ∙ e) in (
       p.0,
       p.1,
       parts how front (line ++ 10 ∷ back) b h s ∙ ap (λ l. answers_from b.state b.number (xs ++ l)) (line_first line back free) ∙ p.2,

@@ -1,9 +1,10 @@
 -- Writes one after another, and what a writer holds where one of them fails.
-use Rattle.std.proofs.Common.{◌≡◌, ◌≢◌, ℕ, List, [], ◌∷◌, ◌++◌, take, drop, Option, None, Some, refl, sym, subst, ◌∙◌, ap, append_assoc, append-nil, arith, inl, inr}
+use Rattle.std.proofs.Common.{◌≡◌, ◌≢◌, ℕ, List, [], ◌∷◌, ◌++◌, take, drop, Option, None, Some, refl, sym, subst, ◌∙◌, ap, append_assoc, append-nil, arith, inl}
+use Rattle.std.proofs.Common.{inr}
 use Rattle.std.specs.Prelude.{OnErr, Result, Ok, Err}
 use Rattle.std.specs.Io.KnownBytes.{Appends, Keeps}
 use Rattle.std.proofs.lemmas.Grind.{common_steps}
-use Rattle.check_text.specs.Output.{AreWholeLines, EndsLine, WroteFront, WroteLinesUpTo, WroteShort, WroteUpTo}
+use Rattle.nagsched_protocol.specs.Output.{AreWholeLines, EndsLine, WroteFront, WroteLinesUpTo, WroteShort, WroteUpTo}
 
 -- a text with something in it, with more behind it or before it
 pub some_append : (xs ys : List ℕ) → xs ≢ [] → xs ++ ys ≢ []

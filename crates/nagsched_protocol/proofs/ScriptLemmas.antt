@@ -3,16 +3,16 @@ use Rattle.std.proofs.Common.{ℕ, suc, ◌≡◌, ◌==◌, ◌+◌, ◌≤◌,
 use Rattle.std.proofs.Common.{Result, Ok, Err, ◌++◌, refl, sym, ◌∙◌, ap, append_assoc, arith}
 use Rattle.std.specs.Prelude.{IfOk}
 use Rattle.serde_json.specs.Data.{Items}
-use Rattle.check_drafts.specs.Agreement.{◌>>=◌, with_front, Fails}
-use Rattle.check_script.specs.Agreement.{refusal}
-use Rattle.check_script.specs.Line.{command_of, is_blank}
-use Rattle.check_script.specs.Input.{lines_of, onto_first}
-use Rattle.check_script.specs.Script.{all_or_first, commands_behind, numbered_from}
-use Rattle.check_script.specs.declared.script.TheConstants.{MAX_INPUT_BYTES}
-use Rattle.check_script.specs.declared.refusal.InputRefusal.{InputRefusal}
-use Rattle.check_script.specs.declared.refusal.LineFault.{LineFault}
-use Rattle.check_script.specs.declared.refusal.ScriptError.{ScriptError}
-use Rattle.check_script.specs.declared.refusal.ScriptError.TheVariants as errors
+use Rattle.setup_model.specs.Agreement.{◌>>=◌, with_front, IsExpectedError}
+use Rattle.nagsched_protocol.specs.Agreement.{refusal}
+use Rattle.nagsched_protocol.specs.Line.{command_of, is_blank}
+use Rattle.nagsched_protocol.specs.Input.{lines_of, onto_first}
+use Rattle.nagsched_protocol.specs.Script.{all_or_first, commands_of_lines, numbered_from}
+use Rattle.nagsched_protocol.specs.declared.script.TheConstants.{MAX_INPUT_BYTES}
+use Rattle.nagsched_protocol.specs.declared.refusal.InputRefusal.{InputRefusal}
+use Rattle.nagsched_protocol.specs.declared.refusal.LineFault.{LineFault}
+use Rattle.nagsched_protocol.specs.declared.refusal.ScriptError.{ScriptError}
+use Rattle.nagsched_protocol.specs.declared.refusal.ScriptError.TheVariants as errors
 
 pub with_front-nothing : {K : Type 0} (rest : Result (List K) InputRefusal) → with_front [] rest ≡ rest
 with_front-nothing (Ok more) = refl
@@ -27,11 +27,11 @@ commands_from meaning n (line ∷ lines) = if is_blank line then commands_from m
     else (command_of meaning n line >>= λ first. (commands_from meaning (n + 1) lines >>= λ more. Ok (first ∷ more)))
 
 abbrev pub commands_at : {K : Type 0} → (List ℕ → Items → Result K LineFault) → List (ℕ × List ℕ) → Result (List K) InputRefusal
-commands_at meaning numbered = all_or_first (map (λ p. command_of meaning p.0 p.1) numbered)
+commands_at meaning numbered_lines = all_or_first (map (λ p. command_of meaning p.0 p.1) numbered_lines)
 
 -- one line after another gives the commands of all
 pub commands_by_number : {K : Type 0} (meaning : List ℕ → Items → Result K LineFault) (n : ℕ) (ls : List (List ℕ))
-    → commands_behind n meaning ls ≡ commands_from meaning n ls
+    → commands_of_lines n meaning ls ≡ commands_from meaning n ls
 commands_by_number meaning n [] = refl
 commands_by_number meaning n (line ∷ ls) =
     let again = commands_by_number meaning (n + 1) ls in
@@ -90,13 +90,13 @@ few_lines bs h = omega (arith, length-lines_of bs, h)
 
 -- a part that is refused refuses the whole
 pub part_fails : {X Y : Type 0} (e : ScriptError) (part : Result X InputRefusal) (next : X → Result Y InputRefusal)
-    → Fails (refusal e) part → Fails (refusal e) (part >>= next)
+    → IsExpectedError (refusal e) part → IsExpectedError (refusal e) (part >>= next)
 part_fails errors.Memory part next f = tt
 part_fails (errors.Refused r) part next f = rw f refl
 
 -- so does a part that follows one that was read
 pub part_stops : {X Y : Type 0} (e : ScriptError) (part : Result X InputRefusal) (next : X → Result Y InputRefusal) (x : X)
-    → part ≡ Ok x → Fails (refusal e) (next x) → Fails (refusal e) (part >>= next)
+    → part ≡ Ok x → IsExpectedError (refusal e) (next x) → IsExpectedError (refusal e) (part >>= next)
 part_stops errors.Memory part next x s f = tt
 part_stops (errors.Refused r) part next x s f = rw (s, f) refl
 
@@ -123,9 +123,9 @@ few_commands meaning n (l ∷ ls) =
 
 -- no more commands behind line 1 than bytes
 pub few_behind : {K : Type 0} (meaning : List ℕ → Items → Result K LineFault) (n : ℕ) (bytes : List ℕ) (all : List K)
-    → commands_behind n meaning (lines_of bytes) ≡ Ok all → length all ≤ length bytes
+    → commands_of_lines n meaning (lines_of bytes) ≡ Ok all → length all ≤ length bytes
 few_behind meaning n bytes all e =
-    let few = few_commands meaning n (lines_of bytes) in
+    let bounded = few_commands meaning n (lines_of bytes) in
     let read : commands_from meaning n (lines_of bytes) ≡ Ok all = sym (commands_by_number meaning n (lines_of bytes)) ∙ e in
-    let most : length all ≤ length (lines_of bytes) = rw read at few in
+    let most : length all ≤ length (lines_of bytes) = rw read at bounded in
     omega (arith, most, length-lines_of bytes)

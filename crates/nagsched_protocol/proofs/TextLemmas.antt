@@ -1,30 +1,30 @@
 -- The text of a run, call by call, and of a history, entry by entry.
 use Rattle.std.proofs.Common.{◌≡◌, ℕ, List, [], ◌∷◌, ◌++◌, refl, ap, ◌∙◌, append_assoc, append-nil, sym, arith, drop, length, ◌+◌, ◌≤◌, ◌<◌, get_or}
 use Rattle.std.specs.Prelude.{codes, decimal, flat_map}
-use Rattle.check_saved.specs.Text.{saved_text}
+use Rattle.check_saved_state.specs.Text.{saved_text}
 use Rattle.check_sched.specs.Saved.{saved_of}
 use Rattle.std.proofs.lemmas.Grind.{common_steps}
 use Rattle.std.proofs.lemmas.List.{drop_all}
-use Rattle.ticket_steps.specs.declared.kept.Entry.{Entry}
+use Rattle.ticket_steps.specs.declared.books.Entry.{Entry}
 use Rattle.check_objects.specs.Configuration.{Configuration}
 use Rattle.check_sched.specs.State.{State}
 use Rattle.check_sched.specs.Step.{step}
 use Rattle.check_sched.proofs.StepLaws.{step_keeps}
-use Rattle.check_script.specs.declared.command.RunCommand.{RunCommand}
-use Rattle.check_script.specs.declared.command.RunCommand.TheVariants as command
+use Rattle.nagsched_protocol.specs.declared.command.RunCommand.{RunCommand}
+use Rattle.nagsched_protocol.specs.declared.command.RunCommand.TheVariants as command
 use Rattle.check_sched.specs.declared.call.Call.{Call}
 use Rattle.check_sched.specs.declared.call.Reply.{Reply}
-use Rattle.check_text.specs.Output.{EndsLine}
-use Rattle.check_text.specs.Text.{answer_line, text_from, entry_line, reply_text, saved_line, state_by, total_line, total_text}
+use Rattle.nagsched_protocol.specs.Output.{EndsLine}
+use Rattle.nagsched_protocol.specs.Text.{answer_line, text_from, entry_line, reply_text, saved_line, state_after_command, total_line, total_text}
 
 -- a command leaves the setup
-pub command_keeps : (s : State) (c : RunCommand) → (state_by s c).setup ≡ s.setup
+pub command_keeps : (s : State) (c : RunCommand) → (state_after_command s c).setup ≡ s.setup
 command_keeps s (command.Call call) = (step_keeps s call).setup
 command_keeps s command.Save = refl
 
 -- the text goes on with the line of the next command's answer
 pub text_next : (s : State) (cs : List RunCommand) (i : ℕ) (d : RunCommand) → i < length cs
-    → text_from s (drop i cs) ≡ answer_line s (get_or cs i d) ++ text_from (state_by s (get_or cs i d)) (drop (i + 1) cs)
+    → text_from s (drop i cs) ≡ answer_line s (get_or cs i d) ++ text_from (state_after_command s (get_or cs i d)) (drop (i + 1) cs)
 text_next s cs i d h =
     let e : drop i cs ≡ get_or cs i d ∷ drop (i + 1) cs = grind (arith, common_steps) in
     ap (text_from s) e

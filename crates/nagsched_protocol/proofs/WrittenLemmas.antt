@@ -2,11 +2,11 @@
 use Rattle.std.proofs.Common.{◌≡◌, ◌≢◌, ℕ, List, [], ◌++◌, Option, Some, None, Result, Ok, Err, refl, subst, inl, inr}
 use Rattle.std.specs.Prelude.{IsErrAnd, IsOkUnless, OnErr, OnOk}
 use Rattle.std.specs.Io.KnownBytes.{Appends, Keeps}
-use Rattle.check_script.specs.declared.drive_error.DriveError.{DriveError}
-use Rattle.check_script.specs.declared.drive_error.DriveError.TheVariants as errors
-use Rattle.check_text.specs.Output.{EndsLine, WroteFront, WroteLinesUpTo, WroteShort}
-use Rattle.check_text.proofs.OutputLemmas.{Appends-Keeps, Appends-none, WroteUpTo-all, WroteUpTo-cut, WroteUpTo-next, short_next}
-use Rattle.check_text.specs.Written.{IsLineWritten, IsTextWritten, LeftOfLine, LeftOfText}
+use Rattle.nagsched_protocol.specs.declared.drive_error.DriveError.{DriveError}
+use Rattle.nagsched_protocol.specs.declared.drive_error.DriveError.TheVariants as errors
+use Rattle.nagsched_protocol.specs.Output.{EndsLine, WroteFront, WroteLinesUpTo, WroteShort}
+use Rattle.nagsched_protocol.proofs.OutputLemmas.{Appends-Keeps, Appends-none, WroteUpTo-all, WroteUpTo-cut, WroteUpTo-next, short_next}
+use Rattle.nagsched_protocol.specs.Written.{IsLineWritten, IsTextWritten, LeftOfLine, LeftOfText}
 
 pub Keeps-same : (known : Option (List ℕ)) → Keeps known known
 Keeps-same None = tt

@@ -1,9 +1,9 @@
 -- How the code's reading of an input agrees with the definitions, out of memory aside.
 use Rattle.std.specs.Prelude.{Option, Some, None, Result}
-use Rattle.check_drafts.specs.Agreement as agreement
-use Rattle.check_script.specs.declared.refusal.InputRefusal.{InputRefusal}
-use Rattle.check_script.specs.declared.refusal.ScriptError.{ScriptError}
-use Rattle.check_script.specs.declared.refusal.ScriptError.TheVariants as errors
+use Rattle.setup_model.specs.Agreement as agreement
+use Rattle.nagsched_protocol.specs.declared.refusal.InputRefusal.{InputRefusal}
+use Rattle.nagsched_protocol.specs.declared.refusal.ScriptError.{ScriptError}
+use Rattle.nagsched_protocol.specs.declared.refusal.ScriptError.TheVariants as errors
 
 -- the refusal that an error of the code is, unless the code is out of memory
 abbrev pub refusal : ScriptError → Option InputRefusal
@@ -11,5 +11,5 @@ refusal errors.Memory = None
 refusal (errors.Refused why) = Some why
 
 -- The result of the code is the expected one: its value, seen by `view`, or its refusal.
-abbrev pub Gives : {X Y : Type 0} → (X → Y) → Result X ScriptError → Result Y InputRefusal → Type 0
-Gives view result expected = agreement.Gives refusal view result expected
+abbrev pub IsExpectedResult : {X Y : Type 0} → (X → Y) → Result X ScriptError → Result Y InputRefusal → Type 0
+IsExpectedResult view result expected = agreement.IsExpectedResult refusal view result expected

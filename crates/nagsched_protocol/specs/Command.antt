@@ -2,16 +2,16 @@
 use Rattle.std.specs.Prelude.{ℕ, Bool, List, Option, Some, None, Result, Ok, Err, ok_or, codes, bytes_eq, if◌then◌else◌}
 use Rattle.serde_json.specs.Data.{Data, Items, no_items, item}
 use Rattle.serde_json.specs.Find.{as_bool, as_str}
-use Rattle.check_objects.specs.Tree.{◌>=>◌, whole_number}
-use Rattle.check_objects.specs.Configuration.{Configuration, number_of}
-use Rattle.check_rules.specs.Numbers.{numbered_code}
+use Rattle.check_objects.specs.JsonTree.{◌>=>◌, whole_number}
+use Rattle.check_objects.specs.Configuration.{Configuration, number_by_name}
+use Rattle.check_rules.specs.Numbers.{code_of_number}
 use Rattle.check_sched.specs.declared.call.Call.{Call}
 use Rattle.check_sched.specs.declared.call.Call.TheVariants as call
-use Rattle.check_script.specs.declared.command.RunCommand.{RunCommand}
-use Rattle.check_script.specs.declared.command.RunCommand.TheVariants as command
-use Rattle.check_script.specs.declared.refusal.LineFault.{LineFault}
-use Rattle.check_script.specs.declared.refusal.LineFault.TheVariants as fault
-use Rattle.check_drafts.specs.Agreement.{◌>>=◌}
+use Rattle.nagsched_protocol.specs.declared.command.RunCommand.{RunCommand}
+use Rattle.nagsched_protocol.specs.declared.command.RunCommand.TheVariants as command
+use Rattle.nagsched_protocol.specs.declared.refusal.LineFault.{LineFault}
+use Rattle.nagsched_protocol.specs.declared.refusal.LineFault.TheVariants as fault
+use Rattle.setup_model.specs.Agreement.{◌>>=◌}
 
 -- ---- the members after a word
 
@@ -28,8 +28,8 @@ three_of (item a (item b (item c no_items))) = Some (a, b, c)
 three_of members = None
 
 -- only a name
-abbrev pub name_in : Items → Option (List ℕ)
-name_in members = one_of members >=> as_str
+abbrev pub sole_name : Items → Option (List ℕ)
+sole_name members = one_of members >=> as_str
 
 -- a name, and true or false
 abbrev pub name_and_switch : Items → Option (List ℕ × Bool)
@@ -47,7 +47,7 @@ name_number_switch members =
 
 -- the number of the object with this full name
 abbrev pub object_named : Configuration → List ℕ → Result ℕ LineFault
-object_named c name = ok_or (number_of c name) fault.UnknownName
+object_named c name = ok_or (number_by_name c name) fault.UnknownName
 
 -- ---- one definition per word, over the members after the word: the tests are their number and kinds, then the return code, then the name
 
@@ -62,7 +62,7 @@ take_call members = Err fault.Shape
 
 -- `["report",name,run,code]`: the check of the object `name` that runs under the number `run` returned `code`
 abbrev pub report_call : Configuration → Items → Result Call LineFault
-report_call c members = ok_or (name_and_numbers members) fault.Shape >>= λ p. (ok_or (numbered_code p.2) fault.Code >>= λ code.
+report_call c members = ok_or (name_and_numbers members) fault.Shape >>= λ p. (ok_or (code_of_number p.2) fault.Code >>= λ code.
     (object_named c p.0 >>= λ object. Ok (call.Report object p.1 code)))
 
 -- `["abandon",name,run,now]`: the check of the object `name` that runs under the number `run` is abandoned at the moment `now`
@@ -82,7 +82,7 @@ enable_call c members = ok_or (name_and_switch members) fault.Shape >>= λ p.
 
 -- `["status",name]`: the standing of the object `name`
 abbrev pub status_call : Configuration → Items → Result Call LineFault
-status_call c members = ok_or (name_in members) fault.Shape >>= λ name.
+status_call c members = ok_or (sole_name members) fault.Shape >>= λ name.
     (object_named c name >>= λ object. Ok (call.Status object))
 
 -- `["save"]`: the scheduler's saved state

@@ -3,13 +3,13 @@ use Rattle.std.specs.Prelude.{ℕ, ◌==◌, List, [], Option, Some, None, Resul
 use Rattle.std.specs.List.{last_or, range_with_len}
 use Rattle.check_objects.specs.Configuration.{Configuration, object_count}
 use Rattle.check_objects.specs.Setup.{setup_of}
-use Rattle.check_drafts.specs.Agreement.{◌>>=◌}
+use Rattle.setup_model.specs.Agreement.{◌>>=◌}
 use Rattle.check_rules.specs.declared.state.Code.{Code}
-use Rattle.check_script.specs.declared.refusal.InputRefusal.{InputRefusal}
-use Rattle.check_script.specs.DrillCommand.{Command, PluginOf, MomentAt, drill_command_by}
-use Rattle.check_script.specs.Input.{first_line_of, lines_of}
-use Rattle.check_script.specs.LiveInput.{behind_line}
-use Rattle.check_script.specs.Script.{commands_behind, in_setup, within_limit}
+use Rattle.nagsched_protocol.specs.declared.refusal.InputRefusal.{InputRefusal}
+use Rattle.nagsched_protocol.specs.DrillCommand.{Command, PluginOf, MomentAt, drill_command_by}
+use Rattle.nagsched_protocol.specs.Input.{first_line_of, lines_of}
+use Rattle.nagsched_protocol.specs.LiveInput.{rest_after_line}
+use Rattle.nagsched_protocol.specs.Script.{commands_of_lines, with_setup_refusal, if_within_limit}
 
 pub record DrillScript : Type 0 where
   pub setup : Configuration
@@ -40,9 +40,9 @@ abbrev pub returns_below : ℕ → List Command → List (List Code)
 returns_below count commands = map (returns_of commands) (range_with_len 0 count)
 
 -- the lists of return codes after a command, which replaces those of its object by its own
-abbrev pub given_by : Command → List (List Code) → List (List Code)
-given_by (PluginOf object returned) lists = slice_set lists object returned
-given_by (MomentAt now) lists = lists
+abbrev pub returns_after : Command → List (List Code) → List (List Code)
+returns_after (PluginOf object returned) lists = slice_set lists object returned
+returns_after (MomentAt now) lists = lists
 
 -- the script that commands make together over a setup
 abbrev pub drill_over : Configuration → List Command → DrillScript
@@ -50,5 +50,5 @@ drill_over c commands = record { setup = c; returns = returns_below (object_coun
 
 -- The script of an input of `drill`, or its first refusal: line 1 is the setup document, and every later line a command.
 unfoldable pub drill_script_of : List ℕ → Result DrillScript InputRefusal
-drill_script_of input = within_limit input (in_setup (setup_of (first_line_of input)) >>= λ c.
-    (commands_behind 2 (drill_command_by c) (lines_of (behind_line input)) >>= λ all. Ok (drill_over c all)))
+drill_script_of input = if_within_limit input (with_setup_refusal (setup_of (first_line_of input)) >>= λ c.
+    (commands_of_lines 2 (drill_command_by c) (lines_of (rest_after_line input)) >>= λ all. Ok (drill_over c all)))

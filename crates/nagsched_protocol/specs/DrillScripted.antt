@@ -1,7 +1,7 @@
 -- The script of a drill as the definitions see it.
 use Rattle.std.specs.Prelude.{map}
-use Rattle.check_script.specs.declared.drill_script.DrillScript.{DrillScript}
-use Rattle.check_script.specs.DrillScript as spec
+use Rattle.nagsched_protocol.specs.declared.drill_script.DrillScript.{DrillScript}
+use Rattle.nagsched_protocol.specs.DrillScript as spec
 
 abbrev pub drill_script : DrillScript → spec.DrillScript
 drill_script s = record { setup = s.setup; returns = map (λ list. list.items) s.codes.items; moments = s.moments.items }

@@ -2,15 +2,15 @@
 use Rattle.std.specs.Prelude.{◌≡◌, ◌≢◌, ℕ, ◌==◌, List, [], ◌∷◌, Option, if◌then◌else◌}
 use Rattle.std.specs.Io.KnownBytes.{Consumes, IsAtEnd}
 use Rattle.std.specs.List.{AllByRecursion, join_with_byte}
-use Rattle.check_documents.specs.Feeds.{HasNoFeed}
+use Rattle.setup_reader.specs.Feeds.{HasNoLineFeed}
 
 -- these bytes were read: at least one, unless the reader had none
-abbrev pub HasBegunBy : Option (List ℕ) → Option (List ℕ) → List ℕ → Type 0
-HasBegunBy had left given = Consumes had left given × (given ≡ [] → IsAtEnd left)
+abbrev pub HasStartedReadingBy : Option (List ℕ) → Option (List ℕ) → List ℕ → Type 0
+HasStartedReadingBy had left bytes_read = Consumes had left bytes_read × (bytes_read ≡ [] → IsAtEnd left)
 
 -- a byte was read, unless the reader had none
-abbrev pub HasBegun : Option (List ℕ) → Option (List ℕ) → Type 0
-HasBegun had left = (given : List ℕ) × HasBegunBy had left given
+abbrev pub HasStartedReading : Option (List ℕ) → Option (List ℕ) → Type 0
+HasStartedReading had left = (bytes_read : List ℕ) × HasStartedReadingBy had left bytes_read
 
 -- the bytes without the line feed (byte 10) at their end, if they end with one
 abbrev pub without_last_feed : List ℕ → List ℕ
@@ -21,7 +21,7 @@ without_last_feed (b ∷ c ∷ bs) = b ∷ without_last_feed (c ∷ bs)
 -- These are the lines of the input. No line has a line feed. Joined by line feeds they are the input, except for one line feed at its end. An empty
 -- input has no line, and any other input has at least one.
 pub record AreLines (input : List ℕ) (lines : List (List ℕ)) : Type 0 where
-  pub feedless : AllByRecursion HasNoFeed lines
+  pub feedless : AllByRecursion HasNoLineFeed lines
   pub joined : join_with_byte 10 lines ≡ without_last_feed input
   pub none : input ≡ [] → lines ≡ []
   pub some : input ≢ [] → lines ≢ []

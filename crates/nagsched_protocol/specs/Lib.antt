@@ -11,3 +11,8 @@ pub mod DrillScripted
 pub mod Scripted
 pub mod Agreement
 pub mod Start
+pub mod Text
+pub mod LiveText
+pub mod Capacity
+pub mod Output
+pub mod Written

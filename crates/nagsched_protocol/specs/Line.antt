@@ -4,12 +4,12 @@ use Rattle.std.specs.Prelude.{ℕ, ◌||◌, ◌==◌, Bool, List, length, Optio
 use Rattle.std.specs.List.{list_all}
 use Rattle.serde_json.specs.Data.{Data, Items, no_items, item}
 use Rattle.serde_json.specs.Find.{as_array, as_str}
-use Rattle.check_objects.specs.Tree.{◌>=>◌, tree_of}
-pub use Rattle.check_drafts.specs.Agreement.{◌>>=◌}
-use Rattle.check_script.specs.declared.refusal.LineFault.{LineFault}
-use Rattle.check_script.specs.declared.refusal.LineFault.TheVariants as fault
-use Rattle.check_script.specs.declared.refusal.InputRefusal.{InputRefusal}
-use Rattle.check_script.specs.declared.refusal.InputRefusal.TheVariants as refusal
+use Rattle.check_objects.specs.JsonTree.{◌>=>◌, tree_of}
+pub use Rattle.setup_model.specs.Agreement.{◌>>=◌}
+use Rattle.nagsched_protocol.specs.declared.refusal.LineFault.{LineFault}
+use Rattle.nagsched_protocol.specs.declared.refusal.LineFault.TheVariants as fault
+use Rattle.nagsched_protocol.specs.declared.refusal.InputRefusal.{InputRefusal}
+use Rattle.nagsched_protocol.specs.declared.refusal.InputRefusal.TheVariants as refusal
 
 -- a line that is skipped: only spaces, tabs and carriage returns, or nothing
 abbrev pub is_blank : List ℕ → Bool

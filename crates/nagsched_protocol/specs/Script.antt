@@ -4,25 +4,25 @@ use Rattle.std.specs.List.{enumerate_from}
 use Rattle.serde_json.specs.Data.{Items}
 use Rattle.check_objects.specs.Configuration.{Configuration}
 use Rattle.check_objects.specs.Setup.{setup_of}
-use Rattle.check_drafts.specs.declared.error.LoadError.{LoadError}
-use Rattle.check_drafts.specs.Agreement.{◌>>=◌}
-use Rattle.check_saved.specs.Saved.{Saved}
-use Rattle.check_saved.specs.Text.{saved_of_text}
-use Rattle.check_saved.specs.declared.fault.SavedFault.{SavedFault}
-use Rattle.check_sched.specs.Saved.{resumed}
+use Rattle.setup_model.specs.declared.error.LoadError.{LoadError}
+use Rattle.setup_model.specs.Agreement.{◌>>=◌}
+use Rattle.check_saved_state.specs.Saved.{Saved}
+use Rattle.check_saved_state.specs.Text.{saved_of_text}
+use Rattle.check_saved_state.specs.declared.fault.SavedFault.{SavedFault}
+use Rattle.check_sched.specs.Saved.{state_after_resume}
 use Rattle.check_sched.specs.State.{State, opening}
-use Rattle.check_script.specs.declared.command.RunCommand.{RunCommand}
-use Rattle.check_script.specs.declared.script.TheConstants.{MAX_INPUT_BYTES}
-use Rattle.check_script.specs.declared.refusal.LineFault.{LineFault}
-use Rattle.check_script.specs.declared.refusal.LineFault.TheVariants as fault
-use Rattle.check_script.specs.declared.refusal.InputRefusal.{InputRefusal}
-use Rattle.check_script.specs.declared.refusal.InputRefusal.TheVariants as refusal
-use Rattle.check_script.specs.declared.start.Start.{Start}
-use Rattle.check_script.specs.declared.start.Start.TheVariants as start
-use Rattle.check_script.specs.Command.{command_by}
-use Rattle.check_script.specs.Input.{first_line_of, lines_of}
-use Rattle.check_script.specs.Line.{is_blank, command_of}
-use Rattle.check_script.specs.LiveInput.{behind_line}
+use Rattle.nagsched_protocol.specs.declared.command.RunCommand.{RunCommand}
+use Rattle.nagsched_protocol.specs.declared.script.TheConstants.{MAX_INPUT_BYTES}
+use Rattle.nagsched_protocol.specs.declared.refusal.LineFault.{LineFault}
+use Rattle.nagsched_protocol.specs.declared.refusal.LineFault.TheVariants as fault
+use Rattle.nagsched_protocol.specs.declared.refusal.InputRefusal.{InputRefusal}
+use Rattle.nagsched_protocol.specs.declared.refusal.InputRefusal.TheVariants as refusal
+use Rattle.nagsched_protocol.specs.declared.start.Start.{Start}
+use Rattle.nagsched_protocol.specs.declared.start.Start.TheVariants as start
+use Rattle.nagsched_protocol.specs.Command.{command_by}
+use Rattle.nagsched_protocol.specs.Input.{first_line_of, lines_of}
+use Rattle.nagsched_protocol.specs.Line.{is_blank, command_of}
+use Rattle.nagsched_protocol.specs.LiveInput.{rest_after_line}
 
 -- ---- commands
 
@@ -37,24 +37,24 @@ all_or_first (r ∷ rs) = r >>= λ x. (all_or_first rs >>= λ xs. Ok (x ∷ xs))
 
 -- The commands of the lines that aren't blank, or the first fault among them. The first of all lines has the number n. The vocabulary gives words their
 -- meaning.
-abbrev pub commands_behind : {K : Type 0} → ℕ → (List ℕ → Items → Result K LineFault) → List (List ℕ) → Result (List K) InputRefusal
-commands_behind n meaning lines = all_or_first (map (λ p. command_of meaning p.0 p.1) (numbered_from n lines))
+abbrev pub commands_of_lines : {K : Type 0} → ℕ → (List ℕ → Items → Result K LineFault) → List (List ℕ) → Result (List K) InputRefusal
+commands_of_lines n meaning lines = all_or_first (map (λ p. command_of meaning p.0 p.1) (numbered_from n lines))
 
 -- ---- what a scheduler starts with
 
 -- a refusal of the setup document as a refusal of the input
-abbrev pub in_setup : Result Configuration LoadError → Result Configuration InputRefusal
-in_setup (Ok c) = Ok c
-in_setup (Err e) = Err (refusal.Setup e)
+abbrev pub with_setup_refusal : Result Configuration LoadError → Result Configuration InputRefusal
+with_setup_refusal (Ok c) = Ok c
+with_setup_refusal (Err e) = Err (refusal.Setup e)
 
 -- a refusal of the saved state as a refusal of the input
-abbrev pub in_saved : Result Saved SavedFault → Result Saved InputRefusal
-in_saved (Ok saved) = Ok saved
-in_saved (Err e) = Err (refusal.Saved e)
+abbrev pub with_saved_refusal : Result Saved SavedFault → Result Saved InputRefusal
+with_saved_refusal (Ok saved) = Ok saved
+with_saved_refusal (Err e) = Err (refusal.Saved e)
 
 -- the state of a scheduler that continues over a setup from a saved state, at this moment or at the saved start
-abbrev pub resumed_from : Configuration → Saved → Option ℕ → State
-resumed_from c saved start = resumed c saved (unwrap_or start saved.start)
+abbrev pub state_after_resume_at : Configuration → Saved → Option ℕ → State
+state_after_resume_at c saved start = state_after_resume c saved (unwrap_or start saved.start)
 
 -- a scheduler's first state, the number of the first line that is for it, and the bytes of the lines from that one on
 pub record Beginning : Type 0 where
@@ -66,13 +66,13 @@ pub record Beginning : Type 0 where
 -- first line is the saved state, of any length.
 abbrev pub beginning_over : Start → Configuration → List ℕ → Result Beginning InputRefusal
 beginning_over (start.Fresh moment) c bytes = Ok (record { state = opening c moment; number = 2; rest = bytes })
-beginning_over (start.Resumed moment) c bytes = in_saved (saved_of_text (first_line_of bytes)) >>= λ saved.
-    Ok (record { state = resumed_from c saved moment; number = 3; rest = behind_line bytes })
+beginning_over (start.Resumed moment) c bytes = with_saved_refusal (saved_of_text (first_line_of bytes)) >>= λ saved.
+    Ok (record { state = state_after_resume_at c saved moment; number = 3; rest = rest_after_line bytes })
 
 -- The beginning of an input. Line 1 is the setup document, of any length. The setup is tested before the saved state. A missing line counts as an empty
 -- one.
 abbrev pub beginning_of : Start → List ℕ → Result Beginning InputRefusal
-beginning_of how input = in_setup (setup_of (first_line_of input)) >>= λ c. beginning_over how c (behind_line input)
+beginning_of how input = with_setup_refusal (setup_of (first_line_of input)) >>= λ c. beginning_over how c (rest_after_line input)
 
 -- ---- the script
 
@@ -82,17 +82,17 @@ pub record Script : Type 0 where
   pub commands : List RunCommand
 
 -- the script of a beginning: every line from its number on is a command
-abbrev pub script_behind : Beginning → Result Script InputRefusal
-script_behind b = commands_behind b.number (command_by b.state.setup) (lines_of b.rest) >>= λ all. Ok (record { state = b.state; commands = all })
+abbrev pub script_from : Beginning → Result Script InputRefusal
+script_from b = commands_of_lines b.number (command_by b.state.setup) (lines_of b.rest) >>= λ all. Ok (record { state = b.state; commands = all })
 
 -- the script over a setup, by the bytes after the setup document
 abbrev pub script_over : Start → Configuration → List ℕ → Result Script InputRefusal
-script_over how c bytes = beginning_over how c bytes >>= script_behind
+script_over how c bytes = beginning_over how c bytes >>= script_from
 
 -- the meaning of an input; its length is tested first
-abbrev pub within_limit : {A : Type 0} → List ℕ → Result A InputRefusal → Result A InputRefusal
-within_limit input says = if nat_lt MAX_INPUT_BYTES (length input) then Err (refusal.Line fault.TooLong 0) else says
+abbrev pub if_within_limit : {A : Type 0} → List ℕ → Result A InputRefusal → Result A InputRefusal
+if_within_limit input says = if nat_lt MAX_INPUT_BYTES (length input) then Err (refusal.Line fault.TooLong 0) else says
 
 -- the script of an input of `run`, by how the scheduler starts
 unfoldable pub script_of : Start → List ℕ → Result Script InputRefusal
-script_of how input = within_limit input (beginning_of how input >>= script_behind)
+script_of how input = if_within_limit input (beginning_of how input >>= script_from)

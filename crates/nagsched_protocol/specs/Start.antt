@@ -1,8 +1,8 @@
 -- The moments at which a scheduler can start.
 use Rattle.std.specs.Prelude.{◌≤◌, IfSome}
 use Rattle.check_spread.specs.declared.limits.TheConstants.{LAST_MOMENT}
-use Rattle.check_script.specs.declared.start.Start.{Start}
-use Rattle.check_script.specs.declared.start.Start.TheVariants as start
+use Rattle.nagsched_protocol.specs.declared.start.Start.{Start}
+use Rattle.nagsched_protocol.specs.declared.start.Start.TheVariants as start
 
 -- the moment that is given, if there is one, is at most the last at which a scheduler can start
 abbrev pub CanStart : Start → Type 0

@@ -1,11 +1,11 @@
 -- The text that a run writes: a function of how its scheduler starts and of the input. The wording of each line is defined once, here.
 use Rattle.std.specs.Prelude.{ℕ, Bool, true, false, if◌then◌else◌, List, [], ◌∷◌, ◌++◌, Option, Some, None, Result, Ok, Err, codes, decimal, flat_map, length}
-use Rattle.ticket_steps.specs.declared.kept.Entry.{Entry}
+use Rattle.ticket_steps.specs.declared.books.Entry.{Entry}
 use Rattle.check_objects.specs.Configuration.{Configuration, name_of}
-use Rattle.check_drafts.specs.declared.error.LoadError.{LoadError}
-use Rattle.check_drafts.specs.declared.error.LoadError.TheVariants as load
-use Rattle.check_drafts.specs.declared.place.Place.{Place}
-use Rattle.check_drafts.specs.Members.{part_name}
+use Rattle.setup_model.specs.declared.error.LoadError.{LoadError}
+use Rattle.setup_model.specs.declared.place.Place.{Place}
+use Rattle.setup_model.specs.LoadError.{error_reason, place_of}
+use Rattle.setup_model.specs.Members.{part_name}
 use Rattle.check_rules.specs.declared.standing.Standing.{Standing}
 use Rattle.check_rules.specs.Words.{kind_word, state_word}
 use Rattle.check_sched.specs.declared.call.Call.{Call}
@@ -14,21 +14,21 @@ use Rattle.check_sched.specs.declared.call.Reply.{Reply}
 use Rattle.check_sched.specs.declared.call.Reply.TheVariants as reply
 use Rattle.check_sched.specs.declared.call.Refusal.{Refusal}
 use Rattle.check_sched.specs.declared.call.Refusal.TheVariants as refused
-use Rattle.check_saved.specs.Text.{saved_text}
-use Rattle.check_saved.specs.Words.{flapping_word}
-use Rattle.check_saved.specs.declared.fault.SavedFault.{SavedFault}
-use Rattle.check_saved.specs.declared.fault.SavedFault.TheVariants as saved
+use Rattle.check_saved_state.specs.Text.{saved_text}
+use Rattle.check_saved_state.specs.Words.{flapping_word}
+use Rattle.check_saved_state.specs.declared.fault.SavedFault.{SavedFault}
+use Rattle.check_saved_state.specs.declared.fault.SavedFault.TheVariants as saved
 use Rattle.check_sched.specs.Saved.{saved_of}
 use Rattle.check_sched.specs.State.{State}
 use Rattle.check_sched.specs.Step.{step}
-use Rattle.check_script.specs.declared.command.RunCommand.{RunCommand}
-use Rattle.check_script.specs.declared.command.RunCommand.TheVariants as command
-use Rattle.check_script.specs.declared.refusal.LineFault.{LineFault}
-use Rattle.check_script.specs.declared.refusal.LineFault.TheVariants as fault
-use Rattle.check_script.specs.declared.refusal.InputRefusal.{InputRefusal}
-use Rattle.check_script.specs.declared.refusal.InputRefusal.TheVariants as refusal
-use Rattle.check_script.specs.declared.start.Start.{Start}
-use Rattle.check_script.specs.Script.{Script, script_of}
+use Rattle.nagsched_protocol.specs.declared.command.RunCommand.{RunCommand}
+use Rattle.nagsched_protocol.specs.declared.command.RunCommand.TheVariants as command
+use Rattle.nagsched_protocol.specs.declared.refusal.LineFault.{LineFault}
+use Rattle.nagsched_protocol.specs.declared.refusal.LineFault.TheVariants as fault
+use Rattle.nagsched_protocol.specs.declared.refusal.InputRefusal.{InputRefusal}
+use Rattle.nagsched_protocol.specs.declared.refusal.InputRefusal.TheVariants as refusal
+use Rattle.nagsched_protocol.specs.declared.start.Start.{Start}
+use Rattle.nagsched_protocol.specs.Script.{Script, script_of}
 
 -- a line: its text, ended by a line feed
 abbrev pub line_of : List ℕ → List ℕ
@@ -46,8 +46,8 @@ abbrev pub taken_text : ℕ → List ℕ → List ℕ
 taken_text run name = codes "taken " ++ (decimal run ++ (codes " " ++ name))
 
 -- the object with this full name was due, but was put off to this time, if it is checked again
-abbrev pub putoff_text : Option ℕ → List ℕ → List ℕ
-putoff_text until name = codes "putoff " ++ (time_text until ++ (codes " " ++ name))
+abbrev pub put_off_text : Option ℕ → List ℕ → List ℕ
+put_off_text until name = codes "putoff " ++ (time_text until ++ (codes " " ++ name))
 
 -- nothing is due, and this is the time of the next check, if there is one
 abbrev pub idle_text : Option ℕ → List ℕ
@@ -58,14 +58,14 @@ abbrev pub state_text : Standing → List ℕ
 state_text s = if s.checked then state_word s.state else codes "PENDING"
 
 -- whether a state differs from the one before
-abbrev pub changed_text : Bool → List ℕ
-changed_text true = codes "yes"
-changed_text false = codes "no"
+abbrev pub changed_word : Bool → List ℕ
+changed_word true = codes "yes"
+changed_word false = codes "no"
 
 -- the standing of the object with this full name, and the time of its next check
 abbrev pub standing_text : Standing → Bool → Option ℕ → List ℕ → List ℕ
 standing_text s changed next name = codes "standing " ++ (state_text s ++ (codes " " ++ (kind_word s.kind ++ (codes " " ++
-    (decimal s.attempt ++ (codes " " ++ (changed_text changed ++ (codes " " ++ (flapping_word s.flapping ++ (codes " " ++
+    (decimal s.attempt ++ (codes " " ++ (changed_word changed ++ (codes " " ++ (flapping_word s.flapping ++ (codes " " ++
     (time_text next ++ (codes " " ++ name))))))))))))
 
 -- the check of the object with this full name was abandoned, and this is the time of its next one
@@ -100,7 +100,7 @@ call_refusal_text refused.RunsSpent = codes "C5 RunsSpent"
 -- The text of the reply to a call. The object is named by its full name: the one of the reply, or else of the call.
 abbrev pub reply_text : Configuration → Call → Reply → List ℕ
 reply_text c asked (reply.Taken object run) = taken_text run (name_of c object)
-reply_text c asked (reply.PutOff object until) = putoff_text until (name_of c object)
+reply_text c asked (reply.PutOff object until) = put_off_text until (name_of c object)
 reply_text c asked (reply.Idle next) = idle_text next
 reply_text c asked reply.AtLimit = codes "atlimit"
 reply_text c asked (reply.Standing standing changed next) = standing_text standing changed next (asked_name c asked)
@@ -118,23 +118,17 @@ index_text None = []
 index_text (Some i) = codes " " ++ decimal i
 
 -- a place in a setup document: the part, and the index if there is one
-abbrev pub place_text : Place → List ℕ
-place_text p = part_name p.part ++ index_text p.index
+abbrev pub document_place_text : Place → List ℕ
+document_place_text p = part_name p.part ++ index_text p.index
+
+-- a reason, and the place in a setup document if there is one
+abbrev pub with_place : List ℕ → Option Place → List ℕ
+with_place reason None = reason
+with_place reason (Some p) = reason ++ (codes " " ++ document_place_text p)
 
 -- the fault of a setup document
-abbrev pub load_text : LoadError → List ℕ
-load_text load.NotJson = codes "L1 NotJson"
-load_text (load.Shape p) = codes "L2 Shape " ++ place_text p
-load_text load.TooMany = codes "L3 TooMany"
-load_text (load.BadName p) = codes "L4 BadName " ++ place_text p
-load_text (load.Duplicate p) = codes "L5 Duplicate " ++ place_text p
-load_text (load.UnknownHost p) = codes "L6 UnknownHost " ++ place_text p
-load_text (load.UnknownMaster p) = codes "L7 UnknownMaster " ++ place_text p
-load_text (load.Range p) = codes "L8 Range " ++ place_text p
-load_text load.DependencyCycle = codes "L9 DependencyCycle"
-load_text load.ParentCycle = codes "L10 ParentCycle"
-load_text load.Memory = codes "L11 Memory"
-load_text load.TooLong = codes "L12 TooLong"
+abbrev pub load_error_text : LoadError → List ℕ
+load_error_text e = with_place (error_reason e) (place_of e)
 
 -- The fault of a saved state. Out of memory isn't a fault of it, and is never the refusal of an input.
 abbrev pub saved_fault_text : SavedFault → List ℕ
@@ -150,18 +144,18 @@ saved_fault_text (saved.Unlawful index) = codes "K9 Unlawful" ++ index_text (Som
 saved_fault_text saved.Memory = codes "Memory"
 
 -- the fault of a line of a script
-abbrev pub fault_text : LineFault → List ℕ
-fault_text fault.TooLong = codes "S1 TooLong"
-fault_text fault.NotJson = codes "S2 NotJson"
-fault_text fault.Shape = codes "S3 Shape"
-fault_text fault.Code = codes "S4 Code"
-fault_text fault.UnknownName = codes "S5 UnknownName"
+abbrev pub line_fault_text : LineFault → List ℕ
+line_fault_text fault.TooLong = codes "S1 TooLong"
+line_fault_text fault.NotJson = codes "S2 NotJson"
+line_fault_text fault.Shape = codes "S3 Shape"
+line_fault_text fault.Code = codes "S4 Code"
+line_fault_text fault.UnknownName = codes "S5 UnknownName"
 
 -- why an input is refused, and at which place
 abbrev pub input_refusal_text : InputRefusal → List ℕ
-input_refusal_text (refusal.Setup e) = load_text e
+input_refusal_text (refusal.Setup e) = load_error_text e
 input_refusal_text (refusal.Saved e) = saved_fault_text e
-input_refusal_text (refusal.Line f n) = fault_text f ++ (codes " " ++ decimal n)
+input_refusal_text (refusal.Line f n) = line_fault_text f ++ (codes " " ++ decimal n)
 
 abbrev pub refusal_line : InputRefusal → List ℕ
 refusal_line r = line_of (refused_text (input_refusal_text r))
@@ -182,14 +176,14 @@ answer_line s (command.Call call) = line_from s call
 answer_line s command.Save = saved_line s
 
 -- the state after the command: `save` leaves it as it is
-abbrev pub state_by : State → RunCommand → State
-state_by s (command.Call call) = (step s call).0
-state_by s command.Save = s
+abbrev pub state_after_command : State → RunCommand → State
+state_after_command s (command.Call call) = (step s call).0
+state_after_command s command.Save = s
 
 -- the lines of the answers to the commands, from this state on
 abbrev pub text_from : State → List RunCommand → List ℕ
 text_from s [] = []
-text_from s (c ∷ cs) = answer_line s c ++ text_from (state_by s c) cs
+text_from s (c ∷ cs) = answer_line s c ++ text_from (state_after_command s c) cs
 
 -- the text of a script, or of the refusal of its input
 abbrev pub script_text : Result Script InputRefusal → List ℕ

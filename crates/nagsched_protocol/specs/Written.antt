@@ -1,9 +1,9 @@
 -- How the writing of a line ended, or of the lines of a whole text.
 use Rattle.std.specs.Prelude.{ℕ, List, Option, Result, Ok, Err}
 use Rattle.std.specs.Io.KnownBytes.{Appends, Keeps}
-use Rattle.check_script.specs.declared.drive_error.DriveError.{DriveError}
-use Rattle.check_script.specs.declared.drive_error.DriveError.TheVariants as errors
-use Rattle.check_text.specs.Output.{WroteFront, WroteShort}
+use Rattle.nagsched_protocol.specs.declared.drive_error.DriveError.{DriveError}
+use Rattle.nagsched_protocol.specs.declared.drive_error.DriveError.TheVariants as errors
+use Rattle.nagsched_protocol.specs.Output.{WroteFront, WroteShort}
 
 -- The part of a line that an error leaves: after a fault of the writer a prefix of it, and out of memory nothing. The error isn't a fault of a reader.
 abbrev pub LeftOfLine : DriveError → Option (List ℕ) → Option (List ℕ) → List ℕ → Type 0

@@ -1,14 +1,15 @@
 //! The words of `run`: the calls of a script, and `save`. Each word has one function here and one
 //! definition in `specs/Command.antt`.
+
 ghost use Rattle.std.specs.Prelude.{◌≡◌, option_map, Err};
 ghost use Rattle.serde_json.specs.View.{items_view};
-ghost use Rattle.check_script.specs.Command.{command_by, save_command};
-ghost use Rattle.check_script.specs.Command.{call_by, take_call, report_call, abandon_call};
-ghost use Rattle.check_script.specs.Command.{reschedule_call, enable_call, status_call};
-ghost use Rattle.check_script.specs.Command.{name_in, name_and_switch, name_and_numbers};
-ghost use Rattle.check_script.specs.Command.{name_number_switch, object_named};
+ghost use Rattle.nagsched_protocol.specs.Command.{command_by, save_command};
+ghost use Rattle.nagsched_protocol.specs.Command.{call_by, take_call, report_call, abandon_call};
+ghost use Rattle.nagsched_protocol.specs.Command.{reschedule_call, enable_call, status_call};
+ghost use Rattle.nagsched_protocol.specs.Command.{sole_name, name_and_switch, name_and_numbers};
+ghost use Rattle.nagsched_protocol.specs.Command.{name_number_switch, object_named};
 
-use crate::line::{Command, refused};
+use crate::line::{Command, line_refusal};
 use crate::refusal::{LineFault, ScriptError};
 use check_objects::Setup;
 use check_rules::Code;
@@ -26,7 +27,7 @@ pub enum RunCommand {
 }
 
 impl Command for RunCommand {
-    ghost use Rattle.check_script.specs.declared.command.RunCommand as declared;
+    ghost use Rattle.nagsched_protocol.specs.declared.command.RunCommand as declared;
 
     ghost Seen = { declared.RunCommand };
 
@@ -43,7 +44,7 @@ impl Command for RunCommand {
     ) -> Result<RunCommand, ScriptError> {
         match command_by(setup, word, members) {
             Ok(command) => Ok(command),
-            Err(fault) => Err(refused(fault, number)),
+            Err(fault) => Err(line_refusal(fault, number)),
         }
     }
 }
@@ -107,7 +108,7 @@ fn report_call(setup: &Setup, members: &[Value]) -> Result<Call, LineFault>
     let Some((name, run, code)) = name_and_numbers(members) else {
         return Err(LineFault::Shape);
     };
-    let Some(code) = Code::numbered(code) else {
+    let Some(code) = Code::from_number(code) else {
         return Err(LineFault::Code);
     };
     let object = object_named(setup, name)?;
@@ -157,7 +158,7 @@ fn enable_call(setup: &Setup, members: &[Value]) -> Result<Call, LineFault>
 fn status_call(setup: &Setup, members: &[Value]) -> Result<Call, LineFault>
     ensures { result ≡ status_call setup.now (items_view members.now) }
 {
-    let Some(name) = name_in(members) else {
+    let Some(name) = sole_name(members) else {
         return Err(LineFault::Shape);
     };
     let object = object_named(setup, name)?;
@@ -166,8 +167,8 @@ fn status_call(setup: &Setup, members: &[Value]) -> Result<Call, LineFault>
 
 /// Only a name.
 #[tactic(auto, using(crate::proofs::CommandLemmas::one_few, crate::proofs::CommandLemmas::one_many))]
-fn name_in(members: &[Value]) -> Option<&str>
-    ensures { option_map (λ name. name.now) result ≡ name_in (items_view members.now) }
+fn sole_name(members: &[Value]) -> Option<&str>
+    ensures { option_map (λ name. name.now) result ≡ sole_name (items_view members.now) }
 {
     match members {
         [name] => name.as_str(),

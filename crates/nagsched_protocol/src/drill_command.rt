@@ -1,18 +1,19 @@
 //! The words of `drill`: the return codes of plugins, and moments. Each word has one function here
 //! and one definition in `specs/DrillCommand.antt`.
+
 ghost use Rattle.std.specs.Prelude.{◌≡◌, IfOk, option_map, is_some};
 ghost use Rattle.std.specs.List.{list_all};
 ghost use Rattle.serde_json.specs.View.{view, items_view};
-ghost use Rattle.check_objects.specs.Tree.{whole_number};
-ghost use Rattle.check_script.specs.Line.{at_line};
-ghost use Rattle.check_script.specs.DrillCommand.{plugin_command, moment_command};
-ghost use Rattle.check_script.specs.DrillCommand.{name_and_returned, are_some_numbers};
-ghost use Rattle.check_script.specs.DrillCommand.{number_in, code_in, codes_in};
-ghost use Rattle.check_script.specs.DrillScript.{moment_of};
-ghost use Rattle.check_script.specs.Agreement.{Gives};
+ghost use Rattle.check_objects.specs.JsonTree.{whole_number};
+ghost use Rattle.nagsched_protocol.specs.Line.{at_line};
+ghost use Rattle.nagsched_protocol.specs.DrillCommand.{plugin_command, moment_command};
+ghost use Rattle.nagsched_protocol.specs.DrillCommand.{name_and_codes, are_nonempty_numbers};
+ghost use Rattle.nagsched_protocol.specs.DrillCommand.{sole_number, code_in, codes_in};
+ghost use Rattle.nagsched_protocol.specs.DrillScript.{moment_of};
+ghost use Rattle.nagsched_protocol.specs.Agreement.{IsExpectedResult};
 
 use crate::command::object_named;
-use crate::line::{Command, refused};
+use crate::line::{Command, line_refusal};
 use crate::refusal::{LineFault, ScriptError};
 use check_objects::Setup;
 use check_rules::Code;
@@ -30,8 +31,8 @@ pub enum DrillCommand {
 }
 
 impl Command for DrillCommand {
-    ghost use Rattle.check_script.specs.DrillCommand as spec;
-    ghost use Rattle.check_script.specs.DrillCommanded.{drill_command};
+    ghost use Rattle.nagsched_protocol.specs.DrillCommand as spec;
+    ghost use Rattle.nagsched_protocol.specs.DrillCommanded.{drill_command};
 
     ghost Seen = { spec.Command };
 
@@ -49,13 +50,13 @@ impl Command for DrillCommand {
         match word {
             "plugin" => DrillCommand::of_plugin(alloc, setup, members, number),
             "moment" => DrillCommand::of_moment(members, number),
-            _ => Err(refused(LineFault::Shape, number)),
+            _ => Err(line_refusal(LineFault::Shape, number)),
         }
     }
 }
 
 impl DrillCommand {
-    ghost use Rattle.check_script.specs.DrillCommanded.{drill_command};
+    ghost use Rattle.nagsched_protocol.specs.DrillCommanded.{drill_command};
 
     /// `["plugin",name,code,..]`: the plugin of the object `name` returns these codes.
     fn of_plugin(
@@ -64,29 +65,29 @@ impl DrillCommand {
         members: &[Value],
         number: usize,
     ) -> Result<DrillCommand, ScriptError>
-        ensures { Gives drill_command result
+        ensures { IsExpectedResult drill_command result
             (at_line number (plugin_command setup.now (items_view members.now))) }
     {
-        let Some((name, returned)) = name_and_returned(members) else {
-            return Err(refused(LineFault::Shape, number));
+        let Some((name, returned)) = name_and_codes(members) else {
+            return Err(line_refusal(LineFault::Shape, number));
         };
         let Some(codes) = codes_in(alloc, returned)? else {
-            return Err(refused(LineFault::Code, number));
+            return Err(line_refusal(LineFault::Code, number));
         };
         match object_named(setup, name) {
             Ok(object) => Ok(DrillCommand::Plugin { object, codes }),
-            Err(fault) => Err(refused(fault, number)),
+            Err(fault) => Err(line_refusal(fault, number)),
         }
     }
 
     /// `["moment",now]`: one more moment, `now`, in milliseconds.
     fn of_moment(members: &[Value], number: usize) -> Result<DrillCommand, ScriptError>
-        ensures { Gives drill_command result
+        ensures { IsExpectedResult drill_command result
             (at_line number (moment_command (items_view members.now))) }
     {
-        match number_in(members) {
+        match sole_number(members) {
             Some(now) => Ok(DrillCommand::Moment { now }),
-            None => Err(refused(LineFault::Shape, number)),
+            None => Err(line_refusal(LineFault::Shape, number)),
         }
     }
 
@@ -102,13 +103,13 @@ impl DrillCommand {
 }
 
 /// A name, and after it whole numbers, at least one.
-fn name_and_returned(members: &[Value]) -> Option<(&str, &[Value])>
+fn name_and_codes(members: &[Value]) -> Option<(&str, &[Value])>
     ensures { option_map (λ p. (p.0.now, items_view p.1.now)) result
-        ≡ name_and_returned (items_view members.now) }
+        ≡ name_and_codes (items_view members.now) }
 {
     match members {
         [name, returned @ ..] => {
-            if !are_some_numbers(returned) {
+            if !are_nonempty_numbers(returned) {
                 return None;
             }
             Some((name.as_str()?, returned))
@@ -118,8 +119,8 @@ fn name_and_returned(members: &[Value]) -> Option<(&str, &[Value])>
 }
 
 /// Whether values are whole numbers, at least one.
-fn are_some_numbers(values: &[Value]) -> bool
-    ensures { result ≡ are_some_numbers (items_view values.now) }
+fn are_nonempty_numbers(values: &[Value]) -> bool
+    ensures { result ≡ are_nonempty_numbers (items_view values.now) }
 {
     match values {
         [] => false,
@@ -136,8 +137,8 @@ fn are_numbers(values: &[Value]) -> bool
 
 /// Only a number.
 #[tactic(auto, using(crate::proofs::CommandLemmas::one_few, crate::proofs::CommandLemmas::one_many))]
-fn number_in(members: &[Value]) -> Option<u64>
-    ensures { result ≡ number_in (items_view members.now) }
+fn sole_number(members: &[Value]) -> Option<u64>
+    ensures { result ≡ sole_number (items_view members.now) }
 {
     match members {
         [number] => number.as_u64(),
@@ -164,5 +165,5 @@ fn codes_in(alloc: Global, values: &[Value]) -> Result<Option<Vec<Code>>, AllocE
 fn code_in(value: &Value) -> Option<Code>
     ensures { result ≡ code_in (view value.now) }
 {
-    Code::numbered(value.as_u64()?)
+    Code::from_number(value.as_u64()?)
 }

@@ -1,13 +1,14 @@
 //! The script of a drill: the meaning of all commands of an input together.
+
 ghost use Rattle.std.specs.Prelude.{◌≡◌, [], IfOk, filter_map, map, replicate};
-ghost use Rattle.check_script.specs.DrillCommanded.{drill_command};
-ghost use Rattle.check_script.specs.DrillScript.{drill_script_of, drill_over};
-ghost use Rattle.check_script.specs.DrillScript.{moment_of, returns_below, given_by};
-ghost use Rattle.check_script.specs.Agreement.{Gives};
+ghost use Rattle.nagsched_protocol.specs.DrillCommanded.{drill_command};
+ghost use Rattle.nagsched_protocol.specs.DrillScript.{drill_script_of, drill_over};
+ghost use Rattle.nagsched_protocol.specs.DrillScript.{moment_of, returns_below, returns_after};
+ghost use Rattle.nagsched_protocol.specs.Agreement.{IsExpectedResult};
 
 use crate::drill_command::DrillCommand;
 use crate::input::split_line;
-use crate::line::refused;
+use crate::line::line_refusal;
 use crate::refusal::{LineFault, ScriptError};
 use crate::script::{MAX_INPUT_BYTES, read_commands, read_setup};
 use check_objects::Setup;
@@ -27,17 +28,17 @@ pub struct DrillScript {
 }
 
 impl DrillScript {
-    ghost use Rattle.check_script.specs.DrillScripted.{drill_script};
+    ghost use Rattle.nagsched_protocol.specs.DrillScripted.{drill_script};
 
     /// Reads every line of an input, or returns its first refusal, in the order in which a script is
     /// tested. If several commands name the plugin of one object, the last one counts. Out of memory is
     /// an error of its own.
     #[tactic(auto, unfolding(crate::specs::DrillScript::drill_script_of))]
     pub fn read(alloc: Global, input: &[u8]) -> Result<DrillScript, ScriptError>
-        ensures { Gives drill_script result (drill_script_of input.now) }
+        ensures { IsExpectedResult drill_script result (drill_script_of input.now) }
     {
         if input.len() > MAX_INPUT_BYTES {
-            return Err(refused(LineFault::TooLong, 0));
+            return Err(line_refusal(LineFault::TooLong, 0));
         }
         let (document, rest) = split_line(input);
         let setup = read_setup(alloc, document)?;
@@ -87,7 +88,7 @@ fn codes_below(
 {
     let mut lists = no_codes(alloc, count)?;
     for command in commands {
-        place_codes(&mut lists, command);
+        set_codes(&mut lists, command);
     }
     Ok(lists)
 }
@@ -104,9 +105,9 @@ fn no_codes(alloc: Global, count: usize) -> Result<Vec<Vec<Code>>, AllocError>
 }
 
 /// Replaces the codes of the command's object by those of the command.
-fn place_codes(lists: &mut Vec<Vec<Code>>, command: DrillCommand)
+fn set_codes(lists: &mut Vec<Vec<Code>>, command: DrillCommand)
     ensures { map (λ list. list.items) lists.new.items
-        ≡ given_by (drill_command command) (map (λ list. list.items) lists.old.items) }
+        ≡ returns_after (drill_command command) (map (λ list. list.items) lists.old.items) }
 {
     if let DrillCommand::Plugin { object, codes } = command {
         if (object as usize) < lists.len() {

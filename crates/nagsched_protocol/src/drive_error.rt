@@ -1,7 +1,8 @@
 //! Why a run, a drill or a conversation ended early: a fault of its reader or its writer, or out of
 //! memory. A conversation may also have spent its lines or its reads.
+
 ghost use Rattle.std.specs.Prelude.{◌≡◌};
-ghost use Rattle.check_script.specs.declared.drive_error.DriveError.TheVariants.{Memory, Read};
+ghost use Rattle.nagsched_protocol.specs.declared.drive_error.DriveError.TheVariants.{Memory, Read};
 
 use crate::reader::ReaderFault;
 use std::alloc::AllocError;

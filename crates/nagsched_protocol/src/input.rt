@@ -1,9 +1,10 @@
 //! The bytes of an input and its lines. The modules `script` and `command` read what a line says.
+
 ghost use Rattle.std.specs.Prelude.{◌≡◌, ◌==◌, ◌<◌, ◌≤◌, ◌++◌, ℕ, List, length, position, ◌≢◌, take};
 ghost use Rattle.std.specs.Prelude.{IfOk, IfErr, IfSome, IsOkUnless, OnOk};
 ghost use Rattle.std.specs.Iterator.{YieldsFirstRef, item_count};
-ghost use Rattle.check_script.specs.Input.{AreLines, HasBegun, HasBegunBy, lines_of, first_line_of};
-ghost use Rattle.check_script.specs.LiveInput.{behind_line};
+ghost use Rattle.nagsched_protocol.specs.Input.{AreLines, HasStartedReading, HasStartedReadingBy, lines_of, first_line_of};
+ghost use Rattle.nagsched_protocol.specs.LiveInput.{rest_after_line};
 
 use crate::drive_error::DriveError;
 use crate::reader::ask_reader;
@@ -34,10 +35,10 @@ pub fn read_at_most<R: Read>(
     ensures all { IfOk result (λ input.
         IfSome (R.remaining reader.old) (λ bytes. input.items ≡ take most bytes)) }
     ensures left { IfOk result (λ input.
-        HasBegunBy (R.remaining reader.old) (R.remaining reader.new) input.items) }
+        HasStartedReadingBy (R.remaining reader.old) (R.remaining reader.new) input.items) }
     ensures errors { IfErr result (λ e. e ≢ DriveError.Write) }
     ensures memory { IfErr result (λ e. e ≡ DriveError.Memory
-        → HasBegun (R.remaining reader.old) (R.remaining reader.new)) }
+        → HasStartedReading (R.remaining reader.old) (R.remaining reader.new)) }
 {
     let mut input = Vec::new(alloc);
     let mut chunk = [0; CHUNK];
@@ -102,7 +103,7 @@ impl<'a> Iterator for Lines<'a> {
 /// all bytes.
 pub fn split_line(bytes: &[u8]) -> (&[u8], &[u8])
     ensures line { result.0.now ≡ first_line_of bytes.now }
-    ensures rest { result.1.now ≡ behind_line bytes.now }
+    ensures rest { result.1.now ≡ rest_after_line bytes.now }
     ensures fewer { length result.1.now ≤ length bytes.now }
 {
     match line_end(bytes) {
@@ -113,7 +114,7 @@ pub fn split_line(bytes: &[u8]) -> (&[u8], &[u8])
 
 /// The place of the first line feed.
 pub fn line_end(bytes: &[u8]) -> Option<usize>
-    ensures place { result ≡ position (λ b. b == LINE_FEED) bytes.now }
+    ensures index { result ≡ position (λ b. b == LINE_FEED) bytes.now }
     ensures within { IfSome result (λ end. end < length bytes.now) }
 {
     memchr(LINE_FEED, bytes)

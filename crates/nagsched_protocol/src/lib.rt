@@ -1,11 +1,11 @@
 #![tactic(auto)]
-//! Reads an input: its bytes, lines, setup and commands, or its first refusal.
+//! The lines that `nagsched` reads and writes: an input with its setup and commands, and the texts of replies,
+//! standings and refusals.
 //!
-//! The modules (a byte goes through `input`, `script` and `line`, in this order):
+//! The modules of reading (a byte goes through `input`, `script` and `line`, in this order):
 //!
 //! - `input`: bytes from a reader, and lines. `reader` asks a reader.
-//! - `script`: a setup, a saved state if the scheduler starts from one, and a command for each later
-//!   line.
+//! - `script`: a setup, a saved state if the scheduler starts from one, and a command for each later line.
 //! - `line`: the command of one line by its length, its tree and its word. Each vocabulary implements
 //!   the trait [`Command`].
 //! - `command`: the vocabulary of `run`.
@@ -13,9 +13,14 @@
 //! - `start`: how a scheduler starts; it also starts one.
 //! - `refusal`: the errors of an input.
 //! - `drive_error`: why a run or a drill ends early.
-//! - `live_input`: the lines of a conversation.
+//! - `line_reader`: the lines of a conversation.
 //! - `live_error`: why a conversation ends early.
-//! - `laws`: the limits of an input as numbers.
+//!
+//! The modules of writing:
+//!
+//! - `text`: the text of each line, with one definition for all subcommands. `refusal_text` has the refusals.
+//! - `output`: gives bytes to a writer, all of them or up to a fault.
+//! - `laws`: laws of the text of a conversation, and the limits of an input and of a reply.
 
 mod command;
 mod drill_command;
@@ -24,12 +29,15 @@ mod drive_error;
 mod input;
 pub mod laws;
 mod line;
+mod line_reader;
 mod live_error;
-mod live_input;
+mod output;
 mod reader;
 mod refusal;
+mod refusal_text;
 mod script;
 mod start;
+mod text;
 
 pub use command::RunCommand;
 pub use drill_command::DrillCommand;
@@ -37,12 +45,15 @@ pub use drill_script::DrillScript;
 pub use drive_error::DriveError;
 pub use input::{Lines, MAX_READ_BYTES, read_at_most, split_line};
 pub use line::Command;
-pub use live_error::LiveError;
-pub use live_input::{
-    ASKED_BYTES, InputBuffer, KEPT_LINE_BYTES, KEPT_SAVED_BYTES, KEPT_SETUP_BYTES, KeptLine,
-    read_kept, take_document,
+pub use line_reader::{
+    ASKED_BYTES, InputBuffer, KEPT_LINE_BYTES, KEPT_SAVED_BYTES, KEPT_SETUP_BYTES, LineBuffer,
+    read_buffered, take_document,
 };
+pub use live_error::LiveError;
+pub use output::{flush, write_refusal, write_saved, write_text};
 pub use reader::{ReaderFault, ask_reader};
 pub use refusal::{InputRefusal, LineFault, ScriptError};
+pub use refusal_text::push_refusal;
 pub use script::{MAX_INPUT_BYTES, Script, read_saved, read_setup};
 pub use start::{Start, moment_of, open, resume};
+pub use text::{REPLY_BYTES, push_entry, push_reply, push_total};

@@ -1,14 +1,15 @@
 //! One line of a script: it is blank, or a JSON array that is a command. The array's first member is
 //! its word. Each subcommand has a vocabulary of its own, a type that is a [`Command`].
+
 ghost use Rattle.std.specs.Prelude.{◌≡◌, List, ℕ, Result, ok_or, option_map};
 ghost use Rattle.serde_json.specs.Data.{Items};
 ghost use Rattle.serde_json.specs.View.{view, items_view};
 ghost use Rattle.check_objects.specs.Configuration.{Configuration};
-ghost use Rattle.check_objects.specs.Tree.{tree_of};
-ghost use Rattle.check_script.specs.declared.refusal.LineFault.{LineFault};
-ghost use Rattle.check_script.specs.Line.{is_blank, word_and_members, word_and_members_in};
-ghost use Rattle.check_script.specs.Line.{at_line, command_of};
-ghost use Rattle.check_script.specs.Agreement.{Gives};
+ghost use Rattle.check_objects.specs.JsonTree.{tree_of};
+ghost use Rattle.nagsched_protocol.specs.declared.refusal.LineFault.{LineFault};
+ghost use Rattle.nagsched_protocol.specs.Line.{is_blank, word_and_members, word_and_members_in};
+ghost use Rattle.nagsched_protocol.specs.Line.{at_line, command_of};
+ghost use Rattle.nagsched_protocol.specs.Agreement.{IsExpectedResult};
 
 use crate::refusal::{InputRefusal, LineFault, ScriptError};
 use check_objects::Setup;
@@ -37,7 +38,7 @@ pub trait Command: Drop {
         members: &[Value],
         number: usize,
     ) -> Result<Self, ScriptError>
-        ensures { Gives seen result
+        ensures { IsExpectedResult seen result
             (at_line number (meaning setup.now word.now (items_view members.now))) };
 }
 
@@ -58,21 +59,21 @@ pub fn read_command<C: Command>(
     line: &[u8],
     number: usize,
 ) -> Result<C, ScriptError>
-    ensures { Gives C.seen result (command_of (C.meaning setup.now) number line.now) }
+    ensures { IsExpectedResult C.seen result (command_of (C.meaning setup.now) number line.now) }
 {
     if line.len() > MAX_LINE_BYTES {
-        return Err(refused(LineFault::TooLong, number));
+        return Err(line_refusal(LineFault::TooLong, number));
     }
     let tree = read_tree(alloc, line, number)?;
     match word_and_members(&tree) {
         Some((word, members)) => C::read(alloc, setup, word, members, number),
-        None => Err(refused(LineFault::Shape, number)),
+        None => Err(line_refusal(LineFault::Shape, number)),
     }
 }
 
 /// The tree that `serde_json` reads from a line.
 fn read_tree(alloc: Global, line: &[u8], number: usize) -> Result<Value, ScriptError>
-    ensures { Gives view result
+    ensures { IsExpectedResult view result
         (ok_or (tree_of line.now) (InputRefusal.Line LineFault.NotJson number)) }
 {
     match Value::from_slice(alloc, line) {
@@ -81,7 +82,7 @@ fn read_tree(alloc: Global, line: &[u8], number: usize) -> Result<Value, ScriptE
             if e.is_memory() {
                 return Err(ScriptError::Memory);
             }
-            Err(refused(LineFault::NotJson, number))
+            Err(line_refusal(LineFault::NotJson, number))
         }
     }
 }
@@ -112,7 +113,7 @@ fn word_and_members_in(items: &[Value]) -> Option<(&str, &[Value])>
 }
 
 /// The refusal of a line for a fault.
-pub fn refused(fault: LineFault, line: usize) -> ScriptError
+pub fn line_refusal(fault: LineFault, line: usize) -> ScriptError
     ensures { result ≡ ScriptError.Refused (InputRefusal.Line fault line) }
 {
     ScriptError::Refused(InputRefusal::Line { fault, line })

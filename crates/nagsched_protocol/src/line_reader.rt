@@ -1,12 +1,14 @@
 //! An input that is taken line by line as it comes, in memory that doesn't grow with it. The memory
 //! holds the bytes that a reader has given and nobody has taken, and the kept part of the line that is
 //! being taken.
-ghost use Rattle.std.specs.Prelude.{◌≡◌, ◌≢◌, ◌<◌, ◌≤◌, ◌+◌, ◌⊎◌, ◌++◌, ◌&&◌, ℕ, List, [], IfOk, IfErr, OnErr, OnOk, false, length, true, drop, vec_len, ◌==◌, option_map};
+
+ghost use Rattle.std.specs.Prelude.{◌≡◌, ◌≢◌, ◌<◌, ◌≤◌, ◌+◌, ◌⊎◌, ◌++◌, ◌&&◌, ℕ, List, [], IfOk, IfErr, OnErr, OnOk, false, length, true, drop, vec_len, ◌==◌};
+ghost use Rattle.std.specs.Prelude.{option_map};
 ghost use Rattle.std.specs.Io.KnownBytes.{Consumes, IsAtEnd};
-ghost use Rattle.check_script.specs.Input.{first_line_of};
-ghost use Rattle.check_script.specs.LiveError.{AfterReads, IsOfInput};
-ghost use Rattle.check_script.specs.LiveInput.{LineFront, StopsSoon, TookLine, behind_line, front_of, has_feed, said_by};
-ghost use Rattle.check_script.specs.Agreement.{Gives};
+ghost use Rattle.nagsched_protocol.specs.Input.{first_line_of};
+ghost use Rattle.nagsched_protocol.specs.LiveError.{IsReadingError, IsInputError};
+ghost use Rattle.nagsched_protocol.specs.LiveInput.{LinePrefix, IsBoundedReading, TookLine, rest_after_line, prefix_of, has_feed, line_meaning_by};
+ghost use Rattle.nagsched_protocol.specs.Agreement.{IsExpectedResult};
 
 use crate::input::line_end;
 use crate::line::{Command, is_blank, read_command};
@@ -33,29 +35,29 @@ pub const KEPT_LINE_BYTES: usize = 4097;
 
 /// The kept part of a line: at most `most` of its first bytes, and whether all of the line is blank.
 #[derive(Drop)]
-pub struct KeptLine {
+pub struct LineBuffer {
     most: usize,
     bytes: Vec<u8>,
     blank: bool,
 }
 
-impl Model for KeptLine {
+impl Model for LineBuffer {
     ghost use Rattle.std.specs.Prelude.{◌≤◌, vec_len};
-    ghost use Rattle.check_script.specs.LiveInput.{LineFront};
+    ghost use Rattle.nagsched_protocol.specs.LiveInput.{LinePrefix};
 
-    ghost Value = { LineFront };
+    ghost Value = { LinePrefix };
 
     ghost view = { λ l. record { most = l.most; bytes = l.bytes.items; blank = l.blank } };
 
     ghost invariant = { λ l. vec_len l.bytes ≤ l.most };
 }
 
-impl KeptLine {
+impl LineBuffer {
     /// A line that has no byte yet. At most `most` bytes of it are kept.
-    pub fn new(alloc: Global, most: usize) -> KeptLine
-        ensures { result ≡ front_of most [] }
+    pub fn new(alloc: Global, most: usize) -> LineBuffer
+        ensures { result ≡ prefix_of most [] }
     {
-        KeptLine {
+        LineBuffer {
             most,
             bytes: Vec::new(alloc),
             blank: true,
@@ -64,7 +66,7 @@ impl KeptLine {
 
     /// Begins another line.
     pub fn clear(&mut self)
-        ensures { self.new ≡ front_of self.old.most [] }
+        ensures { self.new ≡ prefix_of self.old.most [] }
     {
         self.bytes.clear();
         self.blank = true;
@@ -72,8 +74,8 @@ impl KeptLine {
 
     /// Appends bytes to the line. An error means out of memory, and the line stays as it was.
     pub fn push(&mut self, bytes: &[u8]) -> Result<(), AllocError>
-        ensures kept { (line : List ℕ) → self.old ≡ front_of self.old.most line
-            → OnOk result (self.new ≡ front_of self.old.most (line ++ bytes.now)) }
+        ensures kept { (line : List ℕ) → self.old ≡ prefix_of self.old.most line
+            → OnOk result (self.new ≡ prefix_of self.old.most (line ++ bytes.now)) }
         ensures unchanged { OnErr result (self.new ≡ self.old) }
     {
         let room = bytes.len().min(self.most - self.bytes.len());
@@ -108,19 +110,19 @@ impl KeptLine {
 /// one read, including those already taken.
 #[derive(Drop)]
 pub struct InputBuffer {
-    given: Vec<u8>,
+    bytes_read: Vec<u8>,
     taken: usize,
 }
 
 impl Model for InputBuffer {
     ghost use Rattle.std.specs.Prelude.{◌≤◌, List, ℕ, drop, vec_len};
-    ghost use Rattle.check_script.specs.declared.live_input.TheConstants.{ASKED_BYTES};
+    ghost use Rattle.nagsched_protocol.specs.declared.line_reader.TheConstants.{ASKED_BYTES};
 
     ghost Value = { List ℕ };
 
-    ghost view = { λ b. drop b.taken b.given.items };
+    ghost view = { λ b. drop b.taken b.bytes_read.items };
 
-    ghost invariant = { λ b. (b.taken ≤ vec_len b.given) × (vec_len b.given ≤ ASKED_BYTES) };
+    ghost invariant = { λ b. (b.taken ≤ vec_len b.bytes_read) × (vec_len b.bytes_read ≤ ASKED_BYTES) };
 }
 
 impl InputBuffer {
@@ -129,7 +131,7 @@ impl InputBuffer {
         ensures { result ≡ [] }
     {
         InputBuffer {
-            given: Vec::new(alloc),
+            bytes_read: Vec::new(alloc),
             taken: 0,
         }
     }
@@ -138,23 +140,23 @@ impl InputBuffer {
     /// line feed to a line. If the buffer has no line feed, it takes all bytes. It returns whether
     /// there was a line feed. An error means out of memory: nothing was taken, and the line stays as it
     /// was.
-    pub fn take_line(&mut self, line: &mut KeptLine) -> Result<bool, AllocError>
+    pub fn take_line(&mut self, line: &mut LineBuffer) -> Result<bool, AllocError>
         ensures whole { IfOk result (λ whole. whole ≡ has_feed self.old) }
-        ensures rest { OnOk result (self.new ≡ behind_line self.old) }
-        ensures line { (begun : List ℕ) → line.old ≡ front_of line.old.most begun
-            → OnOk result (line.new ≡ front_of line.old.most (begun ++ first_line_of self.old)) }
+        ensures rest { OnOk result (self.new ≡ rest_after_line self.old) }
+        ensures line { (begun : List ℕ) → line.old ≡ prefix_of line.old.most begun
+            → OnOk result (line.new ≡ prefix_of line.old.most (begun ++ first_line_of self.old)) }
         ensures unchanged { OnErr result ((self.new ≡ self.old) × (line.new ≡ line.old)) }
     {
-        let at_hand = &self.given[self.taken..];
-        match line_end(at_hand) {
+        let buffered = &self.bytes_read[self.taken..];
+        match line_end(buffered) {
             Some(end) => {
-                line.push(&at_hand[..end])?;
+                line.push(&buffered[..end])?;
                 self.taken += end + 1;
                 Ok(true)
             }
             None => {
-                line.push(at_hand)?;
-                self.taken = self.given.len();
+                line.push(buffered)?;
+                self.taken = self.bytes_read.len();
                 Ok(false)
             }
         }
@@ -165,20 +167,20 @@ impl InputBuffer {
     /// then. After `Memory` the bytes that the reader gave are lost.
     pub fn read_more<R: Read>(&mut self, reader: &mut R) -> Result<bool, LiveError>
         requires { self.old ≡ [] }
-        ensures given { (given : List ℕ)
-            × Consumes (R.remaining reader.old) (R.remaining reader.new) given
-            × OnOk result (self.new ≡ given) × (length given ≤ ASKED_BYTES) }
+        ensures bytes_read { (bytes_read : List ℕ)
+            × Consumes (R.remaining reader.old) (R.remaining reader.new) bytes_read
+            × OnOk result (self.new ≡ bytes_read) × (length bytes_read ≤ ASKED_BYTES) }
         ensures end { IfOk result (λ more. more ≡ false
             → (self.new ≡ []) × IsAtEnd (R.remaining reader.new)) }
         ensures more { IfOk result (λ more. more ≡ true → 0 < length self.new) }
-        ensures errors { IfErr result IsOfInput }
+        ensures errors { IfErr result IsInputError }
         ensures lost { OnErr result (self.new ≡ []) }
     {
         let mut chunk = [0; ASKED_BYTES];
         let count = ask_reader(reader, &mut chunk)?;
         self.taken = 0;
-        self.given.clear();
-        self.given.extend_from_slice(&chunk[..count])?;
+        self.bytes_read.clear();
+        self.bytes_read.extend_from_slice(&chunk[..count])?;
         Ok(count != 0)
     }
 }
@@ -188,28 +190,28 @@ impl InputBuffer {
 /// more than that, and it isn't asked if the buffer holds the whole line. The error is the reader's
 /// fault, `Memory`, or `ReadsSpent` if each of 2^64 - 1 reads gave something.
 pub fn take_document<R: Read>(
-    at_hand: &mut InputBuffer,
-    line: &mut KeptLine,
+    buffered: &mut InputBuffer,
+    line: &mut LineBuffer,
     reader: &mut R,
 ) -> Result<bool, LiveError>
-    requires few { length at_hand.old ≤ ASKED_BYTES }
-    requires begins { (line.old ≡ front_of line.old.most []) × (0 < line.old.most) }
-    ensures took { (given : List ℕ)
-        × Consumes (R.remaining reader.old) (R.remaining reader.new) given
-        × IfOk result (TookLine line.old.most (at_hand.old ++ given) line.new at_hand.new
-        (IsAtEnd (R.remaining reader.new) ⊎ (line.old.most ≤ length (at_hand.old ++ given))))
-        × StopsSoon line.old.most (at_hand.old ++ given)
-        × IfErr result (AfterReads given) }
-    ensures unasked { has_feed at_hand.old ≡ true → reader.new ≡ reader.old }
+    requires bounded { length buffered.old ≤ ASKED_BYTES }
+    requires begins { (line.old ≡ prefix_of line.old.most []) × (0 < line.old.most) }
+    ensures reading { (bytes_read : List ℕ)
+        × Consumes (R.remaining reader.old) (R.remaining reader.new) bytes_read
+        × IfOk result (TookLine line.old.most (buffered.old ++ bytes_read) line.new buffered.new
+        (IsAtEnd (R.remaining reader.new) ⊎ (line.old.most ≤ length (buffered.old ++ bytes_read))))
+        × IsBoundedReading line.old.most (buffered.old ++ bytes_read)
+        × IfErr result (IsReadingError bytes_read) }
+    ensures no_read { has_feed buffered.old ≡ true → reader.new ≡ reader.old }
 {
     for _reads in 0..u64::MAX {
-        if at_hand.take_line(line)? {
+        if buffered.take_line(line)? {
             return Ok(true);
         }
         if line.is_full() {
             return Ok(false);
         }
-        if !at_hand.read_more(reader)? {
+        if !buffered.read_more(reader)? {
             return Ok(false);
         }
     }
@@ -218,14 +220,14 @@ pub fn take_document<R: Read>(
 
 /// The meaning of the line with this kept part: nothing if it is blank, or the command of the line with
 /// this number, or its first fault. Out of memory is an error of its own.
-pub fn read_kept<C: Command>(
+pub fn read_buffered<C: Command>(
     alloc: Global,
     setup: &Setup,
-    line: &KeptLine,
+    line: &LineBuffer,
     number: usize,
 ) -> Result<Option<C>, ScriptError>
-    ensures { (text : List ℕ) → line.now ≡ front_of KEPT_LINE_BYTES text
-        → Gives (option_map C.seen) result (said_by (C.meaning setup.now) number text) }
+    ensures { (text : List ℕ) → line.now ≡ prefix_of KEPT_LINE_BYTES text
+        → IsExpectedResult (option_map C.seen) result (line_meaning_by (C.meaning setup.now) number text) }
 {
     if line.is_blank() {
         return Ok(None);

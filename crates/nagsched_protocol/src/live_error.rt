@@ -1,6 +1,7 @@
 //! Why a conversation ends early, as its own functions report it.
+
 ghost use Rattle.std.specs.Prelude.{◌≡◌};
-ghost use Rattle.check_script.specs.declared.live_error.LiveError.TheVariants.{Memory, Reader};
+ghost use Rattle.nagsched_protocol.specs.declared.live_error.LiveError.TheVariants.{Memory, Reader};
 
 use crate::drive_error::DriveError;
 use crate::reader::ReaderFault;
@@ -39,9 +40,9 @@ impl From<AllocError> for LiveError {
 }
 
 impl From<LiveError> for DriveError {
-    ghost use Rattle.check_script.specs.LiveError.{told};
+    ghost use Rattle.nagsched_protocol.specs.LiveError.{drive_error_of};
 
-    ghost from_gives = { λ error e. e ≡ told error };
+    ghost from_gives = { λ error e. e ≡ drive_error_of error };
 
     fn from(error: LiveError) -> DriveError {
         match error {

@@ -1,14 +1,17 @@
 //! Gives bytes to a writer: a text, the line of a refusal or of a saved state, and the flush at the
-//! end. The module `text` makes the lines.
+//! end. The modules `text` and `refusal_text` make the lines.
+
 ghost use Rattle.std.specs.Prelude.{OnOk, OnErr, IsOkUnless};
 ghost use Rattle.std.specs.Io.KnownBytes.{Appends, Keeps};
-ghost use Rattle.check_text.specs.Output.{WroteFront};
-ghost use Rattle.check_text.specs.Text.{refusal_line, saved_line};
-ghost use Rattle.check_text.specs.Written.{IsLineWritten};
+ghost use Rattle.nagsched_protocol.specs.Output.{WroteFront};
+ghost use Rattle.nagsched_protocol.specs.Text.{refusal_line, saved_line};
+ghost use Rattle.nagsched_protocol.specs.Written.{IsLineWritten};
 
-use crate::text::{push_refusal, saved_line};
+use crate::drive_error::DriveError;
+use crate::refusal::InputRefusal;
+use crate::refusal_text::push_refusal;
+use crate::text::saved_line;
 use check_sched::Sched;
-use check_script::{DriveError, InputRefusal};
 use std::alloc::Global;
 use std::io::Write;
 

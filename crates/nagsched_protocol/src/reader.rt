@@ -1,4 +1,5 @@
 //! Asks a reader for bytes. The failure of a reader is a value that nothing else can make.
+
 ghost use Rattle.std.specs.Prelude.{◌≤◌, IfOk, length};
 ghost use Rattle.std.specs.Io.KnownBytes.{ReadConsumes};
 

@@ -1,11 +1,12 @@
 //! The reasons for which an input can be refused. The text of a refusal is in `text`.
+
 ghost use Rattle.std.specs.Prelude.{◌≡◌, ok_or};
-ghost use Rattle.check_script.specs.declared.refusal.ScriptError.TheVariants.{Memory};
-ghost use Rattle.check_script.specs.Agreement.{refusal};
+ghost use Rattle.nagsched_protocol.specs.declared.refusal.ScriptError.TheVariants.{Memory};
+ghost use Rattle.nagsched_protocol.specs.Agreement.{refusal};
 
 use crate::drive_error::DriveError;
 use check_objects::LoadError;
-use check_saved::SavedFault;
+use check_saved_state::SavedFault;
 use std::alloc::AllocError;
 
 /// The faults of a line of a script, in the order in which a line is tested.

@@ -1,20 +1,21 @@
 //! The script of an input. Line 1 is the setup document, and line 2 a saved state if the scheduler
 //! starts from one. Each later line that isn't blank is one command.
+
 ghost use Rattle.std.specs.Prelude.{◌≤◌, length, map};
 ghost use Rattle.check_objects.specs.Setup.{setup_of};
-ghost use Rattle.check_saved.specs.Text.{saved_of_text};
-ghost use Rattle.check_script.specs.Agreement.{Gives};
-ghost use Rattle.check_script.specs.Input.{lines_of};
-ghost use Rattle.check_script.specs.Script.{commands_behind, in_saved, in_setup, script_behind, script_of, script_over};
-ghost use Rattle.check_script.specs.Start.{CanStart};
+ghost use Rattle.check_saved_state.specs.Text.{saved_of_text};
+ghost use Rattle.nagsched_protocol.specs.Agreement.{IsExpectedResult};
+ghost use Rattle.nagsched_protocol.specs.Input.{lines_of};
+ghost use Rattle.nagsched_protocol.specs.Script.{commands_of_lines, with_saved_refusal, with_setup_refusal, script_from, script_of, script_over};
+ghost use Rattle.nagsched_protocol.specs.Start.{CanStart};
 
 use crate::command::RunCommand;
 use crate::input::{Lines, split_line};
-use crate::line::{Command, is_blank, read_command, refused};
+use crate::line::{Command, is_blank, line_refusal, read_command};
 use crate::refusal::{InputRefusal, LineFault, ScriptError};
 use crate::start::{Start, open, resume};
 use check_objects::{LoadError, Setup};
-use check_saved::{Saved, SavedFault};
+use check_saved_state::{Saved, SavedFault};
 use check_sched::Sched;
 use std::alloc::Global;
 
@@ -29,7 +30,7 @@ pub struct Script {
 }
 
 impl Script {
-    ghost use Rattle.check_script.specs.Scripted.{script};
+    ghost use Rattle.nagsched_protocol.specs.Scripted.{script};
 
     /// Reads every line of an input, or returns its first refusal. The tests come in this order: the
     /// input's length, the setup document, the saved state if there is to be one, the lines in their
@@ -38,10 +39,10 @@ impl Script {
     #[tactic(auto, unfolding(crate::specs::Script::script_of))]
     pub fn read(alloc: Global, start: Start, input: &[u8]) -> Result<Script, ScriptError>
         requires { CanStart start }
-        ensures { Gives script result (script_of start input.now) }
+        ensures { IsExpectedResult script result (script_of start input.now) }
     {
         if input.len() > MAX_INPUT_BYTES {
-            return Err(refused(LineFault::TooLong, 0));
+            return Err(line_refusal(LineFault::TooLong, 0));
         }
         let (document, rest) = split_line(input);
         let setup = read_setup(alloc, document)?;
@@ -51,8 +52,8 @@ impl Script {
     /// The script over a setup, by the bytes after the setup document.
     fn over(alloc: Global, start: Start, setup: Setup, bytes: &[u8]) -> Result<Script, ScriptError>
         requires start { CanStart start }
-        requires few { length bytes.now ≤ MAX_INPUT_BYTES }
-        ensures { Gives script result (script_over start setup bytes.now) }
+        requires bounded { length bytes.now ≤ MAX_INPUT_BYTES }
+        ensures { IsExpectedResult script result (script_over start setup bytes.now) }
     {
         match start {
             Start::Fresh(moment) => Script::of_lines(alloc, open(alloc, setup, moment)?, bytes, 2),
@@ -72,10 +73,10 @@ impl Script {
         bytes: &[u8],
         first: usize,
     ) -> Result<Script, ScriptError>
-        requires few { length bytes.now ≤ MAX_INPUT_BYTES }
+        requires bounded { length bytes.now ≤ MAX_INPUT_BYTES }
         requires first { first ≤ 3 }
-        ensures { Gives script result
-            (script_behind (record { state = sched; number = first; rest = bytes.now })) }
+        ensures { IsExpectedResult script result
+            (script_from (record { state = sched; number = first; rest = bytes.now })) }
     {
         let commands = read_commands(alloc, sched.setup(), bytes, first)?;
         Ok(Script { sched, commands })
@@ -84,7 +85,7 @@ impl Script {
 
 /// The setup of the document on line 1.
 pub fn read_setup(alloc: Global, document: &[u8]) -> Result<Setup, ScriptError>
-    ensures { Gives (λ setup. setup) result (in_setup (setup_of document.now)) }
+    ensures { IsExpectedResult (λ setup. setup) result (with_setup_refusal (setup_of document.now)) }
 {
     match Setup::read(alloc, document) {
         Ok(setup) => Ok(setup),
@@ -95,7 +96,7 @@ pub fn read_setup(alloc: Global, document: &[u8]) -> Result<Setup, ScriptError>
 
 /// The saved state of the text on line 2.
 pub fn read_saved(alloc: Global, text: &[u8]) -> Result<Saved, ScriptError>
-    ensures { Gives (λ saved. saved) result (in_saved (saved_of_text text.now)) }
+    ensures { IsExpectedResult (λ saved. saved) result (with_saved_refusal (saved_of_text text.now)) }
 {
     match Saved::read(alloc, text) {
         Ok(saved) => Ok(saved),
@@ -112,10 +113,10 @@ pub(crate) fn read_commands<C: Command>(
     bytes: &[u8],
     first: usize,
 ) -> Result<Vec<C>, ScriptError>
-    requires few { length bytes.now ≤ MAX_INPUT_BYTES }
+    requires bounded { length bytes.now ≤ MAX_INPUT_BYTES }
     requires first { first ≤ 3 }
-    ensures { Gives (λ v. map C.seen v.items) result
-        (commands_behind first (C.meaning setup.now) (lines_of bytes.now)) }
+    ensures { IsExpectedResult (λ v. map C.seen v.items) result
+        (commands_of_lines first (C.meaning setup.now) (lines_of bytes.now)) }
 {
     let mut commands = Vec::new(alloc);
     let mut number = first;

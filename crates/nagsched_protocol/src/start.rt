@@ -1,10 +1,11 @@
 //! How a scheduler starts: fresh, or from a saved state, which is line 2 of the input then.
+
 ghost use Rattle.std.specs.Prelude.{◌≡◌, ◌≤◌, IfOk, IfSome, unwrap_or};
 ghost use Rattle.check_sched.specs.State.{opening};
-ghost use Rattle.check_script.specs.Script.{resumed_from};
+ghost use Rattle.nagsched_protocol.specs.Script.{state_after_resume_at};
 
 use check_objects::Setup;
-use check_saved::Saved;
+use check_saved_state::Saved;
 use check_sched::{LAST_MOMENT, Sched};
 use std::alloc::{AllocError, Global};
 
@@ -37,7 +38,7 @@ pub fn resume(
     start: Option<u64>,
 ) -> Result<Sched, AllocError>
     requires { IfSome start (λ moment. moment ≤ LAST_MOMENT) }
-    ensures { IfOk result (λ sched. sched ≡ resumed_from setup saved.now start) }
+    ensures { IfOk result (λ sched. sched ≡ state_after_resume_at setup saved.now start) }
 {
     match Sched::resume(alloc, setup, saved, moment_of(start, saved)) {
         Ok(sched) => Ok(sched),

@@ -1,22 +1,19 @@
-//! The text of replies and refusals. Each has one definition, in `specs/Text.antt`, for all
+//! The text of replies and histories. Each has one definition, in `specs/Text.antt`, for all
 //! subcommands.
+
 ghost use Rattle.std.specs.Prelude.{◌≡◌, ◌+◌, ◌≤◌, ◌++◌, IfOk, OnOk, codes, decimal, length, string_bytes};
 ghost use Rattle.check_objects.specs.Configuration.{name_of};
-ghost use Rattle.check_text.specs.Text.{reply_text, reply_line, refusal_line, entry_line, total_line};
-ghost use Rattle.check_text.specs.Text.{taken_text, putoff_text, idle_text, standing_text, freed_text, done_text, refused_text, time_text};
-ghost use Rattle.check_saved.specs.Words.{flapping_word};
-ghost use Rattle.check_text.specs.Text.{asked_name, state_text, changed_text};
-ghost use Rattle.check_text.specs.Text.{call_refusal_text, fault_text, saved_line};
-ghost use Rattle.check_text.specs.Room.{FitsIn};
+ghost use Rattle.nagsched_protocol.specs.Text.{reply_text, reply_line, entry_line, total_line, saved_line};
+ghost use Rattle.nagsched_protocol.specs.Text.{idle_text, standing_text, time_text, call_refusal_text};
+ghost use Rattle.nagsched_protocol.specs.Text.{asked_name, state_text, changed_word};
+ghost use Rattle.check_saved_state.specs.Words.{flapping_word};
+ghost use Rattle.nagsched_protocol.specs.Capacity.{PushesAtMost};
 
-use check_objects::{LoadError, Place, Setup};
+use check_objects::Setup;
 use check_rules::Standing;
-use check_saved::SavedFault;
 use check_sched::{Call, Refusal, Reply, Sched};
-use check_script::{InputRefusal, LineFault};
 use itoa::Buffer;
 use std::alloc::{AllocError, Global};
-use std::fmt;
 use ticket_steps::Entry;
 
 /// The most bytes that the line of a reply has, with its line feed.
@@ -33,7 +30,7 @@ pub fn push_reply(
 ) -> Result<(), AllocError>
     ensures text { OnOk result
         (string_bytes line.new ≡ string_bytes line.old ++ reply_line setup.now call reply) }
-    ensures room { FitsIn REPLY_BYTES result line.old line.new }
+    ensures capacity { PushesAtMost REPLY_BYTES result line.old line.new }
 {
     push_reply_text(line, setup, call, reply)?;
     line.push_str("\n")
@@ -48,14 +45,20 @@ fn push_reply_text(
 ) -> Result<(), AllocError>
     ensures text { OnOk result
         (string_bytes line.new ≡ string_bytes line.old ++ reply_text setup.now call reply) }
-    ensures room { FitsIn 1023 result line.old line.new }
+    ensures capacity { PushesAtMost 1023 result line.old line.new }
 {
     match reply {
-        Reply::Taken { object, run } => push_taken(line, run, name_or_nothing(setup, object)),
-        Reply::PutOff { object, until } => push_put_off(
+        Reply::Taken { object, run } => push_timed(
             line,
+            "taken ",
+            Some(run),
+            name_or_empty(setup, object),
+        ),
+        Reply::PutOff { object, until } => push_timed(
+            line,
+            "putoff ",
             until,
-            name_or_nothing(setup, object),
+            name_or_empty(setup, object),
         ),
         Reply::Idle { next } => push_idle(line, next),
         Reply::AtLimit => line.push_str("atlimit"),
@@ -64,32 +67,25 @@ fn push_reply_text(
             changed,
             next,
         } => push_standing(line, standing, changed, next, asked_name(setup, call)),
-        Reply::Freed { next } => push_freed(line, next, asked_name(setup, call)),
-        Reply::Done => push_done(line, asked_name(setup, call)),
-        Reply::Refused(refusal) => push_refused(line, call_refusal_text(refusal)),
+        Reply::Freed { next } => push_timed(line, "freed ", Some(next), asked_name(setup, call)),
+        Reply::Done => push_worded(line, "done ", asked_name(setup, call)),
+        Reply::Refused(refusal) => push_worded(line, "refused ", call_refusal_text(refusal)),
     }
 }
 
-/// Appends that the object with this full name runs under this number.
-fn push_taken(line: &mut String, run: u64, name: &str) -> Result<(), AllocError>
-    ensures text { OnOk result
-        (string_bytes line.new ≡ string_bytes line.old ++ taken_text run name.now) }
-    ensures room { FitsIn (length name.now + 64) result line.old line.new }
+/// Appends a word, a time and the full name of an object. The word ends with a space.
+fn push_timed(
+    line: &mut String,
+    word: &str,
+    time: Option<u64>,
+    name: &str,
+) -> Result<(), AllocError>
+    ensures text { OnOk result (string_bytes line.new
+        ≡ string_bytes line.old ++ (word.now ++ (time_text time ++ (codes " " ++ name.now)))) }
+    ensures capacity { PushesAtMost (length word.now + length name.now + 41) result line.old line.new }
 {
-    line.push_str("taken ")?;
-    push_number(line, run)?;
-    line.push_str(" ")?;
-    line.push_str(name)
-}
-
-/// Appends that the object with this full name was put off.
-fn push_put_off(line: &mut String, until: Option<u64>, name: &str) -> Result<(), AllocError>
-    ensures text { OnOk result
-        (string_bytes line.new ≡ string_bytes line.old ++ putoff_text until name.now) }
-    ensures room { FitsIn (length name.now + 64) result line.old line.new }
-{
-    line.push_str("putoff ")?;
-    push_time(line, until)?;
+    line.push_str(word)?;
+    push_time(line, time)?;
     line.push_str(" ")?;
     line.push_str(name)
 }
@@ -97,7 +93,7 @@ fn push_put_off(line: &mut String, until: Option<u64>, name: &str) -> Result<(),
 /// Appends that nothing is due.
 fn push_idle(line: &mut String, next: Option<u64>) -> Result<(), AllocError>
     ensures text { OnOk result (string_bytes line.new ≡ string_bytes line.old ++ idle_text next) }
-    ensures room { FitsIn 64 result line.old line.new }
+    ensures capacity { PushesAtMost 64 result line.old line.new }
 {
     line.push_str("idle ")?;
     push_time(line, next)
@@ -113,7 +109,7 @@ fn push_standing(
 ) -> Result<(), AllocError>
     ensures text { OnOk result (string_bytes line.new
         ≡ string_bytes line.old ++ standing_text standing changed next name.now) }
-    ensures room { FitsIn (length name.now + 128) result line.old line.new }
+    ensures capacity { PushesAtMost (length name.now + 128) result line.old line.new }
 {
     line.push_str("standing ")?;
     line.push_str(state_text(standing))?;
@@ -126,42 +122,21 @@ fn push_standing(
     Ok(())
 }
 
-/// Appends that the check of the object with this full name was abandoned.
-fn push_freed(line: &mut String, next: u64, name: &str) -> Result<(), AllocError>
+/// Appends a word and a text. The word ends with a space.
+fn push_worded(line: &mut String, word: &str, text: &str) -> Result<(), AllocError>
     ensures text { OnOk result
-        (string_bytes line.new ≡ string_bytes line.old ++ freed_text next name.now) }
-    ensures room { FitsIn (length name.now + 64) result line.old line.new }
+        (string_bytes line.new ≡ string_bytes line.old ++ (word.now ++ text.now)) }
+    ensures capacity { PushesAtMost (length word.now + length text.now) result line.old line.new }
 {
-    line.push_str("freed ")?;
-    push_number(line, next)?;
-    line.push_str(" ")?;
-    line.push_str(name)
-}
-
-/// Appends that the request for the object with this full name was carried out.
-fn push_done(line: &mut String, name: &str) -> Result<(), AllocError>
-    ensures text { OnOk result (string_bytes line.new ≡ string_bytes line.old ++ done_text name.now) }
-    ensures room { FitsIn (length name.now + 64) result line.old line.new }
-{
-    line.push_str("done ")?;
-    line.push_str(name)
-}
-
-/// Appends a refusal for this reason.
-fn push_refused(line: &mut String, reason: &str) -> Result<(), AllocError>
-    ensures text { OnOk result
-        (string_bytes line.new ≡ string_bytes line.old ++ refused_text reason.now) }
-    ensures room { FitsIn (length reason.now + 64) result line.old line.new }
-{
-    line.push_str("refused ")?;
-    line.push_str(reason)
+    line.push_str(word)?;
+    line.push_str(text)
 }
 
 /// Appends a word between two spaces.
 fn push_between_spaces(line: &mut String, word: &str) -> Result<(), AllocError>
     ensures text { OnOk result (string_bytes line.new
         ≡ string_bytes line.old ++ (codes " " ++ (word.now ++ codes " "))) }
-    ensures room { FitsIn (length word.now + 2) result line.old line.new }
+    ensures capacity { PushesAtMost (length word.now + 2) result line.old line.new }
 {
     line.push_str(" ")?;
     line.push_str(word)?;
@@ -171,7 +146,7 @@ fn push_between_spaces(line: &mut String, word: &str) -> Result<(), AllocError>
 /// Appends a number in decimal.
 fn push_number(line: &mut String, number: u64) -> Result<(), AllocError>
     ensures text { OnOk result (string_bytes line.new ≡ string_bytes line.old ++ decimal number) }
-    ensures room { FitsIn 40 result line.old line.new }
+    ensures capacity { PushesAtMost 40 result line.old line.new }
 {
     let mut buffer = Buffer::new();
     line.push_str(buffer.format(number))
@@ -180,7 +155,7 @@ fn push_number(line: &mut String, number: u64) -> Result<(), AllocError>
 /// Appends a time in milliseconds, or `none`.
 fn push_time(line: &mut String, time: Option<u64>) -> Result<(), AllocError>
     ensures text { OnOk result (string_bytes line.new ≡ string_bytes line.old ++ time_text time) }
-    ensures room { FitsIn 40 result line.old line.new }
+    ensures capacity { PushesAtMost 40 result line.old line.new }
 {
     match time {
         Some(time) => push_number(line, time),
@@ -191,7 +166,7 @@ fn push_time(line: &mut String, time: Option<u64>) -> Result<(), AllocError>
 /// The full name of the object that a call asks for, or nothing if it asks for no object.
 fn asked_name(setup: &Setup, call: Call) -> &str
     ensures text { result.now ≡ asked_name setup.now call }
-    ensures few { length result.now ≤ 511 }
+    ensures bounded { length result.now ≤ 511 }
 {
     match call {
         Call::Take { .. } => "",
@@ -199,15 +174,15 @@ fn asked_name(setup: &Setup, call: Call) -> &str
         | Call::Abandon { object, .. }
         | Call::Reschedule { object, .. }
         | Call::Enable { object, .. }
-        | Call::Status { object } => name_or_nothing(setup, object),
+        | Call::Status { object } => name_or_empty(setup, object),
     }
 }
 
 /// The full name of an object, or nothing if the setup has no object of this number.
-#[tactic(auto, using(crate::proofs::RoomLemmas::name_short))]
-fn name_or_nothing(setup: &Setup, number: u32) -> &str
+#[tactic(auto, using(crate::proofs::NameLengthLemmas::name_short))]
+fn name_or_empty(setup: &Setup, number: u32) -> &str
     ensures text { result.now ≡ name_of setup.now number }
-    ensures few { length result.now ≤ 511 }
+    ensures bounded { length result.now ≤ 511 }
 {
     if (number as usize) < setup.len() {
         setup.name(number)
@@ -219,7 +194,7 @@ fn name_or_nothing(setup: &Setup, number: u32) -> &str
 /// The state of an object, or `PENDING` if it was never checked.
 fn state_text(standing: Standing) -> &'static str
     ensures text { result.now ≡ state_text standing }
-    ensures few { length result.now ≤ 11 }
+    ensures bounded { length result.now ≤ 11 }
 {
     if !standing.checked {
         return "PENDING";
@@ -229,9 +204,9 @@ fn state_text(standing: Standing) -> &'static str
 
 /// Whether a state differs from the one before, and whether the object is flapping, between spaces.
 fn marks_between_spaces(changed: bool, flapping: bool) -> &'static str
-    ensures text { result.now ≡ codes " " ++ (changed_text changed
+    ensures text { result.now ≡ codes " " ++ (changed_word changed
         ++ (codes " " ++ (flapping_word flapping ++ codes " "))) }
-    ensures few { length result.now ≤ 14 }
+    ensures bounded { length result.now ≤ 14 }
 {
     match (changed, flapping) {
         (true, true) => " yes FLAPPING ",
@@ -282,48 +257,10 @@ pub(crate) fn saved_line(alloc: Global, sched: &Sched) -> Result<Vec<u8>, AllocE
     Ok(line)
 }
 
-/// Appends the line of an input's refusal, with its line feed. An error means out of memory, and a part
-/// of the line may have been appended.
-pub fn push_refusal(line: &mut String, refusal: InputRefusal) -> Result<(), AllocError>
-    ensures { OnOk result
-        (string_bytes line.new ≡ string_bytes line.old ++ refusal_line refusal) }
-{
-    let reason = RefusalText(refusal);
-    writeln!(line, "refused {reason}")
-}
-
-/// Why an input is refused, and at which place.
-#[derive(Clone, Copy)]
-struct RefusalText(InputRefusal);
-
-impl fmt::Display for RefusalText {
-    ghost use Rattle.std.specs.Prelude.{Some};
-    ghost use Rattle.check_text.specs.Text.{input_refusal_text};
-
-    ghost output = { λ refusal. Some (input_refusal_text refusal.0) };
-
-    fn fmt<W: fmt::Write>(&self, f: &mut fmt::Formatter<W>) -> fmt::Result {
-        match self.0 {
-            InputRefusal::Setup(error) => {
-                let reason = LoadText(error);
-                write!(f, "{reason}")
-            }
-            InputRefusal::Saved(fault) => {
-                let reason = SavedText(fault);
-                write!(f, "{reason}")
-            }
-            InputRefusal::Line { fault, line } => {
-                let reason = fault_text(fault);
-                write!(f, "{reason} {line}")
-            }
-        }
-    }
-}
-
 /// Why a call was refused. A refused call has changed nothing.
 fn call_refusal_text(refusal: Refusal) -> &'static str
     ensures text { result.now ≡ call_refusal_text refusal }
-    ensures few { length result.now ≤ 16 }
+    ensures bounded { length result.now ≤ 16 }
 {
     match refusal {
         Refusal::UnknownObject => "C1 UnknownObject",
@@ -331,94 +268,5 @@ fn call_refusal_text(refusal: Refusal) -> &'static str
         Refusal::NotRunning => "C3 NotRunning",
         Refusal::WrongRun => "C4 WrongRun",
         Refusal::RunsSpent => "C5 RunsSpent",
-    }
-}
-
-/// The fault of a line.
-fn fault_text(fault: LineFault) -> &'static str
-    ensures { result.now ≡ fault_text fault }
-{
-    match fault {
-        LineFault::TooLong => "S1 TooLong",
-        LineFault::NotJson => "S2 NotJson",
-        LineFault::Shape => "S3 Shape",
-        LineFault::Code => "S4 Code",
-        LineFault::UnknownName => "S5 UnknownName",
-    }
-}
-
-/// The fault of a setup document, and its place.
-#[derive(Clone, Copy)]
-struct LoadText(LoadError);
-
-impl fmt::Display for LoadText {
-    ghost use Rattle.std.specs.Prelude.{Some};
-    ghost use Rattle.check_text.specs.Text.{load_text};
-
-    ghost output = { λ e. Some (load_text e.0) };
-
-    fn fmt<W: fmt::Write>(&self, f: &mut fmt::Formatter<W>) -> fmt::Result {
-        let (reason, place) = match self.0 {
-            LoadError::NotJson => return f.write_str("L1 NotJson"),
-            LoadError::TooMany => return f.write_str("L3 TooMany"),
-            LoadError::DependencyCycle => return f.write_str("L9 DependencyCycle"),
-            LoadError::ParentCycle => return f.write_str("L10 ParentCycle"),
-            LoadError::Memory => return f.write_str("L11 Memory"),
-            LoadError::TooLong => return f.write_str("L12 TooLong"),
-            LoadError::Shape(place) => ("L2 Shape", PlaceText(place)),
-            LoadError::BadName(place) => ("L4 BadName", PlaceText(place)),
-            LoadError::Duplicate(place) => ("L5 Duplicate", PlaceText(place)),
-            LoadError::UnknownHost(place) => ("L6 UnknownHost", PlaceText(place)),
-            LoadError::UnknownMaster(place) => ("L7 UnknownMaster", PlaceText(place)),
-            LoadError::Range(place) => ("L8 Range", PlaceText(place)),
-        };
-        write!(f, "{reason} {place}")
-    }
-}
-
-/// The fault of a saved state, and its place.
-#[derive(Clone, Copy)]
-struct SavedText(SavedFault);
-
-impl fmt::Display for SavedText {
-    ghost use Rattle.std.specs.Prelude.{Some};
-    ghost use Rattle.check_text.specs.Text.{saved_fault_text};
-
-    ghost output = { λ e. Some (saved_fault_text e.0) };
-
-    fn fmt<W: fmt::Write>(&self, f: &mut fmt::Formatter<W>) -> fmt::Result {
-        match self.0 {
-            SavedFault::TooLong => f.write_str("K1 TooLong"),
-            SavedFault::NotJson => f.write_str("K2 NotJson"),
-            SavedFault::Version => f.write_str("K3 Version"),
-            SavedFault::Shape(Some(index)) => write!(f, "K4 Shape {index}"),
-            SavedFault::Shape(None) => f.write_str("K4 Shape"),
-            SavedFault::TooMany => f.write_str("K5 TooMany"),
-            SavedFault::BadName(index) => write!(f, "K6 BadName {index}"),
-            SavedFault::Duplicate(index) => write!(f, "K7 Duplicate {index}"),
-            SavedFault::Range(Some(index)) => write!(f, "K8 Range {index}"),
-            SavedFault::Range(None) => f.write_str("K8 Range"),
-            SavedFault::Unlawful(index) => write!(f, "K9 Unlawful {index}"),
-            SavedFault::Memory => f.write_str("Memory"),
-        }
-    }
-}
-
-/// A place in a setup document: its part, and the index if there is one.
-#[derive(Clone, Copy)]
-struct PlaceText(Place);
-
-impl fmt::Display for PlaceText {
-    ghost use Rattle.std.specs.Prelude.{Some};
-    ghost use Rattle.check_text.specs.Text.{place_text};
-
-    ghost output = { λ p. Some (place_text p.0) };
-
-    fn fmt<W: fmt::Write>(&self, f: &mut fmt::Formatter<W>) -> fmt::Result {
-        let part = self.0.part.name();
-        match self.0.index {
-            Some(index) => write!(f, "{part} {index}"),
-            None => f.write_str(part),
-        }
     }
 }

@@ -7,42 +7,43 @@ use Rattle.std.specs.Io.KnownBytes.{Appends, Consumes, IsAtEnd, Keeps}
 use Rattle.std.proofs.lemmas.Bool.Decides.{nat_tests}
 use Rattle.check_objects.specs.Configuration.{Configuration}
 use Rattle.check_objects.specs.Setup.{setup_of}
-use Rattle.check_drafts.specs.Agreement.{◌>>=◌}
-use Rattle.check_drafts.specs.declared.error.LoadError.{LoadError}
-use Rattle.check_saved.specs.Saved.{Saved}
-use Rattle.check_saved.specs.Text.{saved_of_text}
-use Rattle.check_saved.specs.declared.fault.SavedFault.{SavedFault}
-use Rattle.check_saved.specs.declared.fault.SavedFault.TheVariants as faults
-use Rattle.check_script.specs.Agreement.{Gives}
-use Rattle.check_script.specs.declared.drive_error.DriveError.{DriveError}
-use Rattle.check_script.specs.declared.live_error.LiveError.{LiveError}
-use Rattle.check_script.specs.declared.live_error.LiveError.TheVariants as live
-use Rattle.check_script.specs.declared.live_input.TheConstants.{KEPT_SAVED_BYTES, KEPT_SETUP_BYTES}
-use Rattle.check_script.specs.declared.refusal.InputRefusal.{InputRefusal}
-use Rattle.check_script.specs.declared.refusal.InputRefusal.TheVariants as refusal
-use Rattle.check_script.specs.declared.refusal.ScriptError.{ScriptError}
-use Rattle.check_script.specs.LiveError.{IsSpent, IsWritten, told, told_by}
-use Rattle.check_script.specs.Input.{first_line_of, lines_of}
-use Rattle.check_script.specs.LiveInput.{StopsSoon, behind_line, has_feed}
-use Rattle.check_script.specs.declared.start.Start.{Start}
-use Rattle.check_script.specs.declared.start.Start.TheVariants as start
-use Rattle.check_script.specs.Script.{Beginning, beginning_of, beginning_over, in_saved, in_setup, resumed_from}
-use Rattle.check_script.proofs.InputLemmas.{behind_fewer}
+use Rattle.setup_model.specs.Agreement.{◌>>=◌}
+use Rattle.setup_model.specs.declared.error.LoadError.{LoadError}
+use Rattle.check_saved_state.specs.Saved.{Saved}
+use Rattle.check_saved_state.specs.Text.{saved_of_text}
+use Rattle.check_saved_state.specs.declared.fault.SavedFault.{SavedFault}
+use Rattle.check_saved_state.specs.declared.fault.SavedFault.TheVariants as faults
+use Rattle.nagsched_protocol.specs.Agreement.{IsExpectedResult}
+use Rattle.nagsched_protocol.specs.declared.drive_error.DriveError.{DriveError}
+use Rattle.nagsched_protocol.specs.declared.live_error.LiveError.{LiveError}
+use Rattle.nagsched_protocol.specs.declared.live_error.LiveError.TheVariants as live
+use Rattle.nagsched_protocol.specs.declared.line_reader.TheConstants.{KEPT_SAVED_BYTES, KEPT_SETUP_BYTES}
+use Rattle.nagsched_protocol.specs.declared.refusal.InputRefusal.{InputRefusal}
+use Rattle.nagsched_protocol.specs.declared.refusal.InputRefusal.TheVariants as refusal
+use Rattle.nagsched_protocol.specs.declared.refusal.ScriptError.{ScriptError}
+use Rattle.nagsched_protocol.specs.LiveError.{IsSpent, IsWriteResult, drive_error_of, drive_result_of}
+use Rattle.nagsched_protocol.specs.Input.{first_line_of, lines_of}
+use Rattle.nagsched_protocol.specs.LiveInput.{IsBoundedReading, rest_after_line, has_feed}
+use Rattle.nagsched_protocol.specs.declared.start.Start.{Start}
+use Rattle.nagsched_protocol.specs.declared.start.Start.TheVariants as start
+use Rattle.nagsched_protocol.specs.Script.{Beginning, beginning_of, beginning_over, with_saved_refusal, with_setup_refusal, state_after_resume_at}
+use Rattle.nagsched_protocol.proofs.InputLemmas.{behind_fewer}
 use Rattle.check_sched.specs.State.{State, opening}
-use Rattle.check_script.proofs.KeptLemmas.{line_stays}
-use Rattle.check_script.proofs.LiveInputLemmas.{Consumes-none, Consumes-then, behind_none, behind_on, behind_soon, behind_stays, first_all, first_stays}
-use Rattle.check_script.proofs.ScriptLemmas.{length-lines_of}
-use Rattle.check_text.proofs.OutputLemmas.{Appends-none}
-use Rattle.check_text.specs.LiveText.{answers_from, answers_over, live_text}
-use Rattle.check_text.specs.Text.{refusal_line}
-use Rattle.check_drive.specs.declared.drive.Outcome.{Outcome}
-use Rattle.check_drive.specs.declared.drive.Outcome.TheVariants as outcome
-use Rattle.check_drive.specs.Drive.{IsInput, outcome_by}
-use Rattle.check_drive.specs.Streams.{streams}
-use Rattle.check_drive.specs.Live.{AfterAll, AfterLater, AfterLines, Conversed, HadMany, HasReadLive, LeavesText, ReadBy, ReadOver, TalkEnded, TookDocument, WentOn, saved_in}
-use Rattle.check_drive.proofs.DriveLemmas.{front_tells}
-use Rattle.check_drive.proofs.LiveLemmas.{end_input, input_all, input_on, leaves_kept, live_failed}
-use Rattle.check_drive.proofs.LiveLemmas.{not_long, refused_stays, rest_input, rest_of, setup_is, setup_refused, written_errs, written_ifs, written_oks}
+use Rattle.nagsched_protocol.proofs.KeptLemmas.{line_stays}
+use Rattle.nagsched_protocol.proofs.LiveInputLemmas.{Consumes-none, Consumes-then, behind_none, behind_on, behind_soon, behind_stays, first_all, first_stays}
+use Rattle.nagsched_protocol.proofs.ScriptLemmas.{length-lines_of}
+use Rattle.nagsched_protocol.proofs.OutputLemmas.{Appends-none}
+use Rattle.nagsched_protocol.specs.LiveText.{answers_from, answers_over, live_text}
+use Rattle.nagsched_protocol.specs.Text.{refusal_line}
+use Rattle.nagsched_run.specs.declared.drive.Outcome.{Outcome}
+use Rattle.nagsched_run.specs.declared.drive.Outcome.TheVariants as outcome
+use Rattle.nagsched_run.specs.Drive.{IsInput, outcome_by}
+use Rattle.nagsched_run.specs.Streams.{streams}
+use Rattle.nagsched_run.specs.Live.{IsSpentAfterInput, IsSpentAfterSetup, IsSpentAfterLines, ConversationEnded, HasHadAtLeast, HasReadLive, LeavesText, ReadBy}
+use Rattle.nagsched_run.specs.Live.{ReadOver, AnsweringEnded, HasTakenDocument, IsContinuation, saved_at_start}
+use Rattle.nagsched_run.proofs.DriveLemmas.{front_tells}
+use Rattle.nagsched_run.proofs.LiveLemmas.{end_input, input_all, input_on, leaves_kept, live_failed}
+use Rattle.nagsched_run.proofs.LiveLemmas.{not_long, refused_stays, rest_input, rest_of, setup_is, setup_refused, written_errs, written_ifs, written_oks}
 
 -- ---- what is kept of line 2
 
@@ -54,11 +55,11 @@ kept_saved line = front_tells saved_of_text 16777216 KEPT_SAVED_BYTES (Err fault
 
 -- nothing follows the setup: line 2 has no byte
 pub unfollowed : (hand : List ℕ) (r : Result Saved ScriptError) (left : Option (List ℕ)) → hand ≡ [] → IsAtEnd left
-    → Gives (λ saved. saved) r (in_saved (saved_of_text []))
-    → Gives (λ saved. saved) r (saved_in (hand ++ [])) × TookDocument KEPT_SAVED_BYTES (hand ++ []) false hand left
-unfollowed hand r left e end g = rw e (g, record { follows = refl; hand_is = refl; ended = λ f. inl end })
+    → IsExpectedResult (λ saved. saved) r (with_saved_refusal (saved_of_text []))
+    → IsExpectedResult (λ saved. saved) r (saved_at_start (hand ++ [])) × HasTakenDocument KEPT_SAVED_BYTES (hand ++ []) false hand left
+unfollowed hand r left e end g = rw e (g, record { follows = refl; buffer_is = refl; ended = λ f. inl end })
 
-pub unread : (hand : List ℕ) → hand ≡ [] → StopsSoon KEPT_SAVED_BYTES (hand ++ [])
+pub unread : (hand : List ℕ) → hand ≡ [] → IsBoundedReading KEPT_SAVED_BYTES (hand ++ [])
 unread hand e = rw e (record { at_the_bound = omega arith; at_the_feed = omega arith })
 
 -- what holds anyway holds of a value
@@ -68,32 +69,32 @@ on_ok_any (Err e) p = tt
 
 -- ---- what was saved
 
-saved_is : (r : Result Saved SavedFault) (saved : Saved) → in_saved r ≡ Ok saved → r ≡ Ok saved
+saved_is : (r : Result Saved SavedFault) (saved : Saved) → with_saved_refusal r ≡ Ok saved → r ≡ Ok saved
 saved_is (Ok other) saved e = cc
 saved_is (Err f) saved e = cc
 
 -- what a scheduler starts with that continues from this saved state, or its refusal
 abbrev pub from_saved : Option ℕ → Configuration → List ℕ → Result Saved InputRefusal → Result Beginning InputRefusal
-from_saved moment c bytes r = r >>= λ saved. Ok (record { state = resumed_from c saved moment; number = 3; rest = behind_line bytes })
+from_saved moment c bytes r = r >>= λ saved. Ok (record { state = state_after_resume_at c saved moment; number = 3; rest = rest_after_line bytes })
 
-over_refused : (moment : Option ℕ) (c : Configuration) (bytes : List ℕ) (why : InputRefusal) → saved_in bytes ≡ Err why
+over_refused : (moment : Option ℕ) (c : Configuration) (bytes : List ℕ) (why : InputRefusal) → saved_at_start bytes ≡ Err why
     → beginning_over (start.Resumed moment) c bytes ≡ Err why
 over_refused moment c bytes why s = ap (from_saved moment c bytes) s
 
-none_text : (moment : Option ℕ) (c : Configuration) (saved : Saved) (bytes : List ℕ) → saved_in bytes ≡ Ok saved → has_feed bytes ≡ false
+none_text : (moment : Option ℕ) (c : Configuration) (saved : Saved) (bytes : List ℕ) → saved_at_start bytes ≡ Ok saved → has_feed bytes ≡ false
     → answers_over (beginning_over (start.Resumed moment) c bytes) ≡ []
 none_text moment c saved bytes s free =
     ap (λ r. answers_over (from_saved moment c bytes r)) s
-    ∙ ap (λ l. answers_from (resumed_from c saved moment) 3 (lines_of l)) (behind_none bytes free)
+    ∙ ap (λ l. answers_from (state_after_resume_at c saved moment) 3 (lines_of l)) (behind_none bytes free)
 
-saved_stays : (bytes more : List ℕ) → has_feed bytes ≡ true → saved_in (bytes ++ more) ≡ saved_in bytes
-saved_stays bytes more feed = ap (λ l. in_saved (saved_of_text l)) (first_stays bytes more feed)
+saved_stays : (bytes more : List ℕ) → has_feed bytes ≡ true → saved_at_start (bytes ++ more) ≡ saved_at_start bytes
+saved_stays bytes more feed = ap (λ l. with_saved_refusal (saved_of_text l)) (first_stays bytes more feed)
 
-long_stays : (bytes more : List ℕ) → has_feed bytes ≡ false → KEPT_SAVED_BYTES ≤ length bytes → saved_in (bytes ++ more) ≡ saved_in bytes
-long_stays bytes more free long = ap in_saved (line_stays saved_of_text (Err faults.TooLong) saved_too_long bytes more (inr (free, inr long)))
+long_stays : (bytes more : List ℕ) → has_feed bytes ≡ false → KEPT_SAVED_BYTES ≤ length bytes → saved_at_start (bytes ++ more) ≡ saved_at_start bytes
+long_stays bytes more free long = ap with_saved_refusal (line_stays saved_of_text (Err faults.TooLong) saved_too_long bytes more (inr (free, inr long)))
 
 -- what was saved wasn't too long
-ends_at : (bytes : List ℕ) (saved : Saved) (left : Option (List ℕ)) → saved_in bytes ≡ Ok saved → has_feed bytes ≡ false
+ends_at : (bytes : List ℕ) (saved : Saved) (left : Option (List ℕ)) → saved_at_start bytes ≡ Ok saved → has_feed bytes ≡ false
     → IsAtEnd left ⊎ (KEPT_SAVED_BYTES ≤ length bytes) → IsAtEnd left
 ends_at bytes saved left s free (inl end) = end
 ends_at bytes saved left s free (inr long) =
@@ -101,16 +102,16 @@ ends_at bytes saved left s free (inr long) =
     let r = sym (saved_too_long (first_line_of bytes) (omega (arith, long, all))) ∙ saved_is (saved_of_text (first_line_of bytes)) saved s in
     cc
 
-pub saved_ends : (bytes : List ℕ) (saved : Saved) (left : Option (List ℕ)) (follow : Bool) → saved_in bytes ≡ Ok saved → follow ≡ has_feed bytes
+pub saved_ends : (bytes : List ℕ) (saved : Saved) (left : Option (List ℕ)) (follow : Bool) → saved_at_start bytes ≡ Ok saved → follow ≡ has_feed bytes
     → (follow ≡ false → IsAtEnd left ⊎ (KEPT_SAVED_BYTES ≤ length bytes)) → follow ≡ false → IsAtEnd left
 saved_ends bytes saved left follow s feed ended f = ends_at bytes saved left s (sym feed ∙ f) (ended f)
 
-on_text : (moment : Option ℕ) (c : Configuration) (saved : Saved) (bytes more : List ℕ) → saved_in bytes ≡ Ok saved → has_feed bytes ≡ true
+on_text : (moment : Option ℕ) (c : Configuration) (saved : Saved) (bytes more : List ℕ) → saved_at_start bytes ≡ Ok saved → has_feed bytes ≡ true
     → answers_over (beginning_over (start.Resumed moment) c (bytes ++ more))
-    ≡ answers_from (resumed_from c saved moment) 3 (lines_of (behind_line bytes ++ more))
+    ≡ answers_from (state_after_resume_at c saved moment) 3 (lines_of (rest_after_line bytes ++ more))
 on_text moment c saved bytes more s feed =
     ap (λ r. answers_over (from_saved moment c (bytes ++ more) r)) (saved_stays bytes more feed ∙ s)
-    ∙ ap (λ l. answers_from (resumed_from c saved moment) 3 (lines_of l)) (behind_stays bytes more feed)
+    ∙ ap (λ l. answers_from (state_after_resume_at c saved moment) 3 (lines_of l)) (behind_stays bytes more feed)
 
 -- no line feed came where nothing may follow
 never_follows : (may_follow : Bool) (hand part : List ℕ) (had : Option (List ℕ)) → (may_follow ≡ false → part ≡ [])
@@ -131,13 +132,13 @@ never_long may_follow hand part had none end long f =
 
 -- an error before anything was written, where these bytes come
 gone_by : (how : Start) (c : Configuration) (may_follow : Bool) (hand coming : List ℕ) (e : LiveError) (had left held holds : Option (List ℕ))
-    → IsInput had coming → (may_follow ≡ false → coming ≡ []) → Keeps held holds → WentOn how c may_follow hand (Err e) (streams had left held holds)
+    → IsInput had coming → (may_follow ≡ false → coming ≡ []) → Keeps held holds → IsContinuation how c may_follow hand (Err e) (streams had left held holds)
 gone_by how c may_follow hand coming e had left held holds input none kept =
-    record { coming = coming; is_input = input; short = none; outcome_is = tt; written = tt; read = tt; fault = leaves_kept (told e) held holds _ kept }
+    record { coming = coming; is_input = input; short = none; outcome_is = tt; written = tt; read = tt; fault = leaves_kept (drive_error_of e) held holds _ kept }
 
 pub gone_unwritten : (how : Start) (c : Configuration) (may_follow : Bool) (hand part : List ℕ) (e : LiveError) (had left held holds : Option (List ℕ))
     → Consumes had left part → (may_follow ≡ false → (hand ≡ []) × IsAtEnd had) → Keeps held holds
-    → WentOn how c may_follow hand (Err e) (streams had left held holds)
+    → IsContinuation how c may_follow hand (Err e) (streams had left held holds)
 gone_unwritten how c true hand part e had left held holds read end kept =
     gone_by how c true hand (part ++ rest_of left) e had left held holds (input_on had left part (rest_of left) read (rest_input left)) (λ f. cc) kept
 gone_unwritten how c false hand part e had left held holds read end kept =
@@ -147,8 +148,8 @@ gone_unwritten how c false hand part e had left held holds read end kept =
 pub gone_opened : (moment : ℕ) (c : Configuration) (may_follow : Bool) (hand : List ℕ) (had left held holds : Option (List ℕ)) (r : Result Outcome LiveError)
     → (may_follow ≡ false → (hand ≡ []) × IsAtEnd had) → IfOk r (λ o. o ≡ outcome.Ran)
     → (may_follow ≡ false → (r ≡ Ok outcome.Ran) × (left ≡ had) × (holds ≡ held))
-    → (may_follow ≡ true → TalkEnded 2 (opening c moment) hand (streams had left held holds) r)
-    → WentOn (start.Fresh moment) c may_follow hand r (streams had left held holds)
+    → (may_follow ≡ true → AnsweringEnded 2 (opening c moment) hand (streams had left held holds) r)
+    → IsContinuation (start.Fresh moment) c may_follow hand r (streams had left held holds)
 gone_opened moment c false hand had left held holds r end ran unread lines =
     let n = unread refl in
     let none = end refl in
@@ -171,19 +172,19 @@ pub record Refuses (may_follow : Bool) (hand : List ℕ) (had left : Option (Lis
   pub coming : List ℕ
   pub is_input : IsInput had coming
   pub short : may_follow ≡ false → coming ≡ []
-  pub refused : saved_in (hand ++ coming) ≡ Err why
+  pub refused : saved_at_start (hand ++ coming) ≡ Err why
 
 refuses_on : (may_follow : Bool) (hand part : List ℕ) (had left : Option (List ℕ)) (why : InputRefusal) → Consumes had left part
-    → (may_follow ≡ false → ⊥) → saved_in ((hand ++ part) ++ rest_of left) ≡ Err why → Refuses may_follow hand had left why
+    → (may_follow ≡ false → ⊥) → saved_at_start ((hand ++ part) ++ rest_of left) ≡ Err why → Refuses may_follow hand had left why
 refuses_on may_follow hand part had left why read never s = record {
   coming = part ++ rest_of left;
   is_input = input_on had left part (rest_of left) read (rest_input left);
   short = λ f. absurd (never f);
-  refused = ap saved_in (sym (append_assoc hand part (rest_of left))) ∙ s;
+  refused = ap saved_at_start (sym (append_assoc hand part (rest_of left))) ∙ s;
 }
 
 refuses_by : (may_follow : Bool) (hand part : List ℕ) (had left : Option (List ℕ)) (why : InputRefusal)
-    → saved_in (hand ++ part) ≡ Err why → Consumes had left part → (may_follow ≡ false → part ≡ [])
+    → saved_at_start (hand ++ part) ≡ Err why → Consumes had left part → (may_follow ≡ false → part ≡ [])
     → (may_follow ≡ false → (hand ≡ []) × IsAtEnd had) → has_feed (hand ++ part) ≡ false
     → IsAtEnd left ⊎ (KEPT_SAVED_BYTES ≤ length (hand ++ part)) → Refuses may_follow hand had left why
 refuses_by may_follow hand part had left why s read none end free (inl ended) =
@@ -193,7 +194,7 @@ refuses_by may_follow hand part had left why s read none end free (inr long) =
     (long_stays (hand ++ part) (rest_of left) free long ∙ s)
 
 refuses : (may_follow follow : Bool) (hand part : List ℕ) (had left : Option (List ℕ)) (why : InputRefusal)
-    → saved_in (hand ++ part) ≡ Err why → Consumes had left part → (may_follow ≡ false → part ≡ [])
+    → saved_at_start (hand ++ part) ≡ Err why → Consumes had left part → (may_follow ≡ false → part ≡ [])
     → (may_follow ≡ false → (hand ≡ []) × IsAtEnd had) → follow ≡ has_feed (hand ++ part)
     → (follow ≡ false → IsAtEnd left ⊎ (KEPT_SAVED_BYTES ≤ length (hand ++ part))) → Refuses may_follow hand had left why
 refuses may_follow true hand part had left why s read none end feed ended =
@@ -204,10 +205,10 @@ refuses may_follow false hand part had left why s read none end feed ended =
 
 gone_refused_by : (moment : Option ℕ) (c : Configuration) (may_follow : Bool) (hand part : List ℕ) (had left held holds : Option (List ℕ))
     (why : InputRefusal) (wrote : Result Outcome DriveError) (r : Result Outcome LiveError)
-    → Refuses may_follow hand had left why → Consumes had left part → StopsSoon KEPT_SAVED_BYTES (hand ++ part)
+    → Refuses may_follow hand had left why → Consumes had left part → IsBoundedReading KEPT_SAVED_BYTES (hand ++ part)
     → IfOk wrote (λ o. o ≡ outcome.Refused) → OnOk wrote (Appends held holds (refusal_line why))
-    → IfErr wrote (λ e. LeavesText e held holds (refusal_line why)) → IsWritten r wrote
-    → WentOn (start.Resumed moment) c may_follow hand r (streams had left held holds)
+    → IfErr wrote (λ e. LeavesText e held holds (refusal_line why)) → IsWriteResult r wrote
+    → IsContinuation (start.Resumed moment) c may_follow hand r (streams had left held holds)
 gone_refused_by moment c may_follow hand part had left held holds why wrote r z read soon refused written fault w =
     let line = refusal_line why in
     let over = sym (over_refused moment c (hand ++ z.coming) why z.refused) in
@@ -218,19 +219,19 @@ gone_refused_by moment c may_follow hand part had left held holds why wrote r z 
       short = z.short;
       outcome_is = subst (λ k. IfOk r (λ o. o ≡ k)) (ap outcome_by over) (written_ifs r wrote (λ o. o ≡ outcome.Refused) w refused);
       written = subst (λ l. OnOk r (Appends held holds l)) text (written_oks r wrote (Appends held holds line) w written);
-      read = on_ok_any r (subst (λ q. ReadOver (λ given. hand ++ given) q had left z.coming) over (part, read, soon));
-      fault = subst (λ l. IfErr r (λ e. LeavesText (told e) held holds l)) text (written_errs r wrote (λ e. LeavesText e held holds line) w fault);
+      read = on_ok_any r (subst (λ q. ReadOver (λ bytes_read. hand ++ bytes_read) q had left z.coming) over (part, read, soon));
+      fault = subst (λ l. IfErr r (λ e. LeavesText (drive_error_of e) held holds l)) text (written_errs r wrote (λ e. LeavesText e held holds line) w fault);
     }
 
 -- what is shown of the refusal of what was saved is what is shown of all behind the setup
 pub gone_refused : (moment : Option ℕ) (c : Configuration) (may_follow follow : Bool) (hand part : List ℕ) (had left held holds : Option (List ℕ))
     (why : InputRefusal) (wrote : Result Outcome DriveError) (r : Result Outcome LiveError)
-    → saved_in (hand ++ part) ≡ Err why → Consumes had left part → (may_follow ≡ false → part ≡ [])
-    → StopsSoon KEPT_SAVED_BYTES (hand ++ part) → (may_follow ≡ false → (hand ≡ []) × IsAtEnd had) → follow ≡ has_feed (hand ++ part)
+    → saved_at_start (hand ++ part) ≡ Err why → Consumes had left part → (may_follow ≡ false → part ≡ [])
+    → IsBoundedReading KEPT_SAVED_BYTES (hand ++ part) → (may_follow ≡ false → (hand ≡ []) × IsAtEnd had) → follow ≡ has_feed (hand ++ part)
     → (follow ≡ false → IsAtEnd left ⊎ (KEPT_SAVED_BYTES ≤ length (hand ++ part)))
     → IfOk wrote (λ o. o ≡ outcome.Refused) → OnOk wrote (Appends held holds (refusal_line why))
-    → IfErr wrote (λ e. LeavesText e held holds (refusal_line why)) → IsWritten r wrote
-    → WentOn (start.Resumed moment) c may_follow hand r (streams had left held holds)
+    → IfErr wrote (λ e. LeavesText e held holds (refusal_line why)) → IsWriteResult r wrote
+    → IsContinuation (start.Resumed moment) c may_follow hand r (streams had left held holds)
 gone_refused moment c may_follow follow hand part had left held holds why wrote r s read none soon end feed ended refused written fault w =
     gone_refused_by moment c may_follow hand part had left held holds why wrote r
     (refuses may_follow follow hand part had left why s read none end feed ended) read soon refused written fault w
@@ -238,12 +239,12 @@ gone_refused moment c may_follow follow hand part had left held holds why wrote 
 -- what is shown of the lines behind what was saved is what is shown of all behind the setup
 pub gone_answered : (moment : Option ℕ) (c : Configuration) (saved : Saved) (may_follow follow : Bool) (hand part : List ℕ)
     (had mid left held holds : Option (List ℕ)) (r : Result Outcome LiveError)
-    → saved_in (hand ++ part) ≡ Ok saved → Consumes had mid part → (may_follow ≡ false → part ≡ [])
+    → saved_at_start (hand ++ part) ≡ Ok saved → Consumes had mid part → (may_follow ≡ false → part ≡ [])
     → (may_follow ≡ false → (hand ≡ []) × IsAtEnd had) → follow ≡ has_feed (hand ++ part) → (follow ≡ false → IsAtEnd mid)
     → IfOk r (λ o. o ≡ outcome.Ran)
     → (follow ≡ false → (r ≡ Ok outcome.Ran) × (left ≡ mid) × (holds ≡ held))
-    → (follow ≡ true → TalkEnded 3 (resumed_from c saved moment) (behind_line (hand ++ part)) (streams mid left held holds) r)
-    → WentOn (start.Resumed moment) c may_follow hand r (streams had left held holds)
+    → (follow ≡ true → AnsweringEnded 3 (state_after_resume_at c saved moment) (rest_after_line (hand ++ part)) (streams mid left held holds) r)
+    → IsContinuation (start.Resumed moment) c may_follow hand r (streams had left held holds)
 gone_answered moment c saved may_follow false hand part had mid left held holds r s read none end feed ended ran unread lines =
     let n = unread refl in
     let text = none_text moment c saved (hand ++ part) s (sym feed) in
@@ -254,13 +255,13 @@ gone_answered moment c saved may_follow false hand part had mid left held holds 
       short = none;
       outcome_is = sym (ap (λ r. outcome_by (from_saved moment c (hand ++ part) r)) s);
       written = subst (λ l. Appends held held l) (sym text) (Appends-none held);
-      read = subst (λ q. ReadOver (λ given. hand ++ given) (from_saved moment c (hand ++ part) q) had mid part) (sym s) read;
+      read = subst (λ q. ReadOver (λ bytes_read. hand ++ bytes_read) (from_saved moment c (hand ++ part) q) had mid part) (sym s) read;
       fault = tt;
     })
 gone_answered moment c saved may_follow true hand part had mid left held holds (Ok o) s read none end feed ended ran unread lines =
     let t = lines refl in
     let bytes = append_assoc hand part t.0 in
-    let stays = ap saved_in (sym bytes) ∙ saved_stays (hand ++ part) t.0 (sym feed) ∙ s in
+    let stays = ap saved_at_start (sym bytes) ∙ saved_stays (hand ++ part) t.0 (sym feed) ∙ s in
     let text = ap (λ l. answers_over (beginning_over (start.Resumed moment) c l)) (sym bytes) ∙ on_text moment c saved (hand ++ part) t.0 s (sym feed) in
     record {
       coming = part ++ t.0;
@@ -268,7 +269,7 @@ gone_answered moment c saved may_follow true hand part had mid left held holds (
       short = λ f. absurd (never_follows may_follow hand part had none end (sym feed) f);
       outcome_is = ran ∙ sym (ap (λ r. outcome_by (from_saved moment c (hand ++ (part ++ t.0)) r)) stays);
       written = subst (λ l. Appends held holds l) (sym text) t.3;
-      read = subst (λ q. ReadOver (λ given. hand ++ given) (from_saved moment c (hand ++ (part ++ t.0)) q) had left (part ++ t.0)) (sym stays) (Consumes-then had mid left part t.0 read t.2);
+      read = subst (λ q. ReadOver (λ bytes_read. hand ++ bytes_read) (from_saved moment c (hand ++ (part ++ t.0)) q) had left (part ++ t.0)) (sym stays) (Consumes-then had mid left part t.0 read t.2);
       fault = tt;
     }
 gone_answered moment c saved may_follow true hand part had mid left held holds (Err e) s read none end feed ended ran unread lines =
@@ -281,163 +282,163 @@ gone_answered moment c saved may_follow true hand part had mid left held holds (
       outcome_is = tt;
       written = tt;
       read = tt;
-      fault = subst (λ l. LeavesText (told e) held holds l) (sym text) t.4;
+      fault = subst (λ l. LeavesText (drive_error_of e) held holds l) (sym text) t.4;
     }
 
 -- ---- the whole
 
 -- nothing is at hand, and nothing comes, where no line feed followed a good setup
-ends_by : (c : Configuration) (given hand : List ℕ) (mid : Option (List ℕ)) → in_setup (setup_of (first_line_of given)) ≡ Ok c
-    → has_feed given ≡ false → hand ≡ behind_line given → IsAtEnd mid ⊎ (KEPT_SETUP_BYTES ≤ length given) → (hand ≡ []) × IsAtEnd mid
-ends_by c given hand mid s free behind (inl at_end) = (behind ∙ behind_none given free, at_end)
-ends_by c given hand mid s free behind (inr long) = absurd (not_long c given s free long)
+ends_by : (c : Configuration) (bytes_read hand : List ℕ) (mid : Option (List ℕ)) → with_setup_refusal (setup_of (first_line_of bytes_read)) ≡ Ok c
+    → has_feed bytes_read ≡ false → hand ≡ rest_after_line bytes_read → IsAtEnd mid ⊎ (KEPT_SETUP_BYTES ≤ length bytes_read) → (hand ≡ []) × IsAtEnd mid
+ends_by c bytes_read hand mid s free behind (inl at_end) = (behind ∙ behind_none bytes_read free, at_end)
+ends_by c bytes_read hand mid s free behind (inr long) = absurd (not_long c bytes_read s free long)
 
-pub ends_short : (c : Configuration) (given hand : List ℕ) (mid : Option (List ℕ)) (whole : Bool) → in_setup (setup_of (first_line_of given)) ≡ Ok c
-    → whole ≡ has_feed given → hand ≡ behind_line given → (whole ≡ false → IsAtEnd mid ⊎ (KEPT_SETUP_BYTES ≤ length given))
+pub ends_short : (c : Configuration) (bytes_read hand : List ℕ) (mid : Option (List ℕ)) (whole : Bool) → with_setup_refusal (setup_of (first_line_of bytes_read)) ≡ Ok c
+    → whole ≡ has_feed bytes_read → hand ≡ rest_after_line bytes_read → (whole ≡ false → IsAtEnd mid ⊎ (KEPT_SETUP_BYTES ≤ length bytes_read))
     → whole ≡ false → (hand ≡ []) × IsAtEnd mid
-ends_short c given hand mid whole s feed behind end f = ends_by c given hand mid s (sym feed ∙ f) behind (end f)
+ends_short c bytes_read hand mid whole s feed behind end f = ends_by c bytes_read hand mid s (sym feed ∙ f) behind (end f)
 
 -- the parts of an input of which its setup was given, and of which no more comes where no line feed followed
-parts_stay : (given coming : List ℕ) (whole : Bool) → whole ≡ has_feed given → (whole ≡ false → coming ≡ [])
-    → (first_line_of (given ++ coming) ≡ first_line_of given) × (behind_line (given ++ coming) ≡ behind_line given ++ coming)
-parts_stay given coming true feed none = (first_stays given coming (sym feed), behind_stays given coming (sym feed))
-parts_stay given coming false feed none =
-    rw (none refl) (ap first_line_of (append-nil given), ap behind_line (append-nil given) ∙ sym (append-nil (behind_line given)))
+parts_stay : (bytes_read coming : List ℕ) (whole : Bool) → whole ≡ has_feed bytes_read → (whole ≡ false → coming ≡ [])
+    → (first_line_of (bytes_read ++ coming) ≡ first_line_of bytes_read) × (rest_after_line (bytes_read ++ coming) ≡ rest_after_line bytes_read ++ coming)
+parts_stay bytes_read coming true feed none = (first_stays bytes_read coming (sym feed), behind_stays bytes_read coming (sym feed))
+parts_stay bytes_read coming false feed none =
+    rw (none refl) (ap first_line_of (append-nil bytes_read), ap rest_after_line (append-nil bytes_read) ∙ sym (append-nil (rest_after_line bytes_read)))
 
 -- no more behind the setup than shows it, whether the setup's line feed was given before or not
-soon_behind : (given more : List ℕ) (whole : Bool) → whole ≡ has_feed given → StopsSoon KEPT_SAVED_BYTES (behind_line given ++ more)
-    → StopsSoon KEPT_SAVED_BYTES (behind_line (given ++ more))
-soon_behind given more true feed soon = rw (behind_stays given more (sym feed)) soon
-soon_behind given more false feed soon =
-    rw (behind_on given more (sym feed)) (behind_soon KEPT_SAVED_BYTES more (omega arith) (rw (behind_none given (sym feed)) at soon))
+soon_behind : (bytes_read more : List ℕ) (whole : Bool) → whole ≡ has_feed bytes_read → IsBoundedReading KEPT_SAVED_BYTES (rest_after_line bytes_read ++ more)
+    → IsBoundedReading KEPT_SAVED_BYTES (rest_after_line (bytes_read ++ more))
+soon_behind bytes_read more true feed soon = rw (behind_stays bytes_read more (sym feed)) soon
+soon_behind bytes_read more false feed soon =
+    rw (behind_on bytes_read more (sym feed)) (behind_soon KEPT_SAVED_BYTES more (omega arith) (rw (behind_none bytes_read (sym feed)) at soon))
 
-read_behind : (r : Result Beginning InputRefusal) (had mid left : Option (List ℕ)) (given coming : List ℕ) (whole : Bool) → whole ≡ has_feed given
-    → Consumes had mid given → ReadOver (λ more. behind_line given ++ more) r mid left coming → ReadOver behind_line r had left (given ++ coming)
-read_behind (Ok b) had mid left given coming whole feed read more = Consumes-then had mid left given coming read more
-read_behind (Err e) had mid left given coming whole feed read more =
-    (given ++ more.0, Consumes-then had mid left given more.0 read more.1, soon_behind given more.0 whole feed more.2)
+read_behind : (r : Result Beginning InputRefusal) (had mid left : Option (List ℕ)) (bytes_read coming : List ℕ) (whole : Bool) → whole ≡ has_feed bytes_read
+    → Consumes had mid bytes_read → ReadOver (λ more. rest_after_line bytes_read ++ more) r mid left coming → ReadOver rest_after_line r had left (bytes_read ++ coming)
+read_behind (Ok b) had mid left bytes_read coming whole feed read more = Consumes-then had mid left bytes_read coming read more
+read_behind (Err e) had mid left bytes_read coming whole feed read more =
+    (bytes_read ++ more.0, Consumes-then had mid left bytes_read more.0 read more.1, soon_behind bytes_read more.0 whole feed more.2)
 
 -- an input whose setup is this one
-live_over : (how : Start) (c : Configuration) (input behind : List ℕ) → setup_of (first_line_of input) ≡ Ok c → behind_line input ≡ behind
+live_over : (how : Start) (c : Configuration) (input behind : List ℕ) → setup_of (first_line_of input) ≡ Ok c → rest_after_line input ≡ behind
     → beginning_of how input ≡ beginning_over how c behind
-live_over how c input behind s b = ap (λ r. in_setup r >>= λ d. beginning_over how d (behind_line input)) s ∙ ap (beginning_over how c) b
+live_over how c input behind s b = ap (λ r. with_setup_refusal r >>= λ d. beginning_over how d (rest_after_line input)) s ∙ ap (beginning_over how c) b
 
 text_over : (how : Start) (input : List ℕ) (r : Result Beginning InputRefusal) → beginning_of how input ≡ r → live_text how input ≡ answers_over r
 unfolding live_text
 text_over how input r e = ap answers_over e
 
-live_read : (how : Start) (c : Configuration) (given coming : List ℕ) (had mid left : Option (List ℕ)) (whole : Bool) → whole ≡ has_feed given
-    → setup_of (first_line_of (given ++ coming)) ≡ Ok c → behind_line (given ++ coming) ≡ behind_line given ++ coming → Consumes had mid given
-    → ReadOver (λ more. behind_line given ++ more) (beginning_over how c (behind_line given ++ coming)) mid left coming
-    → HasReadLive how had left (given ++ coming)
-live_read how c given coming had mid left whole feed s b read later =
-    subst (λ q. ReadBy how q had left (given ++ coming)) (sym s)
-    (subst (λ l. ReadOver behind_line (beginning_over how c l) had left (given ++ coming)) (sym b)
-    (read_behind (beginning_over how c (behind_line given ++ coming)) had mid left given coming whole feed read later))
+live_read : (how : Start) (c : Configuration) (bytes_read coming : List ℕ) (had mid left : Option (List ℕ)) (whole : Bool) → whole ≡ has_feed bytes_read
+    → setup_of (first_line_of (bytes_read ++ coming)) ≡ Ok c → rest_after_line (bytes_read ++ coming) ≡ rest_after_line bytes_read ++ coming → Consumes had mid bytes_read
+    → ReadOver (λ more. rest_after_line bytes_read ++ more) (beginning_over how c (rest_after_line bytes_read ++ coming)) mid left coming
+    → HasReadLive how had left (bytes_read ++ coming)
+live_read how c bytes_read coming had mid left whole feed s b read later =
+    subst (λ q. ReadBy how q had left (bytes_read ++ coming)) (sym s)
+    (subst (λ l. ReadOver rest_after_line (beginning_over how c l) had left (bytes_read ++ coming)) (sym b)
+    (read_behind (beginning_over how c (rest_after_line bytes_read ++ coming)) had mid left bytes_read coming whole feed read later))
 
 -- what is shown of all behind a setup is what is shown of the whole
-pub whole_gone : (how : Start) (c : Configuration) (given : List ℕ) (had mid left held holds : Option (List ℕ)) (whole : Bool)
+pub whole_gone : (how : Start) (c : Configuration) (bytes_read : List ℕ) (had mid left held holds : Option (List ℕ)) (whole : Bool)
     (r : Result Outcome LiveError)
-    → in_setup (setup_of (first_line_of given)) ≡ Ok c → whole ≡ has_feed given → Consumes had mid given
-    → WentOn how c whole (behind_line given) r (streams mid left held holds) → Conversed how (told_by r) (streams had left held holds)
-whole_gone how c given had mid left held holds whole (Ok o) s feed read w =
-    let input = given ++ w.coming in
-    let parts = parts_stay given w.coming whole feed w.short in
-    let setup = ap setup_of parts.0 ∙ setup_is (setup_of (first_line_of given)) c s in
-    let over = live_over how c input (behind_line given ++ w.coming) setup parts.1 in
+    → with_setup_refusal (setup_of (first_line_of bytes_read)) ≡ Ok c → whole ≡ has_feed bytes_read → Consumes had mid bytes_read
+    → IsContinuation how c whole (rest_after_line bytes_read) r (streams mid left held holds) → ConversationEnded how (drive_result_of r) (streams had left held holds)
+whole_gone how c bytes_read had mid left held holds whole (Ok o) s feed read w =
+    let input = bytes_read ++ w.coming in
+    let parts = parts_stay bytes_read w.coming whole feed w.short in
+    let setup = ap setup_of parts.0 ∙ setup_is (setup_of (first_line_of bytes_read)) c s in
+    let over = live_over how c input (rest_after_line bytes_read ++ w.coming) setup parts.1 in
     record {
       input = input;
-      is_input = input_on had mid given w.coming read w.is_input;
+      is_input = input_on had mid bytes_read w.coming read w.is_input;
       outcome_is = w.outcome_is ∙ sym (ap outcome_by over);
       written = subst (Appends held holds) (sym (text_over how input _ over)) w.written;
-      read = live_read how c given w.coming had mid left whole feed setup parts.1 read w.read;
+      read = live_read how c bytes_read w.coming had mid left whole feed setup parts.1 read w.read;
       fault = tt;
     }
-whole_gone how c given had mid left held holds whole (Err e) s feed read w =
-    let input = given ++ w.coming in
-    let parts = parts_stay given w.coming whole feed w.short in
-    let setup = ap setup_of parts.0 ∙ setup_is (setup_of (first_line_of given)) c s in
-    let over = live_over how c input (behind_line given ++ w.coming) setup parts.1 in
-    live_failed how (told e) had left held holds input
-    (input_on had mid given w.coming read w.is_input) (subst (LeavesText (told e) held holds) (sym (text_over how input _ over)) w.fault)
+whole_gone how c bytes_read had mid left held holds whole (Err e) s feed read w =
+    let input = bytes_read ++ w.coming in
+    let parts = parts_stay bytes_read w.coming whole feed w.short in
+    let setup = ap setup_of parts.0 ∙ setup_is (setup_of (first_line_of bytes_read)) c s in
+    let over = live_over how c input (rest_after_line bytes_read ++ w.coming) setup parts.1 in
+    live_failed how (drive_error_of e) had left held holds input
+    (input_on had mid bytes_read w.coming read w.is_input) (subst (LeavesText (drive_error_of e) held holds) (sym (text_over how input _ over)) w.fault)
 
 -- ---- a refused setup
 
 begins_refused : (how : Start) (input : List ℕ) (e : LoadError) → setup_of (first_line_of input) ≡ Err e
     → beginning_of how input ≡ Err (refusal.Setup e)
-begins_refused how input e s = ap (λ r. in_setup r >>= λ d. beginning_over how d (behind_line input)) s
+begins_refused how input e s = ap (λ r. with_setup_refusal r >>= λ d. beginning_over how d (rest_after_line input)) s
 
-refusal_read : (how : Start) (input given : List ℕ) (e : LoadError) (had left : Option (List ℕ)) → setup_of (first_line_of input) ≡ Err e
-    → Consumes had left given → StopsSoon KEPT_SETUP_BYTES given → HasReadLive how had left input
-refusal_read how input given e had left s read soon = rw s (given, read, soon)
+refusal_read : (how : Start) (input bytes_read : List ℕ) (e : LoadError) (had left : Option (List ℕ)) → setup_of (first_line_of input) ≡ Err e
+    → Consumes had left bytes_read → IsBoundedReading KEPT_SETUP_BYTES bytes_read → HasReadLive how had left input
+refusal_read how input bytes_read e had left s read soon = rw s (bytes_read, read, soon)
 
 -- what is shown of a setup's refusal is what is shown of the whole
-pub setup_refusal : (how : Start) (given : List ℕ) (had left held holds : Option (List ℕ)) (why : InputRefusal) (whole : Bool)
+pub setup_refusal : (how : Start) (bytes_read : List ℕ) (had left held holds : Option (List ℕ)) (why : InputRefusal) (whole : Bool)
     (r : Result Outcome DriveError)
-    → in_setup (setup_of (first_line_of given)) ≡ Err why → Consumes had left given → StopsSoon KEPT_SETUP_BYTES given → whole ≡ has_feed given
-    → (whole ≡ false → IsAtEnd left ⊎ (KEPT_SETUP_BYTES ≤ length given)) → IfOk r (λ o. o ≡ outcome.Refused)
+    → with_setup_refusal (setup_of (first_line_of bytes_read)) ≡ Err why → Consumes had left bytes_read → IsBoundedReading KEPT_SETUP_BYTES bytes_read → whole ≡ has_feed bytes_read
+    → (whole ≡ false → IsAtEnd left ⊎ (KEPT_SETUP_BYTES ≤ length bytes_read)) → IfOk r (λ o. o ≡ outcome.Refused)
     → OnOk r (Appends held holds (refusal_line why)) → IfErr r (λ e. LeavesText e held holds (refusal_line why))
-    → Conversed how r (streams had left held holds)
-setup_refusal how given had left held holds why whole (Ok o) s read soon feed end refused wrote f =
-    let no = setup_refused (setup_of (first_line_of given)) why s in
-    let input = given ++ rest_of left in
-    let setup = refused_stays given left whole feed end ∙ no.1 in
+    → ConversationEnded how r (streams had left held holds)
+setup_refusal how bytes_read had left held holds why whole (Ok o) s read soon feed end refused wrote f =
+    let no = setup_refused (setup_of (first_line_of bytes_read)) why s in
+    let input = bytes_read ++ rest_of left in
+    let setup = refused_stays bytes_read left whole feed end ∙ no.1 in
     let over = begins_refused how input no.0 setup in
     record {
       input = input;
-      is_input = input_on had left given (rest_of left) read (rest_input left);
+      is_input = input_on had left bytes_read (rest_of left) read (rest_input left);
       outcome_is = refused ∙ sym (ap outcome_by over);
       written = subst (Appends held holds) (ap refusal_line no.2 ∙ sym (text_over how input _ over)) wrote;
-      read = refusal_read how input given no.0 had left setup read soon;
+      read = refusal_read how input bytes_read no.0 had left setup read soon;
       fault = tt;
     }
-setup_refusal how given had left held holds why whole (Err e) s read soon feed end refused wrote f =
-    let no = setup_refused (setup_of (first_line_of given)) why s in
-    let input = given ++ rest_of left in
-    let over = begins_refused how input no.0 (refused_stays given left whole feed end ∙ no.1) in
+setup_refusal how bytes_read had left held holds why whole (Err e) s read soon feed end refused wrote f =
+    let no = setup_refused (setup_of (first_line_of bytes_read)) why s in
+    let input = bytes_read ++ rest_of left in
+    let over = begins_refused how input no.0 (refused_stays bytes_read left whole feed end ∙ no.1) in
     live_failed how e had left held holds input
-    (input_on had left given (rest_of left) read (rest_input left))
+    (input_on had left bytes_read (rest_of left) read (rest_input left))
     (subst (LeavesText e held holds) (ap refusal_line no.2 ∙ sym (text_over how input _ over)) f)
 
 -- ---- a loop that is spent
 
-pub memory_later : (e : LiveError) (hand : List ℕ) (had left : Option (List ℕ)) → e ≡ live.Memory → AfterLater hand had left e
+pub memory_later : (e : LiveError) (hand : List ℕ) (had left : Option (List ℕ)) → e ≡ live.Memory → IsSpentAfterSetup hand had left e
 memory_later e hand had left is = λ s. absurd (subst IsSpent is s)
 
 -- each line that was answered has a byte at least
 lines_many : (e : LiveError) (begins : ℕ) (first : State) (hand : List ℕ) (had left held holds : Option (List ℕ))
-    → AfterLines begins first hand (streams had left held holds) e → IsSpent e → HadMany (2 ^ 64 - 1 - begins) hand had left
+    → IsSpentAfterLines begins first hand (streams had left held holds) e → IsSpent e → HasHadAtLeast (2 ^ 64 - 1 - begins) hand had left
 lines_many (live.Reader fault) begins first hand had left held holds a s = absurd s
 lines_many live.Writer begins first hand had left held holds a s = absurd s
 lines_many live.Memory begins first hand had left held holds a s = absurd s
 lines_many live.LinesSpent begins first hand had left held holds a s =
-    let there = length-append hand a.given in
+    let there = length-append hand a.bytes_read in
     let parts = ap length a.parts in
     let sizes = length-append a.front a.rest in
     let least = length-lines_of a.front in
-    (a.given, a.consumed, omega (arith, there, parts, sizes, least, a.lines))
+    (a.bytes_read, a.consumed, omega (arith, there, parts, sizes, least, a.lines))
 lines_many live.ReadsSpent begins first hand had left held holds g s = (g.0, g.1, omega (arith, g.2))
 
 pub opened_later : {T : Type 0} (r : Result T LiveError) (first : State) (hand : List ℕ) (had left held holds : Option (List ℕ))
-    → IfErr r (AfterLines 2 first hand (streams had left held holds)) → IfErr r (AfterLater hand had left)
+    → IfErr r (IsSpentAfterLines 2 first hand (streams had left held holds)) → IfErr r (IsSpentAfterSetup hand had left)
 opened_later (Ok x) first hand had left held holds h = tt
 opened_later (Err e) first hand had left held holds h = λ s.
     let many = lines_many e 2 first hand had left held holds h s in (many.0, many.1, omega (arith, many.2))
 
 -- a line with its line feed has one byte at least
-behind_less : (bytes : List ℕ) → has_feed bytes ≡ true → length (behind_line bytes) < length bytes
+behind_less : (bytes : List ℕ) → has_feed bytes ≡ true → length (rest_after_line bytes) < length bytes
 behind_less [] feed = cc
 behind_less (b ∷ bs) feed =
-    (elim (b == 10) as (λ v. cond v true (has_feed bs) ≡ true → length (cond v bs (behind_line bs)) < suc (length bs)) [
+    (elim (b == 10) as (λ v. cond v true (has_feed bs) ≡ true → length (cond v bs (rest_after_line bs)) < suc (length bs)) [
       | true ↦ λ h. omega arith
       | false ↦ λ h. let again = behind_less bs h in omega (arith, again)
     ]) feed
 
 -- the loops behind a saved state whose line feed was given
 lines_later : (e : LiveError) (first : State) (hand part : List ℕ) (had mid left held holds : Option (List ℕ)) → has_feed (hand ++ part) ≡ true
-    → Consumes had mid part → AfterLines 3 first (behind_line (hand ++ part)) (streams mid left held holds) e → AfterLater hand had left e
+    → Consumes had mid part → IsSpentAfterLines 3 first (rest_after_line (hand ++ part)) (streams mid left held holds) e → IsSpentAfterSetup hand had left e
 lines_later e first hand part had mid left held holds feed read a = λ s.
-    let many = lines_many e 3 first (behind_line (hand ++ part)) mid left held holds a s in
+    let many = lines_many e 3 first (rest_after_line (hand ++ part)) mid left held holds a s in
     let all = length-append part many.0 in
     let both = length-append hand part in
     let less = behind_less (hand ++ part) feed in
@@ -445,22 +446,22 @@ lines_later e first hand part had mid left held holds feed read a = λ s.
 
 pub answered_later : {T : Type 0} (r : Result T LiveError) (x : T) (first : State) (hand part : List ℕ) (had mid left held holds : Option (List ℕ)) (follow : Bool)
     → follow ≡ has_feed (hand ++ part) → Consumes had mid part → (follow ≡ false → r ≡ Ok x)
-    → IfErr r (AfterLines 3 first (behind_line (hand ++ part)) (streams mid left held holds)) → IfErr r (AfterLater hand had left)
+    → IfErr r (IsSpentAfterLines 3 first (rest_after_line (hand ++ part)) (streams mid left held holds)) → IfErr r (IsSpentAfterSetup hand had left)
 answered_later (Ok y) x first hand part had mid left held holds follow feed read none h = tt
 answered_later (Err e) x first hand part had mid left held holds false feed read none h = let clash = none refl in cc
 answered_later (Err e) x first hand part had mid left held holds true feed read none h =
     lines_later e first hand part had mid left held holds (sym feed) read h
 
 -- the loops behind a setup that was given so
-later_spends : (e : LiveError) (given : List ℕ) (had mid left : Option (List ℕ)) → Consumes had mid given
-    → AfterLater (behind_line given) mid left e → AfterAll had left e
-later_spends e given had mid left read h = λ s.
+later_spends : (e : LiveError) (bytes_read : List ℕ) (had mid left : Option (List ℕ)) → Consumes had mid bytes_read
+    → IsSpentAfterSetup (rest_after_line bytes_read) mid left e → IsSpentAfterInput had left e
+later_spends e bytes_read had mid left read h = λ s.
     let all = h s in
-    let few = behind_fewer given in
-    let sizes = length-append given all.0 in
-    (given ++ all.0, Consumes-then had mid left given all.0 read all.1, omega (arith, few, sizes, all.2))
+    let bounded = behind_fewer bytes_read in
+    let sizes = length-append bytes_read all.0 in
+    (bytes_read ++ all.0, Consumes-then had mid left bytes_read all.0 read all.1, omega (arith, bounded, sizes, all.2))
 
-pub if_later : {T : Type 0} (r : Result T LiveError) (given : List ℕ) (had mid left : Option (List ℕ)) → Consumes had mid given
-    → IfErr r (AfterLater (behind_line given) mid left) → IfErr r (AfterAll had left)
-if_later (Ok x) given had mid left read h = tt
-if_later (Err e) given had mid left read h = later_spends e given had mid left read h
+pub if_later : {T : Type 0} (r : Result T LiveError) (bytes_read : List ℕ) (had mid left : Option (List ℕ)) → Consumes had mid bytes_read
+    → IfErr r (IsSpentAfterSetup (rest_after_line bytes_read) mid left) → IfErr r (IsSpentAfterInput had left)
+if_later (Ok x) bytes_read had mid left read h = tt
+if_later (Err e) bytes_read had mid left read h = later_spends e bytes_read had mid left read h

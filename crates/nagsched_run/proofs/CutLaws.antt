@@ -9,43 +9,44 @@ use Rattle.std.proofs.lemmas.Bool.Decides.{nat_tests}
 use Rattle.serde_json.specs.Data.{Data, Items, array, item, no_items, string}
 use Rattle.serde_json.specs.Read.{read}
 use Rattle.serde_json.specs.Written.{compact_text}
-use Rattle.check_objects.specs.Configuration.{Configuration, objects_of}
+use Rattle.check_objects.specs.Configuration.{Configuration}
 use Rattle.check_objects.specs.Setup.{setup_of}
-use Rattle.check_objects.specs.Tree.{tree_of}
-use Rattle.check_drafts.specs.Agreement.{◌>>=◌}
-use Rattle.check_saved.specs.Saved.{Saved}
-use Rattle.check_saved.specs.Text.{saved_of_text, saved_text}
-use Rattle.check_saved.proofs.InverseLemmas.{inverse}
-use Rattle.check_saved.proofs.PlainLemmas.{read_compact}
-use Rattle.check_sched.specs.Saved.{resumed, saved_of}
+use Rattle.check_objects.specs.JsonTree.{tree_of}
+use Rattle.setup_model.specs.Agreement.{◌>>=◌}
+use Rattle.check_saved_state.specs.Saved.{Saved}
+use Rattle.check_saved_state.specs.Text.{saved_of_text, saved_text}
+use Rattle.check_saved_state.proofs.InverseLemmas.{inverse}
+use Rattle.check_saved_state.proofs.PlainLemmas.{read_compact}
+use Rattle.check_sched.specs.Saved.{state_after_resume, saved_of}
 use Rattle.check_sched.specs.State.{IsState, State, opening}
 use Rattle.check_sched.proofs.PublicLaws.{opening_can_be, saved_is_writable, saved_of_state}
 use Rattle.check_sched.proofs.SavedLaws.{resumed_same}
 use Rattle.check_sched.proofs.StateLaws.{step_is_state}
-use Rattle.check_script.specs.declared.command.RunCommand.{RunCommand}
-use Rattle.check_script.specs.declared.command.RunCommand.TheVariants as command
-use Rattle.check_script.specs.declared.refusal.InputRefusal.{InputRefusal}
-use Rattle.check_script.specs.declared.refusal.InputRefusal.TheVariants as refusal
-use Rattle.check_script.specs.declared.refusal.LineFault.{LineFault}
-use Rattle.check_script.specs.declared.refusal.LineFault.TheVariants as fault
-use Rattle.check_script.specs.Command.{command_by}
-use Rattle.check_script.specs.LiveInput.{behind_line, has_feed}
-use Rattle.check_script.specs.Line.{at_line, command_in, command_of, is_blank}
-use Rattle.check_script.specs.declared.script.TheConstants.{MAX_INPUT_BYTES}
-use Rattle.check_script.specs.declared.start.Start.{Start}
-use Rattle.check_script.specs.declared.start.Start.TheVariants as starts
-use Rattle.check_script.specs.Input.{first_line_of, lines_of}
-use Rattle.check_script.specs.Script.{Script, beginning_of, beginning_over, commands_behind, in_saved, in_setup, resumed_from, script_behind, script_of}
-use Rattle.check_script.proofs.LiveInputLemmas.{behind_on, first_on}
-use Rattle.check_script.proofs.ScriptLemmas.{commands_by_number, commands_from}
-use Rattle.check_text.specs.Text.{answer_line, saved_line, script_text, state_by, text, text_from}
-use Rattle.check_text.proofs.LiveLaws.{accepted, begun, lines_by, script_with}
-use Rattle.check_text.proofs.TextLemmas.{command_keeps}
-use Rattle.check_drive.specs.Cut.{first_part, second_part, whole_input}
-use Rattle.check_text.specs.Output.{AreWholeLines}
-use Rattle.check_drive.proofs.FeedLemmas.{saved_free}
-use Rattle.check_drive.proofs.LiveLemmas.{setup_is}
-use Rattle.check_drive.proofs.NameTextLemmas.{AreTexts, setup_by}
+use Rattle.nagsched_protocol.specs.declared.command.RunCommand.{RunCommand}
+use Rattle.nagsched_protocol.specs.declared.command.RunCommand.TheVariants as command
+use Rattle.nagsched_protocol.specs.declared.refusal.InputRefusal.{InputRefusal}
+use Rattle.nagsched_protocol.specs.declared.refusal.InputRefusal.TheVariants as refusal
+use Rattle.nagsched_protocol.specs.declared.refusal.LineFault.{LineFault}
+use Rattle.nagsched_protocol.specs.declared.refusal.LineFault.TheVariants as fault
+use Rattle.nagsched_protocol.specs.Command.{command_by}
+use Rattle.nagsched_protocol.specs.LiveInput.{rest_after_line, has_feed}
+use Rattle.nagsched_protocol.specs.Line.{at_line, command_in, command_of, is_blank}
+use Rattle.nagsched_protocol.specs.declared.script.TheConstants.{MAX_INPUT_BYTES}
+use Rattle.nagsched_protocol.specs.declared.start.Start.{Start}
+use Rattle.nagsched_protocol.specs.declared.start.Start.TheVariants as starts
+use Rattle.nagsched_protocol.specs.Input.{first_line_of, lines_of}
+use Rattle.nagsched_protocol.specs.Script.{Script, beginning_of, beginning_over, commands_of_lines, with_saved_refusal, with_setup_refusal}
+use Rattle.nagsched_protocol.specs.Script.{state_after_resume_at, script_from, script_of}
+use Rattle.nagsched_protocol.proofs.LiveInputLemmas.{behind_on, first_on}
+use Rattle.nagsched_protocol.proofs.ScriptLemmas.{commands_by_number, commands_from}
+use Rattle.nagsched_protocol.specs.Text.{answer_line, saved_line, script_text, state_after_command, text, text_from}
+use Rattle.nagsched_protocol.proofs.LiveLaws.{accepted, begun, lines_by, script_with}
+use Rattle.nagsched_protocol.proofs.TextLemmas.{command_keeps}
+use Rattle.nagsched_run.specs.Cut.{first_part, second_part, whole_input}
+use Rattle.nagsched_protocol.specs.Output.{AreWholeLines}
+use Rattle.nagsched_run.proofs.FeedLemmas.{saved_free}
+use Rattle.nagsched_run.proofs.LiveLemmas.{setup_is}
+use Rattle.nagsched_run.proofs.NameTextLemmas.{AreTexts, setup_by}
 
 -- ---- commands, whatever the numbers of their lines
 
@@ -94,7 +95,8 @@ split : {K : Type 0} (meaning : List ℕ → Items → Result K LineFault) (xs y
     → (a : List K) × (b : List K) × ((k : ℕ) → commands_from meaning k xs ≡ Ok a) × ((k : ℕ) → commands_from meaning k ys ≡ Ok b) × (all ≡ a ++ b)
 split meaning [] ys n all e = ([], all, λ k. refl, commands_again meaning ys n all e, refl)
 split {K = K} meaning (x ∷ xs) ys n all e =
-    (elim (is_blank x) as (λ v. cond v (commands_from meaning (n + 1) (xs ++ ys)) (goes_on (command_of meaning n x) (commands_from meaning (n + 1) (xs ++ ys))) ≡ Ok all
+    (elim (is_blank x) as (λ v. cond v (commands_from meaning (n + 1) (xs ++ ys))
+    (goes_on (command_of meaning n x) (commands_from meaning (n + 1) (xs ++ ys))) ≡ Ok all
     → (a : List K) × (b : List K)
     × ((k : ℕ) → cond v (commands_from meaning (k + 1) xs) (goes_on (command_of meaning k x) (commands_from meaning (k + 1) xs)) ≡ Ok a)
     × ((k : ℕ) → commands_from meaning k ys ≡ Ok b) × (all ≡ a ++ b)) [
@@ -128,28 +130,29 @@ join meaning (x ∷ xs) ys a b f g n =
 
 abbrev through : State → List RunCommand → State
 through s [] = s
-through s (c ∷ cs) = through (state_by s c) cs
+through s (c ∷ cs) = through (state_after_command s c) cs
 
 text_on : (s : State) (a b : List RunCommand) → text_from s (a ++ b) ≡ text_from s a ++ text_from (through s a) b
 text_on s [] b = refl
 text_on s (c ∷ a) b =
-    ap (λ l. answer_line s c ++ l) (text_on (state_by s c) a b) ∙ sym (append_assoc (answer_line s c) (text_from (state_by s c) a) (text_from (through (state_by s c) a) b))
+    ap (λ l. answer_line s c ++ l) (text_on (state_after_command s c) a b)
+    ∙ sym (append_assoc (answer_line s c) (text_from (state_after_command s c) a) (text_from (through (state_after_command s c) a) b))
 
-by_is : (s : State) (c : RunCommand) → IsState s → IsState (state_by s c)
+by_is : (s : State) (c : RunCommand) → IsState s → IsState (state_after_command s c)
 by_is s (command.Call call) is = step_is_state s call is
 by_is s command.Save is = is
 
 through_is : (s : State) (a : List RunCommand) → IsState s → IsState (through s a)
 through_is s [] is = is
-through_is s (c ∷ a) is = through_is (state_by s c) a (by_is s c is)
+through_is s (c ∷ a) is = through_is (state_after_command s c) a (by_is s c is)
 
 through_keeps : (s : State) (a : List RunCommand) → (through s a).setup ≡ s.setup
 through_keeps s [] = refl
-through_keeps s (c ∷ a) = through_keeps (state_by s c) a ∙ command_keeps s c
+through_keeps s (c ∷ a) = through_keeps (state_after_command s c) a ∙ command_keeps s c
 
 -- over the same setup, from the saved start, the state is the one that was saved
-goes_on_there : (c : Configuration) (t : State) → IsState t → t.setup ≡ c → resumed_from c (saved_of t) None ≡ t
-goes_on_there c t is same = ap (λ d. resumed d (saved_of t) t.start) (sym same) ∙ resumed_same t t.start is
+goes_on_there : (c : Configuration) (t : State) → IsState t → t.setup ≡ c → state_after_resume_at c (saved_of t) None ≡ t
+goes_on_there c t is same = ap (λ d. state_after_resume d (saved_of t) t.start) (sym same) ∙ resumed_same t t.start is
 
 -- ---- the line that saves
 
@@ -178,11 +181,11 @@ save_line c n = rw (save_said c n) refl
 
 -- an input of a document and these bytes begins as they do over its setup
 begins_with : (how : Start) (document bytes : List ℕ) → has_feed document ≡ false
-    → beginning_of how (document ++ 10 ∷ bytes) ≡ (in_setup (setup_of document) >>= λ c. beginning_over how c bytes)
+    → beginning_of how (document ++ 10 ∷ bytes) ≡ (with_setup_refusal (setup_of document) >>= λ c. beginning_over how c bytes)
 begins_with how document bytes free =
-    ap (λ l. in_setup (setup_of l) >>= λ c. beginning_over how c (behind_line (document ++ 10 ∷ bytes)))
+    ap (λ l. with_setup_refusal (setup_of l) >>= λ c. beginning_over how c (rest_after_line (document ++ 10 ∷ bytes)))
     (first_on document (10 ∷ bytes) free ∙ append-nil document)
-    ∙ ap (λ l. in_setup (setup_of document) >>= λ c. beginning_over how c l) (behind_on document (10 ∷ bytes) free)
+    ∙ ap (λ l. with_setup_refusal (setup_of document) >>= λ c. beginning_over how c l) (behind_on document (10 ∷ bytes) free)
 
 over_made : (s : State) (lines : List (List ℕ)) (commands : Result (List RunCommand) InputRefusal) (script : Script)
     → commands_from (command_by s.setup) 2 lines ≡ commands → (commands >>= λ all. Ok (script_with s all)) ≡ Ok script
@@ -191,47 +194,47 @@ over_made s lines (Ok all) script same h = (all, same, cc)
 over_made s lines (Err e) script same h = cc
 
 over_parts : (start : ℕ) (setup : Result Configuration InputRefusal) (bytes : List ℕ) (script : Script)
-    → ((setup >>= λ c. beginning_over (starts.Fresh start) c bytes) >>= script_behind) ≡ Ok script
+    → ((setup >>= λ c. beginning_over (starts.Fresh start) c bytes) >>= script_from) ≡ Ok script
     → (c : Configuration) × (all : List RunCommand) × (setup ≡ Ok c) × (commands_from (command_by c) 2 (lines_of bytes) ≡ Ok all)
     × (script_with (opening c start) all ≡ script)
 over_parts start (Err e) bytes script h = cc
 over_parts start (Ok c) bytes script h =
     let lines = lines_of bytes in
-    let p = over_made (opening c start) lines (commands_behind 2 (command_by c) lines) script (sym (commands_by_number (command_by c) 2 lines)) h in
+    let p = over_made (opening c start) lines (commands_of_lines 2 (command_by c) lines) script (sym (commands_by_number (command_by c) 2 lines)) h in
     (c, p.0, refl, p.1, p.2)
 
 over_back : (start : ℕ) (c : Configuration) (bytes : List ℕ) (all : List RunCommand) → commands_from (command_by c) 2 (lines_of bytes) ≡ Ok all
-    → (beginning_over (starts.Fresh start) c bytes >>= script_behind) ≡ Ok (script_with (opening c start) all)
+    → (beginning_over (starts.Fresh start) c bytes >>= script_from) ≡ Ok (script_with (opening c start) all)
 over_back start c bytes all f =
-    let g : commands_behind 2 (command_by c) (lines_of bytes) ≡ Ok all = commands_by_number (command_by c) 2 (lines_of bytes) ∙ f in rw g refl
+    let g : commands_of_lines 2 (command_by c) (lines_of bytes) ≡ Ok all = commands_by_number (command_by c) 2 (lines_of bytes) ∙ f in rw g refl
 
 resumed_back : (c : Configuration) (text rest : List ℕ) (saved : Saved) (b : List RunCommand) → has_feed text ≡ false
     → saved_of_text text ≡ Ok saved → commands_from (command_by c) 3 (lines_of rest) ≡ Ok b
-    → (beginning_over (starts.Resumed None) c (text ++ 10 ∷ rest) >>= script_behind) ≡ Ok (script_with (resumed_from c saved None) b)
+    → (beginning_over (starts.Resumed None) c (text ++ 10 ∷ rest) >>= script_from) ≡ Ok (script_with (state_after_resume_at c saved None) b)
 resumed_back c text rest saved b free v f =
     let first : first_line_of (text ++ 10 ∷ rest) ≡ text = first_on text (10 ∷ rest) free ∙ append-nil text in
-    let w : in_saved (saved_of_text (first_line_of (text ++ 10 ∷ rest))) ≡ Ok saved = ap (λ l. in_saved (saved_of_text l)) first ∙ ap in_saved v in
-    let g : commands_behind 3 (command_by c) (lines_of rest) ≡ Ok b = commands_by_number (command_by c) 3 (lines_of rest) ∙ f in
-    ap (λ r. (r >>= λ d. Ok (begun (resumed_from c d None) 3 (behind_line (text ++ 10 ∷ rest)))) >>= script_behind) w
-    ∙ ap (λ l. script_behind (begun (resumed_from c saved None) 3 l)) (behind_on text (10 ∷ rest) free)
-    ∙ ap (λ r. r >>= λ all. Ok (script_with (resumed_from c saved None) all)) g
+    let w : with_saved_refusal (saved_of_text (first_line_of (text ++ 10 ∷ rest))) ≡ Ok saved = ap (λ l. with_saved_refusal (saved_of_text l)) first ∙ ap with_saved_refusal v in
+    let g : commands_of_lines 3 (command_by c) (lines_of rest) ≡ Ok b = commands_by_number (command_by c) 3 (lines_of rest) ∙ f in
+    ap (λ r. (r >>= λ d. Ok (begun (state_after_resume_at c d None) 3 (rest_after_line (text ++ 10 ∷ rest)))) >>= script_from) w
+    ∙ ap (λ l. script_from (begun (state_after_resume_at c saved None) 3 l)) (behind_on text (10 ∷ rest) free)
+    ∙ ap (λ r. r >>= λ all. Ok (script_with (state_after_resume_at c saved None) all)) g
 
 text_by : (how : Start) (input : List ℕ) (script : Script) → script_of how input ≡ Ok script → text how input ≡ text_from script.state script.commands
 unfolding text
 text_by how input script e = ap script_text e
 
-script_short : (how : Start) (input : List ℕ) → length input ≤ MAX_INPUT_BYTES → script_of how input ≡ (beginning_of how input >>= script_behind)
+script_short : (how : Start) (input : List ℕ) → length input ≤ MAX_INPUT_BYTES → script_of how input ≡ (beginning_of how input >>= script_from)
 unfolding script_of
-script_short how input few = let short : nat_lt MAX_INPUT_BYTES (length input) ≡ false = grind (arith, nat_tests, few) in rw short refl
+script_short how input bounded = let short : nat_lt MAX_INPUT_BYTES (length input) ≡ false = grind (arith, nat_tests, bounded) in rw short refl
 
 -- the text of a document and these bytes, by the script that they are over its setup
-text_with : (how : Start) (document bytes : List ℕ) (c : Configuration) (script : Script) → has_feed document ≡ false → in_setup (setup_of document) ≡ Ok c
-    → (beginning_over how c bytes >>= script_behind) ≡ Ok script → length (document ++ 10 ∷ bytes) ≤ MAX_INPUT_BYTES
+text_with : (how : Start) (document bytes : List ℕ) (c : Configuration) (script : Script) → has_feed document ≡ false → with_setup_refusal (setup_of document) ≡ Ok c
+    → (beginning_over how c bytes >>= script_from) ≡ Ok script → length (document ++ 10 ∷ bytes) ≤ MAX_INPUT_BYTES
     → text how (document ++ 10 ∷ bytes) ≡ text_from script.state script.commands
-text_with how document bytes c script free setup made few =
+text_with how document bytes c script free setup made bounded =
     text_by how (document ++ 10 ∷ bytes) script
-    (script_short how (document ++ 10 ∷ bytes) few
-    ∙ ap (λ r. r >>= script_behind) (begins_with how document bytes free ∙ ap (λ r. r >>= λ d. beginning_over how d bytes) setup) ∙ made)
+    (script_short how (document ++ 10 ∷ bytes) bounded
+    ∙ ap (λ r. r >>= script_from) (begins_with how document bytes free ∙ ap (λ r. r >>= λ d. beginning_over how d bytes) setup) ∙ made)
 
 -- ---- the cut
 
@@ -244,9 +247,9 @@ pub cut_and_gone_on : (start : ℕ) (document front rest : List ℕ) (script : S
 cut_and_gone_on start document front rest script moment free whole e =
     let how = starts.Fresh start in
     let input = whole_input document front rest in
-    let there : (beginning_of how input >>= script_behind) ≡ Ok script = accepted how input script e in
-    let p = over_parts start (in_setup (setup_of document)) (front ++ rest) script
-    (ap (λ r. r >>= script_behind) (sym (begins_with how document (front ++ rest) free)) ∙ there) in
+    let there : (beginning_of how input >>= script_from) ≡ Ok script = accepted how input script e in
+    let p = over_parts start (with_setup_refusal (setup_of document)) (front ++ rest) script
+    (ap (λ r. r >>= script_from) (sym (begins_with how document (front ++ rest) free)) ∙ there) in
     let c = p.0 in
     let q = split (command_by c) (lines_of front) (lines_of rest) 2 p.1 (ap (commands_from (command_by c) 2) (sym (lines_by front rest whole)) ∙ p.3) in
     let a = q.0 in
@@ -256,7 +259,7 @@ cut_and_gone_on start document front rest script moment free whole e =
     let s = through opened a in
     let is = through_is opened a (opening_can_be c start read.setup moment) in
     let keeps = through_keeps opened a in
-    let texts : AreTexts (objects_of s.setup) = subst (λ d. AreTexts (objects_of d)) (sym keeps) read.texts in
+    let texts : AreTexts s.setup = subst AreTexts (sym keeps) read.texts in
     let saved = saved_text (saved_of s) in
     let text_is = inverse (saved_of s) (saved_of_state s is) (saved_is_writable s is.valid_setup texts) in
     let with_save = ap (commands_from (command_by c) 2) (lines_by front save_text whole)
@@ -264,13 +267,13 @@ cut_and_gone_on start document front rest script moment free whole e =
     let again = resumed_back c saved rest (saved_of s) b (saved_free (saved_of s)) text_is (q.3 3) in (
       text_from opened a,
       s,
-      λ few.
+      λ bounded.
           text_with how document (front ++ save_text) c (script_with opened (a ++ command.Save ∷ [])) free p.2
-          (over_back start c (front ++ save_text) (a ++ command.Save ∷ []) with_save) few
+          (over_back start c (front ++ save_text) (a ++ command.Save ∷ []) with_save) bounded
           ∙ text_on opened a (command.Save ∷ []) ∙ ap (λ l. text_from opened a ++ l) (append-nil (saved_line s)),
-      λ few.
+      λ bounded.
           text_by how input script e ∙ ap (λ (t : Script). text_from t.state t.commands) (sym p.4) ∙ ap (text_from opened) q.4 ∙ text_on opened a b
           ∙ ap (λ t. text_from opened a ++ text_from t b) (sym (goes_on_there c s is keeps))
           ∙ ap (λ l. text_from opened a ++ l) (sym (text_with (starts.Resumed None) document (saved ++ 10 ∷ rest) c
-          (script_with (resumed_from c (saved_of s) None) b) free p.2 again few)),
+          (script_with (state_after_resume_at c (saved_of s) None) b) free p.2 again bounded)),
     )

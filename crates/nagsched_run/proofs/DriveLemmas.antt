@@ -6,27 +6,27 @@ use Rattle.std.specs.Io.KnownBytes.{Appends, Keeps, Consumes}
 use Rattle.std.proofs.lemmas.Bool.{cases_lt}
 use Rattle.std.proofs.lemmas.Bool.Decides.{nat_tests}
 use Rattle.std.proofs.lemmas.List.{take_all}
-use Rattle.check_drafts.specs.Agreement.{Fails}
-use Rattle.check_script.specs.declared.drive_error.DriveError.{DriveError}
-use Rattle.check_script.specs.declared.drive_error.DriveError.TheVariants as errors
-use Rattle.check_script.specs.declared.input.TheConstants.{MAX_READ_BYTES}
-use Rattle.check_script.specs.declared.script.TheConstants.{MAX_INPUT_BYTES}
-use Rattle.check_script.specs.declared.refusal.InputRefusal.{InputRefusal}
-use Rattle.check_script.specs.declared.refusal.InputRefusal.TheVariants as refusals
-use Rattle.check_script.specs.declared.refusal.LineFault.TheVariants as line_fault
-use Rattle.check_script.specs.declared.refusal.ScriptError.{ScriptError}
-use Rattle.check_script.specs.declared.refusal.ScriptError.TheVariants as script
-use Rattle.check_script.specs.declared.start.Start.{Start}
-use Rattle.check_script.specs.Agreement.{refusal}
-use Rattle.check_script.specs.DrillScript.{drill_script_of}
-use Rattle.check_script.specs.Script.{script_of, within_limit}
-use Rattle.check_text.specs.Text.{script_text, text}
-use Rattle.check_text.specs.Written.{LeftOfText}
-use Rattle.check_text.proofs.OutputLemmas.{Appends-Keeps, front_all}
-use Rattle.check_text.proofs.WrittenLemmas.{Keeps-same}
-use Rattle.check_drive.specs.declared.drive.Outcome.{Outcome}
-use Rattle.check_drive.specs.Drive.{Drove, HasRead, IsInput, LeavesRun, outcome_by, outcome_of}
-use Rattle.check_drive.specs.Streams.{streams}
+use Rattle.setup_model.specs.Agreement.{IsExpectedError}
+use Rattle.nagsched_protocol.specs.declared.drive_error.DriveError.{DriveError}
+use Rattle.nagsched_protocol.specs.declared.drive_error.DriveError.TheVariants as errors
+use Rattle.nagsched_protocol.specs.declared.input.TheConstants.{MAX_READ_BYTES}
+use Rattle.nagsched_protocol.specs.declared.script.TheConstants.{MAX_INPUT_BYTES}
+use Rattle.nagsched_protocol.specs.declared.refusal.InputRefusal.{InputRefusal}
+use Rattle.nagsched_protocol.specs.declared.refusal.InputRefusal.TheVariants as refusals
+use Rattle.nagsched_protocol.specs.declared.refusal.LineFault.TheVariants as line_fault
+use Rattle.nagsched_protocol.specs.declared.refusal.ScriptError.{ScriptError}
+use Rattle.nagsched_protocol.specs.declared.refusal.ScriptError.TheVariants as script
+use Rattle.nagsched_protocol.specs.declared.start.Start.{Start}
+use Rattle.nagsched_protocol.specs.Agreement.{refusal}
+use Rattle.nagsched_protocol.specs.DrillScript.{drill_script_of}
+use Rattle.nagsched_protocol.specs.Script.{script_of, if_within_limit}
+use Rattle.nagsched_protocol.specs.Text.{script_text, text}
+use Rattle.nagsched_protocol.specs.Written.{LeftOfText}
+use Rattle.nagsched_protocol.proofs.OutputLemmas.{Appends-Keeps, front_all}
+use Rattle.nagsched_protocol.proofs.WrittenLemmas.{Keeps-same}
+use Rattle.nagsched_run.specs.declared.drive.Outcome.{Outcome}
+use Rattle.nagsched_run.specs.Drive.{RunEnded, HasRead, IsInput, LeavesRun, outcome_by, outcome_of}
+use Rattle.nagsched_run.specs.Streams.{streams}
 
 -- ---- one byte more than an input may have is enough to refuse it
 
@@ -55,7 +55,7 @@ is_too_long bytes h = grind (arith, nat_tests, h)
 
 -- an input that is too long
 pub limit_tells : {A : Type 0} (says : List ℕ → Result A InputRefusal) (bytes : List ℕ) → MAX_INPUT_BYTES < length bytes
-    → within_limit bytes (says bytes) ≡ Err (refusals.Line line_fault.TooLong 0)
+    → if_within_limit bytes (says bytes) ≡ Err (refusals.Line line_fault.TooLong 0)
 limit_tells says bytes h = rw (is_too_long bytes h) refl
 
 script_take : (how : Start) → IsOfRead (script_of how)
@@ -115,7 +115,7 @@ no_refusal (script.Refused why) e is = cc
 
 -- the refusal that the reading of an input met is the input's
 pub met_refusal : {Y : Type 0} (error : ScriptError) (r : InputRefusal) (expected : Result Y InputRefusal)
-    → Ok r ≡ ok_or (refusal error) errors.Memory → Fails (refusal error) expected → expected ≡ Err r
+    → Ok r ≡ ok_or (refusal error) errors.Memory → IsExpectedError (refusal error) expected → expected ≡ Err r
 met_refusal script.Memory r expected e f = cc
 met_refusal (script.Refused why) r expected e f = cc
 
@@ -132,7 +132,7 @@ leaves_left errors.Memory held holds text h = h
 -- ---- how a run ends
 
 -- the input couldn't be read
-pub unread_run : (how : Start) (e : DriveError) (had left held : Option (List ℕ)) → e ≢ errors.Write → Drove how (Err e) (streams had left held held)
+pub unread_run : (how : Start) (e : DriveError) (had left held : Option (List ℕ)) → e ≢ errors.Write → RunEnded how (Err e) (streams had left held held)
 unread_run how e had left held n = record {
   input = input_of had [];
   is_input = input_of-is had [];
@@ -146,7 +146,7 @@ unread_run how e had left held n = record {
 -- the text couldn't be written, or there was no memory
 pub cut_run : (how : Start) (e : DriveError) (had left held holds : Option (List ℕ)) (input : List ℕ)
     → IfSome had (λ bytes. input ≡ take MAX_READ_BYTES bytes) → Consumes had left input
-    → LeftOfText e held holds (text how input) → Drove how (Err e) (streams had left held holds)
+    → LeftOfText e held holds (text how input) → RunEnded how (Err e) (streams had left held holds)
 cut_run how e had left held holds input all c h = record {
   input = input_of had input;
   is_input = input_of-is had input;
@@ -160,18 +160,18 @@ cut_run how e had left held holds input all c h = record {
 -- the flush failed
 pub unflushed_run : (how : Start) (e : DriveError) (had left held mid holds : Option (List ℕ)) (input : List ℕ) → e ≡ errors.Write
     → IfSome had (λ bytes. input ≡ take MAX_READ_BYTES bytes) → Consumes had left input
-    → Appends held mid (text how input) → Keeps mid holds → Drove how (Err e) (streams had left held holds)
+    → Appends held mid (text how input) → Keeps mid holds → RunEnded how (Err e) (streams had left held holds)
 unflushed_run how e had left held mid holds input is_write all c wrote kept =
     rw is_write
     (cut_run how errors.Write had left held holds input all c
     (front_all held holds (text how input) (Appends-Keeps held mid holds (text how input) wrote kept)))
 
 -- all was written
-pub flushed_run : (how : Start) (had left held mid holds : Option (List ℕ)) (given : Outcome) (input : List ℕ)
+pub flushed_run : (how : Start) (had left held mid holds : Option (List ℕ)) (bytes_read : Outcome) (input : List ℕ)
     → IfSome had (λ bytes. input ≡ take MAX_READ_BYTES bytes) → Consumes had left input
-    → Appends held mid (text how input) → Keeps mid holds → given ≡ outcome_of how input
-    → Drove how (Ok given) (streams had left held holds)
-flushed_run how had left held mid holds given input all c wrote kept is = record {
+    → Appends held mid (text how input) → Keeps mid holds → bytes_read ≡ outcome_of how input
+    → RunEnded how (Ok bytes_read) (streams had left held holds)
+flushed_run how had left held mid holds bytes_read input all c wrote kept is = record {
   input = input_of had input;
   is_input = input_of-is had input;
   outcome_is = is ∙ input_of-says (outcome_of how) (outcome_take how) had input all;

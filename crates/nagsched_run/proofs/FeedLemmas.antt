@@ -5,13 +5,14 @@ use Rattle.std.proofs.lemmas.Bool.Decides.{nat_tests}
 use Rattle.std.specs.Fmt.{digit_glyph, digits, digits_onto}
 use Rattle.std.specs.Char.{digit_char}
 use Rattle.json.specs.Print.{escape, escape_byte, escape_letter, quoted}
-use Rattle.serde_json.specs.Data.{unsigned, negative, float, Data, null, boolean, number, string, array, object, Items, no_items, item, Members, no_members, member}
+use Rattle.serde_json.specs.Data.{unsigned, negative, float, Data, null, boolean, number, string, array, object, Items, no_items, item, Members, no_members}
+use Rattle.serde_json.specs.Data.{member}
 use Rattle.serde_json.specs.Written.{comma_if, compact_text, items_text, members_text}
-use Rattle.check_saved.specs.Saved.{Saved}
-use Rattle.check_saved.specs.Text.{saved_text}
-use Rattle.check_saved.specs.Tree.{saved_tree}
-use Rattle.check_script.specs.LiveInput.{has_feed}
-use Rattle.check_script.proofs.LiveInputLemmas.{feed_on}
+use Rattle.check_saved_state.specs.Saved.{Saved}
+use Rattle.check_saved_state.specs.Text.{saved_text}
+use Rattle.check_saved_state.specs.Tree.{saved_tree}
+use Rattle.nagsched_protocol.specs.LiveInput.{has_feed}
+use Rattle.nagsched_protocol.proofs.LiveInputLemmas.{feed_on}
 
 both_free : (xs bs : List ℕ) → has_feed xs ≡ false → has_feed bs ≡ false → has_feed (xs ++ bs) ≡ false
 both_free xs bs first later = feed_on xs bs first ∙ later

@@ -2,6 +2,6 @@ pub mod DriveLemmas
 pub mod FeedLemmas
 pub mod NameTextLemmas
 pub mod LiveLemmas
-pub mod LiveLinesLemmas
-pub mod WentOnLemmas
+pub mod NextLineLemmas
+pub mod ContinuationLemmas
 pub mod CutLaws

@@ -6,36 +6,37 @@ use Rattle.std.specs.Prelude.{IfOk, IsOkUnless, OnOk, IfErr}
 use Rattle.std.specs.Io.KnownBytes.{Appends, Consumes, IsAtEnd, Keeps}
 use Rattle.check_objects.specs.Configuration.{Configuration}
 use Rattle.check_objects.specs.Setup.{setup_of}
-use Rattle.check_drafts.specs.declared.error.LoadError.{LoadError}
+use Rattle.setup_model.specs.declared.error.LoadError.{LoadError}
 use Rattle.check_sched.specs.State.{State}
-use Rattle.check_script.specs.declared.command.RunCommand.{RunCommand}
-use Rattle.check_script.specs.declared.drive_error.DriveError.{DriveError}
-use Rattle.check_script.specs.declared.drive_error.DriveError.TheVariants as errors
-use Rattle.check_script.specs.declared.live_input.TheConstants.{KEPT_SETUP_BYTES}
-use Rattle.check_script.specs.declared.refusal.InputRefusal.{InputRefusal}
-use Rattle.check_script.specs.declared.refusal.InputRefusal.TheVariants as refusal
-use Rattle.check_script.specs.declared.refusal.ScriptError.{ScriptError}
-use Rattle.check_script.specs.declared.refusal.ScriptError.TheVariants as script
-use Rattle.check_script.specs.Agreement.{Gives}
-use Rattle.check_script.specs.declared.live_error.LiveError.{LiveError}
-use Rattle.check_script.specs.declared.live_error.LiveError.TheVariants as live
-use Rattle.check_script.specs.LiveError.{AfterLine, AfterReads, IsWritten, told, told_by}
-use Rattle.check_script.specs.Input.{first_line_of, lines_of}
-use Rattle.check_script.specs.LiveInput.{behind_line, has_feed}
-use Rattle.check_script.specs.Script.{in_setup}
-use Rattle.check_script.proofs.LiveInputLemmas.{Consumes-none, Consumes-then, behind_none, behind_stays, feed_split, first_all, first_free, first_stays, lines_apart}
-use Rattle.check_text.proofs.LiveLaws.{line_first, lines_by}
-use Rattle.check_script.proofs.KeptLemmas.{setup_stays, too_long}
-use Rattle.check_script.specs.declared.start.Start.{Start}
-use Rattle.check_text.specs.LiveText.{answer_to, answers_from, live_text, said, state_after}
-use Rattle.check_text.specs.Text.{input_refusal_text, refused_text}
-use Rattle.check_text.specs.Output.{AreWholeLines}
-use Rattle.check_text.proofs.OutputLemmas.{Appends-Keeps, Appends-none, Appends-trans, front_none, whole_on}
-use Rattle.check_text.proofs.TextLemmas.{answer_line_ends}
-use Rattle.check_drive.specs.Drive.{IsInput}
-use Rattle.check_text.specs.Written.{IsLineWritten, LeftOfLine}
-use Rattle.check_drive.specs.Live.{AfterAll, AfterLines, AnsweredLines, Conversed, LeavesText, LineFailed, TalkEnded}
-use Rattle.check_drive.specs.Streams.{streams}
+use Rattle.nagsched_protocol.specs.declared.command.RunCommand.{RunCommand}
+use Rattle.nagsched_protocol.specs.declared.drive_error.DriveError.{DriveError}
+use Rattle.nagsched_protocol.specs.declared.drive_error.DriveError.TheVariants as errors
+use Rattle.nagsched_protocol.specs.declared.line_reader.TheConstants.{KEPT_SETUP_BYTES}
+use Rattle.nagsched_protocol.specs.declared.refusal.InputRefusal.{InputRefusal}
+use Rattle.nagsched_protocol.specs.declared.refusal.InputRefusal.TheVariants as refusal
+use Rattle.nagsched_protocol.specs.declared.refusal.ScriptError.{ScriptError}
+use Rattle.nagsched_protocol.specs.declared.refusal.ScriptError.TheVariants as script
+use Rattle.nagsched_protocol.specs.Agreement.{IsExpectedResult}
+use Rattle.nagsched_protocol.specs.declared.live_error.LiveError.{LiveError}
+use Rattle.nagsched_protocol.specs.declared.live_error.LiveError.TheVariants as live
+use Rattle.nagsched_protocol.specs.LiveError.{IsLineReadingError, IsReadingError, IsWriteResult, drive_error_of, drive_result_of}
+use Rattle.nagsched_protocol.specs.Input.{first_line_of, lines_of}
+use Rattle.nagsched_protocol.specs.LiveInput.{rest_after_line, has_feed}
+use Rattle.nagsched_protocol.specs.Script.{with_setup_refusal}
+use Rattle.nagsched_protocol.proofs.LiveInputLemmas.{Consumes-none, Consumes-then, behind_none, behind_stays, feed_split, first_all, first_free, first_stays}
+use Rattle.nagsched_protocol.proofs.LiveInputLemmas.{lines_apart}
+use Rattle.nagsched_protocol.proofs.LiveLaws.{line_first, lines_by}
+use Rattle.nagsched_protocol.proofs.KeptLemmas.{setup_stays, too_long}
+use Rattle.nagsched_protocol.specs.declared.start.Start.{Start}
+use Rattle.nagsched_protocol.specs.LiveText.{line_answer, answers_from, live_text, line_meaning, state_after_line}
+use Rattle.nagsched_protocol.specs.Text.{input_refusal_text, refused_text}
+use Rattle.nagsched_protocol.specs.Output.{AreWholeLines}
+use Rattle.nagsched_protocol.proofs.OutputLemmas.{Appends-Keeps, Appends-none, Appends-trans, front_none, whole_on}
+use Rattle.nagsched_protocol.proofs.TextLemmas.{answer_line_ends}
+use Rattle.nagsched_run.specs.Drive.{IsInput}
+use Rattle.nagsched_protocol.specs.Written.{IsLineWritten, LeftOfLine}
+use Rattle.nagsched_run.specs.Live.{IsSpentAfterInput, IsSpentAfterLines, HasAnsweredLines, ConversationEnded, LeavesText, LineFailed, AnsweringEnded}
+use Rattle.nagsched_run.specs.Streams.{streams}
 
 -- ---- what is read
 
@@ -57,13 +58,13 @@ rest_none None e = refl
 rest_none (Some xs) e = e
 
 -- the input is what was given, and then what still comes
-pub input_on : (had left : Option (List ℕ)) (given coming : List ℕ) → Consumes had left given → IsInput left coming → IsInput had (given ++ coming)
-input_on None left given coming h i = tt
-input_on (Some a) None given coming h i = absurd h
-input_on (Some a) (Some b) given coming h i = ap (λ l. given ++ l) i ∙ sym h
+pub input_on : (had left : Option (List ℕ)) (bytes_read coming : List ℕ) → Consumes had left bytes_read → IsInput left coming → IsInput had (bytes_read ++ coming)
+input_on None left bytes_read coming h i = tt
+input_on (Some a) None bytes_read coming h i = absurd h
+input_on (Some a) (Some b) bytes_read coming h i = ap (λ l. bytes_read ++ l) i ∙ sym h
 
-pub input_all : (had left : Option (List ℕ)) (given : List ℕ) → Consumes had left given → IsAtEnd left → IsInput had given
-input_all had left given h e = subst (IsInput had) (append-nil given) (input_on had left given [] h (end_input left e))
+pub input_all : (had left : Option (List ℕ)) (bytes_read : List ℕ) → Consumes had left bytes_read → IsAtEnd left → IsInput had bytes_read
+input_all had left bytes_read h e = subst (IsInput had) (append-nil bytes_read) (input_on had left bytes_read [] h (end_input left e))
 
 -- ---- what an error leaves
 
@@ -150,27 +151,27 @@ wrote_behind held mid holds text k a = Appends-trans held mid holds [] text (app
 
 -- ---- answers
 
-pub answer_lines : (s : State) (r : Result (Option RunCommand) InputRefusal) → AreWholeLines (answer_to s r)
+pub answer_lines : (s : State) (r : Result (Option RunCommand) InputRefusal) → AreWholeLines (line_answer s r)
 answer_lines s (Ok None) = inl refl
 answer_lines s (Ok (Some c)) = inr (answer_line_ends s c)
 answer_lines s (Err why) = inr (refused_text (input_refusal_text why), refl)
 
 -- bytes with a line feed are a line and those behind it, whatever comes later
-lines_on : (bytes more : List ℕ) → has_feed bytes ≡ true → lines_of (bytes ++ more) ≡ first_line_of bytes ∷ lines_of (behind_line bytes ++ more)
+lines_on : (bytes more : List ℕ) → has_feed bytes ≡ true → lines_of (bytes ++ more) ≡ first_line_of bytes ∷ lines_of (rest_after_line bytes ++ more)
 lines_on [] more h = cc
 lines_on (b ∷ bs) more h =
-    lines_apart b (bs ++ more) ∙ ap (λ l. l ∷ lines_of (behind_line (b ∷ bs ++ more))) (first_stays (b ∷ bs) more h)
+    lines_apart b (bs ++ more) ∙ ap (λ l. l ∷ lines_of (rest_after_line (b ∷ bs ++ more))) (first_stays (b ∷ bs) more h)
     ∙ ap (λ l. first_line_of (b ∷ bs) ∷ lines_of l) (behind_stays (b ∷ bs) more h)
 
-pub answers_on : (s : State) (n : ℕ) (hand given more : List ℕ) → has_feed (hand ++ given) ≡ true
-    → answers_from s n (lines_of (hand ++ (given ++ more))) ≡ answer_to s (said s n (first_line_of (hand ++ given)))
-    ++ answers_from (state_after s (said s n (first_line_of (hand ++ given)))) (n + 1) (lines_of (behind_line (hand ++ given) ++ more))
-answers_on s n hand given more h =
-    ap (λ l. answers_from s n (lines_of l)) (sym (append_assoc hand given more)) ∙ ap (answers_from s n) (lines_on (hand ++ given) more h)
+pub answers_on : (s : State) (n : ℕ) (hand bytes_read more : List ℕ) → has_feed (hand ++ bytes_read) ≡ true
+    → answers_from s n (lines_of (hand ++ (bytes_read ++ more))) ≡ line_answer s (line_meaning s n (first_line_of (hand ++ bytes_read)))
+    ++ answers_from (state_after_line s (line_meaning s n (first_line_of (hand ++ bytes_read)))) (n + 1) (lines_of (rest_after_line (hand ++ bytes_read) ++ more))
+answers_on s n hand bytes_read more h =
+    ap (λ l. answers_from s n (lines_of l)) (sym (append_assoc hand bytes_read more)) ∙ ap (answers_from s n) (lines_on (hand ++ bytes_read) more h)
 
 -- the last line has no line feed; no byte is no line, and answered like a blank one
 pub answers_last : (s : State) (n : ℕ) (bytes : List ℕ) → has_feed bytes ≡ false
-    → answers_from s n (lines_of bytes) ≡ answer_to s (said s n (first_line_of bytes))
+    → answers_from s n (lines_of bytes) ≡ line_answer s (line_meaning s n (first_line_of bytes))
 answers_last s n [] h = refl
 answers_last s n (b ∷ bs) h =
     ap (answers_from s n) (lines_apart b bs ∙ ap (λ l. first_line_of (b ∷ bs) ∷ lines_of l) (behind_none (b ∷ bs) h)) ∙ append-nil _
@@ -180,45 +181,45 @@ answers_last s n (b ∷ bs) h =
 -- the state behind these lines
 abbrev pub state_behind : State → ℕ → List (List ℕ) → State
 state_behind s n [] = s
-state_behind s n (line ∷ lines) = state_behind (state_after s (said s n line)) (n + 1) lines
+state_behind s n (line ∷ lines) = state_behind (state_after_line s (line_meaning s n line)) (n + 1) lines
 
 -- the answers to lines and one more, and the state behind them
 answers_then : (s : State) (n : ℕ) (lines : List (List ℕ)) (line : List ℕ)
-    → answers_from s n (lines ++ line ∷ []) ≡ answers_from s n lines ++ answer_to (state_behind s n lines) (said (state_behind s n lines) (n + length lines) line)
-answers_then s n [] line = append-nil _ ∙ ap (λ k. answer_to s (said s k line)) (let e : n ≡ n + 0 = omega arith in e)
+    → answers_from s n (lines ++ line ∷ []) ≡ answers_from s n lines ++ line_answer (state_behind s n lines) (line_meaning (state_behind s n lines) (n + length lines) line)
+answers_then s n [] line = append-nil _ ∙ ap (λ k. line_answer s (line_meaning s k line)) (let e : n ≡ n + 0 = omega arith in e)
 answers_then s n (x ∷ xs) line =
-    let t = state_after s (said s n x) in
+    let t = state_after_line s (line_meaning s n x) in
     let u = state_behind t (n + 1) xs in
-    ap (λ l. answer_to s (said s n x) ++ l) (answers_then t (n + 1) xs line
-    ∙ ap (λ k. answers_from t (n + 1) xs ++ answer_to u (said u k line)) (let e : n + 1 + length xs ≡ n + suc (length xs) = omega arith in e))
-    ∙ sym (append_assoc (answer_to s (said s n x)) (answers_from t (n + 1) xs) _)
+    ap (λ l. line_answer s (line_meaning s n x) ++ l) (answers_then t (n + 1) xs line
+    ∙ ap (λ k. answers_from t (n + 1) xs ++ line_answer u (line_meaning u k line)) (let e : n + 1 + length xs ≡ n + suc (length xs) = omega arith in e))
+    ∙ sym (append_assoc (line_answer s (line_meaning s n x)) (answers_from t (n + 1) xs) _)
 
 state_then : (s : State) (n : ℕ) (lines : List (List ℕ)) (line : List ℕ)
-    → state_behind s n (lines ++ line ∷ []) ≡ state_after (state_behind s n lines) (said (state_behind s n lines) (n + length lines) line)
-state_then s n [] line = ap (λ k. state_after s (said s k line)) (let e : n ≡ n + 0 = omega arith in e)
+    → state_behind s n (lines ++ line ∷ []) ≡ state_after_line (state_behind s n lines) (line_meaning (state_behind s n lines) (n + length lines) line)
+state_then s n [] line = ap (λ k. state_after_line s (line_meaning s k line)) (let e : n ≡ n + 0 = omega arith in e)
 state_then s n (x ∷ xs) line =
-    let t = state_after s (said s n x) in
+    let t = state_after_line s (line_meaning s n x) in
     let u = state_behind t (n + 1) xs in
-    state_then t (n + 1) xs line ∙ ap (λ k. state_after u (said u k line)) (let e : n + 1 + length xs ≡ n + suc (length xs) = omega arith in e)
+    state_then t (n + 1) xs line ∙ ap (λ k. state_after_line u (line_meaning u k line)) (let e : n + 1 + length xs ≡ n + suc (length xs) = omega arith in e)
 
 number_is : (count begins n : ℕ) → count + begins ≡ n → n ≡ begins + count
 number_is count begins n e = omega (arith, e)
 
 one_behind : (begins : ℕ) (first : State) (lines : List (List ℕ)) (line : List ℕ) (s : State) (number : ℕ) → s ≡ state_behind first begins lines
     → number ≡ begins + length lines
-    → (answers_from first begins (lines ++ line ∷ []) ≡ answers_from first begins lines ++ answer_to s (said s number line))
-    × (state_behind first begins (lines ++ line ∷ []) ≡ state_after s (said s number line))
+    → (answers_from first begins (lines ++ line ∷ []) ≡ answers_from first begins lines ++ line_answer s (line_meaning s number line))
+    × (state_behind first begins (lines ++ line ∷ []) ≡ state_after_line s (line_meaning s number line))
 one_behind begins first lines line s number same n = rw (same, n) (answers_then first begins lines line, state_then first begins lines line)
 
 -- whole lines and one more
 one_more : (taken line : List ℕ) → AreWholeLines taken → has_feed line ≡ false → lines_of (taken ++ (line ++ 10 ∷ [])) ≡ lines_of taken ++ line ∷ []
 one_more taken line full free = lines_by taken (line ++ 10 ∷ []) full ∙ ap (λ l. lines_of taken ++ l) (line_first line [] free)
 
-taken_more : (opened hand rest part given taken : List ℕ) → opened ++ given ≡ taken ++ hand → has_feed (hand ++ part) ≡ true → rest ≡ behind_line (hand ++ part)
-    → opened ++ (given ++ part) ≡ (taken ++ (first_line_of (hand ++ part) ++ 10 ∷ [])) ++ rest
-taken_more opened hand rest part given taken e feed behind =
+taken_more : (opened hand rest part bytes_read taken : List ℕ) → opened ++ bytes_read ≡ taken ++ hand → has_feed (hand ++ part) ≡ true → rest ≡ rest_after_line (hand ++ part)
+    → opened ++ (bytes_read ++ part) ≡ (taken ++ (first_line_of (hand ++ part) ++ 10 ∷ [])) ++ rest
+taken_more opened hand rest part bytes_read taken e feed behind =
     let line = first_line_of (hand ++ part) in
-    sym (append_assoc opened given part) ∙ ap (λ l. l ++ part) e ∙ append_assoc taken hand part
+    sym (append_assoc opened bytes_read part) ∙ ap (λ l. l ++ part) e ∙ append_assoc taken hand part
     ∙ ap (λ l. taken ++ l) (feed_split (hand ++ part) feed ∙ ap (λ l. line ++ 10 ∷ l) (sym behind) ∙ sym (append_assoc line (10 ∷ []) rest))
     ∙ sym (append_assoc taken (line ++ 10 ∷ []) rest)
 
@@ -226,14 +227,14 @@ taken_more opened hand rest part given taken e feed behind =
 -- were written, and that the text goes on from here as it goes on from the beginning, whatever comes later.
 -- Those bytes are whole lines from the beginning of what was at hand and was given, with their answers and the state behind them.
 pub record Talked (begins : ℕ) (first : State) (opened : List ℕ) (had left held holds : Option (List ℕ)) (number : ℕ) (s : State) (hand : List ℕ) : Type 0 where
-  pub given : List ℕ
+  pub bytes_read : List ℕ
   pub front : List ℕ
-  pub consumed : Consumes had left given
+  pub consumed : Consumes had left bytes_read
   pub appended : Appends held holds front
   pub whole : AreWholeLines front
-  pub goes_on : (more : List ℕ) → answers_from first begins (lines_of (opened ++ (given ++ more))) ≡ front ++ answers_from s number (lines_of (hand ++ more))
+  pub goes_on : (more : List ℕ) → answers_from first begins (lines_of (opened ++ (bytes_read ++ more))) ≡ front ++ answers_from s number (lines_of (hand ++ more))
   pub taken : List ℕ
-  pub parts : opened ++ given ≡ taken ++ hand
+  pub parts : opened ++ bytes_read ≡ taken ++ hand
   pub full : AreWholeLines taken
   pub count : length (lines_of taken) + begins ≡ number
   pub answers : front ≡ answers_from first begins (lines_of taken)
@@ -242,7 +243,7 @@ pub record Talked (begins : ℕ) (first : State) (opened : List ℕ) (had left h
 pub talk_begins : (begins : ℕ) (first : State) (opened : List ℕ) (had held : Option (List ℕ)) → Talked begins first opened had had held held begins first opened
 talk_begins begins first opened had held =
     record {
-      given = [];
+      bytes_read = [];
       front = [];
       consumed = Consumes-none had;
       appended = Appends-none held;
@@ -258,39 +259,39 @@ talk_begins begins first opened had held =
 
 -- a whole line was answered
 pub talk_goes_on : (begins : ℕ) (first s t : State) (opened hand rest part : List ℕ) (had mid left held wrote holds : Option (List ℕ)) (number : ℕ)
-    → Talked begins first opened had mid held wrote number s hand → Consumes mid left part → has_feed (hand ++ part) ≡ true → rest ≡ behind_line (hand ++ part)
-    → t ≡ state_after s (said s number (first_line_of (hand ++ part)))
-    → Appends wrote holds (answer_to s (said s number (first_line_of (hand ++ part))))
+    → Talked begins first opened had mid held wrote number s hand → Consumes mid left part → has_feed (hand ++ part) ≡ true → rest ≡ rest_after_line (hand ++ part)
+    → t ≡ state_after_line s (line_meaning s number (first_line_of (hand ++ part)))
+    → Appends wrote holds (line_answer s (line_meaning s number (first_line_of (hand ++ part))))
     → Talked begins first opened had left held holds (number + 1) t rest
 talk_goes_on begins first s t opened hand rest part had mid left held wrote holds number k read feed behind after wrote_it =
-    let line = said s number (first_line_of (hand ++ part)) in
+    let line = line_meaning s number (first_line_of (hand ++ part)) in
     let bytes = first_line_of (hand ++ part) ++ 10 ∷ [] in
     let lines = one_more k.taken (first_line_of (hand ++ part)) k.full (first_free (hand ++ part)) in
     let more = one_behind begins first (lines_of k.taken) (first_line_of (hand ++ part)) s number k.state (number_is _ _ _ k.count) in
     record {
-      given = k.given ++ part;
-      front = k.front ++ answer_to s line;
-      consumed = Consumes-then had mid left k.given part k.consumed read;
-      appended = Appends-trans held wrote holds k.front (answer_to s line) k.appended wrote_it;
-      whole = whole_on k.front (answer_to s line) k.whole (answer_lines s line);
+      bytes_read = k.bytes_read ++ part;
+      front = k.front ++ line_answer s line;
+      consumed = Consumes-then had mid left k.bytes_read part k.consumed read;
+      appended = Appends-trans held wrote holds k.front (line_answer s line) k.appended wrote_it;
+      whole = whole_on k.front (line_answer s line) k.whole (answer_lines s line);
       goes_on = λ more.
-          ap (λ l. answers_from first begins (lines_of (opened ++ l))) (append_assoc k.given part more) ∙ k.goes_on (part ++ more)
+          ap (λ l. answers_from first begins (lines_of (opened ++ l))) (append_assoc k.bytes_read part more) ∙ k.goes_on (part ++ more)
           ∙ ap (λ l. k.front ++ l) (answers_on s number hand part more feed
-          ∙ ap (λ l. answer_to s line ++ l) (ap (λ u. answers_from u (number + 1) (lines_of (behind_line (hand ++ part) ++ more))) (sym after)
+          ∙ ap (λ l. line_answer s line ++ l) (ap (λ u. answers_from u (number + 1) (lines_of (rest_after_line (hand ++ part) ++ more))) (sym after)
           ∙ ap (λ l. answers_from t (number + 1) (lines_of (l ++ more))) (sym behind)))
-          ∙ sym (append_assoc k.front (answer_to s line) _);
+          ∙ sym (append_assoc k.front (line_answer s line) _);
       taken = k.taken ++ bytes;
-      parts = taken_more opened hand rest part k.given k.taken k.parts feed behind;
+      parts = taken_more opened hand rest part k.bytes_read k.taken k.parts feed behind;
       full = inr (k.taken ++ first_line_of (hand ++ part), sym (append_assoc k.taken (first_line_of (hand ++ part)) (10 ∷ [])));
       count = (let sizes = ap length lines ∙ length-append (lines_of k.taken) (first_line_of (hand ++ part) ∷ []) in omega (arith, sizes, k.count));
-      answers = ap (λ l. l ++ answer_to s line) k.answers ∙ sym more.0 ∙ ap (answers_from first begins) (sym lines);
+      answers = ap (λ l. l ++ line_answer s line) k.answers ∙ sym more.0 ∙ ap (answers_from first begins) (sym lines);
       state = after ∙ sym more.1 ∙ ap (state_behind first begins) (sym lines);
     }
 
 -- the text to the end, where the last line has no line feed
 ended_text : (begins : ℕ) (first s : State) (opened hand part : List ℕ) (had mid left held wrote : Option (List ℕ)) (number : ℕ)
     → (k : Talked begins first opened had mid held wrote number s hand) → has_feed (hand ++ part) ≡ false
-    → answers_from first begins (lines_of (opened ++ (k.given ++ part))) ≡ k.front ++ answer_to s (said s number (first_line_of (hand ++ part)))
+    → answers_from first begins (lines_of (opened ++ (k.bytes_read ++ part))) ≡ k.front ++ line_answer s (line_meaning s number (first_line_of (hand ++ part)))
 ended_text begins first s opened hand part had mid left held wrote number k free =
     k.goes_on part ∙ ap (λ l. k.front ++ l) (answers_last s number (hand ++ part) free)
 
@@ -298,44 +299,44 @@ ended_text begins first s opened hand part had mid left held wrote number k free
 pub talk_ends : (begins : ℕ) (first s : State) (opened hand part : List ℕ) (had mid left held wrote wrote' holds : Option (List ℕ)) (number : ℕ)
     (flushed : Result (Unit {0}) LiveError) (wrote_all : Result (Unit {0}) DriveError)
     → Talked begins first opened had mid held wrote number s hand → Consumes mid left part → has_feed (hand ++ part) ≡ false → IsAtEnd left
-    → Appends wrote wrote' (answer_to s (said s number (first_line_of (hand ++ part)))) → Keeps wrote' holds → IsWritten flushed wrote_all → IsOkUnless wrote_all errors.Write
-    → TalkEnded begins first opened (streams had left held holds) flushed
+    → Appends wrote wrote' (line_answer s (line_meaning s number (first_line_of (hand ++ part)))) → Keeps wrote' holds → IsWriteResult flushed wrote_all → IsOkUnless wrote_all errors.Write
+    → AnsweringEnded begins first opened (streams had left held holds) flushed
 talk_ends begins first s opened hand part had mid left held wrote wrote' holds number (Ok _) written k read free end wrote_it kept w f =
-    let given = Consumes-then had mid left k.given part k.consumed read in
+    let bytes_read = Consumes-then had mid left k.bytes_read part k.consumed read in
     let text = ended_text begins first s opened hand part had mid left held wrote number k free in
     let all = Appends-Keeps held wrote' holds _ (Appends-trans held wrote wrote' k.front _ k.appended wrote_it) kept in
-    (k.given ++ part, input_all had left (k.given ++ part) given end, given, rw text all, tt)
+    (k.bytes_read ++ part, input_all had left (k.bytes_read ++ part) bytes_read end, bytes_read, rw text all, tt)
 talk_ends begins first s opened hand part had mid left held wrote wrote' holds number (Err e) written k read free end wrote_it kept w f =
-    let given = Consumes-then had mid left k.given part k.consumed read in
+    let bytes_read = Consumes-then had mid left k.bytes_read part k.consumed read in
     let text = ended_text begins first s opened hand part had mid left held wrote number k free in
     let all = Appends-trans held wrote wrote' k.front _ k.appended wrote_it in
-    let fault : told e ≡ errors.Write = subst (λ r. IsOkUnless r errors.Write) w.0 f in
-    (k.given ++ part, input_all had left (k.given ++ part) given end, tt, tt, rw (fault, text) (leaves_all held wrote' holds _ all kept))
+    let fault : drive_error_of e ≡ errors.Write = subst (λ r. IsOkUnless r errors.Write) w.0 f in
+    (k.bytes_read ++ part, input_all had left (k.bytes_read ++ part) bytes_read end, tt, tt, rw (fault, text) (leaves_all held wrote' holds _ all kept))
 
 -- a line couldn't be taken or answered
 pub talk_fails : (begins : ℕ) (first s : State) (opened hand coming : List ℕ) (had mid left held wrote holds : Option (List ℕ)) (number : ℕ)
     (e : LiveError) (ended : Result (Unit {0}) LiveError)
     → Talked begins first opened had mid held wrote number s hand → IsInput mid coming
-    → LeavesText (told e) wrote holds (answers_from s number (lines_of (hand ++ coming))) → ended ≡ Err e → TalkEnded begins first opened (streams had left held holds) ended
+    → LeavesText (drive_error_of e) wrote holds (answers_from s number (lines_of (hand ++ coming))) → ended ≡ Err e → AnsweringEnded begins first opened (streams had left held holds) ended
 talk_fails begins first s opened hand coming had mid left held wrote holds number e ended k i f r =
     rw r (
-      k.given ++ coming,
-      input_on had mid k.given coming k.consumed i,
+      k.bytes_read ++ coming,
+      input_on had mid k.bytes_read coming k.consumed i,
       tt,
       tt,
-      leaves_on (told e) held wrote holds k.front (answers_from s number (lines_of (hand ++ coming))) _ k.whole k.appended (k.goes_on coming) f,
+      leaves_on (drive_error_of e) held wrote holds k.front (answers_from s number (lines_of (hand ++ coming))) _ k.whole k.appended (k.goes_on coming) f,
     )
 
 -- as many lines as can be numbered were answered
 pub talk_spent : (begins : ℕ) (first s : State) (opened hand : List ℕ) (had left held holds : Option (List ℕ)) (number : ℕ) (e : LiveError)
-    → Talked begins first opened had left held holds number s hand → TalkEnded {T = Unit {0}} begins first opened (streams had left held holds) (Err e)
+    → Talked begins first opened had left held holds number s hand → AnsweringEnded {T = Unit {0}} begins first opened (streams had left held holds) (Err e)
 talk_spent begins first s opened hand had left held holds number e k =
-    talk_fails begins first s opened hand (rest_of left) had left left held holds holds number e (Err e) k (rest_input left) (leaves_none (told e) holds _) refl
+    talk_fails begins first s opened hand (rest_of left) had left left held holds holds number e (Err e) k (rest_input left) (leaves_none (drive_error_of e) holds _) refl
 
 pub lines_answered : (begins : ℕ) (first s : State) (opened hand : List ℕ) (had left held holds : Option (List ℕ)) (number count : ℕ)
-    → Talked begins first opened had left held holds number s hand → number ≡ count + begins → AnsweredLines count begins first opened (streams had left held holds)
+    → Talked begins first opened had left held holds number s hand → number ≡ count + begins → HasAnsweredLines count begins first opened (streams had left held holds)
 lines_answered begins first s opened hand had left held holds number count k e = record {
-  given = k.given;
+  bytes_read = k.bytes_read;
   front = k.taken;
   rest = hand;
   consumed = k.consumed;
@@ -347,91 +348,91 @@ lines_answered begins first s opened hand had left held holds number count k e =
 
 -- a line couldn't be taken or answered: no loop over lines is spent then, and one over reads by as many bytes
 pub line_spends : (begins : ℕ) (first s : State) (opened hand part : List ℕ) (had mid left held wrote holds : Option (List ℕ)) (number : ℕ) (e : LiveError)
-    → Talked begins first opened had mid held wrote number s hand → Consumes mid left part → AfterLine part e → AfterLines begins first opened (streams had left held holds) e
+    → Talked begins first opened had mid held wrote number s hand → Consumes mid left part → IsLineReadingError part e → IsSpentAfterLines begins first opened (streams had left held holds) e
 line_spends begins first s opened hand part had mid left held wrote holds number (live.Reader fault) k read h = tt
 line_spends begins first s opened hand part had mid left held wrote holds number live.Writer k read h = tt
 line_spends begins first s opened hand part had mid left held wrote holds number live.Memory k read h = tt
 line_spends begins first s opened hand part had mid left held wrote holds number live.LinesSpent k read h = absurd h
 line_spends begins first s opened hand part had mid left held wrote holds number live.ReadsSpent k read h =
-    let sizes = length-append k.given part in
-    (k.given ++ part, Consumes-then had mid left k.given part k.consumed read, omega (arith, sizes, h))
+    let sizes = length-append k.bytes_read part in
+    (k.bytes_read ++ part, Consumes-then had mid left k.bytes_read part k.consumed read, omega (arith, sizes, h))
 
 -- ---- one line
 
-pub untaken : (s : State) (number : ℕ) (hand given : List ℕ) (had left held holds : Option (List ℕ)) (e : DriveError)
-    → Consumes had left given → Keeps held holds → LineFailed s number hand had held holds e
-untaken s number hand given had left held holds e read kept =
-    (given ++ rest_of left, input_on had left given (rest_of left) read (rest_input left), leaves_kept e held holds _ kept)
+pub untaken : (s : State) (number : ℕ) (hand bytes_read : List ℕ) (had left held holds : Option (List ℕ)) (e : DriveError)
+    → Consumes had left bytes_read → Keeps held holds → LineFailed s number hand had held holds e
+untaken s number hand bytes_read had left held holds e read kept =
+    (bytes_read ++ rest_of left, input_on had left bytes_read (rest_of left) read (rest_input left), leaves_kept e held holds _ kept)
 
-pub unanswered : (s : State) (number : ℕ) (hand given : List ℕ) (had left held mid holds : Option (List ℕ)) (e : DriveError) (whole : Bool)
-    → Consumes had left given → whole ≡ has_feed (hand ++ given) → (whole ≡ false → IsAtEnd left) → Keeps held mid
-    → LeavesText e mid holds (answer_to s (said s number (first_line_of (hand ++ given)))) → LineFailed s number hand had held holds e
-unanswered s number hand given had left held mid holds e true read feed end kept f = (
-  given ++ rest_of left,
-  input_on had left given (rest_of left) read (rest_input left),
-  leaves_before e held mid holds _ kept (rw (answers_on s number hand given (rest_of left) (sym feed)) (leaves_more e mid holds _ _ f)),
+pub unanswered : (s : State) (number : ℕ) (hand bytes_read : List ℕ) (had left held mid holds : Option (List ℕ)) (e : DriveError) (whole : Bool)
+    → Consumes had left bytes_read → whole ≡ has_feed (hand ++ bytes_read) → (whole ≡ false → IsAtEnd left) → Keeps held mid
+    → LeavesText e mid holds (line_answer s (line_meaning s number (first_line_of (hand ++ bytes_read)))) → LineFailed s number hand had held holds e
+unanswered s number hand bytes_read had left held mid holds e true read feed end kept f = (
+  bytes_read ++ rest_of left,
+  input_on had left bytes_read (rest_of left) read (rest_input left),
+  leaves_before e held mid holds _ kept (rw (answers_on s number hand bytes_read (rest_of left) (sym feed)) (leaves_more e mid holds _ _ f)),
 )
-unanswered s number hand given had left held mid holds e false read feed end kept f = (
-  given,
-  input_all had left given read (end refl),
-  leaves_before e held mid holds _ kept (rw (answers_last s number (hand ++ given) (sym feed)) f),
+unanswered s number hand bytes_read had left held mid holds e false read feed end kept f = (
+  bytes_read,
+  input_all had left bytes_read read (end refl),
+  leaves_before e held mid holds _ kept (rw (answers_last s number (hand ++ bytes_read) (sym feed)) f),
 )
 
 -- ---- the whole
 
 -- a refusal that was read is the one that is defined
 pub gives_refused : {X Y : Type 0} (view : X → Y) (r : Result X ScriptError) (e : ScriptError) (why : InputRefusal) (x : Result Y InputRefusal)
-    → Gives view r x → r ≡ Err e → e ≡ script.Refused why → x ≡ Err why
+    → IsExpectedResult view r x → r ≡ Err e → e ≡ script.Refused why → x ≡ Err why
 gives_refused view (Ok c) e why x h i j = cc
 gives_refused view (Err script.Memory) e why x h i j = cc
 gives_refused view (Err (script.Refused w)) e why x h i j = let k : w ≡ why = cc in h ∙ ap Err k
 
-pub setup_is : (r : Result Configuration LoadError) (c : Configuration) → in_setup r ≡ Ok c → r ≡ Ok c
+pub setup_is : (r : Result Configuration LoadError) (c : Configuration) → with_setup_refusal r ≡ Ok c → r ≡ Ok c
 setup_is (Ok d) c e = cc
 setup_is (Err e) c h = cc
 
-pub setup_refused : (r : Result Configuration LoadError) (why : InputRefusal) → in_setup r ≡ Err why
+pub setup_refused : (r : Result Configuration LoadError) (why : InputRefusal) → with_setup_refusal r ≡ Err why
     → (e : LoadError) × (r ≡ Err e) × (why ≡ refusal.Setup e)
 setup_refused (Ok c) why h = cc
 setup_refused (Err e) why h = (e, refl, cc)
 
 -- an error, whatever came before it
 pub live_failed : (how : Start) (e : DriveError) (had left held holds : Option (List ℕ)) (input : List ℕ) → IsInput had input
-    → LeavesText e held holds (live_text how input) → Conversed how (Err e) (streams had left held holds)
+    → LeavesText e held holds (live_text how input) → ConversationEnded how (Err e) (streams had left held holds)
 live_failed how e had left held holds input i f = record { input = input; is_input = i; outcome_is = tt; written = tt; read = tt; fault = f }
 
 -- an error before anything was written
-pub live_unwritten : (how : Start) (e : DriveError) (had left held : Option (List ℕ)) (given : List ℕ) → Consumes had left given
-    → Conversed how (Err e) (streams had left held held)
-live_unwritten how e had left held given read =
-    live_failed how e had left held held (given ++ rest_of left) (input_on had left given (rest_of left) read (rest_input left)) (leaves_none e held _)
+pub live_unwritten : (how : Start) (e : DriveError) (had left held : Option (List ℕ)) (bytes_read : List ℕ) → Consumes had left bytes_read
+    → ConversationEnded how (Err e) (streams had left held held)
+live_unwritten how e had left held bytes_read read =
+    live_failed how e had left held held (bytes_read ++ rest_of left) (input_on had left bytes_read (rest_of left) read (rest_input left)) (leaves_none e held _)
 
 -- there are no lines behind the setup
-pub not_long : (c : Configuration) (given : List ℕ) → in_setup (setup_of (first_line_of given)) ≡ Ok c → has_feed given ≡ false
-    → KEPT_SETUP_BYTES ≤ length given → ⊥
-not_long c given s free long =
-    let all = ap length (first_all given free) in
-    let r = sym (too_long (first_line_of given) (omega (arith, long, all))) ∙ setup_is (setup_of (first_line_of given)) c s in
+pub not_long : (c : Configuration) (bytes_read : List ℕ) → with_setup_refusal (setup_of (first_line_of bytes_read)) ≡ Ok c → has_feed bytes_read ≡ false
+    → KEPT_SETUP_BYTES ≤ length bytes_read → ⊥
+not_long c bytes_read s free long =
+    let all = ap length (first_all bytes_read free) in
+    let r = sym (too_long (first_line_of bytes_read) (omega (arith, long, all))) ∙ setup_is (setup_of (first_line_of bytes_read)) c s in
     cc
 
 -- ---- a refused setup
 
-ended_by : (left : Option (List ℕ)) (given : List ℕ) → IsAtEnd left ⊎ (KEPT_SETUP_BYTES ≤ length given)
-    → (rest_of left ≡ []) ⊎ (KEPT_SETUP_BYTES ≤ length given)
-ended_by left given (inl end) = inl (rest_none left end)
-ended_by left given (inr long) = inr long
+ended_by : (left : Option (List ℕ)) (bytes_read : List ℕ) → IsAtEnd left ⊎ (KEPT_SETUP_BYTES ≤ length bytes_read)
+    → (rest_of left ≡ []) ⊎ (KEPT_SETUP_BYTES ≤ length bytes_read)
+ended_by left bytes_read (inl end) = inl (rest_none left end)
+ended_by left bytes_read (inr long) = inr long
 
-pub refused_stays : (given : List ℕ) (left : Option (List ℕ)) (whole : Bool) → whole ≡ has_feed given
-    → (whole ≡ false → IsAtEnd left ⊎ (KEPT_SETUP_BYTES ≤ length given))
-    → setup_of (first_line_of (given ++ rest_of left)) ≡ setup_of (first_line_of given)
-refused_stays given left true feed end = setup_stays given (rest_of left) (inl (sym feed))
-refused_stays given left false feed end = setup_stays given (rest_of left) (inr (sym feed, ended_by left given (end refl)))
+pub refused_stays : (bytes_read : List ℕ) (left : Option (List ℕ)) (whole : Bool) → whole ≡ has_feed bytes_read
+    → (whole ≡ false → IsAtEnd left ⊎ (KEPT_SETUP_BYTES ≤ length bytes_read))
+    → setup_of (first_line_of (bytes_read ++ rest_of left)) ≡ setup_of (first_line_of bytes_read)
+refused_stays bytes_read left true feed end = setup_stays bytes_read (rest_of left) (inl (sym feed))
+refused_stays bytes_read left false feed end = setup_stays bytes_read (rest_of left) (inr (sym feed, ended_by left bytes_read (end refl)))
 
 -- ---- a loop that is spent
 
 -- what only writes spends none
 pub written_lines : {T : Type 0} (r : Result T LiveError) (written : Result T DriveError) (begins : ℕ) (first : State) (opened : List ℕ)
-    (had left held holds : Option (List ℕ)) → IsWritten r written → IfErr r (AfterLines begins first opened (streams had left held holds))
+    (had left held holds : Option (List ℕ)) → IsWriteResult r written → IfErr r (IsSpentAfterLines begins first opened (streams had left held holds))
 written_lines (Ok x) written begins first opened had left held holds w = tt
 written_lines (Err (live.Reader fault)) written begins first opened had left held holds w = tt
 written_lines (Err live.Writer) written begins first opened had left held holds w = tt
@@ -441,8 +442,8 @@ written_lines (Err live.LinesSpent) written begins first opened had left held ho
 written_lines (Err live.ReadsSpent) written begins first opened had left held holds (e, inl f) = cc
 written_lines (Err live.ReadsSpent) written begins first opened had left held holds (e, inr f) = cc
 
-pub written_spends : {T : Type 0} (r : Result T LiveError) (written : Result T DriveError) (had left : Option (List ℕ)) → IsWritten r written
-    → IfErr r (AfterAll had left)
+pub written_spends : {T : Type 0} (r : Result T LiveError) (written : Result T DriveError) (had left : Option (List ℕ)) → IsWriteResult r written
+    → IfErr r (IsSpentAfterInput had left)
 written_spends (Ok x) written had left w = tt
 written_spends (Err (live.Reader fault)) written had left w = λ h. absurd h
 written_spends (Err live.Writer) written had left w = λ h. absurd h
@@ -452,47 +453,47 @@ written_spends (Err live.LinesSpent) written had left (e, inr f) = cc
 written_spends (Err live.ReadsSpent) written had left (e, inl f) = cc
 written_spends (Err live.ReadsSpent) written had left (e, inr f) = cc
 
-pub reads_spend : (e : LiveError) (given : List ℕ) (had left : Option (List ℕ)) → Consumes had left given → AfterReads given e → AfterAll had left e
-reads_spend (live.Reader fault) given had left read h = λ s. absurd s
-reads_spend live.Writer given had left read h = λ s. absurd s
-reads_spend live.Memory given had left read h = λ s. absurd s
-reads_spend live.LinesSpent given had left read h = λ s. absurd h
-reads_spend live.ReadsSpent given had left read h = λ s. (given, read, omega (arith, h))
+pub reads_spend : (e : LiveError) (bytes_read : List ℕ) (had left : Option (List ℕ)) → Consumes had left bytes_read → IsReadingError bytes_read e → IsSpentAfterInput had left e
+reads_spend (live.Reader fault) bytes_read had left read h = λ s. absurd s
+reads_spend live.Writer bytes_read had left read h = λ s. absurd s
+reads_spend live.Memory bytes_read had left read h = λ s. absurd s
+reads_spend live.LinesSpent bytes_read had left read h = λ s. absurd h
+reads_spend live.ReadsSpent bytes_read had left read h = λ s. (bytes_read, read, omega (arith, h))
 
 -- ---- errors of what only writes
 
-pub written_told : {T : Type 0} (r : Result T LiveError) (written : Result T DriveError) → IsWritten r written → written ≡ told_by r
+pub written_told : {T : Type 0} (r : Result T LiveError) (written : Result T DriveError) → IsWriteResult r written → written ≡ drive_result_of r
 written_told (Ok x) written w = w
 written_told (Err e) written w = w.0
 
 -- what is known of the one's error is known of the other's
-pub written_err : {T : Type 0} (e : LiveError) (written : Result T DriveError) (P : DriveError → Type 0) → IsWritten (Err e) written → IfErr written P → P (told e)
+pub written_err : {T : Type 0} (e : LiveError) (written : Result T DriveError) (P : DriveError → Type 0) → IsWriteResult (Err e) written → IfErr written P → P (drive_error_of e)
 written_err e written P w f = subst (λ r. IfErr r P) w.0 f
 
-pub written_ok : {T P : Type 0} (x : T) (written : Result T DriveError) → IsWritten (Ok x) written → OnOk written P → P
+pub written_ok : {T P : Type 0} (x : T) (written : Result T DriveError) → IsWriteResult (Ok x) written → OnOk written P → P
 written_ok {P = P} x written w f = subst (λ r. OnOk r P) w f
 
-pub written_if : {T : Type 0} (x : T) (written : Result T DriveError) (P : T → Type 0) → IsWritten (Ok x) written → IfOk written P → P x
+pub written_if : {T : Type 0} (x : T) (written : Result T DriveError) (P : T → Type 0) → IsWriteResult (Ok x) written → IfOk written P → P x
 written_if x written P w f = subst (λ r. IfOk r P) w f
 
-pub written_ifs : {T : Type 0} (r : Result T LiveError) (written : Result T DriveError) (P : T → Type 0) → IsWritten r written → IfOk written P → IfOk r P
+pub written_ifs : {T : Type 0} (r : Result T LiveError) (written : Result T DriveError) (P : T → Type 0) → IsWriteResult r written → IfOk written P → IfOk r P
 written_ifs (Ok x) written P w f = written_if x written P w f
 written_ifs (Err e) written P w f = tt
 
-pub written_oks : {T : Type 0} (r : Result T LiveError) (written : Result T DriveError) (P : Type 0) → IsWritten r written → OnOk written P → OnOk r P
+pub written_oks : {T : Type 0} (r : Result T LiveError) (written : Result T DriveError) (P : Type 0) → IsWriteResult r written → OnOk written P → OnOk r P
 written_oks (Ok x) written P w f = written_ok x written w f
 written_oks (Err e) written P w f = tt
 
-pub written_errs : {T : Type 0} (r : Result T LiveError) (written : Result T DriveError) (P : DriveError → Type 0) → IsWritten r written
-    → IfErr written P → IfErr r (λ e. P (told e))
+pub written_errs : {T : Type 0} (r : Result T LiveError) (written : Result T DriveError) (P : DriveError → Type 0) → IsWriteResult r written
+    → IfErr written P → IfErr r (λ e. P (drive_error_of e))
 written_errs (Ok x) written P w f = tt
 written_errs (Err e) written P w f = written_err e written P w f
 
-pub written_line : {T : Type 0} (e : LiveError) (written : Result T DriveError) (given : List ℕ) → IsWritten (Err e) written → AfterLine given e
-written_line (live.Reader fault) written given w = tt
-written_line live.Writer written given w = tt
-written_line live.Memory written given w = tt
-written_line live.LinesSpent written given (e, inl f) = cc
-written_line live.LinesSpent written given (e, inr f) = cc
-written_line live.ReadsSpent written given (e, inl f) = cc
-written_line live.ReadsSpent written given (e, inr f) = cc
+pub written_line : {T : Type 0} (e : LiveError) (written : Result T DriveError) (bytes_read : List ℕ) → IsWriteResult (Err e) written → IsLineReadingError bytes_read e
+written_line (live.Reader fault) written bytes_read w = tt
+written_line live.Writer written bytes_read w = tt
+written_line live.Memory written bytes_read w = tt
+written_line live.LinesSpent written bytes_read (e, inl f) = cc
+written_line live.LinesSpent written bytes_read (e, inr f) = cc
+written_line live.ReadsSpent written bytes_read (e, inl f) = cc
+written_line live.ReadsSpent written bytes_read (e, inr f) = cc

@@ -1,6 +1,6 @@
 -- An input that is cut after whole lines, and the two inputs by which it is run in two parts.
 use Rattle.std.specs.Prelude.{ℕ, List, ◌∷◌, ◌++◌, codes}
-use Rattle.check_saved.specs.Text.{saved_text}
+use Rattle.check_saved_state.specs.Text.{saved_text}
 use Rattle.check_sched.specs.Saved.{saved_of}
 use Rattle.check_sched.specs.State.{State}
 

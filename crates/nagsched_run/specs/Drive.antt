@@ -1,17 +1,17 @@
 -- How a run from a reader to a writer ends, with or without a fault.
 use Rattle.std.specs.Prelude.{ℕ, ◌≡◌, ◌⊎◌, List, Option, Result, Ok, Err, IfErr, IfOk, IfSome, OnErr, OnOk, take}
 use Rattle.std.specs.Io.KnownBytes.{Appends, Keeps, Consumes}
-use Rattle.check_script.specs.declared.drive_error.DriveError.{DriveError}
-use Rattle.check_script.specs.declared.drive_error.DriveError.TheVariants as errors
-use Rattle.check_script.specs.declared.input.TheConstants.{MAX_READ_BYTES}
-use Rattle.check_script.specs.declared.refusal.InputRefusal.{InputRefusal}
-use Rattle.check_script.specs.declared.start.Start.{Start}
-use Rattle.check_script.specs.Script.{script_of}
-use Rattle.check_text.specs.Output.{WroteFront, WroteShort}
-use Rattle.check_text.specs.Text.{text}
-use Rattle.check_drive.specs.declared.drive.Outcome.{Outcome}
-use Rattle.check_drive.specs.declared.drive.Outcome.TheVariants as outcome
-use Rattle.check_drive.specs.Streams.{Streams}
+use Rattle.nagsched_protocol.specs.declared.drive_error.DriveError.{DriveError}
+use Rattle.nagsched_protocol.specs.declared.drive_error.DriveError.TheVariants as errors
+use Rattle.nagsched_protocol.specs.declared.input.TheConstants.{MAX_READ_BYTES}
+use Rattle.nagsched_protocol.specs.declared.refusal.InputRefusal.{InputRefusal}
+use Rattle.nagsched_protocol.specs.declared.start.Start.{Start}
+use Rattle.nagsched_protocol.specs.Script.{script_of}
+use Rattle.nagsched_protocol.specs.Output.{WroteFront, WroteShort}
+use Rattle.nagsched_protocol.specs.Text.{text}
+use Rattle.nagsched_run.specs.declared.drive.Outcome.{Outcome}
+use Rattle.nagsched_run.specs.declared.drive.Outcome.TheVariants as outcome
+use Rattle.nagsched_run.specs.Streams.{Streams}
 
 -- the outcome of a reading: a run, or a refusal
 abbrev pub outcome_by : {A : Type 0} → Result A InputRefusal → Outcome
@@ -38,7 +38,7 @@ LeavesRun errors.Write held holds text = WroteFront held holds text
 LeavesRun errors.Memory held holds text = WroteShort held holds text
 
 -- How a run ended, by how its scheduler starts. Even if the reader and the writer aren't known, there is one input for which all this holds.
-pub record Drove (how : Start) (ended : Result Outcome DriveError) (io : Streams) : Type 0 where
+pub record RunEnded (how : Start) (ended : Result Outcome DriveError) (io : Streams) : Type 0 where
   pub input : List ℕ
   pub is_input : IsInput io.had input
   -- without an error it ran or refused the input, wrote its text, and read the input to its end or to the limit

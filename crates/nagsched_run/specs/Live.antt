@@ -3,26 +3,26 @@ use Rattle.std.specs.Prelude.{ℕ, Bool, false, ◌≡◌, ◌⊎◌, ◌+◌, �
 use Rattle.std.specs.Io.KnownBytes.{Appends, Consumes, IsAtEnd}
 use Rattle.check_objects.specs.Configuration.{Configuration}
 use Rattle.check_objects.specs.Setup.{setup_of}
-use Rattle.check_drafts.specs.declared.error.LoadError.{LoadError}
-use Rattle.check_saved.specs.Saved.{Saved}
-use Rattle.check_saved.specs.Text.{saved_of_text}
+use Rattle.setup_model.specs.declared.error.LoadError.{LoadError}
+use Rattle.check_saved_state.specs.Saved.{Saved}
+use Rattle.check_saved_state.specs.Text.{saved_of_text}
 use Rattle.check_sched.specs.State.{State}
-use Rattle.check_script.specs.declared.drive_error.DriveError.{DriveError}
-use Rattle.check_script.specs.declared.drive_error.DriveError.TheVariants as errors
-use Rattle.check_script.specs.declared.live_input.TheConstants.{KEPT_SAVED_BYTES, KEPT_SETUP_BYTES}
-use Rattle.check_script.specs.declared.live_error.LiveError.{LiveError}
-use Rattle.check_script.specs.declared.live_error.LiveError.TheVariants as live
-use Rattle.check_script.specs.declared.refusal.InputRefusal.{InputRefusal}
-use Rattle.check_script.specs.declared.start.Start.{Start}
-use Rattle.check_script.specs.Input.{first_line_of, lines_of}
-use Rattle.check_script.specs.LiveError.{IsSpent, told}
-use Rattle.check_script.specs.LiveInput.{StopsSoon, behind_line, has_feed}
-use Rattle.check_script.specs.Script.{Beginning, beginning_of, beginning_over, in_saved}
-use Rattle.check_text.specs.LiveText.{answer_to, answers_from, answers_over, live_text, said, state_after}
-use Rattle.check_text.specs.Output.{AreWholeLines, WroteFront}
-use Rattle.check_drive.specs.declared.drive.Outcome.{Outcome}
-use Rattle.check_drive.specs.Drive.{IsInput, outcome_by}
-use Rattle.check_drive.specs.Streams.{Streams}
+use Rattle.nagsched_protocol.specs.declared.drive_error.DriveError.{DriveError}
+use Rattle.nagsched_protocol.specs.declared.drive_error.DriveError.TheVariants as errors
+use Rattle.nagsched_protocol.specs.declared.line_reader.TheConstants.{KEPT_SAVED_BYTES, KEPT_SETUP_BYTES}
+use Rattle.nagsched_protocol.specs.declared.live_error.LiveError.{LiveError}
+use Rattle.nagsched_protocol.specs.declared.live_error.LiveError.TheVariants as live
+use Rattle.nagsched_protocol.specs.declared.refusal.InputRefusal.{InputRefusal}
+use Rattle.nagsched_protocol.specs.declared.start.Start.{Start}
+use Rattle.nagsched_protocol.specs.Input.{first_line_of, lines_of}
+use Rattle.nagsched_protocol.specs.LiveError.{IsSpent, drive_error_of}
+use Rattle.nagsched_protocol.specs.LiveInput.{IsBoundedReading, rest_after_line, has_feed}
+use Rattle.nagsched_protocol.specs.Script.{Beginning, beginning_of, beginning_over, with_saved_refusal}
+use Rattle.nagsched_protocol.specs.LiveText.{line_answer, answers_from, answers_over, live_text, line_meaning, state_after_line}
+use Rattle.nagsched_protocol.specs.Output.{AreWholeLines, WroteFront}
+use Rattle.nagsched_run.specs.declared.drive.Outcome.{Outcome}
+use Rattle.nagsched_run.specs.Drive.{IsInput, outcome_by}
+use Rattle.nagsched_run.specs.Streams.{Streams}
 
 -- ---- a whole conversation
 
@@ -47,19 +47,19 @@ live_outcome how input = outcome_by (beginning_of how input)
 -- the bytes read that comes after the setup document.
 abbrev pub ReadOver : (List ℕ → List ℕ) → Result Beginning InputRefusal → Option (List ℕ) → Option (List ℕ) → List ℕ → Type 0
 ReadOver behind (Ok b) had left bytes = Consumes had left bytes
-ReadOver behind (Err e) had left bytes = (given : List ℕ) × Consumes had left given × StopsSoon KEPT_SAVED_BYTES (behind given)
+ReadOver behind (Err e) had left bytes = (bytes_read : List ℕ) × Consumes had left bytes_read × IsBoundedReading KEPT_SAVED_BYTES (behind bytes_read)
 
 -- the same for an input with this setup
 abbrev pub ReadBy : Start → Result Configuration LoadError → Option (List ℕ) → Option (List ℕ) → List ℕ → Type 0
-ReadBy how (Ok c) had left input = ReadOver behind_line (beginning_over how c (behind_line input)) had left input
-ReadBy how (Err e) had left input = (given : List ℕ) × Consumes had left given × StopsSoon KEPT_SETUP_BYTES given
+ReadBy how (Ok c) had left input = ReadOver rest_after_line (beginning_over how c (rest_after_line input)) had left input
+ReadBy how (Err e) had left input = (bytes_read : List ℕ) × Consumes had left bytes_read × IsBoundedReading KEPT_SETUP_BYTES bytes_read
 
 -- The bytes that were read: the input to its end or, if its setup or its saved state is refused, no more than show the refusal.
 abbrev pub HasReadLive : Start → Option (List ℕ) → Option (List ℕ) → List ℕ → Type 0
 HasReadLive how had left input = ReadBy how (setup_of (first_line_of input)) had left input
 
 -- How a conversation ended, by how its scheduler starts. Even if the reader and the writer aren't known, there is one input for which all this holds.
-pub record Conversed (how : Start) (ended : Result Outcome DriveError) (io : Streams) : Type 0 where
+pub record ConversationEnded (how : Start) (ended : Result Outcome DriveError) (io : Streams) : Type 0 where
   pub input : List ℕ
   pub is_input : IsInput io.had input
   -- without an error it answered the lines or refused the input, wrote its text, and read as much as that needs
@@ -73,20 +73,20 @@ pub record Conversed (how : Start) (ended : Result Outcome DriveError) (io : Str
 
 -- The first line of these bytes was taken as a document, and at most `most` bytes of it are kept. The fields say whether lines may follow, which bytes
 -- are in the buffer now, and why no more came.
-pub record TookDocument (most : ℕ) (bytes : List ℕ) (follow : Bool) (hand : List ℕ) (left : Option (List ℕ)) : Type 0 where
+pub record HasTakenDocument (most : ℕ) (bytes : List ℕ) (follow : Bool) (hand : List ℕ) (left : Option (List ℕ)) : Type 0 where
   pub follows : follow ≡ has_feed bytes
-  pub hand_is : hand ≡ behind_line bytes
+  pub buffer_is : hand ≡ rest_after_line bytes
   pub ended : follow ≡ false → IsAtEnd left ⊎ (most ≤ length bytes)
 
 -- The next line was answered, from the bytes in the buffer and the bytes that were given. The fields say whether lines may follow, which bytes are in
 -- the buffer now, the scheduler's state, and the output.
-pub record AnsweredNext (s : State) (number : ℕ) (bytes : List ℕ) (more : Bool) (left : Option (List ℕ)) (after : State) (hand : List ℕ)
+pub record HasAnsweredLine (s : State) (number : ℕ) (bytes : List ℕ) (more : Bool) (left : Option (List ℕ)) (after : State) (hand : List ℕ)
     (held holds : Option (List ℕ)) : Type 0 where
   pub follows : more ≡ has_feed bytes
   pub ended : more ≡ false → IsAtEnd left
-  pub hand_is : hand ≡ behind_line bytes
-  pub state_is : after ≡ state_after s (said s number (first_line_of bytes))
-  pub wrote : Appends held holds (answer_to s (said s number (first_line_of bytes)))
+  pub buffer_is : hand ≡ rest_after_line bytes
+  pub state_is : after ≡ state_after_line s (line_meaning s number (first_line_of bytes))
+  pub wrote : Appends held holds (line_answer s (line_meaning s number (first_line_of bytes)))
 
 -- The next line couldn't be taken or answered. Some bytes come, and a prefix of the answers to the lines of all bytes was written.
 abbrev pub LineFailed : State → ℕ → List ℕ → Option (List ℕ) → Option (List ℕ) → Option (List ℕ) → DriveError → Type 0
@@ -95,60 +95,60 @@ LineFailed s number hand had held holds e =
 
 -- This many lines were answered, from the line with the number `begins` on, and each from its beginning to its line feed. They are the beginning of the
 -- bytes in the buffer and the bytes that were given.
-pub record AnsweredLines (count begins : ℕ) (first : State) (hand : List ℕ) (io : Streams) : Type 0 where
-  pub given : List ℕ
+pub record HasAnsweredLines (count begins : ℕ) (first : State) (hand : List ℕ) (io : Streams) : Type 0 where
+  pub bytes_read : List ℕ
   pub front : List ℕ
   pub rest : List ℕ
-  pub consumed : Consumes io.had io.left given
-  pub parts : hand ++ given ≡ front ++ rest
+  pub consumed : Consumes io.had io.left bytes_read
+  pub parts : hand ++ bytes_read ≡ front ++ rest
   pub lines : length (lines_of front) ≡ count
   pub whole : AreWholeLines front
   pub answered : Appends io.held io.holds (answers_from first begins (lines_of front))
 
 -- at least this many bytes were given
-abbrev pub GaveMany : ℕ → Option (List ℕ) → Option (List ℕ) → Type 0
-GaveMany count had left = (given : List ℕ) × Consumes had left given × (count ≤ length given)
+abbrev pub HasReadAtLeast : ℕ → Option (List ℕ) → Option (List ℕ) → Type 0
+HasReadAtLeast count had left = (bytes_read : List ℕ) × Consumes had left bytes_read × (count ≤ length bytes_read)
 
 -- The work after which a loop is spent. A loop over lines has answered as many lines as can have numbers, from the first line's number on. A loop over
 -- reads was given at least 2^64 - 1 bytes.
-abbrev pub AfterLines : ℕ → State → List ℕ → Streams → LiveError → Type 0
-AfterLines begins first hand io live.LinesSpent = AnsweredLines (2 ^ 64 - 1 - begins) begins first hand io
-AfterLines begins first hand io live.ReadsSpent = GaveMany (2 ^ 64 - 1) io.had io.left
-AfterLines begins first hand io e = ⊤
+abbrev pub IsSpentAfterLines : ℕ → State → List ℕ → Streams → LiveError → Type 0
+IsSpentAfterLines begins first hand io live.LinesSpent = HasAnsweredLines (2 ^ 64 - 1 - begins) begins first hand io
+IsSpentAfterLines begins first hand io live.ReadsSpent = HasReadAtLeast (2 ^ 64 - 1) io.had io.left
+IsSpentAfterLines begins first hand io e = ⊤
 
 -- a loop of a conversation is spent only after at least 2^64 - 3 bytes
-abbrev pub AfterAll : Option (List ℕ) → Option (List ℕ) → LiveError → Type 0
-AfterAll had left e = IsSpent e → GaveMany (2 ^ 64 - 3) had left
+abbrev pub IsSpentAfterInput : Option (List ℕ) → Option (List ℕ) → LiveError → Type 0
+IsSpentAfterInput had left e = IsSpent e → HasReadAtLeast (2 ^ 64 - 3) had left
 
 -- How the answering of lines ended, from the line with the number `begins` on, with these bytes in the buffer. Some bytes came. The answers to the
 -- lines of all bytes together were written, or after an error a prefix of these answers.
-abbrev pub TalkEnded : {T : Type 0} → ℕ → State → List ℕ → Streams → Result T LiveError → Type 0
-TalkEnded begins first hand io ended =
+abbrev pub AnsweringEnded : {T : Type 0} → ℕ → State → List ℕ → Streams → Result T LiveError → Type 0
+AnsweringEnded begins first hand io ended =
     (coming : List ℕ) × IsInput io.had coming × OnOk ended (Consumes io.had io.left coming)
     × OnOk ended (Appends io.held io.holds (answers_from first begins (lines_of (hand ++ coming))))
-    × IfErr ended (λ e. LeavesText (told e) io.held io.holds (answers_from first begins (lines_of (hand ++ coming))))
+    × IfErr ended (λ e. LeavesText (drive_error_of e) io.held io.holds (answers_from first begins (lines_of (hand ++ coming))))
 
 -- ---- what comes after the setup document
 
 -- the saved state that these bytes begin with, or its refusal
-abbrev pub saved_in : List ℕ → Result Saved InputRefusal
-saved_in bytes = in_saved (saved_of_text (first_line_of bytes))
+abbrev pub saved_at_start : List ℕ → Result Saved InputRefusal
+saved_at_start bytes = with_saved_refusal (saved_of_text (first_line_of bytes))
 
 -- How a conversation ended after a setup, with these bytes in the buffer. Some bytes came, and none if nothing may follow. For all bytes together it
 -- answered the lines or refused the saved state, and wrote its text. After an error it wrote a prefix of this text.
-pub record WentOn (how : Start) (c : Configuration) (may_follow : Bool) (hand : List ℕ) (ended : Result Outcome LiveError) (io : Streams) : Type 0 where
+pub record IsContinuation (how : Start) (c : Configuration) (may_follow : Bool) (hand : List ℕ) (ended : Result Outcome LiveError) (io : Streams) : Type 0 where
   pub coming : List ℕ
   pub is_input : IsInput io.had coming
   pub short : may_follow ≡ false → coming ≡ []
   pub outcome_is : IfOk ended (λ outcome. outcome ≡ outcome_by (beginning_over how c (hand ++ coming)))
   pub written : OnOk ended (Appends io.held io.holds (answers_over (beginning_over how c (hand ++ coming))))
-  pub read : OnOk ended (ReadOver (λ given. hand ++ given) (beginning_over how c (hand ++ coming)) io.had io.left coming)
-  pub fault : IfErr ended (λ e. LeavesText (told e) io.held io.holds (answers_over (beginning_over how c (hand ++ coming))))
+  pub read : OnOk ended (ReadOver (λ bytes_read. hand ++ bytes_read) (beginning_over how c (hand ++ coming)) io.had io.left coming)
+  pub fault : IfErr ended (λ e. LeavesText (drive_error_of e) io.held io.holds (answers_over (beginning_over how c (hand ++ coming))))
 
 -- at least this many bytes were in the buffer or were given
-abbrev pub HadMany : ℕ → List ℕ → Option (List ℕ) → Option (List ℕ) → Type 0
-HadMany count hand had left = (given : List ℕ) × Consumes had left given × (count ≤ length hand + length given)
+abbrev pub HasHadAtLeast : ℕ → List ℕ → Option (List ℕ) → Option (List ℕ) → Type 0
+HasHadAtLeast count hand had left = (bytes_read : List ℕ) × Consumes had left bytes_read × (count ≤ length hand + length bytes_read)
 
 -- a loop after a setup is spent only if at least 2^64 - 3 bytes followed the setup
-abbrev pub AfterLater : List ℕ → Option (List ℕ) → Option (List ℕ) → LiveError → Type 0
-AfterLater hand had left e = IsSpent e → HadMany (2 ^ 64 - 3) hand had left
+abbrev pub IsSpentAfterSetup : List ℕ → Option (List ℕ) → Option (List ℕ) → LiveError → Type 0
+IsSpentAfterSetup hand had left e = IsSpent e → HasHadAtLeast (2 ^ 64 - 3) hand had left

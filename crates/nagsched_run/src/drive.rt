@@ -1,15 +1,18 @@
 //! A run: reads an input, carries out its commands on one scheduler, and writes the lines of the answers.
+
 ghost use Rattle.std.specs.Prelude.{◌≡◌, ◌≢◌, ◌≤◌, IfOk, IfErr, string_capacity};
 ghost use Rattle.check_sched.specs.Step.{step};
-ghost use Rattle.check_script.specs.Start.{CanStart};
-ghost use Rattle.check_text.specs.Text.{answer_line, line_from, state_by, text, text_from};
-ghost use Rattle.check_text.specs.Written.{IsLineWritten, IsTextWritten};
-ghost use Rattle.check_drive.specs.Drive.{Drove, outcome_of};
-ghost use Rattle.check_drive.specs.Streams.{streams};
+ghost use Rattle.nagsched_protocol.specs.Start.{CanStart};
+ghost use Rattle.nagsched_protocol.specs.Text.{answer_line, line_from, state_after_command, text, text_from};
+ghost use Rattle.nagsched_protocol.specs.Written.{IsLineWritten, IsTextWritten};
+ghost use Rattle.nagsched_run.specs.Drive.{RunEnded, outcome_of};
+ghost use Rattle.nagsched_run.specs.Streams.{streams};
 
 use check_sched::{Call, LAST_MOMENT, Sched};
-use check_script::{DriveError, MAX_READ_BYTES, RunCommand, Script, Start, read_at_most};
-use check_text::{REPLY_BYTES, flush, push_reply, write_refusal, write_saved, write_text};
+use nagsched_protocol::{
+    DriveError, MAX_READ_BYTES, REPLY_BYTES, RunCommand, Script, Start, flush, push_reply,
+    read_at_most, write_refusal, write_saved, write_text,
+};
 use std::alloc::Global;
 use std::io::{Read, Write};
 
@@ -33,7 +36,7 @@ pub fn drive<R: Read, W: Write>(
     writer: &mut W,
 ) -> Result<Outcome, DriveError>
     requires { start ≤ LAST_MOMENT }
-    ensures { Drove (Start.Fresh start) result
+    ensures { RunEnded (Start.Fresh start) result
         (streams (R.remaining reader.old) (R.remaining reader.new)
         (W.contents writer.old) (W.contents writer.new)) }
 {
@@ -69,7 +72,7 @@ pub fn run<R: Read, W: Write>(
     writer: &mut W,
 ) -> Result<Outcome, DriveError>
     requires { CanStart start }
-    ensures { Drove start result
+    ensures { RunEnded start result
         (streams (R.remaining reader.old) (R.remaining reader.new)
         (W.contents writer.old) (W.contents writer.new)) }
 {
@@ -80,7 +83,7 @@ pub fn run<R: Read, W: Write>(
 }
 
 /// Writes the text of an input that was read.
-#[tactic(auto, unfolding(check_text::specs::Text::text, crate::specs::Drive::outcome_of))]
+#[tactic(auto, unfolding(nagsched_protocol::specs::Text::text, crate::specs::Drive::outcome_of))]
 fn answer<W: Write>(
     alloc: Global,
     start: Start,
@@ -131,11 +134,11 @@ pub(crate) fn answer_command<W: Write>(
     line: &mut String,
     writer: &mut W,
 ) -> Result<(), DriveError>
-    ensures state { sched.new ≡ state_by sched.old command }
+    ensures state { sched.new ≡ state_after_command sched.old command }
     ensures wrote { IsLineWritten result (W.contents writer.old) (W.contents writer.new)
         (answer_line sched.old command) }
-    ensures room { string_capacity line.old ≤ string_capacity line.new }
-    ensures ample { REPLY_BYTES ≤ string_capacity line.old
+    ensures capacity { string_capacity line.old ≤ string_capacity line.new }
+    ensures sufficient { REPLY_BYTES ≤ string_capacity line.old
         → IfErr result (λ e. e ≡ DriveError.Memory → sched.new ≡ sched.old) }
 {
     match command {
@@ -156,8 +159,8 @@ pub fn make_call<W: Write>(
     ensures setup { sched.new.setup ≡ sched.old.setup }
     ensures wrote { IsLineWritten result (W.contents writer.old) (W.contents writer.new)
         (line_from sched.old call) }
-    ensures room { string_capacity line.old ≤ string_capacity line.new }
-    ensures ample { REPLY_BYTES ≤ string_capacity line.old
+    ensures capacity { string_capacity line.old ≤ string_capacity line.new }
+    ensures sufficient { REPLY_BYTES ≤ string_capacity line.old
         → IfErr result (λ e. e ≢ DriveError.Memory) }
 {
     let reply = sched.apply(call);

@@ -3,18 +3,18 @@
 //!
 //! The modules:
 //!
-//! - `drive`: a run. `check_script` reads its input, and `check_text` makes and writes its lines.
-//! - `live`: a conversation. `live_lines` takes its lines one at a time, and `live_faults` converts its
+//! - `drive`: a run. `nagsched_protocol` reads its input, and makes and writes its lines.
+//! - `live`: a conversation. `next_line` takes its lines one at a time, and `live_errors` converts its
 //!   errors.
 //! - `laws`: the texts of two runs if the second one continues from the saved state of the first.
 //!
 //! A run and a conversation start their scheduler fresh or from a saved state (`Start` of
-//! `check_script`).
+//! `nagsched_protocol`).
 //!
 //! The modules are public, because a function `drive` and a module `drive` can't both be at the root.
 
 pub mod drive;
 pub mod laws;
 pub mod live;
-mod live_faults;
-mod live_lines;
+mod live_errors;
+mod next_line;

@@ -1,31 +1,31 @@
 //! A conversation: reads a setup, then answers each line when it has come, before it asks for more.
+
 ghost use Rattle.std.specs.Prelude.{◌≡◌, ◌≢◌, ◌≤◌, ◌++◌, ◌⊎◌, ℕ, List, [], Ok, IfOk, IfErr, OnOk, true, false, length, string_capacity};
 ghost use Rattle.std.specs.Io.KnownBytes.{Appends, Consumes, IsAtEnd, Keeps};
 ghost use Rattle.check_objects.specs.Setup.{setup_of};
-ghost use Rattle.check_script.specs.Agreement.{Gives};
-ghost use Rattle.check_script.specs.Input.{first_line_of};
-ghost use Rattle.check_script.specs.LiveError.{AfterLine, AfterReads, told, told_by};
-ghost use Rattle.check_script.specs.LiveInput.{StopsSoon, behind_line, front_of, has_feed};
-ghost use Rattle.check_script.specs.Script.{in_setup};
-ghost use Rattle.check_script.specs.Start.{CanStart};
-ghost use Rattle.check_text.specs.LiveText.{answer_to, said, state_after};
-ghost use Rattle.check_text.specs.Text.{refusal_line};
-ghost use Rattle.check_drive.specs.Live.{AfterAll, AfterLater, AfterLines, AnsweredNext, Conversed, LeavesText};
-ghost use Rattle.check_drive.specs.Live.{LineFailed, TalkEnded, TookDocument, WentOn, saved_in};
-ghost use Rattle.check_drive.specs.Streams.{streams};
+ghost use Rattle.nagsched_protocol.specs.Agreement.{IsExpectedResult};
+ghost use Rattle.nagsched_protocol.specs.Input.{first_line_of};
+ghost use Rattle.nagsched_protocol.specs.LiveError.{IsLineReadingError, IsReadingError, drive_error_of, drive_result_of};
+ghost use Rattle.nagsched_protocol.specs.LiveInput.{IsBoundedReading, rest_after_line, prefix_of, has_feed};
+ghost use Rattle.nagsched_protocol.specs.Script.{with_setup_refusal};
+ghost use Rattle.nagsched_protocol.specs.Start.{CanStart};
+ghost use Rattle.nagsched_protocol.specs.LiveText.{line_answer, line_meaning, state_after_line};
+ghost use Rattle.nagsched_protocol.specs.Text.{refusal_line};
+ghost use Rattle.nagsched_run.specs.Live.{IsSpentAfterInput, IsSpentAfterSetup, IsSpentAfterLines, HasAnsweredLine, ConversationEnded, LeavesText};
+ghost use Rattle.nagsched_run.specs.Live.{LineFailed, AnsweringEnded, HasTakenDocument, IsContinuation, saved_at_start};
+ghost use Rattle.nagsched_run.specs.Streams.{streams};
 
 use crate::drive::{Outcome, answer_command};
-use crate::live_faults::{as_told, as_written};
-use crate::live_lines::take_next_line;
+use crate::live_errors::{as_drive_result, as_live_result};
+use crate::next_line::take_next_line;
 use check_objects::Setup;
-use check_saved::Saved;
+use check_saved_state::Saved;
 use check_sched::Sched;
-use check_script::{
+use nagsched_protocol::{
     ASKED_BYTES, DriveError, InputBuffer, InputRefusal, KEPT_LINE_BYTES, KEPT_SAVED_BYTES,
-    KEPT_SETUP_BYTES, KeptLine, LiveError, RunCommand, ScriptError, Start, open, read_kept,
-    read_saved, read_setup, resume, take_document,
+    KEPT_SETUP_BYTES, LineBuffer, LiveError, REPLY_BYTES, RunCommand, ScriptError, Start, flush,
+    open, read_buffered, read_saved, read_setup, resume, take_document, write_refusal,
 };
-use check_text::{REPLY_BYTES, flush, write_refusal};
 use std::alloc::{AllocError, Global};
 use std::io::{Read, Write};
 
@@ -67,11 +67,11 @@ pub fn live<R: Read, W: Write>(
     writer: &mut W,
 ) -> Result<Outcome, DriveError>
     requires { CanStart start }
-    ensures { Conversed start result
+    ensures { ConversationEnded start result
         (streams (R.remaining reader.old) (R.remaining reader.new)
         (W.contents writer.old) (W.contents writer.new)) }
 {
-    as_told(converse(alloc, start, reader, writer))
+    as_drive_result(converse(alloc, start, reader, writer))
 }
 
 /// A conversation that distinguishes a spent loop from a fault of the reader. A loop is spent only if
@@ -83,16 +83,16 @@ fn converse<R: Read, W: Write>(
     writer: &mut W,
 ) -> Result<Outcome, LiveError>
     requires { CanStart start }
-    ensures conversed { Conversed start (told_by result)
+    ensures conversation { ConversationEnded start (drive_result_of result)
         (streams (R.remaining reader.old) (R.remaining reader.new)
         (W.contents writer.old) (W.contents writer.new)) }
-    ensures spent { IfErr result (AfterAll (R.remaining reader.old) (R.remaining reader.new)) }
+    ensures spent { IfErr result (IsSpentAfterInput (R.remaining reader.old) (R.remaining reader.new)) }
 {
-    let mut at_hand = InputBuffer::new(alloc);
-    let (setup, whole) = read_first(alloc, &mut at_hand, reader)?;
+    let mut buffered = InputBuffer::new(alloc);
+    let (setup, whole) = read_setup_line(alloc, &mut buffered, reader)?;
     match setup {
-        Ok(setup) => go_on(alloc, start, setup, whole, at_hand, reader, writer),
-        Err(ScriptError::Refused(refusal)) => as_written(refuse(alloc, refusal, writer)),
+        Ok(setup) => continue_live(alloc, start, setup, whole, buffered, reader, writer),
+        Err(ScriptError::Refused(refusal)) => as_live_result(refuse(alloc, refusal, writer)),
         Err(ScriptError::Memory) => Err(LiveError::Memory),
     }
 }
@@ -100,39 +100,39 @@ fn converse<R: Read, W: Write>(
 /// Continues after a setup: starts the scheduler, which may resume a saved state, and answers the lines
 /// for it. If nothing may follow the setup, nothing is read. A loop is spent only if at least 2^64 - 3
 /// bytes were in the buffer or were given.
-fn go_on<R: Read, W: Write>(
+fn continue_live<R: Read, W: Write>(
     alloc: Global,
     start: Start,
     setup: Setup,
     may_follow: bool,
-    at_hand: InputBuffer,
+    buffered: InputBuffer,
     reader: &mut R,
     writer: &mut W,
 ) -> Result<Outcome, LiveError>
     requires start { CanStart start }
-    requires end { may_follow ≡ false → (at_hand ≡ []) × IsAtEnd (R.remaining reader.old) }
-    requires few { length at_hand ≤ ASKED_BYTES }
-    ensures went_on { WentOn start setup may_follow at_hand result
+    requires end { may_follow ≡ false → (buffered ≡ []) × IsAtEnd (R.remaining reader.old) }
+    requires bounded { length buffered ≤ ASKED_BYTES }
+    ensures continuation { IsContinuation start setup may_follow buffered result
         (streams (R.remaining reader.old) (R.remaining reader.new)
         (W.contents writer.old) (W.contents writer.new)) }
     ensures spent { IfErr result
-        (AfterLater at_hand (R.remaining reader.old) (R.remaining reader.new)) }
+        (IsSpentAfterSetup buffered (R.remaining reader.old) (R.remaining reader.new)) }
 {
-    let mut at_hand = at_hand;
+    let mut buffered = buffered;
     match start {
         Start::Fresh(moment) => {
-            let mut talk = Talk::new(alloc, open(alloc, setup, moment)?, at_hand)?;
+            let mut talk = Conversation::new(alloc, open(alloc, setup, moment)?, buffered)?;
             talk.answer_all(alloc, 2, may_follow, reader, writer)
         }
         Start::Resumed(moment) => {
-            let (saved, follow) = take_saved(alloc, may_follow, &mut at_hand, reader)?;
+            let (saved, follow) = read_saved_line(alloc, may_follow, &mut buffered, reader)?;
             match saved {
                 Ok(saved) => {
                     let sched = resume(alloc, setup, &saved, moment)?;
-                    let mut talk = Talk::new(alloc, sched, at_hand)?;
+                    let mut talk = Conversation::new(alloc, sched, buffered)?;
                     talk.answer_all(alloc, 3, follow, reader, writer)
                 }
-                Err(ScriptError::Refused(why)) => as_written(refuse(alloc, why, writer)),
+                Err(ScriptError::Refused(why)) => as_live_result(refuse(alloc, why, writer)),
                 Err(ScriptError::Memory) => Err(LiveError::Memory),
             }
         }
@@ -158,77 +158,77 @@ fn refuse<W: Write>(
 }
 
 /// The setup of line 1, or its refusal, and whether lines may follow.
-fn read_first<R: Read>(
+fn read_setup_line<R: Read>(
     alloc: Global,
-    at_hand: &mut InputBuffer,
+    buffered: &mut InputBuffer,
     reader: &mut R,
 ) -> Result<(Result<Setup, ScriptError>, bool), LiveError>
-    requires { at_hand.old ≡ [] }
-    ensures { (given : List ℕ)
-        × Consumes (R.remaining reader.old) (R.remaining reader.new) given
-        × StopsSoon KEPT_SETUP_BYTES given
+    requires { buffered.old ≡ [] }
+    ensures { (bytes_read : List ℕ)
+        × Consumes (R.remaining reader.old) (R.remaining reader.new) bytes_read
+        × IsBoundedReading KEPT_SETUP_BYTES bytes_read
         × IfOk result (λ first.
-        Gives (λ setup. setup) first.0 (in_setup (setup_of (first_line_of given)))
-        × TookDocument KEPT_SETUP_BYTES given first.1 at_hand.new (R.remaining reader.new))
-        × IfErr result (AfterReads given) }
+        IsExpectedResult (λ setup. setup) first.0 (with_setup_refusal (setup_of (first_line_of bytes_read)))
+        × HasTakenDocument KEPT_SETUP_BYTES bytes_read first.1 buffered.new (R.remaining reader.new))
+        × IfErr result (IsReadingError bytes_read) }
 {
-    let mut document = KeptLine::new(alloc, KEPT_SETUP_BYTES);
-    let whole = take_document(at_hand, &mut document, reader)?;
+    let mut document = LineBuffer::new(alloc, KEPT_SETUP_BYTES);
+    let whole = take_document(buffered, &mut document, reader)?;
     Ok((read_setup(alloc, document.bytes()), whole))
 }
 
 /// The saved state of line 2, or its refusal, and whether lines may follow. If nothing may follow the
 /// setup, line 2 is empty, and nothing is read. If the buffer holds the whole line, the reader isn't
 /// asked. Nothing was written before this line, so nothing is flushed.
-fn take_saved<R: Read>(
+fn read_saved_line<R: Read>(
     alloc: Global,
     may_follow: bool,
-    at_hand: &mut InputBuffer,
+    buffered: &mut InputBuffer,
     reader: &mut R,
 ) -> Result<(Result<Saved, ScriptError>, bool), LiveError>
-    requires end { may_follow ≡ false → (at_hand.old ≡ []) × IsAtEnd (R.remaining reader.old) }
-    requires few { length at_hand.old ≤ ASKED_BYTES }
-    ensures took { (given : List ℕ)
-        × Consumes (R.remaining reader.old) (R.remaining reader.new) given
-        × (may_follow ≡ false → given ≡ [])
-        × StopsSoon KEPT_SAVED_BYTES (at_hand.old ++ given)
+    requires end { may_follow ≡ false → (buffered.old ≡ []) × IsAtEnd (R.remaining reader.old) }
+    requires bounded { length buffered.old ≤ ASKED_BYTES }
+    ensures reading { (bytes_read : List ℕ)
+        × Consumes (R.remaining reader.old) (R.remaining reader.new) bytes_read
+        × (may_follow ≡ false → bytes_read ≡ [])
+        × IsBoundedReading KEPT_SAVED_BYTES (buffered.old ++ bytes_read)
         × IfOk result (λ second.
-        Gives (λ saved. saved) second.0 (saved_in (at_hand.old ++ given))
-        × TookDocument KEPT_SAVED_BYTES (at_hand.old ++ given) second.1 at_hand.new
+        IsExpectedResult (λ saved. saved) second.0 (saved_at_start (buffered.old ++ bytes_read))
+        × HasTakenDocument KEPT_SAVED_BYTES (buffered.old ++ bytes_read) second.1 buffered.new
         (R.remaining reader.new))
-        × IfErr result (AfterReads given) }
-    ensures unasked { has_feed at_hand.old ≡ true → reader.new ≡ reader.old }
+        × IfErr result (IsReadingError bytes_read) }
+    ensures no_read { has_feed buffered.old ≡ true → reader.new ≡ reader.old }
 {
     if !may_follow {
         return Ok((read_saved(alloc, &[]), false));
     }
-    let mut line = KeptLine::new(alloc, KEPT_SAVED_BYTES);
-    let follow = take_document(at_hand, &mut line, reader)?;
+    let mut line = LineBuffer::new(alloc, KEPT_SAVED_BYTES);
+    let follow = take_document(buffered, &mut line, reader)?;
     Ok((read_saved(alloc, line.bytes()), follow))
 }
 
 /// A scheduler in a conversation, the input in its buffer, and the buffers of a line and of a reply.
 #[derive(Drop)]
-struct Talk {
+struct Conversation {
     sched: Sched,
-    at_hand: InputBuffer,
-    line: KeptLine,
+    buffered: InputBuffer,
+    line: LineBuffer,
     reply: String,
 }
 
-impl Talk {
+impl Conversation {
     /// A conversation with this scheduler.
-    fn new(alloc: Global, sched: Sched, at_hand: InputBuffer) -> Result<Talk, AllocError>
+    fn new(alloc: Global, sched: Sched, buffered: InputBuffer) -> Result<Conversation, AllocError>
         ensures sched { IfOk result (λ talk. talk.sched ≡ sched) }
-        ensures at_hand { IfOk result (λ talk. talk.at_hand ≡ at_hand) }
-        ensures line { IfOk result (λ talk. talk.line ≡ front_of KEPT_LINE_BYTES []) }
-        ensures room { IfOk result (λ talk. REPLY_BYTES ≤ string_capacity talk.reply) }
+        ensures buffered { IfOk result (λ talk. talk.buffered ≡ buffered) }
+        ensures line { IfOk result (λ talk. talk.line ≡ prefix_of KEPT_LINE_BYTES []) }
+        ensures capacity { IfOk result (λ talk. REPLY_BYTES ≤ string_capacity talk.reply) }
     {
         let reply = String::with_capacity(alloc, REPLY_BYTES)?;
-        Ok(Talk {
+        Ok(Conversation {
             sched,
-            at_hand,
-            line: KeptLine::new(alloc, KEPT_LINE_BYTES),
+            buffered,
+            line: LineBuffer::new(alloc, KEPT_LINE_BYTES),
             reply,
         })
     }
@@ -250,10 +250,10 @@ impl Talk {
         ensures none { may_follow ≡ false → (result ≡ Ok Outcome.Ran)
             × (R.remaining reader.new ≡ R.remaining reader.old)
             × (W.contents writer.new ≡ W.contents writer.old) }
-        ensures lines { may_follow ≡ true → TalkEnded begins self.old.sched self.old.at_hand
+        ensures lines { may_follow ≡ true → AnsweringEnded begins self.old.sched self.old.buffered
             (streams (R.remaining reader.old) (R.remaining reader.new)
             (W.contents writer.old) (W.contents writer.new)) result }
-        ensures spent { IfErr result (AfterLines begins self.old.sched self.old.at_hand
+        ensures spent { IfErr result (IsSpentAfterLines begins self.old.sched self.old.buffered
             (streams (R.remaining reader.old) (R.remaining reader.new)
             (W.contents writer.old) (W.contents writer.new))) }
     {
@@ -275,16 +275,16 @@ impl Talk {
         requires buffers { (self.old.line.most ≡ KEPT_LINE_BYTES)
             × (REPLY_BYTES ≤ string_capacity self.old.reply) }
         requires begins { begins ≤ 3 }
-        ensures lines { TalkEnded begins self.old.sched self.old.at_hand
+        ensures lines { AnsweringEnded begins self.old.sched self.old.buffered
             (streams (R.remaining reader.old) (R.remaining reader.new)
             (W.contents writer.old) (W.contents writer.new)) result }
-        ensures spent { IfErr result (AfterLines begins self.old.sched self.old.at_hand
+        ensures spent { IfErr result (IsSpentAfterLines begins self.old.sched self.old.buffered
             (streams (R.remaining reader.old) (R.remaining reader.new)
             (W.contents writer.old) (W.contents writer.new))) }
     {
         for number in begins..usize::MAX {
             if !self.answer_next(alloc, number, reader, writer)? {
-                return as_written(flush(writer));
+                return as_live_result(flush(writer));
             }
         }
         Err(LiveError::LinesSpent)
@@ -302,23 +302,23 @@ impl Talk {
     ) -> Result<bool, LiveError>
         requires { (self.old.line.most ≡ KEPT_LINE_BYTES)
             × (REPLY_BYTES ≤ string_capacity self.old.reply) }
-        ensures took { (given : List ℕ)
-            × Consumes (R.remaining reader.old) (R.remaining reader.new) given
-            × IfOk result (λ more. AnsweredNext self.old.sched number (self.old.at_hand ++ given) more
-            (R.remaining reader.new) self.new.sched self.new.at_hand
+        ensures reading { (bytes_read : List ℕ)
+            × Consumes (R.remaining reader.old) (R.remaining reader.new) bytes_read
+            × IfOk result (λ more. HasAnsweredLine self.old.sched number (self.old.buffered ++ bytes_read) more
+            (R.remaining reader.new) self.new.sched self.new.buffered
             (W.contents writer.old) (W.contents writer.new))
-            × IfErr result (AfterLine given) }
-        ensures unasked { has_feed self.old.at_hand ≡ true → reader.new ≡ reader.old }
+            × IfErr result (IsLineReadingError bytes_read) }
+        ensures no_read { has_feed self.old.buffered ≡ true → reader.new ≡ reader.old }
         ensures line { OnOk result (self.new.line.most ≡ KEPT_LINE_BYTES) }
-        ensures room { REPLY_BYTES ≤ string_capacity self.new.reply }
-        ensures fault { IfErr result (λ e. LineFailed self.old.sched number self.old.at_hand
-            (R.remaining reader.old) (W.contents writer.old) (W.contents writer.new) (told e)) }
+        ensures capacity { REPLY_BYTES ≤ string_capacity self.new.reply }
+        ensures fault { IfErr result (λ e. LineFailed self.old.sched number self.old.buffered
+            (R.remaining reader.old) (W.contents writer.old) (W.contents writer.new) (drive_error_of e)) }
         ensures memory { IfErr result (λ e. e ≡ LiveError.Memory
             → (self.new.sched ≡ self.old.sched)
             × Keeps (W.contents writer.old) (W.contents writer.new)) }
     {
-        let whole = take_next_line(&mut self.at_hand, &mut self.line, reader, writer)?;
-        as_written(self.answer(alloc, number, writer))?;
+        let whole = take_next_line(&mut self.buffered, &mut self.line, reader, writer)?;
+        as_live_result(self.answer(alloc, number, writer))?;
         Ok(whole)
     }
 
@@ -331,22 +331,22 @@ impl Talk {
         writer: &mut W,
     ) -> Result<(), DriveError>
         requires { REPLY_BYTES ≤ string_capacity self.old.reply }
-        ensures answered { (text : List ℕ) → self.old.line ≡ front_of KEPT_LINE_BYTES text
-            → OnOk result ((self.new.sched ≡ state_after self.old.sched (said self.old.sched number text))
+        ensures answered { (text : List ℕ) → self.old.line ≡ prefix_of KEPT_LINE_BYTES text
+            → OnOk result ((self.new.sched ≡ state_after_line self.old.sched (line_meaning self.old.sched number text))
             × Appends (W.contents writer.old) (W.contents writer.new)
-            (answer_to self.old.sched (said self.old.sched number text))) }
-        ensures fault { (text : List ℕ) → self.old.line ≡ front_of KEPT_LINE_BYTES text
+            (line_answer self.old.sched (line_meaning self.old.sched number text))) }
+        ensures fault { (text : List ℕ) → self.old.line ≡ prefix_of KEPT_LINE_BYTES text
             → IfErr result (λ e. LeavesText e (W.contents writer.old) (W.contents writer.new)
-            (answer_to self.old.sched (said self.old.sched number text))) }
+            (line_answer self.old.sched (line_meaning self.old.sched number text))) }
         ensures kind { IfErr result (λ e. e ≢ DriveError.Read) }
-        ensures at_hand { self.new.at_hand ≡ self.old.at_hand }
+        ensures buffered { self.new.buffered ≡ self.old.buffered }
         ensures line { self.new.line ≡ self.old.line }
-        ensures room { REPLY_BYTES ≤ string_capacity self.new.reply }
+        ensures capacity { REPLY_BYTES ≤ string_capacity self.new.reply }
         ensures memory { IfErr result (λ e. e ≡ DriveError.Memory
             → (self.new.sched ≡ self.old.sched)
             × Keeps (W.contents writer.old) (W.contents writer.new)) }
     {
-        match read_kept::<RunCommand>(alloc, self.sched.setup(), &self.line, number) {
+        match read_buffered::<RunCommand>(alloc, self.sched.setup(), &self.line, number) {
             Ok(None) => Ok(()),
             Ok(Some(command)) => answer_command(
                 alloc,

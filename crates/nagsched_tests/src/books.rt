@@ -1,7 +1,7 @@
 //! The book over which the tests have their cores and locks.
 
 ghost use Rattle.std.specs.Prelude.{◌≡◌, [], IfOk};
-ghost use Rattle.ticket_steps.specs.CounterBooks.{entries_of, refused_of};
+ghost use Rattle.ticket_steps.specs.CounterBooks.{counter_entries, counter_refusals};
 
 use std::alloc::{AllocError, Global};
 use ticket_steps::Entry;
@@ -9,7 +9,7 @@ use ticket_steps::counter::CounterBook;
 
 /// An empty book, at the second try if the first is out of memory.
 pub(crate) fn empty_book(alloc: Global, room: usize) -> Result<CounterBook, AllocError>
-    ensures { IfOk result (λ book. (entries_of book ≡ []) × (refused_of book ≡ 0)) }
+    ensures { IfOk result (λ book. (counter_entries book ≡ []) × (counter_refusals book ≡ 0)) }
 {
     match CounterBook::open(alloc, room) {
         Ok(book) => Ok(book),

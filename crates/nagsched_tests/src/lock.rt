@@ -3,6 +3,7 @@
 //!
 //! The test of one thread also passes if any one request for memory is refused (`rt try --test --fail-alloc
 //! N`).
+
 ghost use Rattle.std.specs.Prelude.{◌<◌, ◌≤◌, IfOk};
 ghost use Rattle.ticket_lock.specs.Tokens.{IsSeatOf, IsTurnOf};
 

@@ -1,6 +1,7 @@
 //! Facts that no clause states: worked schedules, successful calls, and out of memory.
 //!
 //! Each test also passes if any one request for memory is refused (`rt try --test --fail-alloc N`).
+
 ghost use Rattle.std.specs.Prelude.{◌<◌, ◌≤◌};
 
 use crate::books::{empty_book, is_entry};

@@ -1,7 +1,7 @@
 pub mod FeedLemmas
 pub mod HeadLemmas
 pub mod PieceLemmas
-pub mod ShownLemmas
+pub mod ExcerptLemmas
 pub mod KeyLemmas
 pub mod LineLemmas
 pub mod NumberLemmas

@@ -6,7 +6,7 @@ use Rattle.std.proofs.lemmas.Str.{is_utf8-from_IsUtf8}
 use Rattle.serde_json.specs.Data.{Data, depth}
 use Rattle.serde_json.specs.Read.{read, max_depth}
 use Rattle.serde_json.proofs.Nesting.{depth-read}
-use Rattle.check_documents.specs.Tree.{tree_of}
+use Rattle.setup_reader.specs.JsonTree.{tree_of}
 
 read_by : (b : Bool) (r : Option Data) (d : Data) → cond b r None ≡ Some d → r ≡ Some d
 read_by true r d e = e

@@ -8,22 +8,22 @@ abbrev pub is_control : ℕ → Bool
 is_control c = nat_le c 31 || (nat_le 127 c && nat_le c 159)
 
 -- the escape of a control character: its number
-abbrev pub escape_of : ℕ → List ℕ
-escape_of c = codes "\\u00" ++ (digit_char (c / 16) ∷ digit_char (c % 16) ∷ [])
+abbrev pub control_escape : ℕ → List ℕ
+control_escape c = codes "\\u00" ++ (digit_char (c / 16) ∷ digit_char (c % 16) ∷ [])
 
 -- a character as it is written in a JSON string; control characters are written as their numbers
-abbrev pub escaped : ℕ → List ℕ
-escaped c = if c == 34 then codes "\\\"" else (if c == 92 then codes "\\\\" else (if c == 10 then codes "\\n" else (if c == 13 then codes "\\r"
-    else (if c == 9 then codes "\\t" else (if is_control c then escape_of c else encode_utf8 c)))))
+abbrev pub escape : ℕ → List ℕ
+escape c = if c == 34 then codes "\\\"" else (if c == 92 then codes "\\\\" else (if c == 10 then codes "\\n" else (if c == 13 then codes "\\r"
+    else (if c == 9 then codes "\\t" else (if is_control c then control_escape c else encode_utf8 c)))))
 
 -- at most this many of the characters; dots replace the rest
-abbrev pub cut_behind : ℕ → List ℕ → List ℕ
-cut_behind most characters = flat_map escaped (take most characters) ++ (if nat_lt most (length characters) then codes "..." else [])
+abbrev pub excerpt_to : ℕ → List ℕ → List ℕ
+excerpt_to most characters = flat_map escape (take most characters) ++ (if nat_lt most (length characters) then codes "..." else [])
 
 -- at most 80 characters of a text
-abbrev pub cut : List ℕ → List ℕ
-cut text = cut_behind 80 (chars text)
+abbrev pub excerpt : List ℕ → List ℕ
+excerpt text = excerpt_to 80 (chars text)
 
 -- a text as a JSON string of at most 80 characters
 abbrev pub shown : List ℕ → List ℕ
-shown text = codes "\"" ++ (cut text ++ codes "\"")
+shown text = codes "\"" ++ (excerpt text ++ codes "\"")

@@ -1,16 +1,16 @@
 -- The explanation of a fault, from the tree of the document that has it.
 use Rattle.std.specs.Prelude.{◌≡◌, ℕ, true, false, Bool, List, ◌++◌, Option, Some, None, codes, decimal}
 use Rattle.serde_json.specs.Data.{Data, null}
-use Rattle.check_drafts.specs.declared.fault.Fault as declared
-use Rattle.check_drafts.specs.declared.fault.Fault.TheVariants as faults
-use Rattle.check_drafts.specs.declared.fault.Unread.{Unread}
-use Rattle.check_drafts.specs.Fault as fault
-use Rattle.check_drafts.specs.Fault.{Fault}
-use Rattle.check_explain.specs.Counts.{count_text}
-use Rattle.check_explain.specs.Cycles.{dependency_cycle_text, parent_cycle_text}
-use Rattle.check_explain.specs.Names.{bad_name_text, duplicate_text, unknown_end_text, unknown_host_text, unknown_parent_text}
-use Rattle.check_explain.specs.Ranges.{range_text}
-use Rattle.check_explain.specs.Shapes.{IsOfShape}
+use Rattle.setup_model.specs.declared.fault.Fault as declared
+use Rattle.setup_model.specs.declared.fault.Fault.TheVariants as faults
+use Rattle.setup_model.specs.declared.fault.JsonPosition.{JsonPosition}
+use Rattle.setup_model.specs.Fault as fault
+use Rattle.setup_model.specs.Fault.{Fault}
+use Rattle.setup_diagnostics.specs.Counts.{count_text}
+use Rattle.setup_diagnostics.specs.Cycles.{dependency_cycle_text, parent_cycle_text}
+use Rattle.setup_diagnostics.specs.Names.{bad_name_text, duplicate_text, unknown_end_text, unknown_host_text, unknown_parent_text}
+use Rattle.setup_diagnostics.specs.Ranges.{range_text}
+use Rattle.setup_diagnostics.specs.Shapes.{IsShapeText}
 
 -- the tree, or null for a document that wasn't read
 abbrev pub tree_or_null : Option Data → Data
@@ -20,11 +20,11 @@ tree_or_null (Some tree) = tree
 abbrev pub too_long_text : List ℕ
 too_long_text = codes "the document has more than " ++ (decimal 16777216 ++ codes " bytes")
 
--- the whole line; `IsOfShape` defines it for a value of another kind, and `IsOfUnread` for the position at which reading stops
+-- the whole line; `IsShapeText` defines it for a value of another kind, and `IsNotJsonText` for the position at which reading stops
 abbrev pub IsExplanation : Data → Fault → List ℕ → Type 0
 IsExplanation tree fault.too_long text = text ≡ too_long_text
 IsExplanation tree fault.not_json text = Unit {0}
-IsExplanation tree (fault.shape p w) text = IsOfShape tree p w text
+IsExplanation tree (fault.shape p w) text = IsShapeText tree p w text
 IsExplanation tree (fault.too_many c n) text = text ≡ count_text c n
 IsExplanation tree (fault.bad_name p w) text = text ≡ bad_name_text tree p w
 IsExplanation tree (fault.duplicate p earlier) text = text ≡ duplicate_text tree p earlier
@@ -36,14 +36,14 @@ IsExplanation tree (fault.dependency_cycle p cycle) text = text ≡ dependency_c
 IsExplanation tree (fault.parent_cycle cycle) text = text ≡ parent_cycle_text tree cycle
 IsExplanation tree fault.memory text = text ≡ codes "memory ran out; that says nothing of the document"
 
-abbrev pub stop_words : Bool → List ℕ
-stop_words true = codes ": the document ends before its JSON does"
-stop_words false = codes ": no JSON can be read on from here"
+abbrev pub stop_reason_words : Bool → List ℕ
+stop_reason_words true = codes ": the document ends before its JSON does"
+stop_reason_words false = codes ": no JSON can be read on from here"
 
 -- the position at which reading stops in a document that isn't JSON
-abbrev pub unread_text : Unread → List ℕ
-unread_text u = codes "line " ++ (decimal u.line ++ (codes ", column " ++ (decimal u.column ++ stop_words u.is_at_end)))
+abbrev pub json_position_text : JsonPosition → List ℕ
+json_position_text u = codes "line " ++ (decimal u.line ++ (codes ", column " ++ (decimal u.column ++ stop_reason_words u.is_at_end)))
 
-abbrev pub IsOfUnread : declared.Fault → List ℕ → Type 0
-IsOfUnread (faults.NotJson u) text = text ≡ unread_text u
-IsOfUnread other text = Unit {0}
+abbrev pub IsNotJsonText : declared.Fault → List ℕ → Type 0
+IsNotJsonText (faults.NotJson u) text = text ≡ json_position_text u
+IsNotJsonText other text = Unit {0}

@@ -1,5 +1,5 @@
 pub mod Feeds
-pub mod Shown
+pub mod Excerpts
 pub mod Places
 pub mod Shapes
 pub mod Names

@@ -2,19 +2,19 @@
 use Rattle.std.specs.Prelude.{ℕ, ◌==◌, List, ◌++◌, Option, Some, codes, decimal, option_and_then, if◌then◌else◌}
 use Rattle.serde_json.specs.Data.{Data}
 use Rattle.serde_json.specs.Find.{as_str, at, get}
-use Rattle.check_drafts.specs.declared.fault.End.{End}
-use Rattle.check_drafts.specs.declared.fault.End.TheVariants as end
-use Rattle.check_drafts.specs.declared.fault.EndFault.{EndFault}
-use Rattle.check_drafts.specs.declared.fault.EndFault.TheVariants as end_fault
-use Rattle.check_drafts.specs.declared.fault.NameFault.{NameFault}
-use Rattle.check_drafts.specs.declared.fault.NameFault.TheVariants as name_fault
-use Rattle.check_drafts.specs.declared.place.Part.{Part}
-use Rattle.check_drafts.specs.declared.place.Part.TheVariants as part
-use Rattle.check_drafts.specs.declared.place.Place.{Place}
-use Rattle.check_drafts.specs.Place.{host_at, service_at}
-use Rattle.check_documents.specs.Places.{value_at}
-use Rattle.check_explain.specs.Places.{named, part_text, place_text, text_in}
-use Rattle.check_explain.specs.Shown.{shown}
+use Rattle.setup_model.specs.declared.fault.End.{End}
+use Rattle.setup_model.specs.declared.fault.End.TheVariants as end
+use Rattle.setup_model.specs.declared.fault.EndFault.{EndFault}
+use Rattle.setup_model.specs.declared.fault.EndFault.TheVariants as end_fault
+use Rattle.setup_model.specs.declared.fault.NameFault.{NameFault}
+use Rattle.setup_model.specs.declared.fault.NameFault.TheVariants as name_fault
+use Rattle.setup_model.specs.declared.place.Part.{Part}
+use Rattle.setup_model.specs.declared.place.Part.TheVariants as part
+use Rattle.setup_model.specs.declared.place.Place.{Place}
+use Rattle.setup_model.specs.Place.{host_place, service_place}
+use Rattle.setup_reader.specs.Places.{value_at}
+use Rattle.setup_diagnostics.specs.Places.{role_text, part_text, place_text, member_text}
+use Rattle.setup_diagnostics.specs.Excerpts.{shown}
 
 -- ---- bad names
 
@@ -48,16 +48,16 @@ duplicate_text tree place earlier = place_text tree place ++ (part_text place.pa
 
 -- the parent at the second index in the list of the host at the first index
 abbrev pub parent_name : Data → ℕ → ℕ → Option (List ℕ)
-parent_name tree host index = option_and_then as_str (option_and_then (at index) (option_and_then (get (codes "parents")) (value_at tree (host_at host))))
+parent_name tree host index = option_and_then as_str (option_and_then (at index) (option_and_then (get (codes "parents")) (value_at tree (host_place host))))
 
 abbrev pub unknown_parent_text : Data → ℕ → ℕ → List ℕ
 unknown_parent_text tree host index =
-    place_text tree (host_at host) ++ (named (codes "parent ") (parent_name tree host index) ++ codes " isn't among the hosts")
+    place_text tree (host_place host) ++ (role_text (codes "parent ") (parent_name tree host index) ++ codes " isn't among the hosts")
 
 abbrev pub unknown_host_text : Data → ℕ → List ℕ
 unknown_host_text tree service =
-    place_text tree (service_at service)
-    ++ (named (codes "host ") (option_and_then (text_in (codes "host")) (value_at tree (service_at service))) ++ codes " isn't among the hosts")
+    place_text tree (service_place service)
+    ++ (role_text (codes "host ") (option_and_then (member_text (codes "host")) (value_at tree (service_place service))) ++ codes " isn't among the hosts")
 
 -- ---- ends that don't exist, or are of the other sort
 
@@ -82,4 +82,4 @@ end_words p (end_fault.OtherSort e) = codes " is a host; it has to be a service"
 
 abbrev pub unknown_end_text : Data → Place → EndFault → List ℕ
 unknown_end_text tree place w =
-    place_text tree place ++ (named (end_role (end_of w)) (option_and_then (text_in (end_member (end_of w))) (value_at tree place)) ++ end_words place.part w)
+    place_text tree place ++ (role_text (end_role (end_of w)) (option_and_then (member_text (end_member (end_of w))) (value_at tree place)) ++ end_words place.part w)

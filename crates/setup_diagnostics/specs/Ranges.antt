@@ -1,13 +1,13 @@
 -- The explanation of a number that is out of its limits.
 use Rattle.std.specs.Prelude.{ℕ, List, [], ◌++◌, Option, Some, None, codes, decimal}
 use Rattle.serde_json.specs.Data.{Data}
-use Rattle.check_drafts.specs.declared.place.Place.{Place}
-use Rattle.check_drafts.specs.Fault as fault
-use Rattle.check_drafts.specs.Fault.{WrongNumber}
-use Rattle.check_drafts.specs.Member.{Row, limits_of}
-use Rattle.check_drafts.specs.Members as members
-use Rattle.check_explain.specs.Places.{place_text}
-use Rattle.check_explain.specs.Shown.{shown}
+use Rattle.setup_model.specs.declared.place.Place.{Place}
+use Rattle.setup_model.specs.Fault as fault
+use Rattle.setup_model.specs.Fault.{RangeFault}
+use Rattle.setup_model.specs.Member.{Row, limits_of}
+use Rattle.setup_model.specs.Members as members
+use Rattle.setup_diagnostics.specs.Places.{place_text}
+use Rattle.setup_diagnostics.specs.Excerpts.{shown}
 
 abbrev pub between_text : ℕ → ℕ → List ℕ
 between_text low high = codes "; it can be " ++ (decimal low ++ (codes " to " ++ decimal high))
@@ -24,12 +24,12 @@ number_text m n = shown m.name ++ (codes " is " ++ decimal n)
 abbrev pub above_text : Row → ℕ → List ℕ
 above_text m n = codes "; it can't be above " ++ (shown m.name ++ (codes ", which is " ++ decimal n))
 
-abbrev pub wrong_number_text : WrongNumber → List ℕ
-wrong_number_text (fault.beyond m n) = number_text m n ++ limits_text (limits_of m.kind)
+abbrev pub wrong_number_text : RangeFault → List ℕ
+wrong_number_text (fault.out_of_range m n) = number_text m n ++ limits_text (limits_of m.kind)
 wrong_number_text (fault.service_thresholds low high) =
     number_text members.low_service_flap_threshold low ++ above_text members.high_service_flap_threshold high
 wrong_number_text (fault.host_thresholds low high) =
     number_text members.low_host_flap_threshold low ++ above_text members.high_host_flap_threshold high
 
-abbrev pub range_text : Data → Place → WrongNumber → List ℕ
+abbrev pub range_text : Data → Place → RangeFault → List ℕ
 range_text tree place w = place_text tree place ++ wrong_number_text w

@@ -1,15 +1,15 @@
 -- The names that the schema of a setup contains.
 use Rattle.std.specs.Prelude.{◌≡◌, ℕ, List, [], ◌∷◌, ◌++◌}
 use Rattle.json.specs.Print.{quoted}
-use Rattle.check_drafts.specs.declared.member.Kind.{Kind}
-use Rattle.check_drafts.specs.declared.member.Kind.TheVariants as kind
-use Rattle.check_drafts.specs.declared.place.Part.{Part}
-use Rattle.check_drafts.specs.declared.place.Part.TheVariants as part
-use Rattle.check_drafts.specs.Member.{Row}
-use Rattle.check_drafts.specs.Members.{item_members, option_members}
+use Rattle.setup_model.specs.declared.member.Kind.{Kind}
+use Rattle.setup_model.specs.declared.member.Kind.TheVariants as kind
+use Rattle.setup_model.specs.declared.place.Part.{Part}
+use Rattle.setup_model.specs.declared.place.Part.TheVariants as part
+use Rattle.setup_model.specs.Member.{Row}
+use Rattle.setup_model.specs.Members.{item_members, option_members}
 
 -- a text that contains this one
-pub record Has (part text : List ℕ) : Type 0 where
+pub record ContainsText (part text : List ℕ) : Type 0 where
   pub before : List ℕ
   pub after : List ℕ
   pub is : text ≡ before ++ (part ++ after)
@@ -17,7 +17,7 @@ pub record Has (part text : List ℕ) : Type 0 where
 -- each of these members is named
 abbrev pub NamesEach : List Row → List ℕ → Type 0
 NamesEach [] text = Unit {0}
-NamesEach (m ∷ ms) text = Has (quoted m.name) text × NamesEach ms text
+NamesEach (m ∷ ms) text = ContainsText (quoted m.name) text × NamesEach ms text
 
 -- the members of the options, or of the objects in a list
 abbrev pub inner_members : Part → List Row
@@ -31,4 +31,4 @@ NamesInner other text = Unit {0}
 -- each of these members is named, and each member of the objects that it has
 abbrev pub NamesAll : List Row → List ℕ → Type 0
 NamesAll [] text = Unit {0}
-NamesAll (m ∷ ms) text = Has (quoted m.name) text × NamesInner m.kind text × NamesAll ms text
+NamesAll (m ∷ ms) text = ContainsText (quoted m.name) text × NamesInner m.kind text × NamesAll ms text

@@ -1,10 +1,11 @@
 //! Counts past their limits.
+
 ghost use Rattle.std.specs.Prelude.{◌≡◌, ◌++◌, false, OnOk};
-ghost use Rattle.check_explain.specs.Counts.{count_text, counted_words, limit_of};
-ghost use Rattle.check_explain.specs.Feeds.{has_feed};
+ghost use Rattle.setup_diagnostics.specs.Counts.{count_text, count_words, count_limit};
+ghost use Rattle.setup_diagnostics.specs.Feeds.{has_line_feed};
 
 use crate::line::Line;
-use check_drafts::{Count, MAX_DEPENDENCIES, MAX_OBJECTS, MAX_PARENTS};
+use setup_model::{Count, MAX_DEPENDENCIES, MAX_OBJECTS, MAX_PARENTS};
 use std::alloc::AllocError;
 
 /// Appends a count that is past its limit, and the limit.
@@ -13,14 +14,14 @@ pub(crate) fn push_count(line: &mut Line, count: Count, number: u64) -> Result<(
 {
     line.push_words("there are ")?;
     line.push_number(number)?;
-    line.push_words(counted_words(count))?;
+    line.push_words(count_words(count))?;
     line.push_words("; there can be ")?;
-    line.push_number(limit_of(count))
+    line.push_number(count_limit(count))
 }
 
 /// The limit of a count.
-fn limit_of(count: Count) -> u64
-    ensures { result ≡ limit_of count }
+fn count_limit(count: Count) -> u64
+    ensures { result ≡ count_limit count }
 {
     match count {
         Count::Objects => MAX_OBJECTS as u64,
@@ -29,9 +30,9 @@ fn limit_of(count: Count) -> u64
     }
 }
 
-fn counted_words(count: Count) -> &'static str
-    ensures text { result.now ≡ counted_words count }
-    ensures flat { has_feed result.now ≡ false }
+fn count_words(count: Count) -> &'static str
+    ensures text { result.now ≡ count_words count }
+    ensures no_line_feed { has_line_feed result.now ≡ false }
 {
     match count {
         Count::Objects => " hosts and services",

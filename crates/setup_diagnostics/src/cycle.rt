@@ -1,16 +1,17 @@
 //! Cycles of objects: each object is linked to the next one, and the last object to the first.
+
 ghost use Rattle.std.specs.Prelude.{◌≡◌, ◌++◌, OnOk, take};
 ghost use Rattle.serde_json.specs.View.{view};
-ghost use Rattle.check_explain.specs.Cycles.{cycle_text, dependencies_of, dependency_cycle_text, first_text, more_text, objects_text, parent_cycle_text};
+ghost use Rattle.setup_diagnostics.specs.Cycles.{cycle_text, dependency_part, dependency_cycle_text, first_text, more_text, objects_text, parent_cycle_text};
 
 use crate::line::Line;
 use crate::places::{part_words, push_name_at};
-use check_drafts::{Part, Place};
 use serde_json::Value;
+use setup_model::{Part, Place};
 use std::alloc::AllocError;
 
 /// The number of objects of a cycle that are named. The other objects are only counted.
-const MOST_NAMED: usize = 8;
+const MAX_NAMED_OBJECTS: usize = 8;
 
 /// Appends a cycle of hosts: each host has the next one for a parent, and the last host has the first.
 pub(crate) fn push_parent_cycle(
@@ -34,13 +35,13 @@ pub(crate) fn push_dependency_cycle(
     ensures { OnOk result (line.new
         ≡ line.old ++ dependency_cycle_text (view tree.now) part cycle.now) }
 {
-    line.push_words(part_words(dependencies_of(part)))?;
+    line.push_words(part_words(dependency_part(part)))?;
     push_cycle(line, tree, part, cycle)
 }
 
 /// The list of dependencies between objects of a part.
-fn dependencies_of(part: Part) -> Part
-    ensures { result ≡ dependencies_of part }
+fn dependency_part(part: Part) -> Part
+    ensures { result ≡ dependency_part part }
 {
     match part {
         Part::Services => Part::ServiceDependencies,
@@ -53,17 +54,17 @@ fn push_cycle(line: &mut Line, tree: &Value, part: Part, cycle: &[usize]) -> Res
     ensures { OnOk result (line.new ≡ line.old ++ cycle_text (view tree.now) part cycle.now) }
 {
     line.push_words(" go round:")?;
-    push_objects(line, tree, part, first_ones(cycle))?;
+    push_objects(line, tree, part, first_objects(cycle))?;
     push_more(line, cycle.len())?;
     push_first(line, tree, part, cycle)
 }
 
 /// The objects that are named.
-fn first_ones(cycle: &[usize]) -> &[usize]
+fn first_objects(cycle: &[usize]) -> &[usize]
     ensures { result.now ≡ take 8 cycle.now }
 {
-    if cycle.len() > MOST_NAMED {
-        &cycle[..MOST_NAMED]
+    if cycle.len() > MAX_NAMED_OBJECTS {
+        &cycle[..MAX_NAMED_OBJECTS]
     } else {
         cycle
     }
@@ -89,9 +90,9 @@ fn push_objects(
 fn push_more(line: &mut Line, count: usize) -> Result<(), AllocError>
     ensures { OnOk result (line.new ≡ line.old ++ more_text count) }
 {
-    if count > MOST_NAMED {
+    if count > MAX_NAMED_OBJECTS {
         line.push_words(" (")?;
-        line.push_number((count - MOST_NAMED) as u64)?;
+        line.push_number((count - MAX_NAMED_OBJECTS) as u64)?;
         line.push_words(" more) ->")
     } else {
         Ok(())

@@ -5,11 +5,11 @@ ghost use Rattle.json.specs.Lex.{tokens};
 ghost use Rattle.json.specs.Print.{print};
 ghost use Rattle.serde_json.specs.View.{view};
 ghost use Rattle.serde_json.specs.Written.{compact_text, has_float};
-ghost use Rattle.check_documents.specs.Feeds.{HasNoFeed};
-ghost use Rattle.check_documents.specs.Tree.{tree_of};
+ghost use Rattle.setup_reader.specs.Feeds.{HasNoLineFeed};
+ghost use Rattle.setup_reader.specs.JsonTree.{tree_of};
 
-use check_drafts::{Fault, MAX_DOCUMENT_BYTES};
 use serde_json::Value;
+use setup_model::{Fault, MAX_DOCUMENT_BYTES};
 use std::alloc::Global;
 
 /// Writes the document with this tree in JSON's compact form, without a line feed in it or at its end. The
@@ -17,10 +17,10 @@ use std::alloc::Global;
 /// A valid setup contains no float.
 ///
 /// The error is `TooLong` if the line has more than 16,777,216 bytes, or `Memory`.
-pub fn write_line(alloc: Global, tree: &Value) -> Result<Vec<u8>, Fault>
+pub fn compact_document(alloc: Global, tree: &Value) -> Result<Vec<u8>, Fault>
     ensures same { IfOk result (λ line. (document : List ℕ) → tree_of document ≡ Some (view tree.now)
         → tree_of line.items ≡ Some (view tree.now)) }
-    ensures one_line { IfOk result (λ line. HasNoFeed line.items) }
+    ensures one_line { IfOk result (λ line. HasNoLineFeed line.items) }
     ensures compact { IfOk result (λ line. line.items ≡ print (tokens line.items)) }
     ensures text { IfOk result (λ line. has_float (view tree.now) ≡ false
         → line.items ≡ compact_text (view tree.now)) }

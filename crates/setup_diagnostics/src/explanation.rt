@@ -1,9 +1,10 @@
 //! The explanation of a refused document: the place of its fault, and the reason.
+
 ghost use Rattle.std.specs.Prelude.{◌≡◌, ◌++◌, IfOk, OnOk, false, option_map, string_bytes};
 ghost use Rattle.serde_json.specs.View.{view};
-ghost use Rattle.check_drafts.specs.Fault.{seen};
-ghost use Rattle.check_explain.specs.Explanation.{stop_words, too_long_text, tree_or_null, unread_text, IsExplanation, IsOfUnread};
-ghost use Rattle.check_explain.specs.Feeds.{has_feed, HasNoFeed};
+ghost use Rattle.setup_model.specs.Fault.{view_of};
+ghost use Rattle.setup_diagnostics.specs.Explanation.{stop_reason_words, too_long_text, tree_or_null, json_position_text, IsExplanation, IsNotJsonText};
+ghost use Rattle.setup_diagnostics.specs.Feeds.{has_line_feed, HasNoLineFeed};
 
 use crate::counts::push_count;
 use crate::cycle::{push_dependency_cycle, push_parent_cycle};
@@ -13,8 +14,8 @@ use crate::names::{
 };
 use crate::ranges::push_range;
 use crate::shapes::push_shape;
-use check_drafts::{Fault, MAX_DOCUMENT_BYTES, Unread};
 use serde_json::Value;
+use setup_model::{Fault, JsonPosition, MAX_DOCUMENT_BYTES};
 use std::alloc::{AllocError, Global};
 
 /// Explains on one line why a document with this tree was refused. A document that is too long or isn't JSON
@@ -25,11 +26,11 @@ use std::alloc::{AllocError, Global};
 /// strings of at most 80 characters. The only error is out of memory. The words are this project's own:
 /// Nagios checks its configuration in other ways.
 pub fn explain(alloc: Global, tree: Option<&Value>, fault: &Fault) -> Result<String, AllocError>
-    ensures line { IfOk result (λ text. HasNoFeed (string_bytes text)) }
+    ensures line { IfOk result (λ text. HasNoLineFeed (string_bytes text)) }
     ensures text { IfOk result (λ text.
-        IsExplanation (tree_or_null (option_map (λ v. view v.now) tree.entry)) (seen fault.now)
+        IsExplanation (tree_or_null (option_map (λ v. view v.now) tree.entry)) (view_of fault.now)
         (string_bytes text)) }
-    ensures unread { IfOk result (λ text. IsOfUnread fault.now (string_bytes text)) }
+    ensures position { IfOk result (λ text. IsNotJsonText fault.now (string_bytes text)) }
 {
     let line = match tree {
         Some(tree) => explanation(alloc, tree, fault)?,
@@ -40,13 +41,13 @@ pub fn explain(alloc: Global, tree: Option<&Value>, fault: &Fault) -> Result<Str
 
 /// The line that explains a fault.
 fn explanation(alloc: Global, tree: &Value, fault: &Fault) -> Result<Line, AllocError>
-    ensures text { IfOk result (λ line. IsExplanation (view tree.now) (seen fault.now) line) }
-    ensures unread { IfOk result (λ line. IsOfUnread fault.now line) }
+    ensures text { IfOk result (λ line. IsExplanation (view tree.now) (view_of fault.now) line) }
+    ensures position { IfOk result (λ line. IsNotJsonText fault.now line) }
 {
     let mut line = Line::new(alloc);
     match fault {
         Fault::TooLong => push_too_long(&mut line)?,
-        Fault::NotJson(unread) => push_unread(&mut line, *unread)?,
+        Fault::NotJson(position) => push_json_position(&mut line, *position)?,
         Fault::Shape(place, shape) => push_shape(alloc, &mut line, tree, *place, *shape)?,
         Fault::TooMany(count, number) => push_count(&mut line, *count, *number)?,
         Fault::BadName(place, name) => push_bad_name(&mut line, tree, *place, *name)?,
@@ -78,19 +79,19 @@ fn push_too_long(line: &mut Line) -> Result<(), AllocError>
 }
 
 /// Appends the position in the text at which a document stops being JSON.
-fn push_unread(line: &mut Line, unread: Unread) -> Result<(), AllocError>
-    ensures { OnOk result (line.new ≡ line.old ++ unread_text unread) }
+fn push_json_position(line: &mut Line, position: JsonPosition) -> Result<(), AllocError>
+    ensures { OnOk result (line.new ≡ line.old ++ json_position_text position) }
 {
     line.push_words("line ")?;
-    line.push_number(unread.line as u64)?;
+    line.push_number(position.line as u64)?;
     line.push_words(", column ")?;
-    line.push_number(unread.column as u64)?;
-    line.push_words(stop_words(unread.is_at_end))
+    line.push_number(position.column as u64)?;
+    line.push_words(stop_reason_words(position.is_at_end))
 }
 
-fn stop_words(is_at_end: bool) -> &'static str
-    ensures text { result.now ≡ stop_words is_at_end }
-    ensures flat { has_feed result.now ≡ false }
+fn stop_reason_words(is_at_end: bool) -> &'static str
+    ensures text { result.now ≡ stop_reason_words is_at_end }
+    ensures no_line_feed { has_line_feed result.now ≡ false }
 {
     if is_at_end {
         ": the document ends before its JSON does"

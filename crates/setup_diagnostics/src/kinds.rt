@@ -1,16 +1,17 @@
 //! Writes kinds of members, and values.
+
 ghost use Rattle.std.specs.Prelude.{◌≡◌, ◌++◌, OnOk, false};
-ghost use Rattle.check_explain.specs.Feeds.{has_feed};
-ghost use Rattle.check_explain.specs.Shapes.{Begins};
+ghost use Rattle.setup_diagnostics.specs.Feeds.{has_line_feed};
+ghost use Rattle.setup_diagnostics.specs.Shapes.{BeginsWith};
 
 use crate::line::Line;
-use check_drafts::Kind;
 use serde_json::Value;
+use setup_model::Kind;
 use std::alloc::{AllocError, Global};
 
 /// A kind in words, as the end of a sentence.
 pub(crate) fn kind_words(kind: Kind) -> &'static str
-    ensures { has_feed result.now ≡ false }
+    ensures { has_line_feed result.now ≡ false }
 {
     match kind {
         Kind::Part(_) => "a part of the document",
@@ -27,7 +28,7 @@ pub(crate) fn kind_words(kind: Kind) -> &'static str
 
 /// Appends a value. For an array or an object it appends only which of the two it is.
 pub(crate) fn push_value(alloc: Global, line: &mut Line, value: &Value) -> Result<(), AllocError>
-    ensures { OnOk result (Begins line.old line.new) }
+    ensures { OnOk result (BeginsWith line.old line.new) }
 {
     match value {
         Value::Null => line.push_words("null"),
@@ -41,7 +42,7 @@ pub(crate) fn push_value(alloc: Global, line: &mut Line, value: &Value) -> Resul
 }
 
 fn push_any_number(alloc: Global, line: &mut Line, value: &Value) -> Result<(), AllocError>
-    ensures { OnOk result (Begins line.old line.new) }
+    ensures { OnOk result (BeginsWith line.old line.new) }
 {
     let number = value.to_string(alloc)?;
     line.push_words(number.as_str())

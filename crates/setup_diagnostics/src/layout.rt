@@ -1,8 +1,9 @@
 //! JSON text with a layout: one line per member, indented by two spaces for each object around it.
+
 ghost use Rattle.std.specs.Prelude.{◌≡◌, ◌++◌, IfOk, OnOk, string_bytes};
 ghost use Rattle.json.specs.Print.{quoted};
-ghost use Rattle.check_explain.specs.Schema.{Has};
-ghost use Rattle.check_explain.specs.Shapes.{Begins};
+ghost use Rattle.setup_diagnostics.specs.Schema.{ContainsText};
+ghost use Rattle.setup_diagnostics.specs.Shapes.{BeginsWith};
 
 use itoa::Buffer;
 use serde_json::Value;
@@ -43,7 +44,7 @@ impl Layout {
 
     /// The text, with the outermost object closed and a line feed at its end.
     pub(crate) fn into_text(self) -> Result<String, AllocError>
-        ensures { IfOk result (λ text. Begins self (string_bytes text)) }
+        ensures { IfOk result (λ text. BeginsWith self (string_bytes text)) }
     {
         let mut text = self.text;
         text.push_str("\n}\n")?;
@@ -52,7 +53,7 @@ impl Layout {
 
     /// Begins a line.
     fn begin_line(&mut self) -> Result<(), AllocError>
-        ensures { OnOk result (Begins self.old self.new) }
+        ensures { OnOk result (BeginsWith self.old self.new) }
     {
         self.push_json("\n")?;
         for _ in 0..self.depth {
@@ -63,8 +64,8 @@ impl Layout {
 
     /// Begins a member with this name.
     pub(crate) fn begin(&mut self, name: &str) -> Result<(), AllocError>
-        ensures grows { OnOk result (Begins self.old self.new) }
-        ensures named { OnOk result (Has (quoted name.now) self.new) }
+        ensures extends { OnOk result (BeginsWith self.old self.new) }
+        ensures named { OnOk result (ContainsText (quoted name.now) self.new) }
     {
         if self.has_member {
             self.push_json(",")?;
@@ -84,7 +85,7 @@ impl Layout {
 
     /// Appends a number.
     pub(crate) fn push_number(&mut self, number: u64) -> Result<(), AllocError>
-        ensures { OnOk result (Begins self.old self.new) }
+        ensures { OnOk result (BeginsWith self.old self.new) }
     {
         let mut buffer = Buffer::new();
         self.push_json(buffer.format(number))
@@ -101,7 +102,7 @@ impl Layout {
 
     /// A member whose value is JSON as it is.
     pub(crate) fn json(&mut self, name: &str, json: &str) -> Result<(), AllocError>
-        ensures { OnOk result (Begins self.old self.new) }
+        ensures { OnOk result (BeginsWith self.old self.new) }
     {
         self.begin(name)?;
         self.push_json(json)
@@ -109,7 +110,7 @@ impl Layout {
 
     /// A member whose value is a number.
     pub(crate) fn number(&mut self, name: &str, number: u64) -> Result<(), AllocError>
-        ensures { OnOk result (Begins self.old self.new) }
+        ensures { OnOk result (BeginsWith self.old self.new) }
     {
         self.begin(name)?;
         self.push_number(number)
@@ -117,7 +118,7 @@ impl Layout {
 
     /// A member whose value is a text.
     pub(crate) fn text(&mut self, name: &str, text: &str) -> Result<(), AllocError>
-        ensures { OnOk result (Begins self.old self.new) }
+        ensures { OnOk result (BeginsWith self.old self.new) }
     {
         self.begin(name)?;
         self.push_quoted(text)
@@ -125,8 +126,8 @@ impl Layout {
 
     /// Opens a member whose value is an object.
     pub(crate) fn open(&mut self, name: &str) -> Result<(), AllocError>
-        ensures grows { OnOk result (Begins self.old self.new) }
-        ensures named { OnOk result (Has (quoted name.now) self.new) }
+        ensures extends { OnOk result (BeginsWith self.old self.new) }
+        ensures named { OnOk result (ContainsText (quoted name.now) self.new) }
     {
         self.begin(name)?;
         self.depth = self.depth.saturating_add(1);
@@ -136,7 +137,7 @@ impl Layout {
 
     /// Closes the innermost object.
     pub(crate) fn close(&mut self) -> Result<(), AllocError>
-        ensures { OnOk result (Begins self.old self.new) }
+        ensures { OnOk result (BeginsWith self.old self.new) }
     {
         self.depth = self.depth.saturating_sub(1);
         self.has_member = true;

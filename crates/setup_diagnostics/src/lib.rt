@@ -2,8 +2,8 @@
 //! A setup document as a reader sees it: its places, the explanation of its fault, its line.
 //!
 //! [`explain`] explains in plain words why a document is refused: the place of the fault, the name of the
-//! object there, the member at fault, and the reason. [`write_line`] writes a document as the one line that a
-//! run and a conversation read. [`write_schema`] writes the JSON schema of a document, from the table of its
+//! object there, the member at fault, and the reason. [`compact_document`] writes a document as the one line that a
+//! run and a conversation read. [`json_schema`] writes the JSON schema of a document, from the table of its
 //! members.
 //!
 //! The modules:
@@ -28,6 +28,6 @@ mod ranges;
 mod schema;
 mod shapes;
 
-pub use document_line::write_line;
+pub use document_line::compact_document;
 pub use explanation::explain;
-pub use schema::write_schema;
+pub use schema::json_schema;

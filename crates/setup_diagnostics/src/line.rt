@@ -1,16 +1,17 @@
 //! A line of text that grows, and never contains a line feed.
+
 ghost use Rattle.std.specs.Prelude.{◌≡◌, ◌≢◌, ◌<◌, ◌++◌, ◌∷◌, false, [], OnOk, decimal, option_map, string_bytes};
 ghost use Rattle.std.specs.Char.{digit_char, encode_utf8};
-ghost use Rattle.check_explain.specs.Places.{named};
-ghost use Rattle.check_explain.specs.Feeds.{has_feed, HasNoFeed};
-ghost use Rattle.check_explain.specs.Shown.{cut, escape_of, escaped, shown};
+ghost use Rattle.setup_diagnostics.specs.Places.{role_text};
+ghost use Rattle.setup_diagnostics.specs.Feeds.{has_line_feed, HasNoLineFeed};
+ghost use Rattle.setup_diagnostics.specs.Excerpts.{excerpt, control_escape, escape, shown};
 
 use itoa::Buffer;
 use std::alloc::{AllocError, Global};
 use std::marker::Model;
 
 /// The number of characters of a document's text that are shown.
-const SHOWN: usize = 80;
+const MAX_EXCERPT_CHARS: usize = 80;
 
 /// A line of text without a line feed. Contracts see its bytes.
 #[derive(Drop)]
@@ -20,13 +21,13 @@ pub(crate) struct Line {
 
 impl Model for Line {
     ghost use Rattle.std.specs.Prelude.{List, ℕ, string_bytes};
-    ghost use Rattle.check_explain.specs.Feeds.{HasNoFeed};
+    ghost use Rattle.setup_diagnostics.specs.Feeds.{HasNoLineFeed};
 
     ghost Value = { List ℕ };
 
     ghost view = { λ line. string_bytes line.text };
 
-    ghost invariant = { λ line. HasNoFeed (string_bytes line.text) };
+    ghost invariant = { λ line. HasNoLineFeed (string_bytes line.text) };
 }
 
 impl Line {
@@ -42,14 +43,14 @@ impl Line {
     /// The text of the line.
     pub(crate) fn into_text(self) -> String
         ensures text { string_bytes result ≡ self }
-        ensures line { HasNoFeed (string_bytes result) }
+        ensures line { HasNoLineFeed (string_bytes result) }
     {
         self.text
     }
 
     /// Appends words without a line feed.
     pub(crate) fn push_words(&mut self, words: &str) -> Result<(), AllocError>
-        requires { has_feed words.now ≡ false }
+        requires { has_line_feed words.now ≡ false }
         ensures text { OnOk result (self.new ≡ self.old ++ words.now) }
     {
         self.text.push_str(words)
@@ -77,15 +78,15 @@ impl Line {
         ensures text { OnOk result (self.new ≡ self.old ++ shown text.now) }
     {
         self.push_words("\"")?;
-        self.push_cut(text)?;
+        self.push_excerpt(text)?;
         self.push_words("\"")
     }
 
     /// Appends the role of a name, and the name, if there is one.
     pub(crate) fn push_name(&mut self, role: &str, name: Option<&str>) -> Result<(), AllocError>
-        requires { has_feed role.now ≡ false }
+        requires { has_line_feed role.now ≡ false }
         ensures text { OnOk result (self.new
-            ≡ self.old ++ named role.now (option_map (λ name. name.now) name.entry)) }
+            ≡ self.old ++ role_text role.now (option_map (λ name. name.now) name.entry)) }
     {
         match name {
             Some(name) => {
@@ -97,11 +98,11 @@ impl Line {
     }
 
     /// Appends a text, escaped as in a JSON string. If it has more than 80 characters, dots replace the rest.
-    pub(crate) fn push_cut(&mut self, text: &str) -> Result<(), AllocError>
-        ensures text { OnOk result (self.new ≡ self.old ++ cut text.now) }
+    pub(crate) fn push_excerpt(&mut self, text: &str) -> Result<(), AllocError>
+        ensures text { OnOk result (self.new ≡ self.old ++ excerpt text.now) }
     {
         let mut left = text.chars();
-        for shown in 0..SHOWN {
+        for shown in 0..MAX_EXCERPT_CHARS {
             match left.next() {
                 Some(character) => self.push_escaped(character)?,
                 None => return Ok(()),
@@ -115,7 +116,7 @@ impl Line {
 
     /// Appends a character, escaped as in a JSON string. A control character is written as its number.
     fn push_escaped(&mut self, character: char) -> Result<(), AllocError>
-        ensures text { OnOk result (self.new ≡ self.old ++ escaped character) }
+        ensures text { OnOk result (self.new ≡ self.old ++ escape character) }
     {
         match character {
             '"' => self.push_words("\\\""),
@@ -131,7 +132,7 @@ impl Line {
     /// Appends the escape of the control character with this number.
     fn push_code(&mut self, code: u32) -> Result<(), AllocError>
         requires { code < 256 }
-        ensures text { OnOk result (self.new ≡ self.old ++ escape_of code) }
+        ensures text { OnOk result (self.new ≡ self.old ++ control_escape code) }
     {
         self.push_words("\\u00")?;
         self.push_digit(code / 16)?;

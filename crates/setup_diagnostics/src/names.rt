@@ -1,19 +1,20 @@
 //! Faults of names: bad names, repeated names, and names of objects that don't exist.
+
 ghost use Rattle.std.specs.Prelude.{◌≡◌, ◌++◌, OnOk, false, option_and_then, option_map};
 ghost use Rattle.serde_json.specs.View.{view};
-ghost use Rattle.check_drafts.specs.Place.{service_at};
-ghost use Rattle.check_documents.specs.Places.{value_at};
-ghost use Rattle.check_explain.specs.Feeds.{has_feed};
-ghost use Rattle.check_explain.specs.Names.{bad_byte_text, bad_name_text, duplicate_text, end_member, end_of, end_role, end_words};
-ghost use Rattle.check_explain.specs.Names.{name_fault_text, name_member};
-ghost use Rattle.check_explain.specs.Names.{parent_name, repeat_words, unknown_end_text, unknown_host_text, unknown_parent_text};
-ghost use Rattle.check_explain.specs.Places.{text_in};
+ghost use Rattle.setup_model.specs.Place.{service_place};
+ghost use Rattle.setup_reader.specs.Places.{value_at};
+ghost use Rattle.setup_diagnostics.specs.Feeds.{has_line_feed};
+ghost use Rattle.setup_diagnostics.specs.Names.{bad_byte_text, bad_name_text, duplicate_text, end_member, end_of, end_role, end_words};
+ghost use Rattle.setup_diagnostics.specs.Names.{name_fault_text, name_member};
+ghost use Rattle.setup_diagnostics.specs.Names.{parent_name, repeat_words, unknown_end_text, unknown_host_text, unknown_parent_text};
+ghost use Rattle.setup_diagnostics.specs.Places.{member_text};
 
 use crate::line::Line;
-use crate::places::{push_part_and_index, push_place, text_of};
-use check_documents::value_at;
-use check_drafts::{End, EndFault, NameFault, Part, Place};
+use crate::places::{member_text, push_part_and_index, push_place};
 use serde_json::Value;
+use setup_model::{End, EndFault, NameFault, Part, Place};
+use setup_reader::value_at;
 use std::alloc::AllocError;
 
 // ---- bad names
@@ -85,7 +86,7 @@ pub(crate) fn push_duplicate(
 
 fn repeat_words(part: Part) -> &'static str
     ensures text { result.now ≡ repeat_words part }
-    ensures flat { has_feed result.now ≡ false }
+    ensures no_line_feed { has_line_feed result.now ≡ false }
 {
     match part {
         Part::Services => " has that host and description too",
@@ -135,9 +136,9 @@ pub(crate) fn push_unknown_host(
 /// The text of a member of the object at a place.
 fn text_at<'v>(tree: &'v Value, place: Place, member: &str) -> Option<&'v str>
     ensures { option_map (λ text. text.now) result
-        ≡ option_and_then (text_in member.now) (value_at (view tree.now) place) }
+        ≡ option_and_then (member_text member.now) (value_at (view tree.now) place) }
 {
-    text_of(value_at(tree, place)?, member)
+    member_text(value_at(tree, place)?, member)
 }
 
 // ---- ends that don't exist
@@ -176,7 +177,7 @@ fn end_member(end: End) -> &'static str
 
 fn end_role(end: End) -> &'static str
     ensures text { result.now ≡ end_role end }
-    ensures flat { has_feed result.now ≡ false }
+    ensures no_line_feed { has_line_feed result.now ≡ false }
 {
     match end {
         End::Dependent => "dependent ",
@@ -186,7 +187,7 @@ fn end_role(end: End) -> &'static str
 
 fn end_words(part: Part, fault: EndFault) -> &'static str
     ensures text { result.now ≡ end_words part fault }
-    ensures flat { has_feed result.now ≡ false }
+    ensures no_line_feed { has_line_feed result.now ≡ false }
 {
     match (part, fault) {
         (Part::HostDependencies, EndFault::Unknown(_)) => " isn't among the hosts",

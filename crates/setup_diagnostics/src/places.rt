@@ -1,20 +1,21 @@
 //! Writes a place of a document: its part, its index, and the name of the object there.
+
 ghost use Rattle.std.specs.Prelude.{◌≡◌, ◌++◌, OnOk, false, option_map};
 ghost use Rattle.serde_json.specs.View.{view};
-ghost use Rattle.check_drafts.specs.declared.place.Part.TheVariants as part;
-ghost use Rattle.check_explain.specs.Feeds.{has_feed};
-ghost use Rattle.check_drafts.specs.Members.{part_name};
-ghost use Rattle.check_explain.specs.Places.{after_space, name_shown, name_text, part_text, place_text, text_in, texts_in};
+ghost use Rattle.setup_model.specs.declared.place.Part.TheVariants as part;
+ghost use Rattle.setup_diagnostics.specs.Feeds.{has_line_feed};
+ghost use Rattle.setup_model.specs.Members.{part_name};
+ghost use Rattle.setup_diagnostics.specs.Places.{after_space, item_name_text, name_text, part_text, place_text, member_text, member_text_pair};
 
 use crate::line::Line;
-use check_documents::value_at;
-use check_drafts::{Part, Place};
 use serde_json::Value;
+use setup_model::{Part, Place};
+use setup_reader::value_at;
 use std::alloc::AllocError;
 
 /// The text of a member of an object, or None if it has no such text.
-pub(crate) fn text_of<'v>(item: &'v Value, member: &str) -> Option<&'v str>
-    ensures { option_map (λ text. text.now) result ≡ text_in member.now (view item.now) }
+pub(crate) fn member_text<'v>(item: &'v Value, member: &str) -> Option<&'v str>
+    ensures { option_map (λ text. text.now) result ≡ member_text member.now (view item.now) }
 {
     item.get(member).and_then(Value::as_str)
 }
@@ -22,9 +23,9 @@ pub(crate) fn text_of<'v>(item: &'v Value, member: &str) -> Option<&'v str>
 /// The texts of two members of an object, or None if it doesn't have both.
 pub(crate) fn texts_of<'v>(item: &'v Value, first: &str, second: &str) -> Option<(&'v str, &'v str)>
     ensures { option_map (λ p. (p.0.now, p.1.now)) result
-        ≡ texts_in first.now second.now (view item.now) }
+        ≡ member_text_pair first.now second.now (view item.now) }
 {
-    match (text_of(item, first), text_of(item, second)) {
+    match (member_text(item, first), member_text(item, second)) {
         (Some(first), Some(second)) => Some((first, second)),
         _ => None,
     }
@@ -60,7 +61,7 @@ pub(crate) fn push_part_and_index(
 /// The name of a part of the document.
 pub(crate) fn part_words(part: Part) -> &'static str
     ensures text { result.now ≡ part_name part }
-    ensures flat { has_feed result.now ≡ false }
+    ensures no_line_feed { has_line_feed result.now ≡ false }
 {
     part.name()
 }
@@ -78,7 +79,7 @@ pub(crate) fn push_name_at(line: &mut Line, tree: &Value, place: Place) -> Resul
 /// Appends a space and the name of an item of a part. It is the name of a host, the full name of a service,
 /// or both ends of a dependency. Nothing is appended for an item without a name.
 fn push_item_name(line: &mut Line, item: &Value, part: Part) -> Result<(), AllocError>
-    ensures { OnOk result (line.new ≡ line.old ++ after_space (name_shown part (view item.now))) }
+    ensures { OnOk result (line.new ≡ line.old ++ after_space (item_name_text part (view item.now))) }
 {
     match part {
         Part::Document | Part::Options => Ok(()),
@@ -89,9 +90,9 @@ fn push_item_name(line: &mut Line, item: &Value, part: Part) -> Result<(), Alloc
 }
 
 fn push_host_name(line: &mut Line, item: &Value) -> Result<(), AllocError>
-    ensures { OnOk result (line.new ≡ line.old ++ after_space (name_shown part.Hosts (view item.now))) }
+    ensures { OnOk result (line.new ≡ line.old ++ after_space (item_name_text part.Hosts (view item.now))) }
 {
-    match text_of(item, "name") {
+    match member_text(item, "name") {
         Some(name) => {
             line.push_words(" ")?;
             line.push_text(name)
@@ -101,14 +102,14 @@ fn push_host_name(line: &mut Line, item: &Value) -> Result<(), AllocError>
 }
 
 fn push_service_name(line: &mut Line, item: &Value) -> Result<(), AllocError>
-    ensures { OnOk result (line.new ≡ line.old ++ after_space (name_shown part.Services (view item.now))) }
+    ensures { OnOk result (line.new ≡ line.old ++ after_space (item_name_text part.Services (view item.now))) }
 {
     match texts_of(item, "host", "description") {
         Some((host, description)) => {
             line.push_words(" \"")?;
-            line.push_cut(host)?;
+            line.push_excerpt(host)?;
             line.push_words(";")?;
-            line.push_cut(description)?;
+            line.push_excerpt(description)?;
             line.push_words("\"")
         }
         None => Ok(()),
@@ -117,7 +118,7 @@ fn push_service_name(line: &mut Line, item: &Value) -> Result<(), AllocError>
 
 fn push_ends(line: &mut Line, item: &Value) -> Result<(), AllocError>
     ensures { OnOk result (line.new ≡ line.old
-        ++ after_space (name_shown part.HostDependencies (view item.now))) }
+        ++ after_space (item_name_text part.HostDependencies (view item.now))) }
 {
     match texts_of(item, "dependent", "master") {
         Some((dependent, master)) => {

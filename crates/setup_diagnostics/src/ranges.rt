@@ -1,18 +1,19 @@
 //! Numbers out of their limits.
+
 ghost use Rattle.std.specs.Prelude.{◌≡◌, ◌++◌, OnOk};
 ghost use Rattle.serde_json.specs.View.{view};
-ghost use Rattle.check_drafts.specs.Fault.{range_seen};
-ghost use Rattle.check_drafts.specs.Member.{as_row, limits_of};
-ghost use Rattle.check_explain.specs.Ranges.{above_text, between_text, limits_text, number_text, range_text, wrong_number_text};
+ghost use Rattle.setup_model.specs.Fault.{range_view};
+ghost use Rattle.setup_model.specs.Member.{as_row, limits_of};
+ghost use Rattle.setup_diagnostics.specs.Ranges.{above_text, between_text, limits_text, number_text, range_text, wrong_number_text};
 
 use crate::line::Line;
 use crate::places::push_place;
-use check_drafts::members::{
+use serde_json::Value;
+use setup_model::members::{
     HIGH_HOST_FLAP_THRESHOLD, HIGH_SERVICE_FLAP_THRESHOLD, LOW_HOST_FLAP_THRESHOLD,
     LOW_SERVICE_FLAP_THRESHOLD,
 };
-use check_drafts::{Kind, Member, Place, RangeFault};
-use serde_json::Value;
+use setup_model::{Kind, Member, Place, RangeFault};
 use std::alloc::AllocError;
 
 /// Appends which number is out of its limits, and its limits.
@@ -22,17 +23,17 @@ pub(crate) fn push_range(
     place: Place,
     fault: RangeFault,
 ) -> Result<(), AllocError>
-    ensures { OnOk result (line.new ≡ line.old ++ range_text (view tree.now) place (range_seen fault)) }
+    ensures { OnOk result (line.new ≡ line.old ++ range_text (view tree.now) place (range_view fault)) }
 {
     push_place(line, tree, place)?;
     push_wrong_number(line, fault)
 }
 
 fn push_wrong_number(line: &mut Line, fault: RangeFault) -> Result<(), AllocError>
-    ensures { OnOk result (line.new ≡ line.old ++ wrong_number_text (range_seen fault)) }
+    ensures { OnOk result (line.new ≡ line.old ++ wrong_number_text (range_view fault)) }
 {
     match fault {
-        RangeFault::Beyond(member, number) => {
+        RangeFault::OutOfRange(member, number) => {
             push_number(line, member, number)?;
             push_limits(line, member.kind)
         }

@@ -1,17 +1,18 @@
 //! The JSON schema of a setup document, from the table of its members.
+
 ghost use Rattle.std.specs.Prelude.{IfOk, OnOk, map, string_bytes, ◌≡◌};
-ghost use Rattle.check_drafts.specs.Member.{as_row};
-ghost use Rattle.check_drafts.specs.Members.{document_members};
-ghost use Rattle.check_explain.specs.Schema.{inner_members, NamesAll, NamesEach, NamesInner};
-ghost use Rattle.check_explain.specs.Shapes.{Begins};
+ghost use Rattle.setup_model.specs.Member.{as_row};
+ghost use Rattle.setup_model.specs.Members.{document_members};
+ghost use Rattle.setup_diagnostics.specs.Schema.{inner_members, NamesAll, NamesEach, NamesInner};
+ghost use Rattle.setup_diagnostics.specs.Shapes.{BeginsWith};
 
 use crate::layout::Layout;
 use crate::names::name_member;
-use check_drafts::members::{
+use setup_model::members::{
     DOCUMENT_MEMBERS, HOST_DEPENDENCY_MEMBERS, HOST_MEMBERS, OPTION_MEMBERS,
     SERVICE_DEPENDENCY_MEMBERS, SERVICE_MEMBERS,
 };
-use check_drafts::{
+use setup_model::{
     DefaultValue, HOST_LETTERS, Kind, MAX_DEPENDENCIES, MAX_NAME_BYTES, MAX_OBJECTS, MAX_PARENTS,
     Member, Part, SERVICE_LETTERS,
 };
@@ -29,7 +30,7 @@ or sign (1.0, 1e2 and -0 pass here and are refused); a lone surrogate in a text 
 /// Writes the JSON schema, of draft 2020-12, of a setup document. The schema describes the members of each
 /// object, with their kinds, limits and defaults, from the table of members. It names each member of the
 /// table. The only error is out of memory. (Our own profile.)
-pub fn write_schema(alloc: Global) -> Result<String, AllocError>
+pub fn json_schema(alloc: Global) -> Result<String, AllocError>
     ensures names { IfOk result (λ text. NamesAll document_members (string_bytes text)) }
 {
     let mut layout = Layout::new(alloc)?;
@@ -57,7 +58,7 @@ fn push_parts(layout: &mut Layout, members: &[Member]) -> Result<(), AllocError>
 
 /// Writes the schema of a part of the document.
 fn push_part_kind(layout: &mut Layout, member: Member) -> Result<(), AllocError>
-    ensures grows { OnOk result (Begins layout.old layout.new) }
+    ensures extends { OnOk result (BeginsWith layout.old layout.new) }
     ensures names { OnOk result (NamesInner member.kind layout.new) }
 {
     match member.kind {
@@ -68,7 +69,7 @@ fn push_part_kind(layout: &mut Layout, member: Member) -> Result<(), AllocError>
 
 /// Writes the schema of a part of the document: its options, or a list of objects.
 fn push_part(layout: &mut Layout, part: Part, purpose: &str) -> Result<(), AllocError>
-    ensures grows { OnOk result (Begins layout.old layout.new) }
+    ensures extends { OnOk result (BeginsWith layout.old layout.new) }
     ensures names { OnOk result (NamesEach (inner_members part) layout.new) }
 {
     layout.text("description", purpose)?;
@@ -102,7 +103,7 @@ fn inner_members(part: Part) -> &'static [Member]
 
 /// Writes the schema of a list of the document.
 fn push_list(layout: &mut Layout, part: Part, most: usize) -> Result<(), AllocError>
-    ensures grows { OnOk result (Begins layout.old layout.new) }
+    ensures extends { OnOk result (BeginsWith layout.old layout.new) }
     ensures names { OnOk result (NamesEach (inner_members part) layout.new) }
 {
     layout.text("type", "array")?;
@@ -115,7 +116,7 @@ fn push_list(layout: &mut Layout, part: Part, most: usize) -> Result<(), AllocEr
 
 /// Writes the schema of an object of this part: its members.
 fn push_members(layout: &mut Layout, part: Part, members: &[Member]) -> Result<(), AllocError>
-    ensures grows { OnOk result (Begins layout.old layout.new) }
+    ensures extends { OnOk result (BeginsWith layout.old layout.new) }
     ensures names { OnOk result (NamesEach (map as_row members.now) layout.new) }
 {
     push_object(layout, members)?;
@@ -125,7 +126,7 @@ fn push_members(layout: &mut Layout, part: Part, members: &[Member]) -> Result<(
 }
 
 fn push_each(layout: &mut Layout, part: Part, members: &[Member]) -> Result<(), AllocError>
-    ensures grows { OnOk result (Begins layout.old layout.new) }
+    ensures extends { OnOk result (BeginsWith layout.old layout.new) }
     ensures names { OnOk result (NamesEach (map as_row members.now) layout.new) }
 {
     for member in members {
@@ -138,7 +139,7 @@ fn push_each(layout: &mut Layout, part: Part, members: &[Member]) -> Result<(), 
 
 /// Writes that a value is an object, and which of these members it must have.
 fn push_object(layout: &mut Layout, members: &[Member]) -> Result<(), AllocError>
-    ensures { OnOk result (Begins layout.old layout.new) }
+    ensures { OnOk result (BeginsWith layout.old layout.new) }
 {
     layout.text("type", "object")?;
     layout.json("additionalProperties", "false")?;
@@ -149,7 +150,7 @@ fn push_object(layout: &mut Layout, members: &[Member]) -> Result<(), AllocError
 }
 
 fn push_required(layout: &mut Layout, members: &[Member]) -> Result<(), AllocError>
-    ensures { OnOk result (Begins layout.old layout.new) }
+    ensures { OnOk result (BeginsWith layout.old layout.new) }
 {
     layout.begin("required")?;
     let mut is_first = true;
@@ -164,7 +165,7 @@ fn push_required(layout: &mut Layout, members: &[Member]) -> Result<(), AllocErr
 
 /// Writes a text of a list.
 fn push_item(layout: &mut Layout, is_first: bool, text: &str) -> Result<(), AllocError>
-    ensures { OnOk result (Begins layout.old layout.new) }
+    ensures { OnOk result (BeginsWith layout.old layout.new) }
 {
     layout.push_json(if is_first { "[" } else { ", " })?;
     layout.push_quoted(text)
@@ -172,7 +173,7 @@ fn push_item(layout: &mut Layout, is_first: bool, text: &str) -> Result<(), Allo
 
 /// Writes the schema of a member: its kind with its limits, its default, and its purpose.
 fn push_member(layout: &mut Layout, part: Part, member: Member) -> Result<(), AllocError>
-    ensures { OnOk result (Begins layout.old layout.new) }
+    ensures { OnOk result (BeginsWith layout.old layout.new) }
 {
     push_kind(layout, member.kind, member.name == name_member(part))?;
     if let Some(default) = member.default {
@@ -182,7 +183,7 @@ fn push_member(layout: &mut Layout, part: Part, member: Member) -> Result<(), Al
 }
 
 fn push_default(layout: &mut Layout, default: DefaultValue, kind: Kind) -> Result<(), AllocError>
-    ensures { OnOk result (Begins layout.old layout.new) }
+    ensures { OnOk result (BeginsWith layout.old layout.new) }
 {
     match (default, kind) {
         (DefaultValue::Number(number), _) => layout.number("default", number),
@@ -196,7 +197,7 @@ fn push_default(layout: &mut Layout, default: DefaultValue, kind: Kind) -> Resul
 
 /// Writes which values are of a kind. For a text it also writes whether the text must be a name.
 fn push_kind(layout: &mut Layout, kind: Kind, is_name: bool) -> Result<(), AllocError>
-    ensures { OnOk result (Begins layout.old layout.new) }
+    ensures { OnOk result (BeginsWith layout.old layout.new) }
 {
     match kind {
         Kind::Part(_) => Ok(()),
@@ -212,7 +213,7 @@ fn push_kind(layout: &mut Layout, kind: Kind, is_name: bool) -> Result<(), Alloc
 }
 
 fn push_text(layout: &mut Layout, is_name: bool) -> Result<(), AllocError>
-    ensures { OnOk result (Begins layout.old layout.new) }
+    ensures { OnOk result (BeginsWith layout.old layout.new) }
 {
     layout.text("type", "string")?;
     if is_name {
@@ -224,7 +225,7 @@ fn push_text(layout: &mut Layout, is_name: bool) -> Result<(), AllocError>
 }
 
 fn push_texts(layout: &mut Layout) -> Result<(), AllocError>
-    ensures { OnOk result (Begins layout.old layout.new) }
+    ensures { OnOk result (BeginsWith layout.old layout.new) }
 {
     layout.text("type", "array")?;
     layout.number("maxItems", MAX_PARENTS as u64)?;
@@ -232,7 +233,7 @@ fn push_texts(layout: &mut Layout) -> Result<(), AllocError>
 }
 
 fn push_number(layout: &mut Layout, low: u64, high: u64) -> Result<(), AllocError>
-    ensures { OnOk result (Begins layout.old layout.new) }
+    ensures { OnOk result (BeginsWith layout.old layout.new) }
 {
     layout.text("type", "integer")?;
     layout.number("minimum", low)?;
@@ -241,7 +242,7 @@ fn push_number(layout: &mut Layout, low: u64, high: u64) -> Result<(), AllocErro
 
 /// Writes that a value is one of these words or a number within the limits of its kind.
 fn push_word_or_number(layout: &mut Layout, words: &str, kind: Kind) -> Result<(), AllocError>
-    ensures { OnOk result (Begins layout.old layout.new) }
+    ensures { OnOk result (BeginsWith layout.old layout.new) }
 {
     layout.begin("anyOf")?;
     layout.push_json("[")?;
@@ -251,7 +252,7 @@ fn push_word_or_number(layout: &mut Layout, words: &str, kind: Kind) -> Result<(
 }
 
 fn push_limits(layout: &mut Layout, kind: Kind) -> Result<(), AllocError>
-    ensures { OnOk result (Begins layout.old layout.new) }
+    ensures { OnOk result (BeginsWith layout.old layout.new) }
 {
     match kind.limits() {
         Some((low, high)) => push_between(layout, low, high),
@@ -260,7 +261,7 @@ fn push_limits(layout: &mut Layout, kind: Kind) -> Result<(), AllocError>
 }
 
 fn push_between(layout: &mut Layout, low: u64, high: u64) -> Result<(), AllocError>
-    ensures { OnOk result (Begins layout.old layout.new) }
+    ensures { OnOk result (BeginsWith layout.old layout.new) }
 {
     layout.push_json(", {\"type\": \"integer\", \"minimum\": ")?;
     layout.push_number(low)?;
@@ -271,7 +272,7 @@ fn push_between(layout: &mut Layout, low: u64, high: u64) -> Result<(), AllocErr
 
 /// Writes that a text has these letters, with one comma between two of them.
 fn push_letters(layout: &mut Layout, letters: &[&str]) -> Result<(), AllocError>
-    ensures { OnOk result (Begins layout.old layout.new) }
+    ensures { OnOk result (BeginsWith layout.old layout.new) }
 {
     layout.text("type", "string")?;
     push_pattern(layout, letters)?;
@@ -279,7 +280,7 @@ fn push_letters(layout: &mut Layout, letters: &[&str]) -> Result<(), AllocError>
 }
 
 fn push_pattern(layout: &mut Layout, letters: &[&str]) -> Result<(), AllocError>
-    ensures { OnOk result (Begins layout.old layout.new) }
+    ensures { OnOk result (BeginsWith layout.old layout.new) }
 {
     layout.begin("pattern")?;
     push_all(layout, "\"^[", letters)?;
@@ -289,7 +290,7 @@ fn push_pattern(layout: &mut Layout, letters: &[&str]) -> Result<(), AllocError>
 
 /// Writes that a text has nothing else.
 fn push_others(layout: &mut Layout, letters: &[&str]) -> Result<(), AllocError>
-    ensures { OnOk result (Begins layout.old layout.new) }
+    ensures { OnOk result (BeginsWith layout.old layout.new) }
 {
     layout.begin("not")?;
     push_all(layout, "{\"pattern\": \"[^", letters)?;
@@ -298,7 +299,7 @@ fn push_others(layout: &mut Layout, letters: &[&str]) -> Result<(), AllocError>
 
 /// Appends JSON as it is, and these letters.
 fn push_all(layout: &mut Layout, json: &str, letters: &[&str]) -> Result<(), AllocError>
-    ensures { OnOk result (Begins layout.old layout.new) }
+    ensures { OnOk result (BeginsWith layout.old layout.new) }
 {
     layout.push_json(json)?;
     for letter in letters {

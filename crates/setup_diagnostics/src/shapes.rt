@@ -1,18 +1,19 @@
 //! Faults of shape: a member that is unknown, missing or of another kind.
+
 ghost use Rattle.std.specs.Prelude.{◌≡◌, ◌++◌, [], OnOk, Some, codes, false, option_map, slice_get};
 ghost use Rattle.std.specs.BTreeMap.{keys};
 ghost use Rattle.serde_json.specs.View.{members_view, view};
-ghost use Rattle.check_drafts.specs.Fault.{shape_seen};
-ghost use Rattle.check_explain.specs.Feeds.{has_feed};
-ghost use Rattle.check_explain.specs.Shapes.{key_at, key_of, missing_text, unknown_text, Begins, IsOfShape};
-ghost use Rattle.check_explain.specs.Shown.{shown};
+ghost use Rattle.setup_model.specs.Fault.{shape_view};
+ghost use Rattle.setup_diagnostics.specs.Feeds.{has_line_feed};
+ghost use Rattle.setup_diagnostics.specs.Shapes.{nth_member_name, member_name_at, missing_text, unknown_text, BeginsWith, IsShapeText};
+ghost use Rattle.setup_diagnostics.specs.Excerpts.{shown};
 
 use crate::kinds::{kind_words, push_value};
 use crate::line::Line;
 use crate::places::push_place;
-use check_documents::value_at;
-use check_drafts::{Kind, Member, Place, ShapeFault};
 use serde_json::{Map, Value};
+use setup_model::{Kind, Member, Place, ShapeFault};
+use setup_reader::value_at;
 use std::alloc::{AllocError, Global};
 
 /// Appends a fault in the shape of the value at a place.
@@ -24,7 +25,7 @@ pub(crate) fn push_shape(
     fault: ShapeFault,
 ) -> Result<(), AllocError>
     ensures { OnOk result (line.old ≡ []
-        → IsOfShape (view tree.now) place (Some (shape_seen fault)) line.new) }
+        → IsShapeText (view tree.now) place (Some (shape_view fault)) line.new) }
 {
     push_place(line, tree, place)?;
     match fault {
@@ -32,7 +33,7 @@ pub(crate) fn push_shape(
         ShapeFault::NotAnObject => push_wrong_kind(alloc, line, tree, place, "an object"),
         ShapeFault::Unknown(index) => push_unknown(line, tree, place, index),
         ShapeFault::Missing(member) => push_missing(line, member),
-        ShapeFault::Misfit(member) => push_misfit(alloc, line, tree, place, member),
+        ShapeFault::WrongKind(member) => push_wrong_member(alloc, line, tree, place, member),
     }
 }
 
@@ -44,8 +45,8 @@ fn push_wrong_kind(
     place: Place,
     kind: &str,
 ) -> Result<(), AllocError>
-    requires { has_feed kind.now ≡ false }
-    ensures { OnOk result (Begins (line.old ++ codes "this is ") line.new) }
+    requires { has_line_feed kind.now ≡ false }
+    ensures { OnOk result (BeginsWith (line.old ++ codes "this is ") line.new) }
 {
     line.push_words("this is ")?;
     if let Some(value) = value_at(tree, place) {
@@ -59,21 +60,21 @@ fn push_wrong_kind(
 fn push_unknown(line: &mut Line, tree: &Value, place: Place, index: usize) -> Result<(), AllocError>
     ensures { OnOk result (line.new ≡ line.old ++ unknown_text (view tree.now) place index) }
 {
-    line.push_name("a member ", key_of(tree, place, index))?;
+    line.push_name("a member ", member_name_at(tree, place, index))?;
     line.push_words(" isn't known here")
 }
 
 /// The name of the member at this index of the object at a place, in the order of its members' names.
-fn key_of(tree: &Value, place: Place, index: usize) -> Option<&str>
-    ensures { option_map (λ key. key.now) result ≡ key_of (view tree.now) place index }
+fn member_name_at(tree: &Value, place: Place, index: usize) -> Option<&str>
+    ensures { option_map (λ key. key.now) result ≡ member_name_at (view tree.now) place index }
 {
     let object = value_at(tree, place).and_then(Value::as_object)?;
-    key_at(object, index)
+    nth_member_name(object, index)
 }
 
-fn key_at(object: &Map<String, Value>, index: usize) -> Option<&str>
+fn nth_member_name(object: &Map<String, Value>, index: usize) -> Option<&str>
     ensures { option_map (λ key. key.now) result
-        ≡ key_at index (members_view object.now.entries) }
+        ≡ nth_member_name index (members_view object.now.entries) }
 {
     match nth_key(object, index) {
         Some(key) => Some(key.as_str()),
@@ -97,14 +98,14 @@ fn push_missing(line: &mut Line, member: Member) -> Result<(), AllocError>
 }
 
 /// Appends that the value of a member isn't of its kind.
-fn push_misfit(
+fn push_wrong_member(
     alloc: Global,
     line: &mut Line,
     tree: &Value,
     place: Place,
     member: Member,
 ) -> Result<(), AllocError>
-    ensures { OnOk result (Begins (line.old ++ shown member.name.now) line.new) }
+    ensures { OnOk result (BeginsWith (line.old ++ shown member.name.now) line.new) }
 {
     line.push_text(member.name)?;
     match value_at(tree, place).and_then(|object| object.get(member.name)) {
@@ -120,7 +121,7 @@ fn push_other_kind(
     value: &Value,
     kind: Kind,
 ) -> Result<(), AllocError>
-    ensures { OnOk result (Begins line.old line.new) }
+    ensures { OnOk result (BeginsWith line.old line.new) }
 {
     match (kind, value.as_array()) {
         (Kind::Texts, Some(values)) => push_wrong_text(alloc, line, values),
@@ -135,7 +136,7 @@ fn push_other_kind(
 
 /// Appends the first value of an array of texts that isn't a text.
 fn push_wrong_text(alloc: Global, line: &mut Line, values: &[Value]) -> Result<(), AllocError>
-    ensures { OnOk result (Begins line.old line.new) }
+    ensures { OnOk result (BeginsWith line.old line.new) }
 {
     match first_wrong_text(values) {
         Some((index, value)) => {

@@ -1,20 +1,20 @@
--- What slices of drafts give past their ends.
+-- What slices of parsed items give past their ends.
 use Rattle.std.proofs.Common.{[], false}
-use Rattle.check_drafts.specs.declared.draft.CheckDraft.{CheckDraft}
-use Rattle.check_drafts.specs.declared.draft.DependencyDraft.{DependencyDraft}
-use Rattle.check_drafts.specs.declared.draft.HostDraft.{HostDraft}
-use Rattle.check_drafts.specs.declared.draft.ServiceDraft.{ServiceDraft}
+use Rattle.setup_model.specs.declared.parsed_setup.ParsedCheck.{ParsedCheck}
+use Rattle.setup_model.specs.declared.parsed_setup.ParsedDependency.{ParsedDependency}
+use Rattle.setup_model.specs.declared.parsed_setup.ParsedHost.{ParsedHost}
+use Rattle.setup_model.specs.declared.parsed_setup.ParsedService.{ParsedService}
 
-abbrev pub no_check : CheckDraft
+abbrev pub no_check : ParsedCheck
 no_check = record { check_interval = 0; retry_interval = 0; max_check_attempts = 0; enabled = false }
 
-abbrev pub no_host : HostDraft
+abbrev pub no_host : ParsedHost
 no_host = record { name = record { ref_ptr = (0, 0); now = [] }; parents = record { ref_ptr = (0, 0); now = [] }; check = no_check }
 
-abbrev pub no_service : ServiceDraft
+abbrev pub no_service : ParsedService
 no_service = record { host = record { ref_ptr = (0, 0); now = [] }; description = record { ref_ptr = (0, 0); now = [] }; check = no_check }
 
-abbrev pub no_dependency : DependencyDraft
+abbrev pub no_dependency : ParsedDependency
 no_dependency = record {
   dependent = record { ref_ptr = (0, 0); now = [] };
   master = record { ref_ptr = (0, 0); now = [] };

@@ -1,5 +1,6 @@
 pub mod ListLemmas
 pub mod RepeatLemmas
-pub mod PastEnds
+pub mod DefaultItems
 pub mod RefusalLemmas
 pub mod NameLemmas
+pub mod ErrorLemmas

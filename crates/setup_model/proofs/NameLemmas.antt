@@ -3,8 +3,8 @@ use Rattle.std.proofs.Common.{◌≡◌, ℕ, ◌==◌, ◌&&◌, not, Bool, tru
 use Rattle.std.specs.Prelude.{find, is_none, nat_le, nat_lt}
 use Rattle.std.specs.List.{list_all}
 use Rattle.std.proofs.lemmas.Bool.Decides.{nat_tests}
-use Rattle.check_drafts.specs.declared.fault.NameFault.TheVariants as wrong
-use Rattle.check_drafts.specs.Name.{is_name, is_name_byte, name_fault}
+use Rattle.setup_model.specs.declared.fault.NameFault.TheVariants as wrong
+use Rattle.setup_model.specs.Name.{is_name, is_name_byte, name_fault}
 
 bytes_by : (b : ℕ) (bs : List ℕ) (t : Bool) → is_none (option_map wrong.Byte (find (λ x. not (is_name_byte x)) bs)) ≡ list_all is_name_byte bs
     → is_none (option_map wrong.Byte (cond (not t) (Some b) (find (λ x. not (is_name_byte x)) bs))) ≡ (t && list_all is_name_byte bs)
@@ -24,8 +24,8 @@ name_by name false true empty long =
     let many : nat_le (length name) 255 ≡ false = grind (arith, nat_tests, long) in
     let some : nat_le 1 (length name) ≡ true = grind (arith, nat_tests, long) in rw (many, some) refl
 name_by name false false empty long =
-    let few : nat_le (length name) 255 ≡ true = grind (arith, nat_tests, long) in
-    let some : nat_le 1 (length name) ≡ true = grind (arith, nat_tests, empty) in good_bytes name ∙ rw (few, some) refl
+    let bounded : nat_le (length name) 255 ≡ true = grind (arith, nat_tests, long) in
+    let some : nat_le 1 (length name) ≡ true = grind (arith, nat_tests, empty) in good_bytes name ∙ rw (bounded, some) refl
 
 pub is_name_without_fault : (name : List ℕ) → is_none (name_fault name) ≡ is_name name
 is_name_without_fault name = name_by name (length name == 0) (nat_lt 255 (length name)) refl refl

@@ -1,18 +1,18 @@
 -- Where no test refuses anything, each passes; where no item of a list is refused, all pass.
-use Rattle.std.proofs.Common.{◌≡◌, ℕ, suc, ◌+◌, ◌≤◌, ◌&&◌, not, Bool, true, false, cond, List, [], ◌∷◌, drop, length, map, Option, Some, None, refl, sym, ap, ◌∙◌, Result, Ok, Err, arith}
+use Rattle.std.proofs.Common.{◌≡◌, ℕ, suc, ◌+◌, ◌&&◌, not, Bool, true, false, cond, List, [], ◌∷◌, drop, length, map, Option, Some, None, refl, sym, ap, ◌∙◌}
+use Rattle.std.proofs.Common.{Result, Ok, Err, arith}
 use Rattle.std.specs.Prelude.{nat_lt}
 use Rattle.std.specs.List.{list_all, position, prefix_len}
 use Rattle.std.proofs.lemmas.Bool.Decides.{nat_tests}
-use Rattle.std.proofs.lemmas.List.{drop_all}
-use Rattle.check_drafts.specs.declared.fault.End.{End}
-use Rattle.check_drafts.specs.declared.fault.End.TheVariants as end
-use Rattle.check_drafts.specs.declared.place.Part.{Part}
-use Rattle.check_drafts.specs.Draft.{DependencyDraft}
-use Rattle.check_drafts.specs.Ends.{has_known_ends, is_known, known_at, known_both, known_end, known_ends, wrong_end}
-use Rattle.check_drafts.specs.Fault as fault
-use Rattle.check_drafts.specs.Agreement.{◌>>=◌, each_from, refused_as, refused_at, unless}
-use Rattle.check_drafts.specs.Place.{item_of_part}
-use Rattle.check_drafts.proofs.ListLemmas.{missed}
+use Rattle.setup_model.specs.declared.fault.End.{End}
+use Rattle.setup_model.specs.declared.fault.End.TheVariants as end
+use Rattle.setup_model.specs.declared.place.Part.{Part}
+use Rattle.setup_model.specs.ParsedSetup.{ParsedDependency}
+use Rattle.setup_model.specs.Ends.{has_known_ends, is_known, dependency_test, dependency_ends_test, end_test, dependency_list_test, end_fault}
+use Rattle.setup_model.specs.Fault as fault
+use Rattle.setup_model.specs.Agreement.{◌>>=◌, each_from, with_error, error_at}
+use Rattle.setup_model.specs.Place.{item_place}
+use Rattle.setup_model.proofs.ListLemmas.{missed}
 
 -- what went before another test refused nothing where both together refused nothing
 pub first_ok : {B E : Type 0} (a : Result (Unit {0}) E) (f : Unit {0} → Result B E) (y : B) → (a >>= f) ≡ Ok y → a ≡ Ok tt
@@ -25,17 +25,12 @@ rest_ok (Ok u) f y e = e
 rest_ok (Err x) f y e = cc
 
 -- nothing was refused where there is no place of a fault
-pub nowhere : {E : Type 0} (fault : ℕ → E) (o : Option ℕ) → refused_at fault o ≡ Ok tt → o ≡ None
+pub nowhere : {E : Type 0} (fault : ℕ → E) (o : Option ℕ) → error_at fault o ≡ Ok tt → o ≡ None
 nowhere fault None e = refl
 nowhere fault (Some i) e = cc
 
--- nothing is refused where nothing is found
-pub nothing_found : {E : Type 0} (o : Option E) → unless o ≡ Ok tt → o ≡ None
-nothing_found None e = refl
-nothing_found (Some x) e = cc
-
 -- nothing is refused, however the refusal is seen
-pub still_ok : {E F : Type 0} (see : E → F) (r : Result (Unit {0}) E) → refused_as see r ≡ Ok tt → r ≡ Ok tt
+pub still_ok : {E F : Type 0} (see : E → F) (r : Result (Unit {0}) E) → with_error see r ≡ Ok tt → r ≡ Ok tt
 still_ok see (Ok u) e = refl
 still_ok see (Err x) e = cc
 
@@ -71,10 +66,6 @@ module _ {A B E : Type 0} (test : ℕ → B → Result (Unit {0}) E) (view : A �
       → each_from test i (map view (drop i xs)) ≡ each_from test (i + 1) (map view (drop (i + 1) xs))
   each_later xs i x rest passed = ap (λ l. each_from test i (map view l)) rest ∙ ap (λ r. r >>= λ _. each_from test (i + 1) (map view (drop (i + 1) xs))) passed
 
-  -- no item is left
-  pub each_done : (xs : List A) (i : ℕ) → length xs ≤ i → each_from test i (map view (drop i xs)) ≡ Ok tt
-  each_done xs i past = ap (λ l. each_from test i (map view l)) (drop_all i xs past)
-
 -- where each item passes, what a test shows of an item is true of all
 pub all_of_each : {A E : Type 0} (test : ℕ → A → Result (Unit {0}) E) (p : A → Bool) → ((i : ℕ) (x : A) → test i x ≡ Ok tt → p x ≡ true)
     → (i : ℕ) (xs : List A) → each_from test i xs ≡ Ok tt → list_all p xs ≡ true
@@ -87,23 +78,23 @@ all_of_each test p shows i (x ∷ xs) e =
 -- ---- the ends of dependencies
 
 -- the dependents and masters of these dependencies have one of these names
-abbrev pub have_known_ends : List (List ℕ) → List DependencyDraft → Bool
+abbrev pub have_known_ends : List (List ℕ) → List ParsedDependency → Bool
 have_known_ends names ds = list_all (has_known_ends names) ds
 
-end_known_by : (b : Bool) (names others : List (List ℕ)) (e : End) (name : List ℕ) → is_known names name ≡ b → known_end names others e name ≡ Ok tt
+end_known_by : (b : Bool) (names others : List (List ℕ)) (e : End) (name : List ℕ) → is_known names name ≡ b → end_test names others e name ≡ Ok tt
     → is_known names name ≡ true
 end_known_by true names others e name known passed = known
 end_known_by false names others e name known passed =
-    let refused : known_end names others e name ≡ Err (wrong_end others e name) = ap (λ b. cond b (Ok tt) (Err (wrong_end others e name))) known in cc
+    let refused : end_test names others e name ≡ Err (end_fault others e name) = ap (λ b. cond b (Ok tt) (Err (end_fault others e name))) known in cc
 
-end_known : (names others : List (List ℕ)) (e : End) (name : List ℕ) → known_end names others e name ≡ Ok tt → is_known names name ≡ true
+end_known : (names others : List (List ℕ)) (e : End) (name : List ℕ) → end_test names others e name ≡ Ok tt → is_known names name ≡ true
 end_known names others e name passed = end_known_by (is_known names name) names others e name refl passed
 
 -- where no dependency is refused, the ends of each are known
-pub ends_known : (p : Part) (names others : List (List ℕ)) (ds : List DependencyDraft) → known_ends p names others ds ≡ Ok tt → have_known_ends names ds ≡ true
+pub ends_known : (p : Part) (names others : List (List ℕ)) (ds : List ParsedDependency) → dependency_list_test p names others ds ≡ Ok tt → have_known_ends names ds ≡ true
 ends_known p names others ds e =
-    all_of_each (known_at p names others) (has_known_ends names) (λ i d passed.
-    let both = still_ok (fault.unknown_end (item_of_part p i)) (known_both names others d) passed in
-    let dependent = end_known names others end.Dependent d.dependent (first_ok (known_end names others end.Dependent d.dependent) _ tt both) in
-    let master = end_known names others end.Master d.master (rest_ok (known_end names others end.Dependent d.dependent) _ tt both) in
+    all_of_each (dependency_test p names others) (has_known_ends names) (λ i d passed.
+    let both = still_ok (fault.unknown_end (item_place p i)) (dependency_ends_test names others d) passed in
+    let dependent = end_known names others end.Dependent d.dependent (first_ok (end_test names others end.Dependent d.dependent) _ tt both) in
+    let master = end_known names others end.Master d.master (rest_ok (end_test names others end.Dependent d.dependent) _ tt both) in
     rw (dependent, master) refl) 0 ds e

@@ -3,8 +3,8 @@ use Rattle.std.proofs.Common.{◌≡◌, ℕ, suc, ◌+◌, Bool, true, false, c
 use Rattle.std.proofs.Common.{◌∙◌, append_assoc, arith}
 use Rattle.std.specs.Prelude.{slice_get, unwrap_or}
 use Rattle.std.specs.List.{list_any, position, range_with_len}
-use Rattle.check_drafts.specs.Keys.{stands_before, first_repeat}
-use Rattle.check_drafts.proofs.ListLemmas.{position-front, position-back, one_found, one_missed}
+use Rattle.setup_model.specs.Keys.{is_repeat_at, first_repeat}
+use Rattle.setup_model.proofs.ListLemmas.{position-front, position-back, one_found, one_missed}
 
 -- the first key, counted from i on, that is the same as one before it
 abbrev pub repeat_after : {K : Type 0} → (K → K → Bool) → List K → ℕ → List K → Option ℕ
@@ -20,7 +20,7 @@ front_of [] more i e = ap (λ k. take k more) e
 front_of (x ∷ before) more i e = ap (λ k. take k (x ∷ (before ++ more))) e ∙ ap (λ l. x ∷ l) (front_of before more (length before) refl)
 
 stands_by : {K : Type 0} (same : K → K → Bool) (before : List K) (key : K) (keys : List K) (i : ℕ) → i ≡ length before
-    → stands_before same (before ++ key ∷ keys) i ≡ list_any (same key) before
+    → is_repeat_at same (before ++ key ∷ keys) i ≡ list_any (same key) before
 stands_by same before key keys i e =
     ap (λ o. unwrap_or (option_map (λ k. list_any (same k) (take i (before ++ key ∷ keys))) o) false) (next_at before key keys i e)
     ∙ ap (list_any (same key)) (front_of before (key ∷ keys) i e)
@@ -42,23 +42,23 @@ zero_more i = omega arith
 repeats_by : {K : Type 0} (same : K → K → Bool) (before : List K) (i : ℕ) (key : K) (keys : List K) (b : Bool) → i ≡ length before
     → list_any (same key) before ≡ b
     → repeat_after same (before ++ key ∷ []) (i + 1) keys ≡ option_map
-    (λ j. (i + 1) + j) (position (stands_before same ((before ++ key ∷ []) ++ keys)) (range_with_len (i + 1) (length keys)))
+    (λ j. (i + 1) + j) (position (is_repeat_at same ((before ++ key ∷ []) ++ keys)) (range_with_len (i + 1) (length keys)))
     → cond b (Some i) (repeat_after same (before ++ key ∷ []) (i + 1) keys) ≡ option_map
-    (λ j. i + j) (position (stands_before same (before ++ key ∷ keys)) (range_with_len i (suc (length keys))))
+    (λ j. i + j) (position (is_repeat_at same (before ++ key ∷ keys)) (range_with_len i (suc (length keys))))
 repeats_by same before i key keys true e there more =
-    let p = stands_before same (before ++ key ∷ keys) in
+    let p = is_repeat_at same (before ++ key ∷ keys) in
     ap Some (sym (zero_more i)) ∙ ap (option_map (λ j. i + j)) (sym
     (position-front p (i ∷ []) (range_with_len (i + 1) (length keys)) 0 (one_found p i (stands_by same before key keys i e ∙ there))))
 repeats_by same before i key keys false e there more =
-    let p = stands_before same (before ++ key ∷ keys) in
-    more ∙ ap (λ l. option_map (λ j. (i + 1) + j) (position (stands_before same l) (range_with_len (i + 1) (length keys))))
+    let p = is_repeat_at same (before ++ key ∷ keys) in
+    more ∙ ap (λ l. option_map (λ j. (i + 1) + j) (position (is_repeat_at same l) (range_with_len (i + 1) (length keys))))
     (append_assoc before (key ∷ []) keys)
     ∙ counted_on i (position p (range_with_len (i + 1) (length keys)))
     ∙ ap (option_map (λ j. i + j))
     (sym (position-back p (i ∷ []) (range_with_len (i + 1) (length keys)) (one_missed p i (stands_by same before key keys i e ∙ there))))
 
 repeats_from : {K : Type 0} (same : K → K → Bool) (before : List K) (i : ℕ) (keys : List K) → i ≡ length before
-    → repeat_after same before i keys ≡ option_map (λ j. i + j) (position (stands_before same (before ++ keys)) (range_with_len i (length keys)))
+    → repeat_after same before i keys ≡ option_map (λ j. i + j) (position (is_repeat_at same (before ++ keys)) (range_with_len i (length keys)))
 repeats_from same before i [] e = refl
 repeats_from same before i (key ∷ keys) e =
     repeats_by same before i key keys (list_any (same key) before) e refl
@@ -69,4 +69,4 @@ from_zero None = refl
 from_zero (Some j) = ap Some (omega arith)
 
 pub first_repeat_is : {K : Type 0} (same : K → K → Bool) (keys : List K) → first_repeat same keys ≡ repeat_after same [] 0 keys
-first_repeat_is same keys = sym (repeats_from same [] 0 keys refl ∙ from_zero (position (stands_before same keys) (range_with_len 0 (length keys))))
+first_repeat_is same keys = sym (repeats_from same [] 0 keys refl ∙ from_zero (position (is_repeat_at same keys) (range_with_len 0 (length keys))))

@@ -13,19 +13,19 @@ abbrev pub with_front : {A E : Type 0} → List A → Result (List A) E → Resu
 with_front front rest = rest >>= λ more. Ok (front ++ more)
 
 -- a refusal at the index that is found, or none
-abbrev pub refused_at : {E : Type 0} → (ℕ → E) → Option ℕ → Result (Unit {0}) E
-refused_at fault None = Ok tt
-refused_at fault (Some i) = Err (fault i)
+abbrev pub error_at : {E : Type 0} → (ℕ → E) → Option ℕ → Result (Unit {0}) E
+error_at fault None = Ok tt
+error_at fault (Some i) = Err (fault i)
 
 -- the refusal that is found, or none
-abbrev pub unless : {E : Type 0} → Option E → Result (Unit {0}) E
-unless None = Ok tt
-unless (Some e) = Err e
+abbrev pub ok_unless : {E : Type 0} → Option E → Result (Unit {0}) E
+ok_unless None = Ok tt
+ok_unless (Some e) = Err e
 
 -- the same, with the refusal seen as another
-abbrev pub refused_as : {A E F : Type 0} → (E → F) → Result A E → Result A F
-refused_as fault (Ok x) = Ok x
-refused_as fault (Err e) = Err (fault e)
+abbrev pub with_error : {A E F : Type 0} → (E → F) → Result A E → Result A F
+with_error fault (Ok x) = Ok x
+with_error fault (Err e) = Err (fault e)
 
 -- Every item of a list passes a test, and this is the index of its first item; otherwise the refusal of the first item that doesn't pass.
 abbrev pub each_from : {A E : Type 0} → (ℕ → A → Result (Unit {0}) E) → ℕ → List A → Result (Unit {0}) E
@@ -37,11 +37,11 @@ abbrev pub each : {A E : Type 0} → (ℕ → A → Result (Unit {0}) E) → Lis
 each test xs = each_from test 0 xs
 
 -- the refusal is the defined one; without a refusal the code is out of memory, which says nothing
-abbrev pub Fails : {Y R : Type 0} → Option R → Result Y R → Type 0
-Fails None expected = Unit {0}
-Fails (Some refusal) expected = expected ≡ Err refusal
+abbrev pub IsExpectedError : {Y R : Type 0} → Option R → Result Y R → Type 0
+IsExpectedError None expected = Unit {0}
+IsExpectedError (Some refusal) expected = expected ≡ Err refusal
 
 -- the result of the code, seen by view, is the defined one, unless memory ran out
-abbrev pub Gives : {X Y E R : Type 0} → (E → Option R) → (X → Y) → Result X E → Result Y R → Type 0
-Gives refusal view (Ok x) expected = expected ≡ Ok (view x)
-Gives refusal view (Err e) expected = Fails (refusal e) expected
+abbrev pub IsExpectedResult : {X Y E R : Type 0} → (E → Option R) → (X → Y) → Result X E → Result Y R → Type 0
+IsExpectedResult refusal view (Ok x) expected = expected ≡ Ok (view x)
+IsExpectedResult refusal view (Err e) expected = IsExpectedError (refusal e) expected

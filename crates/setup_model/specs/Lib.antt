@@ -6,7 +6,7 @@ pub mod Fault
 pub mod LoadError
 pub mod Name
 pub mod Text
-pub mod Draft
-pub mod Drafted
+pub mod ParsedSetup
+pub mod ParsedViews
 pub mod Keys
 pub mod Ends

@@ -1,10 +1,10 @@
 -- A member of a setup document's objects: its name, the value that it must have, and its default.
 use Rattle.std.specs.Prelude.{ℕ, ◌&&◌, Bool, true, List, Option, Some, None, nat_le, is_none}
-use Rattle.check_drafts.specs.declared.member.DefaultValue.{DefaultValue}
-use Rattle.check_drafts.specs.declared.member.DefaultValue.TheVariants as default
-use Rattle.check_drafts.specs.declared.member.Kind.{Kind}
-use Rattle.check_drafts.specs.declared.member.Kind.TheVariants as kind
-use Rattle.check_drafts.specs.declared.member.Member as declared
+use Rattle.setup_model.specs.declared.member.DefaultValue.{DefaultValue}
+use Rattle.setup_model.specs.declared.member.DefaultValue.TheVariants as default
+use Rattle.setup_model.specs.declared.member.Kind.{Kind}
+use Rattle.setup_model.specs.declared.member.Kind.TheVariants as kind
+use Rattle.setup_model.specs.declared.member.Member as declared
 
 -- the fields that reading uses; the purpose of a member is left out, since reading doesn't use it
 pub record Row : Type 0 where

@@ -1,13 +1,13 @@
 -- The members that each sort of object of a setup document can have.
 use Rattle.std.specs.Prelude.{ℕ, true, false, List, [], ◌∷◌, Option, Some, None, codes}
-use Rattle.check_drafts.specs.declared.member.DefaultValue.{DefaultValue}
-use Rattle.check_drafts.specs.declared.member.DefaultValue.TheVariants as default
-use Rattle.check_drafts.specs.declared.member.Kind.{Kind}
-use Rattle.check_drafts.specs.declared.member.Kind.TheVariants as kind
-use Rattle.check_drafts.specs.declared.place.Part.{Part}
-use Rattle.check_drafts.specs.declared.place.Part.TheVariants as part
-use Rattle.check_drafts.specs.declared.place.Place.{Place}
-use Rattle.check_drafts.specs.Member.{Row}
+use Rattle.setup_model.specs.declared.member.DefaultValue.{DefaultValue}
+use Rattle.setup_model.specs.declared.member.DefaultValue.TheVariants as default
+use Rattle.setup_model.specs.declared.member.Kind.{Kind}
+use Rattle.setup_model.specs.declared.member.Kind.TheVariants as kind
+use Rattle.setup_model.specs.declared.place.Part.{Part}
+use Rattle.setup_model.specs.declared.place.Part.TheVariants as part
+use Rattle.setup_model.specs.declared.place.Place.{Place}
+use Rattle.setup_model.specs.Member.{Row}
 
 -- a required member: an object without it is refused
 abbrev pub required : List ℕ → Kind → Row

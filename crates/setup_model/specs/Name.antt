@@ -4,8 +4,8 @@ use Rattle.std.specs.List.{list_all}
 use Rattle.std.specs.declared.cmp.Ordering.{Ordering}
 use Rattle.std.specs.Ordering.{nat_cmp, ordering_then}
 use Rattle.std.specs.Cmp.Lexicographic.{slice_cmp}
-use Rattle.check_drafts.specs.declared.fault.NameFault.{NameFault}
-use Rattle.check_drafts.specs.declared.fault.NameFault.TheVariants as wrong
+use Rattle.setup_model.specs.declared.fault.NameFault.{NameFault}
+use Rattle.setup_model.specs.declared.fault.NameFault.TheVariants as wrong
 
 -- a byte that isn't a control byte, nor the semicolon that separates a host's name from a description
 abbrev pub is_name_byte : ℕ → Bool

@@ -1,35 +1,35 @@
 -- The contents of a document, before its names and numbers are verified.
 use Rattle.std.specs.Prelude.{ℕ, Bool, List}
-use Rattle.check_drafts.specs.declared.dependency.Criteria.{Criteria}
-use Rattle.check_drafts.specs.declared.draft.CheckDraft.{CheckDraft}
-use Rattle.check_drafts.specs.declared.options.Options.{Options}
+use Rattle.setup_model.specs.declared.dependency.Criteria.{Criteria}
+use Rattle.setup_model.specs.declared.parsed_setup.ParsedCheck.{ParsedCheck}
+use Rattle.setup_model.specs.declared.options.Options.{Options}
 
 -- a host as the document describes it
-pub record HostDraft : Type 0 where
+pub record ParsedHost : Type 0 where
   pub name : List ℕ
   pub parents : List (List ℕ)
-  pub check : CheckDraft
+  pub check : ParsedCheck
 
 -- a service as the document describes it
-pub record ServiceDraft : Type 0 where
+pub record ParsedService : Type 0 where
   pub host : List ℕ
   pub description : List ℕ
-  pub check : CheckDraft
+  pub check : ParsedCheck
 
 -- a dependency as the document describes it
-pub record DependencyDraft : Type 0 where
+pub record ParsedDependency : Type 0 where
   pub dependent : List ℕ
   pub master : List ℕ
   pub criteria : Criteria
   pub inherits : Bool
 
-pub record Drafts : Type 0 where
+pub record ParsedSetup : Type 0 where
   pub options : Options
   -- in the document's order
-  pub hosts : List HostDraft
+  pub hosts : List ParsedHost
   -- in the document's order
-  pub services : List ServiceDraft
+  pub services : List ParsedService
   -- in the document's order
-  pub service_dependencies : List DependencyDraft
+  pub service_dependencies : List ParsedDependency
   -- in the document's order
-  pub host_dependencies : List DependencyDraft
+  pub host_dependencies : List ParsedDependency

@@ -1,25 +1,25 @@
--- The drafts of the code, as the definitions see them.
+-- The parsed setup of the code, as the definitions see them.
 use Rattle.std.specs.Prelude.{◌<◌, ℕ, List, map}
 use Rattle.std.specs.Borrow.{Bor}
-use Rattle.check_drafts.specs.declared.draft.CheckDraft.{CheckDraft}
-use Rattle.check_drafts.specs.declared.draft.HostDraft.{HostDraft}
-use Rattle.check_drafts.specs.declared.draft.ServiceDraft.{ServiceDraft}
-use Rattle.check_drafts.specs.declared.draft.DependencyDraft.{DependencyDraft}
-use Rattle.check_drafts.specs.declared.draft.Drafts.{Drafts}
-use Rattle.check_drafts.specs.Text.{text}
-use Rattle.check_drafts.specs.Draft as spec
+use Rattle.setup_model.specs.declared.parsed_setup.ParsedCheck.{ParsedCheck}
+use Rattle.setup_model.specs.declared.parsed_setup.ParsedHost.{ParsedHost}
+use Rattle.setup_model.specs.declared.parsed_setup.ParsedService.{ParsedService}
+use Rattle.setup_model.specs.declared.parsed_setup.ParsedDependency.{ParsedDependency}
+use Rattle.setup_model.specs.declared.parsed_setup.ParsedSetup.{ParsedSetup}
+use Rattle.setup_model.specs.Text.{text}
+use Rattle.setup_model.specs.ParsedSetup as spec
 
-abbrev pub host : HostDraft → spec.HostDraft
+abbrev pub host : ParsedHost → spec.ParsedHost
 host h = record { name = h.name.now; parents = map text h.parents.now; check = h.check }
 
-abbrev pub service : ServiceDraft → spec.ServiceDraft
+abbrev pub service : ParsedService → spec.ParsedService
 service s = record { host = s.host.now; description = s.description.now; check = s.check }
 
-abbrev pub dependency : DependencyDraft → spec.DependencyDraft
+abbrev pub dependency : ParsedDependency → spec.ParsedDependency
 dependency d = record { dependent = d.dependent.now; master = d.master.now; criteria = d.criteria; inherits = d.inherits }
 
-abbrev pub drafts_view : Drafts → spec.Drafts
-drafts_view d = record {
+abbrev pub parsed_view : ParsedSetup → spec.ParsedSetup
+parsed_view d = record {
   options = d.options;
   hosts = map host d.hosts.items;
   services = map service d.services.items;
@@ -28,8 +28,8 @@ drafts_view d = record {
 }
 
 -- the attempts fit a byte
-abbrev pub HasFewAttempts : CheckDraft → Type 0
-HasFewAttempts c = c.max_check_attempts < 256
+abbrev pub HasBoundedAttempts : ParsedCheck → Type 0
+HasBoundedAttempts c = c.max_check_attempts < 256
 
 -- the texts that references point to
 abbrev pub texts : List (Bor (List ℕ)) → List (List ℕ)

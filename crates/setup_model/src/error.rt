@@ -1,9 +1,10 @@
 //! Why a setup document is refused.
+
 ghost use Rattle.std.specs.Prelude.{◌≡◌};
-ghost use Rattle.check_drafts.specs.declared.error.LoadError.TheVariants.{Memory};
+ghost use Rattle.setup_model.specs.declared.error.LoadError.TheVariants.{Memory};
 
 use crate::place::Place;
-use std::alloc::{AllocError, AllocFailed};
+use std::alloc::AllocFailed;
 
 /// Why a setup was not read. `TooLong` is tested first. Then each test covers the whole document before the
 /// next test begins, in the order of these variants. The fault of the first place is reported. Nothing is
@@ -42,18 +43,90 @@ pub enum LoadError {
     Memory,
 }
 
-impl From<AllocError> for LoadError {
-    ghost from_gives = { λ _ e. e ≡ Memory };
-
-    fn from(_refused: AllocError) -> LoadError {
-        LoadError::Memory
-    }
-}
-
 impl<T: Drop> From<AllocFailed<T>> for LoadError {
     ghost from_gives = { λ _ e. e ≡ Memory };
 
     fn from(_refused: AllocFailed<T>) -> LoadError {
         LoadError::Memory
+    }
+}
+
+impl LoadError {
+    ghost use Rattle.setup_model.specs.LoadError.{error_number, error_reason, numbered_error, place_of};
+
+    /// The number of the refusal, as the C library has it. Its header doesn't have the number of `Memory`.
+    pub fn number(self) -> u32
+        ensures { result ≡ error_number self }
+    {
+        match self {
+            LoadError::TooLong => 0,
+            LoadError::NotJson => 1,
+            LoadError::Shape(_) => 2,
+            LoadError::TooMany => 3,
+            LoadError::BadName(_) => 4,
+            LoadError::Duplicate(_) => 5,
+            LoadError::UnknownHost(_) => 6,
+            LoadError::UnknownMaster(_) => 7,
+            LoadError::Range(_) => 8,
+            LoadError::DependencyCycle => 9,
+            LoadError::ParentCycle => 10,
+            LoadError::Memory => 21,
+        }
+    }
+
+    /// The refusal of this number, with this place if such a refusal has one. None for the number of `Memory`
+    /// and for a number that no refusal has.
+    pub fn from_number(number: u32, place: Place) -> Option<LoadError>
+        ensures { result ≡ numbered_error number place }
+    {
+        match number {
+            0 => Some(LoadError::TooLong),
+            1 => Some(LoadError::NotJson),
+            2 => Some(LoadError::Shape(place)),
+            3 => Some(LoadError::TooMany),
+            4 => Some(LoadError::BadName(place)),
+            5 => Some(LoadError::Duplicate(place)),
+            6 => Some(LoadError::UnknownHost(place)),
+            7 => Some(LoadError::UnknownMaster(place)),
+            8 => Some(LoadError::Range(place)),
+            9 => Some(LoadError::DependencyCycle),
+            10 => Some(LoadError::ParentCycle),
+            _ => None,
+        }
+    }
+
+    /// The reason in the line of the refusal: its code and its name.
+    pub fn reason(self) -> &'static str
+        ensures { result.now ≡ error_reason self }
+    {
+        match self {
+            LoadError::NotJson => "L1 NotJson",
+            LoadError::Shape(_) => "L2 Shape",
+            LoadError::TooMany => "L3 TooMany",
+            LoadError::BadName(_) => "L4 BadName",
+            LoadError::Duplicate(_) => "L5 Duplicate",
+            LoadError::UnknownHost(_) => "L6 UnknownHost",
+            LoadError::UnknownMaster(_) => "L7 UnknownMaster",
+            LoadError::Range(_) => "L8 Range",
+            LoadError::DependencyCycle => "L9 DependencyCycle",
+            LoadError::ParentCycle => "L10 ParentCycle",
+            LoadError::Memory => "L11 Memory",
+            LoadError::TooLong => "L12 TooLong",
+        }
+    }
+
+    /// The place of the fault, if the refusal has one.
+    pub fn place(self) -> Option<Place>
+        ensures { result ≡ place_of self }
+    {
+        match self {
+            LoadError::Shape(place)
+            | LoadError::BadName(place)
+            | LoadError::Duplicate(place)
+            | LoadError::UnknownHost(place)
+            | LoadError::UnknownMaster(place)
+            | LoadError::Range(place) => Some(place),
+            _ => None,
+        }
     }
 }

@@ -1,7 +1,8 @@
 //! Faults of a setup document: the refusal, and the details that the failed test has found.
+
 ghost use Rattle.std.specs.Prelude.{◌≡◌};
-ghost use Rattle.check_drafts.specs.Fault.{seen, load_error};
-ghost use Rattle.check_drafts.specs.declared.fault.Fault.TheVariants.{Memory};
+ghost use Rattle.setup_model.specs.Fault.{view_of, load_error};
+ghost use Rattle.setup_model.specs.declared.fault.Fault.TheVariants.{Memory};
 
 use crate::error::LoadError;
 use crate::member::Member;
@@ -10,7 +11,7 @@ use std::alloc::{AllocError, AllocFailed};
 
 /// The position at which reading stops in a document that isn't JSON.
 #[derive(Clone, Copy, Debug, PartialEq, Eq)]
-pub struct Unread {
+pub struct JsonPosition {
     /// The line, from 1.
     pub line: usize,
     /// The column, as `serde_json` counts it.
@@ -33,7 +34,7 @@ pub enum ShapeFault {
     /// A required member of the table is missing: the first one, in the order of the table.
     Missing(Member),
     /// The value of a member of the table isn't of its kind: the first one, in the order of the table.
-    Misfit(Member),
+    WrongKind(Member),
 }
 
 /// A fault of a name. The first of these that holds is reported, in the order of the variants.
@@ -71,7 +72,7 @@ pub enum EndFault {
 #[derive(Clone, Copy, Debug, PartialEq, Eq)]
 pub enum RangeFault {
     /// The number of this member, and the number itself: the first one, in the order of the table.
-    Beyond(Member, u64),
+    OutOfRange(Member, u64),
     /// The low threshold for the flapping of services is above the high one. Both are given.
     ServiceThresholds(u64, u64),
     /// The low threshold for the flapping of hosts is above the high one. Both are given.
@@ -98,7 +99,7 @@ pub enum Fault {
     /// The document has more than 16,777,216 bytes.
     TooLong,
     /// `serde_json` gives no reading, for another reason than memory. The position at which it stops.
-    NotJson(Unread),
+    NotJson(JsonPosition),
     /// A member is unknown, missing or of the wrong kind. The fault names the member.
     Shape(Place, ShapeFault),
     /// There are too many objects, parents or dependencies. The number of them is given.
@@ -128,7 +129,7 @@ pub enum Fault {
 }
 
 impl From<Fault> for LoadError {
-    ghost from_gives = { λ fault e. e ≡ load_error (seen fault) };
+    ghost from_gives = { λ fault e. e ≡ load_error (view_of fault) };
 
     fn from(fault: Fault) -> LoadError {
         match fault {

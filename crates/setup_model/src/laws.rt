@@ -1,8 +1,8 @@
 //! Laws of the constants. Each is the contract of a function without parameters and code.
 
 ghost use Rattle.std.specs.Prelude.{◌≡◌};
-ghost use Rattle.check_drafts.specs.Place.{the_document, the_hosts, the_options, the_services};
-ghost use Rattle.check_drafts.specs.declared.limits.TheConstants.{
+ghost use Rattle.setup_model.specs.Place.{document_place, hosts_place, options_place, services_place};
+ghost use Rattle.setup_model.specs.declared.limits.TheConstants.{
   MAX_ATTEMPTS,
   MAX_CONCURRENT_CHECKS,
   MAX_DELAY,
@@ -17,7 +17,7 @@ ghost use Rattle.check_drafts.specs.declared.limits.TheConstants.{
   MAX_PARENTS,
   MAX_SPREAD,
 };
-ghost use Rattle.check_drafts.specs.declared.place.TheConstants.Place.{DOCUMENT, HOSTS, OPTIONS, SERVICES};
+ghost use Rattle.setup_model.specs.declared.place.TheConstants.Place.{DOCUMENT, HOSTS, OPTIONS, SERVICES};
 
 /// The limits of a setup, as numbers. (Our own profile.)
 pub fn limits_of_a_setup()
@@ -38,8 +38,8 @@ pub fn limits_of_a_setup()
 
 /// The places of whole parts. Each place is the part after which it is named, without an index.
 pub fn places_of_whole_parts()
-    ensures document { DOCUMENT ≡ the_document }
-    ensures options { OPTIONS ≡ the_options }
-    ensures hosts { HOSTS ≡ the_hosts }
-    ensures services { SERVICES ≡ the_services }
+    ensures document { DOCUMENT ≡ document_place }
+    ensures options { OPTIONS ≡ options_place }
+    ensures hosts { HOSTS ≡ hosts_place }
+    ensures services { SERVICES ≡ services_place }
 {}

@@ -60,7 +60,7 @@ pub struct Member {
 
 impl Kind {
     ghost use Rattle.std.specs.Prelude.{◌≡◌};
-    ghost use Rattle.check_drafts.specs.Member.{limits_of};
+    ghost use Rattle.setup_model.specs.Member.{limits_of};
 
     /// The least and the greatest number of the kind. None for a kind without numbers.
     pub fn limits(self) -> Option<(u64, u64)>
@@ -77,7 +77,7 @@ impl Kind {
 
 impl Member {
     ghost use Rattle.std.specs.Prelude.{◌≡◌};
-    ghost use Rattle.check_drafts.specs.Member.{as_row, default_number, default_switch, is_required, is_within_limits};
+    ghost use Rattle.setup_model.specs.Member.{as_row, default_number, default_switch, is_required, is_within_limits};
 
     /// Whether an object without this member is refused.
     pub fn is_required(self) -> bool

@@ -1,9 +1,10 @@
 //! The table of the members that each sort of object of a setup document can have (manual: Main Configuration
 //! File Options, Object Definitions). Limits and defaults that the manual doesn't give are our own profile.
 //! The code that reads a document, explains its faults or describes it uses this table.
+
 ghost use Rattle.std.specs.Prelude.{◌≡◌, option_map, map};
-ghost use Rattle.check_drafts.specs.Member.{as_row};
-ghost use Rattle.check_drafts.specs.Members.{members_at};
+ghost use Rattle.setup_model.specs.Member.{as_row};
+ghost use Rattle.setup_model.specs.Members.{members_at};
 
 use crate::limits;
 use crate::member::{DefaultValue, Kind, Member};

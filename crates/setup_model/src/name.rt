@@ -1,6 +1,7 @@
 //! Names: which texts can be names, and the full names of services.
+
 ghost use Rattle.std.specs.Prelude.{◌≡◌, IfOk, find, not, string_bytes};
-ghost use Rattle.check_drafts.specs.Name.{full_name, is_name, is_name_byte, name_fault};
+ghost use Rattle.setup_model.specs.Name.{full_name, is_name, is_name_byte, name_fault};
 
 use crate::fault::NameFault;
 use crate::limits::MAX_NAME_BYTES;

@@ -1,8 +1,9 @@
-//! Drafts: the contents of a document whose members have the right names and kinds.
+//! A parsed setup: the contents of a document whose members have the right names and kinds.
 //!
 //! Texts are borrowed from the document's tree. Numbers are those of the document.
+
 ghost use Rattle.std.specs.Prelude.{◌≡◌};
-ghost use Rattle.check_drafts.specs.Text.{text};
+ghost use Rattle.setup_model.specs.Text.{text};
 
 use crate::dependency::Criteria;
 use crate::options::Options;
@@ -10,7 +11,7 @@ use serde_json::Value;
 
 /// How an object is checked, as the document says it.
 #[derive(Clone, Copy)]
-pub struct CheckDraft {
+pub struct ParsedCheck {
     /// From one check to the next, in units of `interval_length`.
     pub check_interval: u64,
     /// From one check to the next while the object is a soft problem, in units of
@@ -24,29 +25,29 @@ pub struct CheckDraft {
 
 /// A host as the document describes it.
 #[derive(Clone, Copy)]
-pub struct HostDraft<'v> {
+pub struct ParsedHost<'v> {
     /// The host's name.
     pub name: &'v str,
     /// Its parents' names, each a text.
     pub parents: &'v [Value],
     /// How the host is checked.
-    pub check: CheckDraft,
+    pub check: ParsedCheck,
 }
 
 /// A service as the document describes it.
 #[derive(Clone, Copy)]
-pub struct ServiceDraft<'v> {
+pub struct ParsedService<'v> {
     /// The name of the service's host.
     pub host: &'v str,
     /// The service's description.
     pub description: &'v str,
     /// How the service is checked.
-    pub check: CheckDraft,
+    pub check: ParsedCheck,
 }
 
 /// A dependency as the document describes it, between services or between hosts.
 #[derive(Clone, Copy)]
-pub struct DependencyDraft<'v> {
+pub struct ParsedDependency<'v> {
     /// The full name of the object that depends on the other.
     pub dependent: &'v str,
     /// The full name of the object that is depended on.
@@ -59,17 +60,17 @@ pub struct DependencyDraft<'v> {
 
 /// A document in the right shape. Each list is in the document's order.
 #[derive(Drop)]
-pub struct Drafts<'v> {
+pub struct ParsedSetup<'v> {
     /// The options. An option that the document leaves out has its default.
     pub options: Options,
     /// The hosts.
-    pub hosts: Vec<HostDraft<'v>>,
+    pub hosts: Vec<ParsedHost<'v>>,
     /// The services.
-    pub services: Vec<ServiceDraft<'v>>,
+    pub services: Vec<ParsedService<'v>>,
     /// The dependencies between services.
-    pub service_dependencies: Vec<DependencyDraft<'v>>,
+    pub service_dependencies: Vec<ParsedDependency<'v>>,
     /// The dependencies between hosts.
-    pub host_dependencies: Vec<DependencyDraft<'v>>,
+    pub host_dependencies: Vec<ParsedDependency<'v>>,
 }
 
 /// The text of a value, as a parent's name is one. A value that isn't a text gives no bytes.
@@ -77,4 +78,20 @@ pub fn text(value: &Value) -> &str
     ensures { result.now ≡ text value.now }
 {
     value.as_str().unwrap_or("")
+}
+
+/// How one host or service is checked (manual: Service and Host Check Scheduling; State Types).
+#[derive(Clone, Copy, Debug, PartialEq, Eq)]
+pub struct Object {
+    // The fields that each report reads come first, next to each other.
+    /// From one check to the next, in units of `interval_length`, 0 to 525,600. 0 means that no check follows
+    /// automatically.
+    pub check_interval: u64,
+    /// How many checks in a row must find a problem before it is hard, 1 to 255.
+    pub max_check_attempts: u8,
+    /// Whether the object's checks are scheduled.
+    pub enabled: bool,
+    /// From one check to the next while the object is a soft problem, in units of
+    /// `interval_length`, 0 to 525,600.
+    pub retry_interval: u64,
 }

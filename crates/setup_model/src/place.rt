@@ -21,8 +21,8 @@ pub enum Part {
 
 impl Part {
     ghost use Rattle.std.specs.Prelude.{◌≡◌};
-    ghost use Rattle.check_drafts.specs.Members.{part_name};
-    ghost use Rattle.check_drafts.specs.Place.{numbered_part, part_number};
+    ghost use Rattle.setup_model.specs.Members.{part_name};
+    ghost use Rattle.setup_model.specs.Place.{part_of_number, part_number};
 
     /// The name of the part: that of its member of the document, or `document`.
     pub fn name(self) -> &'static str
@@ -54,8 +54,8 @@ impl Part {
     }
 
     /// The part of this number. None for 0 and for a number above 6.
-    pub fn numbered(number: u32) -> Option<Part>
-        ensures { result ≡ numbered_part number }
+    pub fn from_number(number: u32) -> Option<Part>
+        ensures { result ≡ part_of_number number }
     {
         match number {
             1 => Some(Part::Document),
@@ -80,7 +80,7 @@ pub struct Place {
 
 impl Place {
     ghost use Rattle.std.specs.Prelude.{◌≡◌};
-    ghost use Rattle.check_drafts.specs.Place.{host_at, service_at, list_of_part, item_of_part};
+    ghost use Rattle.setup_model.specs.Place.{host_place, service_place, list_place, item_place};
 
     /// The document as a whole.
     pub const DOCUMENT: Place = Place {
@@ -108,7 +108,7 @@ impl Place {
 
     /// The host with this index in the document's list.
     pub fn host(index: usize) -> Place
-        ensures { result ≡ host_at index }
+        ensures { result ≡ host_place index }
     {
         Place {
             part: Part::Hosts,
@@ -118,7 +118,7 @@ impl Place {
 
     /// The service with this index in the document's list.
     pub fn service(index: usize) -> Place
-        ensures { result ≡ service_at index }
+        ensures { result ≡ service_place index }
     {
         Place {
             part: Part::Services,
@@ -128,14 +128,14 @@ impl Place {
 
     /// The part as a whole.
     pub fn list(part: Part) -> Place
-        ensures { result ≡ list_of_part part }
+        ensures { result ≡ list_place part }
     {
         Place { part, index: None }
     }
 
     /// The item with this index in the part's list.
     pub fn item(part: Part, index: usize) -> Place
-        ensures { result ≡ item_of_part part index }
+        ensures { result ≡ item_place part index }
     {
         Place {
             part,

@@ -6,9 +6,9 @@ use Rattle.std.specs.Prelude.{nat_lt}
 use Rattle.std.specs.List.{list_any, list_all}
 use Rattle.std.proofs.lemmas.Bool.{eqb-true, cases_lt}
 use Rattle.std.proofs.lemmas.List.Folds.{list_all-append}
-use Rattle.link_order.specs.Cycles.{links_of, are_within, deep, any_below, has_cycle}
-use Rattle.link_order.specs.Orders.{is_among, times, follows, IsOrder}
-use Rattle.link_order.proofs.TestLemmas.{or_first, or_second, or_cases, and_first, and_second, and_both, not_true, any_weaker, all_weaker}
+use Rattle.setup_order.specs.Cycles.{links_of, are_within, deep, any_below, has_cycle}
+use Rattle.setup_order.specs.Orders.{is_among, occurrences, is_topological, IsOrder}
+use Rattle.setup_order.proofs.TestLemmas.{or_first, or_second, or_cases, and_first, and_second, and_both, not_true, any_weaker, all_weaker}
 
 -- ---- one among others
 
@@ -69,7 +69,7 @@ length_push [] x = refl
 length_push (y ∷ xs) x = ap suc (length_push xs x)
 
 -- an order has no chain of as many links as it has objects
-pub shallow_order : (links : List (List ℕ)) (placed os : List ℕ) → follows links placed os ≡ true → list_all (shallow links (length placed)) placed ≡ true
+pub shallow_order : (links : List (List ℕ)) (placed os : List ℕ) → is_topological links placed os ≡ true → list_all (shallow links (length placed)) placed ≡ true
     → list_all (shallow links (length (placed ++ os))) (placed ++ os) ≡ true
 shallow_order links placed [] h s = rw (append-nil placed) s
 shallow_order links placed (o ∷ os) h s =
@@ -99,9 +99,9 @@ among_by_times x y true n rest f h = refl
 among_by_times x y false n rest f h = f (omega arith)
 
 -- what stands in a list is among it
-pub among_times : (xs : List ℕ) (y : ℕ) → 0 < times y xs → is_among xs y ≡ true
+pub among_times : (xs : List ℕ) (y : ℕ) → 0 < occurrences y xs → is_among xs y ≡ true
 among_times [] y h = absurd (omega arith)
-among_times (x ∷ xs) y h = among_by_times x y (x == y) (times y xs) (is_among xs y) (among_times xs y) h
+among_times (x ∷ xs) y h = among_by_times x y (x == y) (occurrences y xs) (is_among xs y) (among_times xs y) h
 
 -- an order shows that there is no cycle
 pub order_has_no_cycle : (links : List (List ℕ)) (order : List ℕ) → IsOrder links order → has_cycle links ≡ false
@@ -110,7 +110,7 @@ order_has_no_cycle links order is =
     none_below (λ o. deep links o (length links)) (length links) (λ o h.
     let once = is.each_once o h in
     let among : is_among order o ≡ true = among_times order o (omega arith) in
-    let shallow_all = shallow_order links [] order is.behind_links refl in
+    let shallow_all = shallow_order links [] order is.after_links refl in
     let at : shallow links (length order) o ≡ true = all_among (shallow links (length order)) order o shallow_all among in
     not_true _ (rw (← is.size) at))
 

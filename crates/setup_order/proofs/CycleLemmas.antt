@@ -5,23 +5,23 @@ use Rattle.std.specs.Prelude.{nat_lt}
 use Rattle.std.specs.List.{list_any, list_all, filter}
 use Rattle.std.proofs.lemmas.Bool.{eqb-true, eq-eqb, cases_lt}
 use Rattle.std.proofs.lemmas.Bool.Decides.{nat_tests}
-use Rattle.link_order.specs.Cycles.{are_within, links_of, deep, any_below, has_cycle, leads, LeadsBack, IsCyclic}
-use Rattle.link_order.specs.Orders.{is_among, times}
-use Rattle.link_order.proofs.TestLemmas.{and_first, and_second, and_both, or_second, any_weaker, or_cases, is_below, below_is}
-use Rattle.link_order.proofs.ChainLemmas.{all_among, among_times, some_below, links_within}
+use Rattle.setup_order.specs.Cycles.{are_within, links_of, deep, any_below, has_cycle, has_path, IsOnCycle, IsCyclic}
+use Rattle.setup_order.specs.Orders.{is_among, occurrences}
+use Rattle.setup_order.proofs.TestLemmas.{and_first, and_second, and_both, or_second, any_weaker, or_cases, is_below, below_is}
+use Rattle.setup_order.proofs.ChainLemmas.{all_among, among_times, some_below, links_within}
 
 -- ---- from a way back to a cycle
 
-chains_on : (links : List (List ℕ)) (object back : ℕ) → leads links (suc back) object object ≡ true → (j o k : ℕ)
-    → leads links (suc k) o object ≡ true → deep links o j ≡ true
+chains_on : (links : List (List ℕ)) (object back : ℕ) → has_path links (suc back) object object ≡ true → (j o k : ℕ)
+    → has_path links (suc k) o object ≡ true → deep links o j ≡ true
 chains_on links object back h zero o k e = refl
 chains_on links object back h (suc j) o zero e =
     any_weaker (λ l. l == object) (λ l. deep links l j) (λ l x. ap (λ m. deep links m j) (eqb-true l object x)
     ∙ chains_on links object back h j object back h) (links_of links o) e
 chains_on links object back h (suc j) o (suc k) e =
-    any_weaker (λ l. leads links (suc k) l object) (λ l. deep links l j) (λ l x. chains_on links object back h j l k x) (links_of links o) e
+    any_weaker (λ l. has_path links (suc k) l object) (λ l. deep links l j) (λ l x. chains_on links object back h j l k x) (links_of links o) e
 
-pub back_is_cycle : (links : List (List ℕ)) (object : ℕ) → object < length links → LeadsBack links object → has_cycle links ≡ true
+pub back_is_cycle : (links : List (List ℕ)) (object : ℕ) → object < length links → IsOnCycle links object → has_cycle links ≡ true
 unfolding has_cycle
 back_is_cycle links object below back =
     some_below (λ o. deep links o (length links)) (length links) object below (chains_on links object back.0 back.1 (length links) object back.0 back.1)
@@ -69,21 +69,21 @@ chain_of links n h (suc k) o e =
 abbrev pub others : ℕ → List ℕ → List ℕ
 others n xs = filter (λ x. not (x == n)) xs
 
-others_counted_by : (n x : ℕ) (xs : List ℕ) (b : Bool) → length xs ≡ length (others n xs) + times n xs
-    → suc (length xs) ≡ length (cond (not b) (x ∷ others n xs) (others n xs)) + (cond b 1 0 + times n xs)
+others_counted_by : (n x : ℕ) (xs : List ℕ) (b : Bool) → length xs ≡ length (others n xs) + occurrences n xs
+    → suc (length xs) ≡ length (cond (not b) (x ∷ others n xs) (others n xs)) + (cond b 1 0 + occurrences n xs)
 others_counted_by n x xs true e = omega (arith, e)
 others_counted_by n x xs false e = omega (arith, e)
 
-others_counted : (n : ℕ) (xs : List ℕ) → length xs ≡ length (others n xs) + times n xs
+others_counted : (n : ℕ) (xs : List ℕ) → length xs ≡ length (others n xs) + occurrences n xs
 others_counted n [] = refl
 others_counted n (x ∷ xs) = others_counted_by n x xs (x == n) (others_counted n xs)
 
-times_fewer_by : (n y x : ℕ) (xs : List ℕ) (b : Bool) → times y (others n xs) ≤ times y xs
-    → times y (cond b (x ∷ others n xs) (others n xs)) ≤ cond (x == y) 1 0 + times y xs
+times_fewer_by : (n y x : ℕ) (xs : List ℕ) (b : Bool) → occurrences y (others n xs) ≤ occurrences y xs
+    → occurrences y (cond b (x ∷ others n xs) (others n xs)) ≤ cond (x == y) 1 0 + occurrences y xs
 times_fewer_by n y x xs true h = omega (arith, h)
 times_fewer_by n y x xs false h = omega (arith, h)
 
-times_fewer : (n y : ℕ) (xs : List ℕ) → times y (others n xs) ≤ times y xs
+times_fewer : (n y : ℕ) (xs : List ℕ) → occurrences y (others n xs) ≤ occurrences y xs
 times_fewer n y [] = omega arith
 times_fewer n y (x ∷ xs) = times_fewer_by n y x xs (not (x == n)) (times_fewer n y xs)
 
@@ -104,10 +104,10 @@ nothing_below : (x : ℕ) → nat_lt x 0 ≡ true → ⊥
 nothing_below x h = grind (arith, nat_tests, h)
 
 -- of more numbers below n than n, one comes twice
-pigeon : (n : ℕ) (xs : List ℕ) → list_all (λ x. nat_lt x n) xs ≡ true → n < length xs → (x : ℕ) × (1 < times x xs)
+pigeon : (n : ℕ) (xs : List ℕ) → list_all (λ x. nat_lt x n) xs ≡ true → n < length xs → (x : ℕ) × (1 < occurrences x xs)
 pigeon zero [] h l = absurd (omega (arith, l))
 pigeon zero (x ∷ xs) h l = absurd (nothing_below x (and_first _ (list_all (λ y. nat_lt y 0) xs) h))
-pigeon (suc n) xs h l = elim (cases_lt 1 (times n xs)) [
+pigeon (suc n) xs h l = elim (cases_lt 1 (occurrences n xs)) [
   | inl twice ↦ (n, twice)
   | inr once ↦ let p = pigeon n (others n xs) (others_below n xs h)
       (omega (arith, l, once, others_counted n xs)) in (p.0, omega (arith, p.1, times_fewer n p.0 xs))
@@ -125,22 +125,22 @@ some_among p [] m h k = cc
 some_among p (x ∷ xs) m h k = some_among_by p x m xs (x == m) refl h k (λ e. some_among p xs m e k)
 
 reached_by : (links : List (List ℕ)) (o x m : ℕ) (n : ℕ) (b : Bool) → (m == x) ≡ b → is_among (links_of links o) m ≡ true → 0 < cond b 1 0 + n
-    → (0 < n → (k : ℕ) × (leads links (suc k) m x ≡ true)) → (k : ℕ) × (leads links (suc k) o x ≡ true)
+    → (0 < n → (k : ℕ) × (has_path links (suc k) m x ≡ true)) → (k : ℕ) × (has_path links (suc k) o x ≡ true)
 reached_by links o x m n true e linked h more = (0, ap (is_among (links_of links o)) (sym (eqb-true m x e)) ∙ linked)
 reached_by links o x m n false e linked h more =
-    let later = more (omega (arith, h)) in (suc later.0, some_among (λ l. leads links (suc later.0) l x) (links_of links o) m linked later.1)
+    let later = more (omega (arith, h)) in (suc later.0, some_among (λ l. has_path links (suc later.0) l x) (links_of links o) m linked later.1)
 
-reached : (links : List (List ℕ)) (x o : ℕ) (ms : List ℕ) → is_chain links o ms ≡ true → 0 < times x ms → (k : ℕ) × (leads links (suc k) o x ≡ true)
+reached : (links : List (List ℕ)) (x o : ℕ) (ms : List ℕ) → is_chain links o ms ≡ true → 0 < occurrences x ms → (k : ℕ) × (has_path links (suc k) o x ≡ true)
 reached links x o [] c h = absurd (omega (arith, h))
-reached links x o (m ∷ ms) c h = reached_by links o x m (times x ms) (m == x) refl (and_first _ _ c) h (reached links x m ms (and_second _ _ c))
+reached links x o (m ∷ ms) c h = reached_by links o x m (occurrences x ms) (m == x) refl (and_first _ _ c) h (reached links x m ms (and_second _ _ c))
 
-looped_by : (links : List (List ℕ)) (x o : ℕ) (ms : List ℕ) (b : Bool) → (o == x) ≡ b → is_chain links o ms ≡ true → 1 < cond b 1 0 + times x ms
-    → (1 < times x ms → LeadsBack links x) → LeadsBack links x
+looped_by : (links : List (List ℕ)) (x o : ℕ) (ms : List ℕ) (b : Bool) → (o == x) ≡ b → is_chain links o ms ≡ true → 1 < cond b 1 0 + occurrences x ms
+    → (1 < occurrences x ms → IsOnCycle links x) → IsOnCycle links x
 looped_by links x o ms true e c h more =
-    let r = reached links x o ms c (omega (arith, h)) in (r.0, ap (λ y. leads links (suc r.0) y x) (sym (eqb-true o x e)) ∙ r.1)
+    let r = reached links x o ms c (omega (arith, h)) in (r.0, ap (λ y. has_path links (suc r.0) y x) (sym (eqb-true o x e)) ∙ r.1)
 looped_by links x o ms false e c h more = more (omega (arith, h))
 
-looped : (links : List (List ℕ)) (x o : ℕ) (ms : List ℕ) → is_chain links o ms ≡ true → 1 < times x (o ∷ ms) → LeadsBack links x
+looped : (links : List (List ℕ)) (x o : ℕ) (ms : List ℕ) → is_chain links o ms ≡ true → 1 < occurrences x (o ∷ ms) → IsOnCycle links x
 looped links x o [] c h = looped_by links x o [] (o == x) refl c h (λ l. absurd (omega (arith, l)))
 looped links x o (m ∷ ms) c h = looped_by links x o (m ∷ ms) (o == x) refl c h (looped links x m ms (and_second _ _ c))
 

@@ -10,12 +10,12 @@ use Rattle.std.proofs.lemmas.List.{take_more, length-map, get_or-set_same, get_o
 use Rattle.std.proofs.lemmas.List.{get_or_past, length-take}
 use Rattle.std.proofs.lemmas.List.{get_or_append_left, get_or-take, take_all, get_or-map, map-set}
 use Rattle.std.proofs.lemmas.List.Folds.{list_all-append}
-use Rattle.link_order.specs.Cycles.{links_of, are_within}
-use Rattle.link_order.specs.Orders.{times}
-use Rattle.link_order.specs.Growth.{AddsDependent, HasDependents}
-use Rattle.link_order.proofs.TestLemmas.{and_first, and_second, and_both}
-use Rattle.link_order.proofs.ChainLemmas.{links_within}
-use Rattle.link_order.proofs.GrowthLemmas.{times-append, times-same, times-other, below_at}
+use Rattle.setup_order.specs.Cycles.{links_of, are_within}
+use Rattle.setup_order.specs.Orders.{occurrences}
+use Rattle.setup_order.specs.Growth.{AddsDependent, HasDependents}
+use Rattle.setup_order.proofs.TestLemmas.{and_first, and_second, and_both}
+use Rattle.setup_order.proofs.ChainLemmas.{links_within}
+use Rattle.setup_order.proofs.GrowthLemmas.{times-append, times-same, times-other, below_at}
 
 -- ---- one object added to the lists of those that it links to
 
@@ -30,7 +30,7 @@ within_push n object ls h k =
     rw (list_all-append (λ l. nat_lt l n) ls (object ∷ [])) (and_both _ _ k
     (and_both _ _ (let t : nat_lt object n ≡ true = grind (arith, nat_tests, h) in t) refl))
 
-times_pushed : (other object : ℕ) (ls : List ℕ) → times other (ls ++ object ∷ []) ≡ times other ls + cond (other == object) 1 0
+times_pushed : (other object : ℕ) (ls : List ℕ) → occurrences other (ls ++ object ∷ []) ≡ occurrences other ls + cond (other == object) 1 0
 times_pushed other object ls = elim (cases_eq other object) [
   | inl e ↦ rw (e, times-append object ls (object ∷ []), times-same object, eq-eqb object object refl) refl
   | inr n ↦ rw (times-append other ls (object ∷ []), times-other other object (λ x. n (sym x)), ne_eqb other object n) refl
@@ -57,11 +57,11 @@ adds_more object done old mid new link a h is = rw is (record {
       times-append link done (link ∷ []),
       times-same link,
     )
-        (cond_plus (other == object) (times other (links_of old link)) (times other (links_of mid link)) (times link done) (a.counts link other h))
+        (cond_plus (other == object) (occurrences other (links_of old link)) (occurrences other (links_of mid link)) (occurrences link done) (a.counts link other h))
     | inr n ↦ rw (get_or-set_other mid link at (links_of mid link ++ object ∷ []) [] n)
-        (cond_same (other == object) (times other (links_of old at)) (times other (links_of mid at)) (times at done) (times at (done ++ link ∷ []))
-        (times-append at done (link ∷ []) ∙ ap (λ k. times at done + k) (times-other at link (λ x. n (sym x)))
-        ∙ (let z : times at done + 0 ≡ times at done = omega arith in z))
+        (cond_same (other == object) (occurrences other (links_of old at)) (occurrences other (links_of mid at)) (occurrences at done) (occurrences at (done ++ link ∷ []))
+        (times-append at done (link ∷ []) ∙ ap (λ k. occurrences at done + k) (times-other at link (λ x. n (sym x)))
+        ∙ (let z : occurrences at done + 0 ≡ occurrences at done = omega arith in z))
         (a.counts at other l))
   ];
   within =
@@ -71,8 +71,8 @@ adds_more object done old mid new link a h is = rw is (record {
 
 -- ---- the dependents of all objects
 
-times_nothing : (n link other : ℕ) → link < n → times other (links_of (replicate n []) link) ≡ 0
-times_nothing n link other h = ap (times other) (get_or-replicate {A = List ℕ} n link [] [] h)
+times_nothing : (n link other : ℕ) → link < n → occurrences other (links_of (replicate n []) link) ≡ 0
+times_nothing n link other h = ap (occurrences other) (get_or-replicate {A = List ℕ} n link [] [] h)
 
 get_or-take_past : (links : List (List ℕ)) (k i : ℕ) → k ≤ i → links_of (take k links) i ≡ []
 get_or-take_past links k i h = get_or_past (take k links) i [] (let e = length-take k links in omega arith)
@@ -81,7 +81,7 @@ get_or-take_past links k i h = get_or_past (take k links) i [] (let e = length-t
 pub dependents_none : (n : ℕ) (links lists : List (List ℕ)) → lists ≡ replicate n [] → are_within n lists ≡ true → HasDependents n (take 0 links) lists
 dependents_none n links lists is w = record {
   size = rw is (length-replicate n []);
-  counts = λ link object h. rw is (times_nothing n link object h) ∙ sym (ap (times link) (get_or-take_past links 0 object (omega arith)));
+  counts = λ link object h. rw is (times_nothing n link object h) ∙ sym (ap (occurrences link) (get_or-take_past links 0 object (omega arith)));
   within = w;
 }
 
@@ -97,26 +97,26 @@ take_here : (links : List (List ℕ)) (k : ℕ) → k < length links → links_o
 take_here links k h = get_or-take (k + 1) links k [] (omega arith)
 
 counts_next : (links old new : List (List ℕ)) (k link object n : ℕ) → k < length links
-    → times object (links_of new link) ≡ times object (links_of old link) + cond (object == k) (times link (links_of links k)) 0
-    → times object (links_of old link) ≡ times link (links_of (take k links) object)
-    → times object (links_of new link) ≡ times link (links_of (take (k + 1) links) object)
+    → occurrences object (links_of new link) ≡ occurrences object (links_of old link) + cond (object == k) (occurrences link (links_of links k)) 0
+    → occurrences object (links_of old link) ≡ occurrences link (links_of (take k links) object)
+    → occurrences object (links_of new link) ≡ occurrences link (links_of (take (k + 1) links) object)
 counts_next links old new k link object n h a b = elim (cases_eq object k) [
   | inl e ↦ (
       let past : links_of (take k links) object ≡ [] = get_or-take_past links k object (omega arith) in
-      let before : times object (links_of old link) ≡ 0 = b ∙ ap (times link) past in
+      let before : occurrences object (links_of old link) ≡ 0 = b ∙ ap (occurrences link) past in
       let same : links_of (take (k + 1) links) object ≡ links_of links k = ap (links_of (take (k + 1) links)) e ∙ take_here links k h in
-      let added : cond (object == k) (times link (links_of links k)) 0 ≡ times link (links_of links k) = rw (eq-eqb object k e) refl in
+      let added : cond (object == k) (occurrences link (links_of links k)) 0 ≡ occurrences link (links_of links k) = rw (eq-eqb object k e) refl in
       rw same (omega (arith, a, added, before)))
   | inr f ↦ elim (cases_lt object k) [
     | inl l ↦ (
         let same : links_of (take (k + 1) links) object ≡ links_of (take k links) object = take_before links k object l h in
-        let added : cond (object == k) (times link (links_of links k)) 0 ≡ 0 = rw (ne_eqb object k f) refl in
+        let added : cond (object == k) (occurrences link (links_of links k)) 0 ≡ 0 = rw (ne_eqb object k f) refl in
         rw same (omega (arith, a, added, b)))
     | inr l ↦ (
         let past : links_of (take k links) object ≡ [] = get_or-take_past links k object l in
         let later : links_of (take (k + 1) links) object ≡ [] = get_or-take_past links (k + 1) object (omega arith) in
-        let before : times object (links_of old link) ≡ 0 = b ∙ ap (times link) past in
-        let added : cond (object == k) (times link (links_of links k)) 0 ≡ 0 = rw (ne_eqb object k f) refl in
+        let before : occurrences object (links_of old link) ≡ 0 = b ∙ ap (occurrences link) past in
+        let added : cond (object == k) (occurrences link (links_of links k)) 0 ≡ 0 = rw (ne_eqb object k f) refl in
         rw later (omega (arith, a, added, before)))
   ]
 ]

@@ -1,14 +1,15 @@
 -- A walk among objects that wait comes back, and the objects that it passes are a cycle.
-use Rattle.std.proofs.Common.{◌≡◌, ℕ, zero, suc, ◌+◌, ◌-◌, ◌<◌, ◌≤◌, ◌==◌, Bool, true, false, cond, List, [], ◌∷◌, ◌++◌, get_or, length, refl, sym, ap, ◌∙◌, subst}
+use Rattle.std.proofs.Common.{◌≡◌, ℕ, zero, suc, ◌+◌, ◌-◌, ◌<◌, ◌≤◌, ◌==◌, Bool, true, false, cond, List, [], ◌∷◌, ◌++◌, get_or, length, refl, sym, ap, ◌∙◌}
+use Rattle.std.proofs.Common.{subst}
 use Rattle.std.proofs.Common.{arith, inl, inr, ◌⊎◌}
 use Rattle.std.proofs.lemmas.Bool.{cases_eq, cases_lt, eqb-true, eqb-false}
 use Rattle.std.proofs.lemmas.List.{get_or_append_left, get_or-append_right, length_push}
 use Rattle.std.proofs.lemmas.Option.{slice_get-get_or, slice_get_past}
-use Rattle.link_order.specs.Growth.{open_at}
-use Rattle.link_order.specs.Ordering.{follower, IsCycle}
-use Rattle.link_order.specs.Search.{step, steps, waits, GoesBack, IsNext, IsRound, IsStuck}
-use Rattle.link_order.proofs.GrowthLemmas.{open_within}
-use Rattle.link_order.proofs.TestLemmas.{is_below}
+use Rattle.setup_order.specs.Growth.{open_link_count}
+use Rattle.setup_order.specs.Results.{successor, IsCycle}
+use Rattle.setup_order.specs.Search.{step, steps, is_waiting, ReturnsToItself, AreSuccessors, IsClosedWalk, IsStuck}
+use Rattle.setup_order.proofs.GrowthLemmas.{open_within}
+use Rattle.setup_order.proofs.TestLemmas.{is_below}
 
 -- ---- steps
 
@@ -19,15 +20,15 @@ steps_more next object k (suc m) =
     ap (steps next object) more ∙ ap (step next) (steps_more next object k m)
 
 -- an object that waits is one of the objects
-waits_within : (links : List (List ℕ)) (left : List ℕ) (object : ℕ) → IsStuck links left → waits left object ≡ true → object < length links
-waits_within links left object stuck w = rw (← stuck.size) (open_within left object (is_below 0 (open_at left object) w))
+waits_within : (links : List (List ℕ)) (left : List ℕ) (object : ℕ) → IsStuck links left → is_waiting left object ≡ true → object < length links
+waits_within links left object stuck w = rw (← stuck.size) (open_within left object (is_below 0 (open_link_count left object) w))
 
-step_waits : (links : List (List ℕ)) (left next : List ℕ) (object : ℕ) → IsStuck links left → IsNext links left next → waits left object ≡ true
-    → waits left (step next object) ≡ true
+step_waits : (links : List (List ℕ)) (left next : List ℕ) (object : ℕ) → IsStuck links left → AreSuccessors links left next → is_waiting left object ≡ true
+    → is_waiting left (step next object) ≡ true
 step_waits links left next object stuck is w = is.waiting object (waits_within links left object stuck w) (stuck.linked object w)
 
-steps_wait : (links : List (List ℕ)) (left next : List ℕ) (object : ℕ) → IsStuck links left → IsNext links left next → waits left object ≡ true → (k : ℕ)
-    → waits left (steps next object k) ≡ true
+steps_wait : (links : List (List ℕ)) (left next : List ℕ) (object : ℕ) → IsStuck links left → AreSuccessors links left next → is_waiting left object ≡ true → (k : ℕ)
+    → is_waiting left (steps next object k) ≡ true
 steps_wait links left next object stuck is w zero = w
 steps_wait links left next object stuck is w (suc k) = step_waits links left next (steps next object k) stuck is (steps_wait links left next object stuck is w k)
 
@@ -88,8 +89,8 @@ twice (suc n) g below = elim (look_for g (g (suc n)) (suc n)) [
 -- ---- a walk comes back
 
 -- after as many steps as there are objects a walk is on a cycle
-pub walk_returns : (links : List (List ℕ)) (left next : List ℕ) (object : ℕ) → IsStuck links left → IsNext links left next → waits left object ≡ true
-    → GoesBack next (steps next object (length next))
+pub walk_returns : (links : List (List ℕ)) (left next : List ℕ) (object : ℕ) → IsStuck links left → AreSuccessors links left next → is_waiting left object ≡ true
+    → ReturnsToItself next (steps next object (length next))
 walk_returns links left next object stuck is w =
     let n = length next in
     let at = steps next object in
@@ -100,61 +101,61 @@ walk_returns links left next object stuck is w =
     let back : m + t.first ≡ n = omega (arith, t.later, t.within) in
     record {
       count = p;
-      some = omega (arith, t.later);
-      few = omega (arith, t.within);
+      nonempty = omega (arith, t.later);
+      bounded = omega (arith, t.within);
       back = sym (steps_more next object n p) ∙ (ap at around ∙ (steps_more next object t.second m ∙ (ap (λ o. steps next o m) (sym t.equal)
           ∙ (sym (steps_more next object t.first m) ∙ ap at back))));
     }
 
 -- ---- what a walk passes
 
-follower_is : (next : List ℕ) (object : ℕ) (cycle : List ℕ) → IsRound next object cycle → (index : ℕ) → index < length cycle
-    → follower cycle index ≡ steps next object (suc index)
-follower_is next object cycle round index h = elim (cases_lt (index + 1) (length cycle)) [
+follower_is : (next : List ℕ) (object : ℕ) (cycle : List ℕ) → IsClosedWalk next object cycle → (index : ℕ) → index < length cycle
+    → successor cycle index ≡ steps next object (suc index)
+follower_is next object cycle closed_walk index h = elim (cases_lt (index + 1) (length cycle)) [
   | inl within ↦
       let more : index + 1 ≡ suc index = omega arith in
-      rw (slice_get-get_or cycle (index + 1) 0 within) (round.each (index + 1) within ∙ ap (steps next object) more)
+      rw (slice_get-get_or cycle (index + 1) 0 within) (closed_walk.each (index + 1) within ∙ ap (steps next object) more)
   | inr past ↦
       let end : length cycle ≡ suc index = omega (arith, h, past) in
-      rw (slice_get_past cycle (index + 1) past) (round.each 0 round.some ∙ (sym round.back ∙ ap (steps next object) end))
+      rw (slice_get_past cycle (index + 1) past) (closed_walk.each 0 closed_walk.nonempty ∙ (sym closed_walk.back ∙ ap (steps next object) end))
 ]
 
 -- a walk that is at one object twice, at the indexes i and j, is back before its end
-early_back : (next : List ℕ) (object : ℕ) (cycle : List ℕ) → IsRound next object cycle → (i j : ℕ) → i < j → j < length cycle
+early_back : (next : List ℕ) (object : ℕ) (cycle : List ℕ) → IsClosedWalk next object cycle → (i j : ℕ) → i < j → j < length cycle
     → steps next object i ≡ steps next object j → ⊥
-early_back next object cycle round i j h l e =
+early_back next object cycle closed_walk i j h l e =
     let m = length cycle - j in
     let whole : m + j ≡ length cycle = omega (arith, l) in
-    round.first (m + i) (omega (arith, l)) (omega (arith, h, l)) (steps_more next object i m ∙ (ap (λ o. steps next o m) e
-    ∙ (sym (steps_more next object j m) ∙ (ap (steps next object) whole ∙ round.back))))
+    closed_walk.first (m + i) (omega (arith, l)) (omega (arith, h, l)) (steps_more next object i m ∙ (ap (λ o. steps next o m) e
+    ∙ (sym (steps_more next object j m) ∙ (ap (steps next object) whole ∙ closed_walk.back))))
 
-each_differs : (next : List ℕ) (object : ℕ) (cycle : List ℕ) → IsRound next object cycle → (i j : ℕ) → i < length cycle → j < length cycle
+each_differs : (next : List ℕ) (object : ℕ) (cycle : List ℕ) → IsClosedWalk next object cycle → (i j : ℕ) → i < length cycle → j < length cycle
     → get_or cycle i 0 ≡ get_or cycle j 0 → i ≡ j
-each_differs next object cycle round i j hi hj e =
-    let same : steps next object i ≡ steps next object j = sym (round.each i hi) ∙ (e ∙ round.each j hj) in
+each_differs next object cycle closed_walk i j hi hj e =
+    let same : steps next object i ≡ steps next object j = sym (closed_walk.each i hi) ∙ (e ∙ closed_walk.each j hj) in
     elim (cases_eq i j) [
       | inl is ↦ is
       | inr other ↦ elim (cases_lt i j) [
-        | inl before ↦ absurd (early_back next object cycle round i j before hj same)
-        | inr after ↦ absurd (early_back next object cycle round j i (omega (arith, other, after)) hi (sym same))
+        | inl before ↦ absurd (early_back next object cycle closed_walk i j before hj same)
+        | inr after ↦ absurd (early_back next object cycle closed_walk j i (omega (arith, other, after)) hi (sym same))
       ]
     ]
 
 -- what a walk passes until it is back is a cycle
-pub round_is_cycle : (links : List (List ℕ)) (left next : List ℕ) (object : ℕ) (cycle : List ℕ) → IsStuck links left → IsNext links left next
-    → waits left object ≡ true → IsRound next object cycle → IsCycle links cycle
-round_is_cycle links left next object cycle stuck is w round =
+pub round_is_cycle : (links : List (List ℕ)) (left next : List ℕ) (object : ℕ) (cycle : List ℕ) → IsStuck links left → AreSuccessors links left next
+    → is_waiting left object ≡ true → IsClosedWalk next object cycle → IsCycle links cycle
+round_is_cycle links left next object cycle stuck is w closed_walk =
     let wait = steps_wait links left next object stuck is w in
     record {
-      some = round.some;
-      within = λ index h. rw (round.each index h) (waits_within links left (steps next object index) stuck (wait index));
-      linked = λ index h. rw (round.each index h, follower_is next object cycle round index h)
+      nonempty = closed_walk.nonempty;
+      within = λ index h. rw (closed_walk.each index h) (waits_within links left (steps next object index) stuck (wait index));
+      linked = λ index h. rw (closed_walk.each index h, follower_is next object cycle closed_walk index h)
           (is.linked (steps next object index) (waits_within links left (steps next object index) stuck (wait index)) (stuck.linked (steps next object index) (wait index)));
-      distinct = each_differs next object cycle round;
+      distinct = each_differs next object cycle closed_walk;
     }
 
-pub walked_waits : (links : List (List ℕ)) (left next : List ℕ) (object k : ℕ) → IsStuck links left → IsNext links left next → waits left object ≡ true
-    → waits left (steps next object k) ≡ true
+pub walked_waits : (links : List (List ℕ)) (left next : List ℕ) (object k : ℕ) → IsStuck links left → AreSuccessors links left next → is_waiting left object ≡ true
+    → is_waiting left (steps next object k) ≡ true
 walked_waits links left next object k stuck is w = steps_wait links left next object stuck is w k
 
 -- so many steps of a walk that isn't back
@@ -169,7 +170,7 @@ way_begins next object = record {
   size = refl;
   each = λ index h. absurd (omega (arith, h));
   at_is = refl;
-  not_back = λ k some none e. absurd (omega (arith, some, none));
+  not_back = λ k nonempty none e. absurd (omega (arith, nonempty, none));
 }
 
 pushed_each : (next : List ℕ) (object count at : ℕ) (cycle : List ℕ) → IsOnWay next object count at cycle → (index : ℕ) → index < count + 1
@@ -194,24 +195,24 @@ way_continues next object count at to cycle longer way is step_is other =
       size = length_push cycle at ∙ ap (λ n. n + 1) way.size;
       each = pushed_each next object count at cycle way;
       at_is = there ∙ ap (steps next object) more;
-      not_back = λ k some few e. elim (cases_lt k (count + 1)) [
-        | inl before ↦ way.not_back k some (omega (arith, before)) e
-        | inr last ↦ let same : suc count ≡ k = omega (arith, few, last) in other (there ∙ (ap (steps next object) same ∙ e))
+      not_back = λ k nonempty bounded e. elim (cases_lt k (count + 1)) [
+        | inl before ↦ way.not_back k nonempty (omega (arith, before)) e
+        | inr last ↦ let same : suc count ≡ k = omega (arith, bounded, last) in other (there ∙ (ap (steps next object) same ∙ e))
       ];
     })
 
 pub way_comes_back : (next : List ℕ) (object count at to : ℕ) (cycle longer : List ℕ) → IsOnWay next object count at cycle → longer ≡ cycle ++ at ∷ []
-    → to ≡ step next at → to ≡ object → IsRound next object longer
+    → to ≡ step next at → to ≡ object → IsClosedWalk next object longer
 way_comes_back next object count at to cycle longer way is step_is back =
     let size : length (cycle ++ at ∷ []) ≡ count + 1 = length_push cycle at ∙ ap (λ n. n + 1) way.size in
     let more : count + 1 ≡ suc count = omega arith in
-    subst (IsRound next object) (sym is) (record {
-      some = omega (arith, size);
+    subst (IsClosedWalk next object) (sym is) (record {
+      nonempty = omega (arith, size);
       each = λ index h. pushed_each next object count at cycle way index (omega (arith, h, size));
       back = ap (steps next object) (size ∙ more) ∙ (sym (next_is next object count at to cycle way step_is) ∙ back);
-      first = λ k some few e. way.not_back k some (omega (arith, few, size)) e;
+      first = λ k nonempty bounded e. way.not_back k nonempty (omega (arith, bounded, size)) e;
     })
 
 -- a walk that goes back is back before its end
-pub way_ends : (next : List ℕ) (object count at : ℕ) (cycle : List ℕ) → IsOnWay next object count at cycle → GoesBack next object → length next ≤ count → ⊥
-way_ends next object count at cycle way b end = way.not_back b.count b.some (omega (arith, b.few, end)) b.back
+pub way_ends : (next : List ℕ) (object count at : ℕ) (cycle : List ℕ) → IsOnWay next object count at cycle → ReturnsToItself next object → length next ≤ count → ⊥
+way_ends next object count at cycle way b end = way.not_back b.count b.nonempty (omega (arith, b.bounded, end)) b.back

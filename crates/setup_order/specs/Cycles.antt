@@ -25,14 +25,14 @@ unfoldable pub has_cycle : List (List ℕ) → Bool
 has_cycle links = any_below (λ object. deep links object (length links)) (length links)
 
 -- this many links lead from the first object to the second
-abbrev pub leads : List (List ℕ) → ℕ → ℕ → ℕ → Bool
-leads links zero object other = object == other
-leads links (suc k) object other = list_any (λ link. leads links k link other) (links_of links object)
+abbrev pub has_path : List (List ℕ) → ℕ → ℕ → ℕ → Bool
+has_path links zero object other = object == other
+has_path links (suc k) object other = list_any (λ link. has_path links k link other) (links_of links object)
 
 -- the object is reached from itself by one link or more
-abbrev pub LeadsBack : List (List ℕ) → ℕ → Type 0
-LeadsBack links object = (k : ℕ) × (leads links (suc k) object object ≡ true)
+abbrev pub IsOnCycle : List (List ℕ) → ℕ → Type 0
+IsOnCycle links object = (k : ℕ) × (has_path links (suc k) object object ≡ true)
 
 -- some object is reached from itself by one link or more
 abbrev pub IsCyclic : List (List ℕ) → Type 0
-IsCyclic links = (object : ℕ) × (object < length links) × LeadsBack links object
+IsCyclic links = (object : ℕ) × (object < length links) × IsOnCycle links object

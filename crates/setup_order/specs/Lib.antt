@@ -1,5 +1,5 @@
 pub mod Cycles
 pub mod Orders
 pub mod Growth
-pub mod Ordering
+pub mod Results
 pub mod Search

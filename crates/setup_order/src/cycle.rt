@@ -1,9 +1,11 @@
 //! Finds a cycle among the objects that no order can place. Its definitions are in `specs/Search.antt`.
-ghost use Rattle.std.specs.Prelude.{◌≡◌, ◌==◌, ◌≤◌, ◌^◌, IfOk, MatchOption, false, get_or, length, map, true};
+
+ghost use Rattle.std.specs.Prelude.{◌≡◌, ◌==◌, ◌≤◌, ◌^◌, IfOk, MatchOption, false, get_or, length, map, true, ◌<◌, ℕ, List};
 ghost use Rattle.std.specs.List.{list_all, list_any};
-ghost use Rattle.link_order.specs.Orders.{is_among};
-ghost use Rattle.link_order.specs.Ordering.{IsCycle};
-ghost use Rattle.link_order.specs.Search.{step, steps, waits, GoesBack, IsNext, IsRound, IsStuck};
+ghost use Rattle.setup_order.specs.Orders.{is_among};
+ghost use Rattle.setup_order.specs.Results.{IsCycle};
+ghost use Rattle.setup_order.specs.Search.{step, steps, is_waiting, ReturnsToItself, AreSuccessors, IsClosedWalk, IsStuck};
+ghost use Rattle.setup_order.specs.Cycles.{are_within, has_cycle, IsOnCycle, IsCyclic};
 
 use smallvec::SmallVec;
 use std::alloc::{AllocError, Global};
@@ -18,14 +20,14 @@ pub(crate) fn find_cycle(
     links: &[SmallVec<u32, 4>],
     left: &[usize],
 ) -> Result<Vec<u32>, AllocError>
-    requires few { length links.now ≤ 2 ^ 32 }
+    requires bounded { length links.now ≤ 2 ^ 32 }
     requires stuck { IsStuck (map (λ list. list.items) links.now) left.now }
-    requires some { list_all (λ count. count == 0) left.now ≡ false }
+    requires nonempty { list_all (λ count. count == 0) left.now ≡ false }
     ensures { IfOk result (λ cycle. IsCycle (map (λ list. list.items) links.now) cycle.items) }
 {
     let next = next_objects(alloc, links, left)?;
-    let start = last_object(left);
-    round(alloc, &next, walk(&next, start))
+    let start = last_waiting_object(left);
+    closed_walk(alloc, &next, object_on_cycle(&next, start))
 }
 
 /// For each object that waits, an object to which it is linked and that also waits.
@@ -35,19 +37,19 @@ fn next_objects(
     left: &[usize],
 ) -> Result<Vec<u32>, AllocError>
     requires { length links.now ≤ 2 ^ 32 }
-    ensures { IfOk result (λ next. IsNext (map (λ list. list.items) links.now) left.now next.items) }
+    ensures { IfOk result (λ next. AreSuccessors (map (λ list. list.items) links.now) left.now next.items) }
 {
     let mut next = Vec::with_capacity(alloc, links.len())?;
     for object in 0..links.len() {
-        next.push(last_waiting(links[object].as_slice(), left).unwrap_or(object as u32))?;
+        next.push(last_waiting_among(links[object].as_slice(), left).unwrap_or(object as u32))?;
     }
     Ok(next)
 }
 
 /// The last of these objects that waits, if one of them does.
-fn last_waiting(objects: &[u32], left: &[usize]) -> Option<u32>
-    ensures { MatchOption result (list_any (waits left.now) objects.now ≡ false) (λ object.
-        (is_among objects.now object ≡ true) × (waits left.now object ≡ true)) }
+fn last_waiting_among(objects: &[u32], left: &[usize]) -> Option<u32>
+    ensures { MatchOption result (list_any (is_waiting left.now) objects.now ≡ false) (λ object.
+        (is_among objects.now object ≡ true) × (is_waiting left.now object ≡ true)) }
 {
     let mut found = None;
     for object in objects {
@@ -60,7 +62,7 @@ fn last_waiting(objects: &[u32], left: &[usize]) -> Option<u32>
 
 /// Whether an object waits.
 fn is_waiting(left: &[usize], object: u32) -> bool
-    ensures { result ≡ waits left.now object }
+    ensures { result ≡ is_waiting left.now object }
 {
     match left.get(object as usize) {
         Some(count) => *count != 0,
@@ -69,10 +71,10 @@ fn is_waiting(left: &[usize], object: u32) -> bool
 }
 
 /// The last object that waits.
-fn last_object(left: &[usize]) -> u32
-    requires few { length left.now ≤ 2 ^ 32 }
-    requires some { list_all (λ count. count == 0) left.now ≡ false }
-    ensures { waits left.now result ≡ true }
+fn last_waiting_object(left: &[usize]) -> u32
+    requires bounded { length left.now ≤ 2 ^ 32 }
+    requires nonempty { list_all (λ count. count == 0) left.now ≡ false }
+    ensures { is_waiting left.now result ≡ true }
 {
     let mut last = 0;
     for object in 0..left.len() {
@@ -94,7 +96,7 @@ fn step(next: &[u32], object: u32) -> u32
 }
 
 /// The object that a walk reaches after as many steps as there are objects. It is on a cycle.
-fn walk(next: &[u32], object: u32) -> u32
+fn object_on_cycle(next: &[u32], object: u32) -> u32
     ensures { result ≡ steps next.now object (length next.now) }
 {
     let mut at = object;
@@ -105,9 +107,9 @@ fn walk(next: &[u32], object: u32) -> u32
 }
 
 /// The objects that a walk from this one passes until it returns.
-fn round(alloc: Global, next: &[u32], object: u32) -> Result<Vec<u32>, AllocError>
-    requires { GoesBack next.now object }
-    ensures { IfOk result (λ cycle. IsRound next.now object cycle.items) }
+fn closed_walk(alloc: Global, next: &[u32], object: u32) -> Result<Vec<u32>, AllocError>
+    requires { ReturnsToItself next.now object }
+    ensures { IfOk result (λ cycle. IsClosedWalk next.now object cycle.items) }
 {
     let mut cycle = Vec::new(alloc);
     let mut at = object;
@@ -120,3 +122,13 @@ fn round(alloc: Global, next: &[u32], object: u32) -> Result<Vec<u32>, AllocErro
     }
     Ok(cycle)
 }
+
+/// The meaning of a cycle. If all links lead to objects, there is a cycle exactly if some object is reached
+/// from itself by one link or more. `back` finds the object of a cycle. `cycle` says that an object that
+/// leads back to itself makes a cycle, wherever the other links lead.
+pub fn cycles_lead_back()
+    ensures back { (links : List (List ℕ)) → are_within (length links) links ≡ true
+        → has_cycle links ≡ true → IsCyclic links }
+    ensures cycle { (links : List (List ℕ)) → (object : ℕ) → object < length links
+        → IsOnCycle links object → has_cycle links ≡ true }
+{}

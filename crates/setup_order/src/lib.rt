@@ -7,14 +7,13 @@
 //!
 //! The modules:
 //! - `order`: makes the order;
-//! - `cycle`: finds a cycle if there is no order;
-//! - `lists`: lists by number, which the crate and its callers fill;
-//! - `laws`: the meaning of a cycle.
+//! - `cycle`: finds a cycle if there is no order, and says what a cycle is;
+//! - `lists`: lists by number, which the crate and its callers fill.
 
 mod cycle;
-pub mod laws;
 mod lists;
 mod order;
 
-pub use lists::{empty_lists, push_at};
-pub use order::{OrderOrCycle, order_by_links};
+pub use cycle::cycles_lead_back;
+pub use lists::{empty_lists, push_to_list};
+pub use order::{OrderOrCycle, topological_order};

@@ -1,4 +1,5 @@
 //! Lists by number: makes empty lists, and adds an item to one of them.
+
 ghost use Rattle.std.specs.Prelude.{◌≡◌, ◌<◌, ◌++◌, ◌∷◌, [], IfOk, OnOk, map, vec_len, slice_set, replicate};
 ghost use Rattle.std.specs.List.{slice_index_or};
 
@@ -25,7 +26,7 @@ pub fn empty_lists<T: Copy + Default, const N: usize>(
 ///
 /// The error means that a request for memory was refused. The number of lists is then the same, but no clause
 /// states their contents, so callers abandon them. (Our own profile.)
-pub fn push_at<T: Copy + Default, const N: usize>(
+pub fn push_to_list<T: Copy + Default, const N: usize>(
     lists: &mut Vec<SmallVec<T, N>>,
     place: u32,
     item: T,

@@ -1,14 +1,15 @@
 //! Makes the order object by object: an object is placed after the last object that it links to. If some
-//! objects can't be placed, there is a cycle among them. `specs/Ordering.antt` defines the result.
+//! objects can't be placed, there is a cycle among them. `specs/Results.antt` defines the result.
+
 ghost use Rattle.std.specs.Prelude.{◌≡◌, ℕ, ◌<◌, ◌≤◌, ◌==◌, ◌-◌, ◌^◌, ◌++◌, ◌∷◌, [], IfOk, OnOk, length, map, true, vec_len, slice_set, nat_lt, if◌then◌else◌};
 ghost use Rattle.std.specs.List.{list_all};
-ghost use Rattle.link_order.specs.Cycles.{are_within};
-ghost use Rattle.link_order.specs.Ordering.{IsAnswer};
-ghost use Rattle.link_order.specs.Orders.{times};
-ghost use Rattle.link_order.specs.Growth.{open_at, free_from, Closed, AddsDependent, HasDependents};
+ghost use Rattle.setup_order.specs.Cycles.{are_within};
+ghost use Rattle.setup_order.specs.Results.{IsOrderOrCycle};
+ghost use Rattle.setup_order.specs.Orders.{occurrences};
+ghost use Rattle.setup_order.specs.Growth.{open_link_count, free_objects_from, ClosesLinks, AddsDependent, HasDependents};
 
 use crate::cycle::find_cycle;
-use crate::lists::{empty_lists, push_at};
+use crate::lists::{empty_lists, push_to_list};
 use smallvec::SmallVec;
 use std::alloc::{AllocError, Global};
 
@@ -29,10 +30,13 @@ pub enum OrderOrCycle {
 ///
 /// The call takes time and memory linear in the objects and their links. The only error is out of memory.
 /// Nothing is made then.
-pub fn order_by_links(alloc: Global, links: &[SmallVec<u32, 4>]) -> Result<OrderOrCycle, AllocError>
-    requires few { length links.now ≤ 2 ^ 32 }
+pub fn topological_order(
+    alloc: Global,
+    links: &[SmallVec<u32, 4>],
+) -> Result<OrderOrCycle, AllocError>
+    requires bounded { length links.now ≤ 2 ^ 32 }
     requires within { are_within (length links.now) (map (λ list. list.items) links.now) ≡ true }
-    ensures { IfOk result (IsAnswer (map (λ list. list.items) links.now)) }
+    ensures { IfOk result (IsOrderOrCycle (map (λ list. list.items) links.now)) }
 {
     let dependents = dependents_of(alloc, links)?;
     let mut left = link_counts(alloc, links)?;
@@ -69,7 +73,7 @@ fn link_counts(alloc: Global, links: &[SmallVec<u32, 4>]) -> Result<Vec<usize>, 
 /// The numbers of the objects without an open link.
 fn free_objects(alloc: Global, left: &[usize]) -> Result<Vec<u32>, AllocError>
     requires { length left.now ≤ 2 ^ 32 }
-    ensures { IfOk result (λ objects. objects.items ≡ free_from 0 left.now) }
+    ensures { IfOk result (λ objects. objects.items ≡ free_objects_from 0 left.now) }
 {
     let mut objects = Vec::new(alloc);
     for object in 0..left.len() {
@@ -92,7 +96,7 @@ fn dependents_of(
     alloc: Global,
     links: &[SmallVec<u32, 4>],
 ) -> Result<Vec<SmallVec<u32, 4>>, AllocError>
-    requires few { length links.now ≤ 2 ^ 32 }
+    requires bounded { length links.now ≤ 2 ^ 32 }
     requires within { are_within (length links.now) (map (λ list. list.items) links.now) ≡ true }
     ensures { IfOk result (λ dependents. HasDependents (length links.now)
         (map (λ list. list.items) links.now) (map (λ list. list.items) dependents.items)) }
@@ -116,7 +120,7 @@ fn add_dependent(
         (map (λ list. list.items) dependents.new.items)) }
 {
     for link in links {
-        push_at(dependents, *link, object)?;
+        push_to_list(dependents, *link, object)?;
     }
     Ok(())
 }
@@ -129,9 +133,9 @@ fn close_links(
 ) -> Result<(), AllocError>
     requires within { list_all (λ object. nat_lt object (length left.old)) dependents.now ≡ true }
     requires open { (object : ℕ) → object < length left.old
-        → times object dependents.now ≤ open_at left.old object }
+        → occurrences object dependents.now ≤ open_link_count left.old object }
     ensures { OnOk result
-        (Closed dependents.now left.old order.old.items left.new order.new.items) }
+        (ClosesLinks dependents.now left.old order.old.items left.new order.new.items) }
 {
     for dependent in dependents {
         close_link(*dependent, left, order)?;
@@ -142,10 +146,10 @@ fn close_links(
 /// Closes a link of an object, and places the object if the link was the last.
 fn close_link(object: u32, left: &mut [usize], order: &mut Vec<u32>) -> Result<(), AllocError>
     requires within { object < length left.old }
-    requires open { 0 < open_at left.old object }
-    ensures left { left.new ≡ slice_set left.old object (open_at left.old object - 1) }
+    requires open { 0 < open_link_count left.old object }
+    ensures left { left.new ≡ slice_set left.old object (open_link_count left.old object - 1) }
     ensures order { OnOk result (order.new.items ≡
-        (if open_at left.old object - 1 == 0 then order.old.items ++ object ∷ []
+        (if open_link_count left.old object - 1 == 0 then order.old.items ++ object ∷ []
         else order.old.items)) }
 {
     let count = left[object as usize] - 1;

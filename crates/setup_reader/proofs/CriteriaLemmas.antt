@@ -2,9 +2,9 @@
 use Rattle.std.proofs.Common.{◌≡◌, ℕ, ◌&&◌, ◌||◌, Bool, true, false, List, [], ◌∷◌, refl, sym, ◌∙◌, bytes_eq}
 use Rattle.std.specs.Prelude.{codes, fold}
 use Rattle.std.specs.List.{list_any, list_all}
-use Rattle.check_documents.specs.declared.criteria.Found.{Found}
-use Rattle.check_documents.specs.Tree.{is_among}
-use Rattle.check_documents.specs.Criteria.{with_piece}
+use Rattle.setup_reader.specs.declared.criteria.FoundLetters.{FoundLetters}
+use Rattle.setup_reader.specs.JsonTree.{is_among}
+use Rattle.setup_reader.specs.Criteria.{with_piece}
 
 and_end : (a : Bool) → a && true ≡ a
 and_end true = refl
@@ -27,7 +27,7 @@ abbrev any_is : List ℕ → List (List ℕ) → Bool
 any_is letter pieces = list_any (λ piece. bytes_eq piece letter) pieces
 
 -- what is said with these pieces more
-abbrev with_pieces : List (List ℕ) → Found → List (List ℕ) → Found
+abbrev with_pieces : List (List ℕ) → FoundLetters → List (List ℕ) → FoundLetters
 with_pieces letters found pieces = record {
   known = found.known && list_all (is_among letters) pieces;
   criteria = record {
@@ -41,7 +41,7 @@ with_pieces letters found pieces = record {
   };
 }
 
-pub found_by_fold : (letters : List (List ℕ)) (found : Found) (pieces : List (List ℕ)) → fold (with_piece letters) found pieces ≡ with_pieces letters found pieces
+pub found_by_fold : (letters : List (List ℕ)) (found : FoundLetters) (pieces : List (List ℕ)) → fold (with_piece letters) found pieces ≡ with_pieces letters found pieces
 found_by_fold letters found [] = λ i. record {
   known = sym (and_end found.known) i;
   criteria = record {

@@ -1,5 +1,6 @@
 -- JSON in its compact form has no line feed: none between tokens, none in a string's escapes, none in a number.
-use Rattle.std.proofs.Common.{◌≡◌, ℕ, zero, suc, ◌+◌, ◌-◌, ◌<◌, ◌≤◌, Bool, true, false, not, cond, ◌&&◌, ◌||◌, ◌==◌, List, [], ◌∷◌, ◌++◌, length, take, drop, Option, Some, None, option_and_then}
+use Rattle.std.proofs.Common.{◌≡◌, ℕ, zero, suc, ◌+◌, ◌-◌, ◌<◌, ◌≤◌, Bool, true, false, not, cond, ◌&&◌, ◌||◌, ◌==◌, List, [], ◌∷◌, ◌++◌, length, take, drop}
+use Rattle.std.proofs.Common.{Option, Some, None, option_and_then}
 use Rattle.std.proofs.Common.{inl, inr, refl, sym, ap, ◌∙◌, subst, arith, append_assoc, length-append}
 use Rattle.std.proofs.lemmas.Bool.{and_parts, cases_lt, cases_eq, eqb-true, leb-true, or_cases}
 use Rattle.std.proofs.lemmas.Bool.Decides.{nat_tests}
@@ -9,11 +10,13 @@ use Rattle.std.specs.List.{prefix_len, starts_with}
 use Rattle.std.specs.Char.{is_ascii_digit}
 use Rattle.json.specs.Token.{Token}
 use Rattle.json.specs.Text.{content, plain}
-use Rattle.json.specs.Word.{head, ends_word, after_digits, after_minus, after_sign, after_whole, after_fraction, after_exponent, after_number, number_before, literal, word}
-use Rattle.json.specs.Lex.{Lexeme, Class, Mode, Place, begins_colon, class, if_allowed, lex, lex_byte, may_begin, may_close, operator_lexeme, place_token, punctuate, string_token, tokens}
+use Rattle.json.specs.Word.{head, ends_word, after_digits, after_minus, after_sign, after_whole, after_fraction, after_exponent, after_number, number_before}
+use Rattle.json.specs.Word.{literal, word}
+use Rattle.json.specs.Lex.{Lexeme, Class, Mode, Place, begins_colon, class, if_allowed, lex, lex_byte, may_begin, may_close, operator_lexeme, place_token}
+use Rattle.json.specs.Lex.{punctuate, string_token, tokens}
 use Rattle.json.specs.Print.{begins, ends, escape, escape_byte, print, print_from, quoted, separator, token_text}
 use Rattle.json.proofs.Printed.Strings.{escape_byte_plain}
-use Rattle.check_documents.specs.Feeds.{HasNoFeed}
+use Rattle.setup_reader.specs.Feeds.{HasNoLineFeed}
 
 abbrev free : List ℕ → Bool
 free [] = true
@@ -23,7 +26,7 @@ free-append : (xs ys : List ℕ) → free xs ≡ true → free ys ≡ true → f
 free-append [] ys f g = g
 free-append (x ∷ xs) ys f g = let p = and_parts (not (x == 10)) (free xs) f in rw (p.0, free-append xs ys p.1 g) refl
 
-no_feed : (xs : List ℕ) → free xs ≡ true → HasNoFeed xs
+no_feed : (xs : List ℕ) → free xs ≡ true → HasNoLineFeed xs
 no_feed [] f = tt
 no_feed (x ∷ xs) f = let p = and_parts (not (x == 10)) (free xs) f in (λ same. let q = rw same at p.0 in cc, no_feed xs p.1)
 
@@ -294,6 +297,6 @@ print_free after (t ∷ ts) (f, h) =
     (free-append (token_text t) (print_from (ends t) ts) (text_free t f) (print_free (ends t) ts h))
 
 -- text that is its own tokens in compact form has no line feed
-pub compact_free : (line : List ℕ) → line ≡ print (tokens line) → HasNoFeed line
+pub compact_free : (line : List ℕ) → line ≡ print (tokens line) → HasNoLineFeed line
 compact_free line e =
     no_feed line (ap free e ∙ print_free false (tokens line) (punctuate_free Place.fresh (lex Mode.between line) (lex_free Mode.between line)))

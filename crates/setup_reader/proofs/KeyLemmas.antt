@@ -4,12 +4,12 @@ use Rattle.std.specs.List.{list_any, position}
 use Rattle.std.specs.Map.{keys_of}
 use Rattle.serde_json.specs.View.{members_view}
 use Rattle.serde_json.specs.declared.value.Value.{Value}
-use Rattle.check_drafts.proofs.ListLemmas.{position-map, position-same}
-use Rattle.check_drafts.specs.declared.member.Member.{Member}
-use Rattle.check_drafts.specs.Member.{as_row}
-use Rattle.check_documents.specs.Shapes.{first_unknown, keys_in, names}
-use Rattle.check_documents.specs.Tree.{is_among}
-use Rattle.check_documents.proofs.TreeLemmas.{among_names}
+use Rattle.setup_model.proofs.ListLemmas.{position-map, position-same}
+use Rattle.setup_model.specs.declared.member.Member.{Member}
+use Rattle.setup_model.specs.Member.{as_row}
+use Rattle.setup_reader.specs.Shapes.{first_unknown, keys_in, names}
+use Rattle.setup_reader.specs.JsonTree.{is_among}
+use Rattle.setup_reader.proofs.TreeLemmas.{among_names}
 
 keys_seen : (es : List (String Global × Value)) → keys_in (members_view es) ≡ map string_bytes (keys_of es)
 keys_seen [] = refl

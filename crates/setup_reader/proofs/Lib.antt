@@ -6,3 +6,5 @@ pub mod ShapeLaws
 pub mod ReadLemmas
 pub mod FieldLaws
 pub mod FeedLemmas
+pub mod VerificationLemmas
+pub mod FaultlessLemmas

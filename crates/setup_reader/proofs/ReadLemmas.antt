@@ -1,8 +1,8 @@
 -- What a value was read from: nothing that was read with it was missing.
 use Rattle.std.proofs.Common.{◌≡◌, Bool, true, false, cond, Option, Some, None, Result, Ok, Err, refl}
 use Rattle.std.specs.Prelude.{ok_or}
-use Rattle.check_drafts.specs.Agreement.{◌>>=◌}
-use Rattle.check_documents.specs.Tree.{◌>=>◌}
+use Rattle.setup_model.specs.Agreement.{◌>>=◌}
+use Rattle.setup_reader.specs.JsonTree.{◌>=>◌}
 
 pub linked : {A B : Type 0} (o : Option A) (f : A → Option B) (b : B) (P : Type 0) → ((a : A) → o ≡ Some a → f a ≡ Some b → P) → (o >=> f) ≡ Some b → P
 linked None f b P h e = cc

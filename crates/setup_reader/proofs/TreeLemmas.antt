@@ -11,8 +11,8 @@ use Rattle.serde_json.specs.Find.{as_object, as_str}
 use Rattle.serde_json.specs.Read.{read}
 use Rattle.serde_json.specs.View.{view, members_view, items_view}
 use Rattle.serde_json.specs.declared.value.Value.{Value}
-use Rattle.check_documents.specs.Tree.{tree_of, is_among, only_members, texts_of, ◌>=>◌}
-use Rattle.check_drafts.specs.Text.{text}
+use Rattle.setup_reader.specs.JsonTree.{tree_of, is_among, only_members, texts_of, ◌>=>◌}
+use Rattle.setup_model.specs.Text.{text}
 
 -- ---- the tree of the bytes
 

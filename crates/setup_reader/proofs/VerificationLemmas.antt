@@ -1,5 +1,6 @@
 -- Parents counted, the first key that stood before, and sets of texts.
-use Rattle.std.proofs.Common.{◌≡◌, ℕ, Bor, bytes_eq, ◌||◌, ◌+◌, ◌<◌, ◌≤◌, not, Bool, true, false, cond, List, [], ◌∷◌, ◌++◌, map, length, drop, take, get_or, subst, option_map}
+use Rattle.std.proofs.Common.{◌≡◌, ℕ, Bor, bytes_eq, ◌||◌, ◌+◌, ◌<◌, ◌≤◌, not, Bool, true, false, cond, List, [], ◌∷◌, ◌++◌, map, length, drop, take, get_or}
+use Rattle.std.proofs.Common.{subst, option_map}
 use Rattle.std.proofs.Common.{Option, Some, refl, sym, ap, ◌∙◌, Ok, Err, append_assoc, arith}
 use Rattle.std.specs.Prelude.{All, nat_lt, option_and_then, slice_get, sum_by, unwrap_or}
 use Rattle.std.specs.List.{list_any, position, position_or_len}
@@ -7,28 +8,28 @@ use Rattle.std.proofs.lemmas.Bool.Decides.{nat_tests}
 use Rattle.std.proofs.lemmas.Grind.{common_steps}
 use Rattle.std.proofs.lemmas.List.{map-append, take_more}
 use Rattle.std.proofs.lemmas.List.Elements.{All-append, All-from_recursion}
-use Rattle.check_drafts.specs.declared.draft.HostDraft.{HostDraft}
-use Rattle.check_drafts.specs.declared.fault.End.TheVariants as end
-use Rattle.check_drafts.specs.declared.fault.EndFault.TheVariants as wrong
-use Rattle.check_drafts.specs.Agreement.{◌>>=◌, each, refused_as, refused_at}
-use Rattle.check_drafts.specs.declared.place.Place.{Place}
-use Rattle.check_drafts.specs.Ends.{is_known, known_at, known_dependencies, known_ends}
-use Rattle.check_drafts.specs.Keys.{first_like}
-use Rattle.check_drafts.specs.declared.place.Part.TheVariants as part
-use Rattle.check_drafts.specs.declared.place.Part.{Part}
-use Rattle.check_drafts.specs.Draft as spec
-use Rattle.check_drafts.specs.Fault as fault
-use Rattle.check_drafts.specs.Place.{item_of_part}
+use Rattle.setup_model.specs.declared.parsed_setup.ParsedHost.{ParsedHost}
+use Rattle.setup_model.specs.declared.fault.End.TheVariants as end
+use Rattle.setup_model.specs.declared.fault.EndFault.TheVariants as wrong
+use Rattle.setup_model.specs.Agreement.{◌>>=◌, each, with_error, error_at}
+use Rattle.setup_model.specs.declared.place.Place.{Place}
+use Rattle.setup_model.specs.Ends.{is_known, dependency_test, dependencies_test, dependency_list_test}
+use Rattle.setup_model.specs.Keys.{first_equal_index}
+use Rattle.setup_model.specs.declared.place.Part.TheVariants as part
+use Rattle.setup_model.specs.declared.place.Part.{Part}
+use Rattle.setup_model.specs.ParsedSetup as spec
+use Rattle.setup_model.specs.Fault as fault
+use Rattle.setup_model.specs.Place.{item_place}
 use Rattle.std.proofs.lemmas.List.Folds.{list_any-append}
 use Rattle.std.proofs.lemmas.Slice.Eq.{bytes_eq-Decides}
-use Rattle.check_drafts.specs.Drafted.{host, texts}
-use Rattle.check_drafts.proofs.ListLemmas.{list_any-map, one_found, one_missed, position-back, position-front, position-map}
-use Rattle.check_drafts.proofs.RepeatLemmas.{repeat_after}
-use Rattle.check_faults.specs.Verification.{in_word}
+use Rattle.setup_model.specs.ParsedViews.{host, texts}
+use Rattle.setup_model.proofs.ListLemmas.{list_any-map, one_found, one_missed, position-back, position-front, position-map}
+use Rattle.setup_model.proofs.RepeatLemmas.{repeat_after}
+use Rattle.setup_reader.specs.Verification.{u64_or_max}
 
 -- ---- parents counted
 
-abbrev pub parents_from : ℕ → List HostDraft → ℕ
+abbrev pub parents_from : ℕ → List ParsedHost → ℕ
 parents_from i hs = sum_by (λ h. length h.parents) (map host (drop i hs))
 
 word_by : (b : Bool) (n r : ℕ) → nat_lt n 18446744073709551615 ≡ b → (n < 18446744073709551615 → r ≡ n) → (18446744073709551615 ≤ n → r ≡ 18446744073709551615)
@@ -36,7 +37,7 @@ word_by : (b : Bool) (n r : ℕ) → nat_lt n 18446744073709551615 ≡ b → (n 
 word_by true n r e below above = below (grind (arith, nat_tests, e))
 word_by false n r e below above = above (grind (arith, nat_tests, e))
 
-pub word_is : (n r : ℕ) → (n < 18446744073709551615 → r ≡ n) → (18446744073709551615 ≤ n → r ≡ 18446744073709551615) → r ≡ in_word n
+pub word_is : (n r : ℕ) → (n < 18446744073709551615 → r ≡ n) → (18446744073709551615 ≤ n → r ≡ 18446744073709551615) → r ≡ u64_or_max n
 word_is n r below above = word_by (nat_lt n 18446744073709551615) n r refl below above
 
 few_by : (b : Bool) (n most : ℕ) → nat_lt n 18446744073709551615 ≡ b → most < 18446744073709551615 → cond b n 18446744073709551615 ≤ most → n ≤ most
@@ -44,10 +45,10 @@ few_by true n most e small h = h
 few_by false n most e small h = omega (arith, small, h)
 
 -- a count that is at most so many, as far as 64 bits count, is
-pub few_in_word : (n most : ℕ) → most < 18446744073709551615 → in_word n ≤ most → n ≤ most
+pub few_in_word : (n most : ℕ) → most < 18446744073709551615 → u64_or_max n ≤ most → n ≤ most
 few_in_word n most small h = few_by (nat_lt n 18446744073709551615) n most refl small h
 
--- ---- keys one after another: D are drafts of the code, K what its set holds of them, and L how the definitions see that
+-- ---- keys one after another: D are items of the code, K what its set holds of them, and L how the definitions see that
 
 module _ {D K L : Type 0} (same : L → L → Bool) (seen : K → L) (keys : List D → List L) (key : D → K)
     (one : (d : D) (ds : List D) → keys (d ∷ ds) ≡ seen (key d) ∷ keys ds) where
@@ -108,18 +109,18 @@ known_more keys new key before t false same known is agree name =
     ∙ ap (λ x. is_known before name || (bytes_eq name x || false)) same ∙ sym (known_push before t name)
 
 -- the same dependencies have the same faults, where the same texts are known
-pub same_ends : (p : Part) (names others more less : List (List ℕ)) (ds : List spec.DependencyDraft)
+pub same_ends : (p : Part) (names others more less : List (List ℕ)) (ds : List spec.ParsedDependency)
     → ((name : List ℕ) → is_known names name ≡ is_known others name) → ((name : List ℕ) → is_known more name ≡ is_known less name)
-    → known_ends p names more ds ≡ known_ends p others less ds
+    → dependency_list_test p names more ds ≡ dependency_list_test p others less ds
 same_ends p names others more less ds same alike =
-    let test : known_at p names more ≡ known_at p others less = λ j i d. refused_as (fault.unknown_end (item_of_part p i))
+    let test : dependency_test p names more ≡ dependency_test p others less = λ j i d. with_error (fault.unknown_end (item_place p i))
     (cond (same d.dependent j) (Ok tt) (Err (cond (alike d.dependent j) (wrong.OtherSort end.Dependent) (wrong.Unknown end.Dependent))) >>= λ _.
     cond (same d.master j) (Ok tt) (Err (cond (alike d.master j) (wrong.OtherSort end.Master) (wrong.Unknown end.Master)))) in
     ap (λ t. each t ds) test
 
 -- all dependencies have the same faults, where the same full names are known
-pub same_dependencies : (services others hosts : List (List ℕ)) (ds : spec.Drafts) → ((name : List ℕ) → is_known services name ≡ is_known others name)
-    → known_dependencies services hosts ds ≡ known_dependencies others hosts ds
+pub same_dependencies : (services others hosts : List (List ℕ)) (ds : spec.ParsedSetup) → ((name : List ℕ) → is_known services name ≡ is_known others name)
+    → dependencies_test services hosts ds ≡ dependencies_test others hosts ds
 same_dependencies services others hosts ds same =
     let first = same_ends part.ServiceDependencies services others hosts hosts ds.service_dependencies same (λ name. refl) in
     let then = same_ends part.HostDependencies hosts hosts services others ds.host_dependencies (λ name. refl) same in
@@ -142,7 +143,7 @@ found_by p (x ∷ xs) n any is = found_here p x xs n (p x) refl any is (λ more.
 
 pub like_the_first : {K L : Type 0} (same : L → L → Bool) (seen : K → L) (all : List L) (ks : List K) (more : List L) (i first : ℕ) (key : L)
     → all ≡ map seen ks ++ more → slice_get all i ≡ Some key → list_any (λ k. same key (seen k)) ks ≡ true → first ≡ position_or_len (λ k. same key (seen k)) ks
-    → first_like same all i ≡ first
+    → first_equal_index same all i ≡ first
 like_the_first same seen all ks more i first key parts at known is =
     let place : position (same key) all ≡ Some first = ap (position (same key)) parts
     ∙ position-front (same key) (map seen ks) more first (position-map (same key) seen ks ∙ found_by (λ k. same key (seen k)) ks first known is) in
@@ -150,9 +151,9 @@ like_the_first same seen all ks more i first key parts at known is =
 
 -- a repeat is told at its place, with the first item that is like it
 pub repeated_at : (place : ℕ → Place) (like : ℕ → ℕ) (o : Option ℕ) (i : ℕ) (p : Place) (first : ℕ) → o ≡ Some i → p ≡ place i → like i ≡ first
-    → refused_at (λ j. fault.duplicate (place j) (like j)) o ≡ Err (fault.duplicate p first)
+    → error_at (λ j. fault.duplicate (place j) (like j)) o ≡ Err (fault.duplicate p first)
 repeated_at place like o i p first at here is =
-    ap (refused_at (λ j. fault.duplicate (place j) (like j))) at ∙ (λ k. Err (fault.duplicate (sym here k) (is k)))
+    ap (error_at (λ j. fault.duplicate (place j) (like j))) at ∙ (λ k. Err (fault.duplicate (sym here k) (is k)))
 
 -- ---- items so far
 

@@ -1,9 +1,9 @@
 -- The criteria of a dependency, by the letters of their text.
 use Rattle.std.specs.Prelude.{ℕ, ◌==◌, ◌&&◌, ◌||◌, Bool, List, [], ◌∷◌, Option, Some, None, codes, bytes_eq, if◌then◌else◌}
 use Rattle.std.specs.List.{list_any, list_all, slice_split}
-use Rattle.check_drafts.specs.declared.dependency.Criteria.{Criteria}
-use Rattle.check_documents.specs.declared.criteria.Found.{Found}
-use Rattle.check_documents.specs.Tree.{is_among}
+use Rattle.setup_model.specs.declared.dependency.Criteria.{Criteria}
+use Rattle.setup_reader.specs.declared.criteria.FoundLetters.{FoundLetters}
+use Rattle.setup_reader.specs.JsonTree.{is_among}
 
 -- the pieces of a text before, between and after its commas
 abbrev pub pieces : List ℕ → List (List ℕ)
@@ -30,11 +30,11 @@ criteria_in text = record {
 }
 
 -- the letters of a text, and whether it has only these letters
-abbrev pub found_in : List (List ℕ) → List ℕ → Found
-found_in letters text = record { known = are_letters letters text; criteria = criteria_in text }
+abbrev pub letters_in : List (List ℕ) → List ℕ → FoundLetters
+letters_in letters text = record { known = are_letters letters text; criteria = criteria_in text }
 
 -- the letters after one more piece
-abbrev pub with_piece : List (List ℕ) → Found → List ℕ → Found
+abbrev pub with_piece : List (List ℕ) → FoundLetters → List ℕ → FoundLetters
 with_piece letters found piece = record {
   known = found.known && is_among letters piece;
   criteria = record {

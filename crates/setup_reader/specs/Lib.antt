@@ -1,7 +1,7 @@
-pub use Rattle.check_drafts.specs.Draft
-pub use Rattle.check_drafts.specs.Drafted
-pub use Rattle.check_drafts.specs.LoadError
-pub mod Tree
+pub use Rattle.setup_model.specs.ParsedSetup
+pub use Rattle.setup_model.specs.ParsedViews
+pub use Rattle.setup_model.specs.LoadError
+pub mod JsonTree
 pub mod Criteria
 pub mod Values
 pub mod Shapes
@@ -10,3 +10,4 @@ pub mod Lists
 pub mod Fields
 pub mod Places
 pub mod Feeds
+pub mod Verification

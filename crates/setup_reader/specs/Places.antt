@@ -1,12 +1,12 @@
 -- The values at the places of a document.
 use Rattle.std.specs.Prelude.{ℕ, Option, Some, None}
-use Rattle.serde_json.specs.Data.{Data, Items, no_items}
-use Rattle.serde_json.specs.Find.{as_array, at, get}
-use Rattle.check_drafts.specs.declared.place.Part.{Part}
-use Rattle.check_drafts.specs.declared.place.Part.TheVariants as part
-use Rattle.check_drafts.specs.declared.place.Place.{Place}
-use Rattle.check_drafts.specs.Members.{part_name}
-use Rattle.check_documents.specs.Tree.{◌>=>◌}
+use Rattle.serde_json.specs.Data.{Data}
+use Rattle.serde_json.specs.Find.{at, get}
+use Rattle.setup_model.specs.declared.place.Part.{Part}
+use Rattle.setup_model.specs.declared.place.Part.TheVariants as part
+use Rattle.setup_model.specs.declared.place.Place.{Place}
+use Rattle.setup_model.specs.Members.{part_name}
+use Rattle.setup_reader.specs.JsonTree.{◌>=>◌}
 
 -- the value that is a part of the document
 abbrev pub value_of_part : Data → Part → Option Data
@@ -21,11 +21,3 @@ by_index (Some i) d = at i d
 -- the value at a place, if the document has such a place
 abbrev pub value_at : Data → Place → Option Data
 value_at d place = value_of_part d place.part >=> by_index place.index
-
-abbrev pub or_no_items : Option Items → Items
-or_no_items None = no_items
-or_no_items (Some ds) = ds
-
--- the items of a list of the document; a list that is absent or isn't an array has none
-abbrev pub items_at : Data → Part → Items
-items_at d p = or_no_items (value_of_part d p >=> as_array)

@@ -3,16 +3,16 @@ use Rattle.std.specs.Prelude.{ℕ, ◌&&◌, Bool, true, false, not, List, [], �
 use Rattle.std.specs.Prelude.{position, if◌then◌else◌}
 use Rattle.serde_json.specs.Data.{Data, Members, no_members, member}
 use Rattle.serde_json.specs.Find.{as_array, as_bool, as_object, as_str, get}
-use Rattle.check_drafts.specs.declared.member.Kind.{Kind}
-use Rattle.check_drafts.specs.declared.member.Kind.TheVariants as kind
-use Rattle.check_drafts.specs.declared.place.Place.{Place}
-use Rattle.check_drafts.specs.Fault as fault
-use Rattle.check_drafts.specs.Fault.{Fault, WrongShape}
-use Rattle.check_drafts.specs.Member.{Row, is_required}
-use Rattle.check_drafts.specs.Members.{members_at}
-use Rattle.check_documents.specs.Criteria.{criteria_of, host_letters, service_letters}
-use Rattle.check_documents.specs.Tree.{is_among, texts_of, whole_number, ◌>=>◌}
-use Rattle.check_documents.specs.Values.{delay_method, interleave_factor}
+use Rattle.setup_model.specs.declared.member.Kind.{Kind}
+use Rattle.setup_model.specs.declared.member.Kind.TheVariants as kind
+use Rattle.setup_model.specs.declared.place.Place.{Place}
+use Rattle.setup_model.specs.Fault as fault
+use Rattle.setup_model.specs.Fault.{Fault, ShapeFault}
+use Rattle.setup_model.specs.Member.{Row, is_required}
+use Rattle.setup_model.specs.Members.{members_at}
+use Rattle.setup_reader.specs.Criteria.{criteria_of, host_letters, service_letters}
+use Rattle.setup_reader.specs.JsonTree.{is_among, texts_of, whole_number, ◌>=>◌}
+use Rattle.setup_reader.specs.Values.{delay_method, interleave_factor}
 
 -- the names of members
 abbrev pub names : List Row → List (List ℕ)
@@ -49,37 +49,37 @@ abbrev pub is_missing : Data → Row → Bool
 is_missing d m = is_required m && is_none (get m.name d)
 
 -- whether there is a value that isn't of the kind
-abbrev pub is_other : Kind → Option Data → Bool
-is_other k None = false
-is_other k (Some v) = not (has_kind k v)
+abbrev pub has_other_kind : Kind → Option Data → Bool
+has_other_kind k None = false
+has_other_kind k (Some v) = not (has_kind k v)
 
 -- whether a member is present and isn't of its kind
-abbrev pub is_misfit : Data → Row → Bool
-is_misfit d m = is_other m.kind (get m.name d)
+abbrev pub has_wrong_kind : Data → Row → Bool
+has_wrong_kind d m = has_other_kind m.kind (get m.name d)
 
 -- the fault of an object that can have these members: the first unknown member, otherwise the first missing one, otherwise the first misfit
-abbrev pub wrong_member : List Row → Data → Members → Option WrongShape
-wrong_member ms d inside =
+abbrev pub member_fault : List Row → Data → Members → Option ShapeFault
+member_fault ms d inside =
     first_of (option_map fault.unknown (first_unknown (names ms) inside))
-    (first_of (option_map fault.missing (find (is_missing d) ms)) (option_map fault.misfit (find (is_misfit d) ms)))
+    (first_of (option_map fault.missing (find (is_missing d) ms)) (option_map fault.wrong_kind (find (has_wrong_kind d) ms)))
 
-abbrev pub wrong_inside : List Row → Data → Option Members → Option WrongShape
-wrong_inside ms d None = Some fault.no_object
-wrong_inside ms d (Some inside) = wrong_member ms d inside
+abbrev pub members_fault : List Row → Data → Option Members → Option ShapeFault
+members_fault ms d None = Some fault.no_object
+members_fault ms d (Some inside) = member_fault ms d inside
 
 -- the fault of a value that must be an object with these members, if it has one
-abbrev pub wrong_object : List Row → Data → Option WrongShape
-wrong_object ms d = wrong_inside ms d (as_object d)
+abbrev pub object_fault : List Row → Data → Option ShapeFault
+object_fault ms d = members_fault ms d (as_object d)
 
 -- the fault of a value that must be a list, if it has one
-abbrev pub wrong_list : Data → Option WrongShape
-wrong_list d = if is_some (as_array d) then None else Some fault.no_array
+abbrev pub list_shape_fault : Data → Option ShapeFault
+list_shape_fault d = if is_some (as_array d) then None else Some fault.no_array
 
 -- the fault in the shape of a value that can have these members; a value that can have none must be a list
-abbrev pub wrong_value : Option (List Row) → Data → Option WrongShape
-wrong_value None d = wrong_list d
-wrong_value (Some ms) d = wrong_object ms d
+abbrev pub value_fault : Option (List Row) → Data → Option ShapeFault
+value_fault None d = list_shape_fault d
+value_fault (Some ms) d = object_fault ms d
 
 -- the fault of shape of the value at a place
-abbrev pub wrong_at : Place → Data → Fault
-wrong_at place d = fault.shape place (wrong_value (members_at place) d)
+abbrev pub shape_fault : Place → Data → Fault
+shape_fault place d = fault.shape place (value_fault (members_at place) d)

@@ -2,11 +2,11 @@
 use Rattle.std.specs.Prelude.{ℕ, List, Option, Some, None, codes, bytes_eq, if◌then◌else◌}
 use Rattle.serde_json.specs.Data.{Data}
 use Rattle.serde_json.specs.Find.{as_str}
-use Rattle.check_drafts.specs.declared.options.DelayMethod.{DelayMethod}
-use Rattle.check_drafts.specs.declared.options.DelayMethod.TheVariants as method
-use Rattle.check_drafts.specs.declared.options.InterleaveFactor.{InterleaveFactor}
-use Rattle.check_drafts.specs.declared.options.InterleaveFactor.TheVariants as factor
-use Rattle.check_documents.specs.Tree.{whole_number, ◌>=>◌}
+use Rattle.setup_model.specs.declared.options.DelayMethod.{DelayMethod}
+use Rattle.setup_model.specs.declared.options.DelayMethod.TheVariants as method
+use Rattle.setup_model.specs.declared.options.InterleaveFactor.{InterleaveFactor}
+use Rattle.setup_model.specs.declared.options.InterleaveFactor.TheVariants as factor
+use Rattle.setup_reader.specs.JsonTree.{whole_number, ◌>=>◌}
 
 -- a value by its text, or the other value if it isn't a text
 abbrev pub by_text : {A : Type 0} → (List ℕ → Option A) → Option A → Option (List ℕ) → Option A

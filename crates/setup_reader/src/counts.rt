@@ -1,14 +1,17 @@
 //! The counts of a document's items.
+
 ghost use Rattle.std.specs.Prelude.{◌≤◌, ◌≡◌, ◌+◌, length, map, nat_lt, OnOk};
-ghost use Rattle.check_drafts.specs.Drafted.{drafts_view, host};
-ghost use Rattle.check_drafts.specs.Fault.{Tells};
-ghost use Rattle.check_faults.specs.Verification.{at_most, few_items, in_word, parent_count};
+ghost use Rattle.setup_model.specs.ParsedViews.{parsed_view, host};
+ghost use Rattle.setup_model.specs.Fault.{IsExpectedReading};
+ghost use Rattle.setup_reader.specs.Verification.{count_test, item_counts_test, u64_or_max, parent_count};
 
-use check_drafts::{Count, Drafts, Fault, HostDraft, MAX_DEPENDENCIES, MAX_OBJECTS, MAX_PARENTS};
+use setup_model::{
+    Count, Fault, MAX_DEPENDENCIES, MAX_OBJECTS, MAX_PARENTS, ParsedHost, ParsedSetup,
+};
 
-pub(crate) fn verify_counts(drafts: &Drafts<'_>) -> Result<(), Fault>
-    ensures exact { Tells (λ u. u) result (few_items (drafts_view drafts.now)) }
-    ensures few { OnOk result
+pub(crate) fn verify_counts(drafts: &ParsedSetup<'_>) -> Result<(), Fault>
+    ensures exact { IsExpectedReading (λ u. u) result (item_counts_test (parsed_view drafts.now)) }
+    ensures bounded { OnOk result
         (length drafts.now.hosts.items + length drafts.now.services.items ≤ 4096) }
 {
     let objects = sum(drafts.hosts.len(), drafts.services.len());
@@ -23,8 +26,8 @@ pub(crate) fn verify_counts(drafts: &Drafts<'_>) -> Result<(), Fault>
 
 /// Whether this count isn't above the limit.
 fn verify_count(what: Count, most: usize, count: u64) -> Result<(), Fault>
-    ensures exact { Tells (λ u. u) result (at_most what most count) }
-    ensures few { OnOk result (count ≤ most) }
+    ensures exact { IsExpectedReading (λ u. u) result (count_test what most count) }
+    ensures bounded { OnOk result (count ≤ most) }
 {
     if count > most as u64 {
         Err(Fault::TooMany(what, count))
@@ -35,14 +38,14 @@ fn verify_count(what: Count, most: usize, count: u64) -> Result<(), Fault>
 
 /// The sum of two counts, up to the largest number of 64 bits.
 fn sum(first: usize, second: usize) -> u64
-    ensures { result ≡ in_word (first + second) }
+    ensures { result ≡ u64_or_max (first + second) }
 {
     (first as u64).saturating_add(second as u64)
 }
 
 /// The number of parents of all hosts together, up to the largest number of 64 bits.
-fn count_parents(hosts: &[HostDraft<'_>]) -> u64
-    ensures { result ≡ in_word (parent_count (map host hosts.now)) }
+fn count_parents(hosts: &[ParsedHost<'_>]) -> u64
+    ensures { result ≡ u64_or_max (parent_count (map host hosts.now)) }
 {
     let mut count = 0u64;
     for host in hosts {

@@ -1,14 +1,15 @@
 //! The criteria of a dependency, by the letters of their text.
+
 ghost use Rattle.std.specs.Prelude.{◌≡◌, ◌&&◌, ◌||◌, map, bytes_eq};
 ghost use Rattle.std.specs.List.{list_any};
-ghost use Rattle.check_documents.specs.Tree.{is_among};
-ghost use Rattle.check_documents.specs.Criteria.{criteria_of, found_in, with_piece};
+ghost use Rattle.setup_reader.specs.JsonTree.{is_among};
+ghost use Rattle.setup_reader.specs.Criteria.{criteria_of, letters_in, with_piece};
 
-use check_drafts::Criteria;
+use setup_model::Criteria;
 
 /// The letters so far among the pieces of a text.
 #[derive(Clone, Copy)]
-struct Found {
+struct FoundLetters {
     /// Whether each piece so far is one of the letters.
     known: bool,
     /// The letters so far.
@@ -16,7 +17,7 @@ struct Found {
 }
 
 /// Before the first piece.
-const NOTHING: Found = Found {
+const NO_LETTERS: FoundLetters = FoundLetters {
     known: true,
     criteria: Criteria {
         ok: false,
@@ -42,19 +43,18 @@ pub(crate) fn read_criteria(text: &str, letters: &[&str]) -> Option<Criteria>
     }
 }
 
-fn find_letters(text: &str, letters: &[&str]) -> Found
-    ensures { result ≡ found_in (map (λ letter. letter.now) letters.now) text.now }
+fn find_letters(text: &str, letters: &[&str]) -> FoundLetters
+    ensures { result ≡ letters_in (map (λ letter. letter.now) letters.now) text.now }
 {
-    text.split(',')
-        .fold(NOTHING, |found, piece| with_piece(found, piece, letters))
+    text.split(',').fold(NO_LETTERS, |found, piece| with_piece(found, piece, letters))
 }
 
 /// The letters with one more piece.
-fn with_piece(found: Found, piece: &str, letters: &[&str]) -> Found
+fn with_piece(found: FoundLetters, piece: &str, letters: &[&str]) -> FoundLetters
     ensures { result ≡ with_piece (map (λ letter. letter.now) letters.now) found piece.now }
 {
     let criteria = found.criteria;
-    Found {
+    FoundLetters {
         known: are_known(found.known, piece, letters),
         criteria: Criteria {
             ok: is_found(criteria.ok, piece, "o"),

@@ -1,36 +1,37 @@
 //! Looks into the tree that `serde_json` reads from a document.
+
 ghost use Rattle.std.specs.Prelude.{◌≡◌, map, option_map, ok_or, is_some, string_bytes, bytes_eq};
 ghost use Rattle.std.specs.List.{list_all, list_any};
 ghost use Rattle.std.specs.BTreeMap.{keys};
 ghost use Rattle.serde_json.specs.View.{view};
 ghost use Rattle.serde_json.specs.Find.{as_str};
-ghost use Rattle.check_documents.specs.Tree.{tree_of, has_only, member_of, number_in, switch_in, texts_in};
-ghost use Rattle.check_drafts.specs.Member.{as_row};
-ghost use Rattle.check_drafts.specs.Text.{text};
-ghost use Rattle.check_drafts.specs.Fault.{Tells, not_json};
+ghost use Rattle.setup_reader.specs.JsonTree.{tree_of, has_only_members, member_value, member_number, member_switch, member_texts};
+ghost use Rattle.setup_model.specs.Member.{as_row};
+ghost use Rattle.setup_model.specs.Text.{text};
+ghost use Rattle.setup_model.specs.Fault.{IsExpectedReading, not_json};
 
-use check_drafts::{Fault, Member, Unread};
 use serde_json::{Error, Map, Value};
+use setup_model::{Fault, JsonPosition, Member};
 use std::alloc::Global;
 
 /// The tree that `serde_json` reads from the bytes. The fault is `NotJson` if there is no reading, or
 /// `Memory` if memory ran out.
 pub fn read_tree(alloc: Global, bytes: &[u8]) -> Result<Value, Fault>
-    ensures { Tells view result (ok_or (tree_of bytes.now) not_json) }
+    ensures { IsExpectedReading view result (ok_or (tree_of bytes.now) not_json) }
 {
     match Value::from_slice(alloc, bytes) {
         Ok(tree) => Ok(tree),
         Err(e) => Err(if e.is_memory() {
             Fault::Memory
         } else {
-            Fault::NotJson(unread(&e))
+            Fault::NotJson(json_position(&e))
         }),
     }
 }
 
 /// The line and the column at which reading stopped.
-fn unread(error: &Error) -> Unread {
-    Unread {
+fn json_position(error: &Error) -> JsonPosition {
+    JsonPosition {
         line: error.line(),
         column: error.column(),
         is_at_end: error.is_eof(),
@@ -38,8 +39,8 @@ fn unread(error: &Error) -> Unread {
 }
 
 /// Whether the value is an object with no other members than these.
-pub(crate) fn has_only(value: &Value, members: &[Member]) -> bool
-    ensures { result ≡ has_only (map (λ member. member.name.now) members.now) (view value.now) }
+pub(crate) fn has_only_members(value: &Value, members: &[Member]) -> bool
+    ensures { result ≡ has_only_members (map (λ member. member.name.now) members.now) (view value.now) }
 {
     match value.as_object() {
         Some(object) => are_known(object, members),
@@ -65,7 +66,7 @@ pub(crate) fn is_known(key: &str, members: &[Member]) -> bool
 /// A member of an object. The object can be absent itself.
 pub(crate) fn member<'v>(value: Option<&'v Value>, name: &str) -> Option<&'v Value>
     ensures { option_map (λ v. view v.now) result
-        ≡ member_of name.now (option_map (λ v. view v.now) value.entry) }
+        ≡ member_value name.now (option_map (λ v. view v.now) value.entry) }
 {
     match value {
         Some(value) => value.get(name),
@@ -75,8 +76,8 @@ pub(crate) fn member<'v>(value: Option<&'v Value>, name: &str) -> Option<&'v Val
 
 /// The whole number of a member of an object. The object can be absent itself. Without the member it is the
 /// default, or None if the member is required.
-pub(crate) fn number_in(object: Option<&Value>, wanted: Member) -> Option<u64>
-    ensures { result ≡ number_in (as_row wanted) (option_map (λ v. view v.now) object.entry) }
+pub(crate) fn member_number(object: Option<&Value>, wanted: Member) -> Option<u64>
+    ensures { result ≡ member_number (as_row wanted) (option_map (λ v. view v.now) object.entry) }
 {
     match member(object, wanted.name) {
         Some(value) => value.as_u64(),
@@ -86,8 +87,8 @@ pub(crate) fn number_in(object: Option<&Value>, wanted: Member) -> Option<u64>
 
 /// The truth value of a member of an object. The object can be absent itself. Without the member it is the
 /// default, or None if the member is required.
-pub(crate) fn switch_in(object: Option<&Value>, wanted: Member) -> Option<bool>
-    ensures { result ≡ switch_in (as_row wanted) (option_map (λ v. view v.now) object.entry) }
+pub(crate) fn member_switch(object: Option<&Value>, wanted: Member) -> Option<bool>
+    ensures { result ≡ member_switch (as_row wanted) (option_map (λ v. view v.now) object.entry) }
 {
     match member(object, wanted.name) {
         Some(value) => value.as_bool(),
@@ -96,9 +97,9 @@ pub(crate) fn switch_in(object: Option<&Value>, wanted: Member) -> Option<bool>
 }
 
 /// The texts of a member that is an array of texts. A member that is absent has no texts.
-pub(crate) fn texts_in<'v>(value: Option<&'v Value>) -> Option<&'v [Value]>
+pub(crate) fn member_texts<'v>(value: Option<&'v Value>) -> Option<&'v [Value]>
     ensures { option_map (λ items. map text items.now) result
-        ≡ texts_in (option_map (λ v. view v.now) value.entry) }
+        ≡ member_texts (option_map (λ v. view v.now) value.entry) }
 {
     match value {
         Some(value) => texts(value),
@@ -107,7 +108,7 @@ pub(crate) fn texts_in<'v>(value: Option<&'v Value>) -> Option<&'v [Value]>
 }
 
 pub(crate) fn texts<'v>(value: &'v Value) -> Option<&'v [Value]>
-    ensures { option_map (λ items. map text items.now) result ≡ texts_in (Some (view value.now)) }
+    ensures { option_map (λ items. map text items.now) result ≡ member_texts (Some (view value.now)) }
 {
     let items = value.as_array()?;
     if are_texts(items) { Some(items) } else { None }

@@ -1,33 +1,34 @@
 //! Links: parents, the hosts of services, and the ends of dependencies.
-ghost use Rattle.std.specs.Prelude.{◌≡◌, ℕ, List, string_bytes, IfOk, map, position, not};
-ghost use Rattle.check_drafts.specs.Drafted.{dependency, drafts_view, host, service, texts};
-ghost use Rattle.check_drafts.specs.Ends.{full_names, is_known, known_both, known_dependencies, known_end, known_ends};
-ghost use Rattle.check_drafts.specs.Fault.{Tells};
-ghost use Rattle.check_drafts.specs.Text.{text};
-ghost use Rattle.check_faults.specs.Verification.{known_hosts, known_links, known_parents};
 
-use check_drafts::{
-    DependencyDraft, Drafts, End, EndFault, Fault, HostDraft, Part, Place, ServiceDraft, full_name,
-    text,
-};
+ghost use Rattle.std.specs.Prelude.{◌≡◌, ℕ, List, string_bytes, IfOk, map, position, not};
+ghost use Rattle.setup_model.specs.ParsedViews.{dependency, parsed_view, host, service, texts};
+ghost use Rattle.setup_model.specs.Ends.{full_names, is_known, dependency_ends_test, dependencies_test, end_test, dependency_list_test};
+ghost use Rattle.setup_model.specs.Fault.{IsExpectedReading};
+ghost use Rattle.setup_model.specs.Text.{text};
+ghost use Rattle.setup_reader.specs.Verification.{service_hosts_test, links_test, parents_test};
+
 use indexmap::IndexSet;
 use serde_json::Value;
+use setup_model::{
+    End, EndFault, Fault, ParsedDependency, ParsedHost, ParsedService, ParsedSetup, Part, Place,
+    full_name, text,
+};
 use std::alloc::{AllocError, Global};
 
 pub(crate) fn verify_links(
     alloc: Global,
-    drafts: &Drafts<'_>,
+    drafts: &ParsedSetup<'_>,
     hosts: &IndexSet<&str>,
 ) -> Result<(), Fault>
-    ensures { Tells (λ u. u) result (known_links (texts hosts.now.keys) (drafts_view drafts.now)) }
+    ensures { IsExpectedReading (λ u. u) result (links_test (texts hosts.now.keys) (parsed_view drafts.now)) }
 {
     verify_parents(&drafts.hosts, hosts)?;
     verify_hosts(&drafts.services, hosts)?;
     verify_ends(alloc, drafts, hosts)
 }
 
-fn verify_parents(hosts: &[HostDraft<'_>], names: &IndexSet<&str>) -> Result<(), Fault>
-    ensures { Tells (λ u. u) result (known_parents (texts names.now.keys) (map host hosts.now)) }
+fn verify_parents(hosts: &[ParsedHost<'_>], names: &IndexSet<&str>) -> Result<(), Fault>
+    ensures { IsExpectedReading (λ u. u) result (parents_test (texts names.now.keys) (map host hosts.now)) }
 {
     for (index, host) in hosts.iter().enumerate() {
         if let Some(parent) = unknown_parent(host.parents, names) {
@@ -52,9 +53,9 @@ fn is_known(names: &IndexSet<&str>, name: &str) -> bool
     names.contains(name)
 }
 
-fn verify_hosts(services: &[ServiceDraft<'_>], names: &IndexSet<&str>) -> Result<(), Fault>
-    ensures { Tells (λ u. u) result
-        (known_hosts (texts names.now.keys) (map service services.now)) }
+fn verify_hosts(services: &[ParsedService<'_>], names: &IndexSet<&str>) -> Result<(), Fault>
+    ensures { IsExpectedReading (λ u. u) result
+        (service_hosts_test (texts names.now.keys) (map service services.now)) }
 {
     for (index, service) in services.iter().enumerate() {
         if !is_known(names, service.host) {
@@ -66,10 +67,10 @@ fn verify_hosts(services: &[ServiceDraft<'_>], names: &IndexSet<&str>) -> Result
 
 // ---- the ends of dependencies
 
-fn verify_ends(alloc: Global, drafts: &Drafts<'_>, hosts: &IndexSet<&str>) -> Result<(), Fault>
-    ensures { Tells (λ u. u) result
-        (known_dependencies (full_names (drafts_view drafts.now).services)
-        (texts hosts.now.keys) (drafts_view drafts.now)) }
+fn verify_ends(alloc: Global, drafts: &ParsedSetup<'_>, hosts: &IndexSet<&str>) -> Result<(), Fault>
+    ensures { IsExpectedReading (λ u. u) result
+        (dependencies_test (full_names (parsed_view drafts.now).services)
+        (texts hosts.now.keys) (parsed_view drafts.now)) }
 {
     if drafts.service_dependencies.is_empty() && drafts.host_dependencies.is_empty() {
         return Ok(());
@@ -81,13 +82,13 @@ fn verify_ends(alloc: Global, drafts: &Drafts<'_>, hosts: &IndexSet<&str>) -> Re
 
 /// Whether the ends of all dependencies are among these full names of services and these names of hosts.
 fn verify_both_sorts(
-    drafts: &Drafts<'_>,
+    drafts: &ParsedSetup<'_>,
     services: &IndexSet<&str>,
     hosts: &IndexSet<&str>,
 ) -> Result<(), Fault>
-    ensures { Tells (λ u. u) result
-        (known_dependencies (texts services.now.keys) (texts hosts.now.keys)
-        (drafts_view drafts.now)) }
+    ensures { IsExpectedReading (λ u. u) result
+        (dependencies_test (texts services.now.keys) (texts hosts.now.keys)
+        (parsed_view drafts.now)) }
 {
     verify_dependencies(
         Part::ServiceDependencies,
@@ -104,7 +105,7 @@ fn verify_both_sorts(
 }
 
 /// The full names of services, in the document's order. An Err means out of memory.
-pub fn full_names(alloc: Global, services: &[ServiceDraft<'_>]) -> Result<Vec<String>, AllocError>
+pub fn full_names(alloc: Global, services: &[ParsedService<'_>]) -> Result<Vec<String>, AllocError>
     ensures { IfOk result (λ names.
         map string_bytes names.items ≡ full_names (map service services.now)) }
 {
@@ -131,28 +132,28 @@ fn distinct_texts<'t>(alloc: Global, all: &'t [String]) -> Result<IndexSet<&'t s
 /// of the other sort.
 fn verify_dependencies(
     part: Part,
-    dependencies: &[DependencyDraft<'_>],
+    dependencies: &[ParsedDependency<'_>],
     names: &IndexSet<&str>,
     others: &IndexSet<&str>,
 ) -> Result<(), Fault>
-    ensures { Tells (λ u. u) result
-        (known_ends part (texts names.now.keys) (texts others.now.keys)
+    ensures { IsExpectedReading (λ u. u) result
+        (dependency_list_test part (texts names.now.keys) (texts others.now.keys)
         (map dependency dependencies.now)) }
 {
     for (index, draft) in dependencies.iter().enumerate() {
-        if let Err(fault) = verify_both(*draft, names, others) {
+        if let Err(fault) = verify_dependency(*draft, names, others) {
             return Err(Fault::UnknownEnd(Place::item(part, index), fault));
         }
     }
     Ok(())
 }
 
-fn verify_both(
-    draft: DependencyDraft<'_>,
+fn verify_dependency(
+    draft: ParsedDependency<'_>,
     names: &IndexSet<&str>,
     others: &IndexSet<&str>,
 ) -> Result<(), EndFault>
-    ensures { result ≡ known_both (texts names.now.keys) (texts others.now.keys)
+    ensures { result ≡ dependency_ends_test (texts names.now.keys) (texts others.now.keys)
         (dependency draft.entry) }
 {
     verify_end(End::Dependent, draft.dependent, names, others)?;
@@ -165,7 +166,7 @@ fn verify_end(
     names: &IndexSet<&str>,
     others: &IndexSet<&str>,
 ) -> Result<(), EndFault>
-    ensures { result ≡ known_end (texts names.now.keys) (texts others.now.keys) end name.now }
+    ensures { result ≡ end_test (texts names.now.keys) (texts others.now.keys) end name.now }
 {
     if is_known(names, name) {
         Ok(())

@@ -1,17 +1,18 @@
 //! The lists of a document. Each is read item by item, up to the first item with a wrong shape.
+
 ghost use Rattle.std.specs.Prelude.{◌≡◌, List, ℕ, Option, map, option_map};
 ghost use Rattle.serde_json.specs.Data.{Data};
 ghost use Rattle.serde_json.specs.View.{view, items_view};
-ghost use Rattle.check_drafts.specs.Agreement.{Gives};
-ghost use Rattle.check_drafts.specs.Fault.{but_memory, seen};
-ghost use Rattle.check_drafts.specs.Place.{list_of_part, item_of_part};
-ghost use Rattle.check_documents.specs.declared.lists.ListFault.TheVariants.{Memory};
-ghost use Rattle.check_documents.specs.Lists.{list_fault, IsWrong};
-ghost use Rattle.check_documents.specs.Reading.{items_from, list_of};
+ghost use Rattle.setup_model.specs.Agreement.{IsExpectedResult};
+ghost use Rattle.setup_model.specs.Fault.{non_memory_fault, view_of};
+ghost use Rattle.setup_model.specs.Place.{list_place, item_place};
+ghost use Rattle.setup_reader.specs.declared.lists.ListFault.TheVariants.{Memory};
+ghost use Rattle.setup_reader.specs.Lists.{list_fault, HasShapeFault};
+ghost use Rattle.setup_reader.specs.Reading.{parsed_items_from, parsed_list};
 
 use crate::shapes::shape_fault;
-use check_drafts::{Fault, Part, Place};
 use serde_json::Value;
+use setup_model::{Fault, Part, Place};
 use std::alloc::{AllocFailed, Global};
 
 /// Why a list can't be read.
@@ -33,8 +34,8 @@ impl<'v, T: Drop> From<AllocFailed<T>> for ListFault<'v> {
 
 /// The fault of a document with a list that can't be read.
 pub(crate) fn fault_of(fault: ListFault) -> Fault
-    requires { IsWrong (list_fault fault) }
-    ensures { but_memory (seen result) ≡ list_fault fault.entry }
+    requires { HasShapeFault (list_fault fault) }
+    ensures { non_memory_fault (view_of result) ≡ list_fault fault.entry }
 {
     match fault {
         ListFault::Shape(place, value) => shape_fault(place, value),
@@ -42,19 +43,19 @@ pub(crate) fn fault_of(fault: ListFault) -> Fault
     }
 }
 
-/// An item of a list. An implementation names the item as the definitions see it (`Seen`, `seen`). It also
+/// An item of a list. An implementation names the item as the definitions see it (`ViewType`, `view_of`). It also
 /// names the item that a value describes (`shape`), if the value has the shape of one.
 pub(crate) trait Item<'v>: Drop {
-    ghost Seen: { Type 0 };
+    ghost ViewType: { Type 0 };
 
-    ghost seen: { Self → Seen };
+    ghost view_of: { Self → ViewType };
 
-    ghost shape: { List (List ℕ) → Data → Option Seen };
+    ghost shape: { List (List ℕ) → Data → Option ViewType };
 
     /// The item that a value describes, or None if the value has another shape. If the item has criteria, the
     /// letters are those that they can have.
     fn read(value: &'v Value, letters: &[&str]) -> Option<Self>
-        ensures { option_map seen result
+        ensures { option_map view_of result
             ≡ shape (map (λ letter. letter.now) letters.now) (view value.now) };
 }
 
@@ -66,9 +67,9 @@ pub(crate) fn read_list<'v, T: Item<'v>>(
     part: Part,
     letters: &[&str],
 ) -> Result<Vec<T>, ListFault<'v>>
-    ensures { Gives list_fault (λ v. map T.seen v.items) result
-        (list_of (T.shape (map (λ letter. letter.now) letters.now)) (list_of_part part)
-        (item_of_part part) (option_map (λ v. view v.now) value.entry)) }
+    ensures { IsExpectedResult list_fault (λ v. map T.view_of v.items) result
+        (parsed_list (T.shape (map (λ letter. letter.now) letters.now)) (list_place part)
+        (item_place part) (option_map (λ v. view v.now) value.entry)) }
 {
     match value {
         Some(value) => match value.as_array() {
@@ -85,8 +86,8 @@ fn read_items<'v, T: Item<'v>>(
     part: Part,
     letters: &[&str],
 ) -> Result<Vec<T>, ListFault<'v>>
-    ensures { Gives list_fault (λ v. map T.seen v.items) result
-        (items_from (T.shape (map (λ letter. letter.now) letters.now)) (item_of_part part) 0
+    ensures { IsExpectedResult list_fault (λ v. map T.view_of v.items) result
+        (parsed_items_from (T.shape (map (λ letter. letter.now) letters.now)) (item_place part) 0
         (items_view values.now)) }
 {
     let mut items = Vec::new(alloc);

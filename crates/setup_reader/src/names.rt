@@ -1,26 +1,27 @@
 //! Names, and names that occur twice.
-ghost use Rattle.std.specs.Prelude.{map};
-ghost use Rattle.check_drafts.specs.Agreement.{each};
-ghost use Rattle.check_drafts.specs.Drafted.{host, service, texts};
-ghost use Rattle.check_drafts.specs.Fault.{Tells};
-ghost use Rattle.check_faults.specs.Verification.{good_description, good_host_name, good_names, host_names, no_repeated_services};
 
-use check_drafts::{Fault, HostDraft, Place, ServiceDraft, name_fault};
+ghost use Rattle.std.specs.Prelude.{map};
+ghost use Rattle.setup_model.specs.Agreement.{each};
+ghost use Rattle.setup_model.specs.ParsedViews.{host, service, texts};
+ghost use Rattle.setup_model.specs.Fault.{IsExpectedReading};
+ghost use Rattle.setup_reader.specs.Verification.{description_test, host_name_test, setup_names_test, distinct_host_names, distinct_services_test};
+
 use indexmap::IndexSet;
+use setup_model::{Fault, ParsedHost, ParsedService, Place, name_fault};
 use std::alloc::Global;
 
 pub(crate) fn verify_names(
-    hosts: &[HostDraft<'_>],
-    services: &[ServiceDraft<'_>],
+    hosts: &[ParsedHost<'_>],
+    services: &[ParsedService<'_>],
 ) -> Result<(), Fault>
-    ensures { Tells (λ u. u) result (good_names (map host hosts.now) (map service services.now)) }
+    ensures { IsExpectedReading (λ u. u) result (setup_names_test (map host hosts.now) (map service services.now)) }
 {
     verify_host_names(hosts)?;
     verify_descriptions(services)
 }
 
-fn verify_host_names(hosts: &[HostDraft<'_>]) -> Result<(), Fault>
-    ensures { Tells (λ u. u) result (each good_host_name (map host hosts.now)) }
+fn verify_host_names(hosts: &[ParsedHost<'_>]) -> Result<(), Fault>
+    ensures { IsExpectedReading (λ u. u) result (each host_name_test (map host hosts.now)) }
 {
     for (index, host) in hosts.iter().enumerate() {
         if let Some(fault) = name_fault(host.name) {
@@ -30,8 +31,8 @@ fn verify_host_names(hosts: &[HostDraft<'_>]) -> Result<(), Fault>
     Ok(())
 }
 
-fn verify_descriptions(services: &[ServiceDraft<'_>]) -> Result<(), Fault>
-    ensures { Tells (λ u. u) result (each good_description (map service services.now)) }
+fn verify_descriptions(services: &[ParsedService<'_>]) -> Result<(), Fault>
+    ensures { IsExpectedReading (λ u. u) result (each description_test (map service services.now)) }
 {
     for (index, service) in services.iter().enumerate() {
         if let Some(fault) = name_fault(service.description) {
@@ -44,10 +45,10 @@ fn verify_descriptions(services: &[ServiceDraft<'_>]) -> Result<(), Fault>
 /// The names of the hosts in the document's order, if each host has a name of its own.
 pub(crate) fn distinct_names<'v>(
     alloc: Global,
-    hosts: &[HostDraft<'v>],
+    hosts: &[ParsedHost<'v>],
 ) -> Result<IndexSet<&'v str>, Fault>
-    ensures { Tells (λ names. texts names.keys) result
-        (host_names (map host hosts.now)) }
+    ensures { IsExpectedReading (λ names. texts names.keys) result
+        (distinct_host_names (map host hosts.now)) }
 {
     let mut names = IndexSet::with_capacity(alloc, hosts.len())?;
     for (index, host) in hosts.iter().enumerate() {
@@ -61,9 +62,9 @@ pub(crate) fn distinct_names<'v>(
 
 pub(crate) fn verify_distinct_services(
     alloc: Global,
-    services: &[ServiceDraft<'_>],
+    services: &[ParsedService<'_>],
 ) -> Result<(), Fault>
-    ensures { Tells (λ u. u) result (no_repeated_services (map service services.now)) }
+    ensures { IsExpectedReading (λ u. u) result (distinct_services_test (map service services.now)) }
 {
     let mut keys = IndexSet::with_capacity(alloc, services.len())?;
     for (index, service) in services.iter().enumerate() {

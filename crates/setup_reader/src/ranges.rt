@@ -1,41 +1,44 @@
 //! Numbers and their limits, in the order of the table of members.
-ghost use Rattle.std.specs.Prelude.{map, OnOk, All, Some};
-ghost use Rattle.check_drafts.specs.Agreement.{each, Gives};
-ghost use Rattle.check_drafts.specs.Drafted.{host, service, HasFewAttempts};
-ghost use Rattle.check_drafts.specs.Fault.{Tells, range_seen, service_thresholds, host_thresholds};
-ghost use Rattle.check_drafts.specs.Member.{as_row};
-ghost use Rattle.check_faults.specs.Verification.{check_within, delay_within, factor_within, good_host_range, good_options, good_ranges, good_service_range, in_order, numbers_within, options_within, thresholds_in_order, thresholds_within, within};
 
-use check_drafts::members::{
+ghost use Rattle.std.specs.Prelude.{map, OnOk, All, Some};
+ghost use Rattle.setup_model.specs.Agreement.{each, IsExpectedResult};
+ghost use Rattle.setup_model.specs.ParsedViews.{host, service, HasBoundedAttempts};
+ghost use Rattle.setup_model.specs.Fault.{IsExpectedReading, range_view, service_thresholds, host_thresholds};
+ghost use Rattle.setup_model.specs.Member.{as_row};
+ghost use Rattle.setup_reader.specs.Verification.{check_ranges_test, delay_test, factor_test, host_range_test, options_test, setup_ranges_test};
+ghost use Rattle.setup_reader.specs.Verification.{service_range_test, order_test, option_numbers_test, option_ranges_test, threshold_order_test};
+ghost use Rattle.setup_reader.specs.Verification.{thresholds_test, within};
+
+use setup_model::members::{
     CHECK_INTERVAL, HIGH_HOST_FLAP_THRESHOLD, HIGH_SERVICE_FLAP_THRESHOLD,
     HOST_INTER_CHECK_DELAY_METHOD, INTERVAL_LENGTH, LOW_HOST_FLAP_THRESHOLD,
     LOW_SERVICE_FLAP_THRESHOLD, MAX_CHECK_ATTEMPTS, MAX_CONCURRENT_CHECKS, MAX_HOST_CHECK_SPREAD,
     MAX_SERVICE_CHECK_SPREAD, RETRY_INTERVAL, SERVICE_INTER_CHECK_DELAY_METHOD,
     SERVICE_INTERLEAVE_FACTOR,
 };
-use check_drafts::{
-    CheckDraft, DelayMethod, Fault, HostDraft, InterleaveFactor, Member, Options, Place,
-    RangeFault, ServiceDraft,
+use setup_model::{
+    DelayMethod, Fault, InterleaveFactor, Member, Options, ParsedCheck, ParsedHost, ParsedService,
+    Place, RangeFault,
 };
 
 pub(crate) fn verify_ranges(
     options: &Options,
-    hosts: &[HostDraft<'_>],
-    services: &[ServiceDraft<'_>],
+    hosts: &[ParsedHost<'_>],
+    services: &[ParsedService<'_>],
 ) -> Result<(), Fault>
-    ensures exact { Tells (λ u. u) result
-        (good_ranges options.now (map host hosts.now) (map service services.now)) }
-    ensures hosts { OnOk result (All (λ h. HasFewAttempts h.check) hosts.now) }
-    ensures services { OnOk result (All (λ s. HasFewAttempts s.check) services.now) }
+    ensures exact { IsExpectedReading (λ u. u) result
+        (setup_ranges_test options.now (map host hosts.now) (map service services.now)) }
+    ensures hosts { OnOk result (All (λ h. HasBoundedAttempts h.check) hosts.now) }
+    ensures services { OnOk result (All (λ s. HasBoundedAttempts s.check) services.now) }
 {
     verify_options(options)?;
     verify_host_ranges(hosts)?;
     verify_service_ranges(services)
 }
 
-fn verify_host_ranges(hosts: &[HostDraft<'_>]) -> Result<(), Fault>
-    ensures exact { Tells (λ u. u) result (each good_host_range (map host hosts.now)) }
-    ensures few { OnOk result (All (λ h. HasFewAttempts h.check) hosts.now) }
+fn verify_host_ranges(hosts: &[ParsedHost<'_>]) -> Result<(), Fault>
+    ensures exact { IsExpectedReading (λ u. u) result (each host_range_test (map host hosts.now)) }
+    ensures bounded { OnOk result (All (λ h. HasBoundedAttempts h.check) hosts.now) }
 {
     for (index, host) in hosts.iter().enumerate() {
         if let Err(fault) = verify_check(host.check) {
@@ -45,9 +48,9 @@ fn verify_host_ranges(hosts: &[HostDraft<'_>]) -> Result<(), Fault>
     Ok(())
 }
 
-fn verify_service_ranges(services: &[ServiceDraft<'_>]) -> Result<(), Fault>
-    ensures exact { Tells (λ u. u) result (each good_service_range (map service services.now)) }
-    ensures few { OnOk result (All (λ s. HasFewAttempts s.check) services.now) }
+fn verify_service_ranges(services: &[ParsedService<'_>]) -> Result<(), Fault>
+    ensures exact { IsExpectedReading (λ u. u) result (each service_range_test (map service services.now)) }
+    ensures bounded { OnOk result (All (λ s. HasBoundedAttempts s.check) services.now) }
 {
     for (index, service) in services.iter().enumerate() {
         if let Err(fault) = verify_check(service.check) {
@@ -57,9 +60,9 @@ fn verify_service_ranges(services: &[ServiceDraft<'_>]) -> Result<(), Fault>
     Ok(())
 }
 
-fn verify_check(check: CheckDraft) -> Result<(), RangeFault>
-    ensures exact { Gives (λ f. Some (range_seen f)) (λ u. u) result (check_within check) }
-    ensures few { OnOk result (HasFewAttempts check) }
+fn verify_check(check: ParsedCheck) -> Result<(), RangeFault>
+    ensures exact { IsExpectedResult (λ f. Some (range_view f)) (λ u. u) result (check_ranges_test check) }
+    ensures bounded { OnOk result (HasBoundedAttempts check) }
 {
     verify_number(CHECK_INTERVAL, check.check_interval)?;
     verify_number(RETRY_INTERVAL, check.retry_interval)?;
@@ -67,19 +70,19 @@ fn verify_check(check: CheckDraft) -> Result<(), RangeFault>
 }
 
 fn verify_number(member: Member, number: u64) -> Result<(), RangeFault>
-    ensures { Gives (λ f. Some (range_seen f)) (λ u. u) result (within (as_row member) number) }
+    ensures { IsExpectedResult (λ f. Some (range_view f)) (λ u. u) result (within (as_row member) number) }
 {
     if member.allows(number) {
         Ok(())
     } else {
-        Err(RangeFault::Beyond(member, number))
+        Err(RangeFault::OutOfRange(member, number))
     }
 }
 
 // ---- the options
 
 fn verify_options(options: &Options) -> Result<(), Fault>
-    ensures { Tells (λ u. u) result (good_options options.now) }
+    ensures { IsExpectedReading (λ u. u) result (options_test options.now) }
 {
     match verify_option_numbers(options) {
         Ok(()) => Ok(()),
@@ -88,7 +91,7 @@ fn verify_options(options: &Options) -> Result<(), Fault>
 }
 
 fn verify_option_numbers(options: &Options) -> Result<(), RangeFault>
-    ensures { Gives (λ f. Some (range_seen f)) (λ u. u) result (options_within options.now) }
+    ensures { IsExpectedResult (λ f. Some (range_view f)) (λ u. u) result (option_ranges_test options.now) }
 {
     verify_numbers(options)?;
     verify_thresholds(options)?;
@@ -96,7 +99,7 @@ fn verify_option_numbers(options: &Options) -> Result<(), RangeFault>
 }
 
 fn verify_numbers(options: &Options) -> Result<(), RangeFault>
-    ensures { Gives (λ f. Some (range_seen f)) (λ u. u) result (numbers_within options.now) }
+    ensures { IsExpectedResult (λ f. Some (range_view f)) (λ u. u) result (option_numbers_test options.now) }
 {
     verify_number(INTERVAL_LENGTH, options.interval_length)?;
     verify_delay(
@@ -114,8 +117,8 @@ fn verify_numbers(options: &Options) -> Result<(), RangeFault>
 }
 
 fn verify_delay(member: Member, method: DelayMethod) -> Result<(), RangeFault>
-    ensures { Gives (λ f. Some (range_seen f)) (λ u. u) result
-        (delay_within (as_row member) method) }
+    ensures { IsExpectedResult (λ f. Some (range_view f)) (λ u. u) result
+        (delay_test (as_row member) method) }
 {
     match method {
         DelayMethod::Fixed(delay) => verify_number(member, delay),
@@ -124,8 +127,8 @@ fn verify_delay(member: Member, method: DelayMethod) -> Result<(), RangeFault>
 }
 
 fn verify_factor(member: Member, factor: InterleaveFactor) -> Result<(), RangeFault>
-    ensures { Gives (λ f. Some (range_seen f)) (λ u. u) result
-        (factor_within (as_row member) factor) }
+    ensures { IsExpectedResult (λ f. Some (range_view f)) (λ u. u) result
+        (factor_test (as_row member) factor) }
 {
     match factor {
         InterleaveFactor::Smart => Ok(()),
@@ -134,7 +137,7 @@ fn verify_factor(member: Member, factor: InterleaveFactor) -> Result<(), RangeFa
 }
 
 fn verify_thresholds(options: &Options) -> Result<(), RangeFault>
-    ensures { Gives (λ f. Some (range_seen f)) (λ u. u) result (thresholds_within options.now) }
+    ensures { IsExpectedResult (λ f. Some (range_view f)) (λ u. u) result (thresholds_test options.now) }
 {
     verify_number(
         LOW_SERVICE_FLAP_THRESHOLD,
@@ -150,8 +153,8 @@ fn verify_thresholds(options: &Options) -> Result<(), RangeFault>
 
 /// Whether no low threshold of flapping is above its high threshold.
 fn verify_thresholds_in_order(options: &Options) -> Result<(), RangeFault>
-    ensures { Gives (λ f. Some (range_seen f)) (λ u. u) result
-        (thresholds_in_order options.now) }
+    ensures { IsExpectedResult (λ f. Some (range_view f)) (λ u. u) result
+        (threshold_order_test options.now) }
 {
     let low = options.low_service_flap_threshold;
     let high = options.high_service_flap_threshold;

@@ -1,22 +1,26 @@
-//! Reads drafts from a document's tree. This finds every fault of shape, and no other fault.
+//! Reads a parsed setup from a document's tree. This finds every fault of shape, and no other fault.
+
 ghost use Rattle.std.specs.Prelude.{◌≡◌, map, ok_or, option_map};
 ghost use Rattle.serde_json.specs.View.{view};
-ghost use Rattle.check_drafts.specs.Fault.{Tells};
-ghost use Rattle.check_drafts.specs.Draft as spec;
-ghost use Rattle.check_drafts.specs.Drafted.{host, service, dependency, drafts_view};
-ghost use Rattle.check_drafts.specs.Place.{host_at, service_at, the_hosts, the_services};
-ghost use Rattle.check_drafts.specs.declared.place.Part.TheVariants as part;
-ghost use Rattle.check_documents.specs.Criteria.{host_letters, service_letters};
-ghost use Rattle.check_documents.specs.Reading.{dependencies_in, host_draft, list_of, service_draft, check_draft, dependency_draft, drafts_of, delay_in};
-ghost use Rattle.check_documents.specs.Reading.{factor_in, delay_by_default, factor_by_default, options_of, options_but_thresholds, with_thresholds, has_option_members, wrong_options};
-ghost use Rattle.check_documents.specs.Values.{delay_method, interleave_factor};
-ghost use Rattle.check_drafts.specs.Member.{as_row};
+ghost use Rattle.setup_model.specs.Fault.{IsExpectedReading};
+ghost use Rattle.setup_model.specs.ParsedSetup as spec;
+ghost use Rattle.setup_model.specs.ParsedViews.{host, service, dependency, parsed_view};
+ghost use Rattle.setup_model.specs.Place.{host_place, service_place, hosts_place, services_place};
+ghost use Rattle.setup_model.specs.declared.place.Part.TheVariants as part;
+ghost use Rattle.setup_reader.specs.Criteria.{host_letters, service_letters};
+ghost use Rattle.setup_reader.specs.Reading.{parsed_dependencies, parsed_host, parsed_list, parsed_service, parsed_check, parsed_dependency, parsed_setup};
+ghost use Rattle.setup_reader.specs.Reading.{member_delay};
+ghost use Rattle.setup_reader.specs.Reading.{member_factor, delay_by_default, factor_by_default, options_of, options_but_thresholds, with_thresholds};
+ghost use Rattle.setup_reader.specs.Reading.{has_option_members, options_fault};
+ghost use Rattle.setup_reader.specs.Values.{delay_method, interleave_factor};
+ghost use Rattle.setup_model.specs.Member.{as_row};
 
 use crate::criteria::read_criteria;
+use crate::json_tree::{has_only_members, member, member_number, member_switch, member_texts};
 use crate::lists::{Item, fault_of, read_list};
 use crate::shapes::shape_fault;
-use crate::tree::{has_only, member, number_in, switch_in, texts_in};
-use check_drafts::members::{
+use serde_json::Value;
+use setup_model::members::{
     CHECK_INTERVAL, CRITERIA, DEPENDENT, DESCRIPTION, DOCUMENT_MEMBERS, ENABLED,
     HIGH_HOST_FLAP_THRESHOLD, HIGH_SERVICE_FLAP_THRESHOLD, HOST, HOST_DEPENDENCIES,
     HOST_INTER_CHECK_DELAY_METHOD, HOST_MEMBERS, HOSTS, INHERITS_PARENT, INTERVAL_LENGTH,
@@ -26,21 +30,20 @@ use check_drafts::members::{
     SERVICE_INTER_CHECK_DELAY_METHOD, SERVICE_INTERLEAVE_FACTOR, SERVICE_MEMBERS, SERVICES,
     SOFT_STATE_DEPENDENCIES, USE_AGGRESSIVE_HOST_CHECKING,
 };
-use check_drafts::{
-    CheckDraft, DefaultValue, DelayMethod, DependencyDraft, Drafts, Fault, HOST_LETTERS, HostDraft,
-    InterleaveFactor, Member, Options, Part, Place, SERVICE_LETTERS, ServiceDraft,
+use setup_model::{
+    DefaultValue, DelayMethod, Fault, HOST_LETTERS, InterleaveFactor, Member, Options, ParsedCheck,
+    ParsedDependency, ParsedHost, ParsedService, ParsedSetup, Part, Place, SERVICE_LETTERS,
 };
-use serde_json::Value;
 use std::alloc::Global;
 
-/// The drafts of a document's tree, or its first fault of shape, in the order of the document's members in
+/// The parsed setup of a document's tree, or its first fault of shape, in the order of the document's members in
 /// [`Part`]. The fault names the member at fault by the table of members. If memory runs out, the fault is
 /// `Memory`.
-#[tactic(auto, unfolding(crate::specs::Reading::drafts_of))]
-pub fn read_drafts<'v>(alloc: Global, tree: &'v Value) -> Result<Drafts<'v>, Fault>
-    ensures { Tells drafts_view result (drafts_of (view tree.now)) }
+#[tactic(auto, unfolding(crate::specs::Reading::parsed_setup))]
+pub fn parse_setup<'v>(alloc: Global, tree: &'v Value) -> Result<ParsedSetup<'v>, Fault>
+    ensures { IsExpectedReading parsed_view result (parsed_setup (view tree.now)) }
 {
-    if !has_only(tree, &DOCUMENT_MEMBERS) {
+    if !has_only_members(tree, &DOCUMENT_MEMBERS) {
         return Err(shape_fault(Place::DOCUMENT, tree));
     }
     let options = read_options(tree.get(OPTIONS.name))?;
@@ -51,7 +54,7 @@ pub fn read_drafts<'v>(alloc: Global, tree: &'v Value) -> Result<Drafts<'v>, Fau
         tree.get(SERVICE_DEPENDENCIES.name),
     )?;
     let host_dependencies = read_host_dependencies(alloc, tree.get(HOST_DEPENDENCIES.name))?;
-    Ok(Drafts {
+    Ok(ParsedSetup {
         options,
         hosts,
         services,
@@ -60,9 +63,9 @@ pub fn read_drafts<'v>(alloc: Global, tree: &'v Value) -> Result<Drafts<'v>, Fau
     })
 }
 
-fn read_hosts<'v>(alloc: Global, value: Option<&'v Value>) -> Result<Vec<HostDraft<'v>>, Fault>
-    ensures { Tells (λ hosts. map host hosts.items) result
-        (list_of host_draft the_hosts host_at (option_map (λ v. view v.now) value.entry)) }
+fn read_hosts<'v>(alloc: Global, value: Option<&'v Value>) -> Result<Vec<ParsedHost<'v>>, Fault>
+    ensures { IsExpectedReading (λ hosts. map host hosts.items) result
+        (parsed_list parsed_host hosts_place host_place (option_map (λ v. view v.now) value.entry)) }
 {
     match read_list(alloc, value, Part::Hosts, &[]) {
         Ok(hosts) => Ok(hosts),
@@ -73,9 +76,9 @@ fn read_hosts<'v>(alloc: Global, value: Option<&'v Value>) -> Result<Vec<HostDra
 fn read_services<'v>(
     alloc: Global,
     value: Option<&'v Value>,
-) -> Result<Vec<ServiceDraft<'v>>, Fault>
-    ensures { Tells (λ services. map service services.items) result
-        (list_of service_draft the_services service_at (option_map (λ v. view v.now) value.entry)) }
+) -> Result<Vec<ParsedService<'v>>, Fault>
+    ensures { IsExpectedReading (λ services. map service services.items) result
+        (parsed_list parsed_service services_place service_place (option_map (λ v. view v.now) value.entry)) }
 {
     match read_list(alloc, value, Part::Services, &[]) {
         Ok(services) => Ok(services),
@@ -86,9 +89,9 @@ fn read_services<'v>(
 fn read_service_dependencies<'v>(
     alloc: Global,
     value: Option<&'v Value>,
-) -> Result<Vec<DependencyDraft<'v>>, Fault>
-    ensures { Tells (λ dependencies. map dependency dependencies.items) result
-        (dependencies_in part.ServiceDependencies service_letters
+) -> Result<Vec<ParsedDependency<'v>>, Fault>
+    ensures { IsExpectedReading (λ dependencies. map dependency dependencies.items) result
+        (parsed_dependencies part.ServiceDependencies service_letters
         (option_map (λ v. view v.now) value.entry)) }
 {
     match read_list(alloc, value, Part::ServiceDependencies, &SERVICE_LETTERS) {
@@ -100,9 +103,9 @@ fn read_service_dependencies<'v>(
 fn read_host_dependencies<'v>(
     alloc: Global,
     value: Option<&'v Value>,
-) -> Result<Vec<DependencyDraft<'v>>, Fault>
-    ensures { Tells (λ dependencies. map dependency dependencies.items) result
-        (dependencies_in part.HostDependencies host_letters
+) -> Result<Vec<ParsedDependency<'v>>, Fault>
+    ensures { IsExpectedReading (λ dependencies. map dependency dependencies.items) result
+        (parsed_dependencies part.HostDependencies host_letters
         (option_map (λ v. view v.now) value.entry)) }
 {
     match read_list(alloc, value, Part::HostDependencies, &HOST_LETTERS) {
@@ -113,9 +116,9 @@ fn read_host_dependencies<'v>(
 
 /// The options, or their fault of shape.
 fn read_options(value: Option<&Value>) -> Result<Options, Fault>
-    ensures { Tells (λ options. options) result
+    ensures { IsExpectedReading (λ options. options) result
         (ok_or (options_of (option_map (λ v. view v.now) value.entry))
-        (wrong_options (option_map (λ v. view v.now) value.entry))) }
+        (options_fault (option_map (λ v. view v.now) value.entry))) }
 {
     match options_of(value) {
         Some(options) => Ok(options),
@@ -139,15 +142,15 @@ fn options_but_thresholds(value: Option<&Value>) -> Option<Options>
     ensures { result ≡ options_but_thresholds (option_map (λ v. view v.now) value.entry) }
 {
     Some(Options {
-        interval_length: number_in(value, INTERVAL_LENGTH)?,
-        service_inter_check_delay_method: delay_in(value, SERVICE_INTER_CHECK_DELAY_METHOD)?,
-        max_service_check_spread: number_in(value, MAX_SERVICE_CHECK_SPREAD)?,
-        service_interleave_factor: factor_in(value, SERVICE_INTERLEAVE_FACTOR)?,
-        host_inter_check_delay_method: delay_in(value, HOST_INTER_CHECK_DELAY_METHOD)?,
-        max_host_check_spread: number_in(value, MAX_HOST_CHECK_SPREAD)?,
-        max_concurrent_checks: number_in(value, MAX_CONCURRENT_CHECKS)?,
-        soft_state_dependencies: switch_in(value, SOFT_STATE_DEPENDENCIES)?,
-        use_aggressive_host_checking: switch_in(value, USE_AGGRESSIVE_HOST_CHECKING)?,
+        interval_length: member_number(value, INTERVAL_LENGTH)?,
+        service_inter_check_delay_method: member_delay(value, SERVICE_INTER_CHECK_DELAY_METHOD)?,
+        max_service_check_spread: member_number(value, MAX_SERVICE_CHECK_SPREAD)?,
+        service_interleave_factor: member_factor(value, SERVICE_INTERLEAVE_FACTOR)?,
+        host_inter_check_delay_method: member_delay(value, HOST_INTER_CHECK_DELAY_METHOD)?,
+        max_host_check_spread: member_number(value, MAX_HOST_CHECK_SPREAD)?,
+        max_concurrent_checks: member_number(value, MAX_CONCURRENT_CHECKS)?,
+        soft_state_dependencies: member_switch(value, SOFT_STATE_DEPENDENCIES)?,
+        use_aggressive_host_checking: member_switch(value, USE_AGGRESSIVE_HOST_CHECKING)?,
         low_service_flap_threshold: 0,
         high_service_flap_threshold: 0,
         low_host_flap_threshold: 0,
@@ -161,10 +164,10 @@ fn with_thresholds(value: Option<&Value>, options: Options) -> Option<Options>
     ensures { result ≡ with_thresholds (option_map (λ v. view v.now) value.entry) options }
 {
     Some(Options {
-        low_service_flap_threshold: number_in(value, LOW_SERVICE_FLAP_THRESHOLD)?,
-        high_service_flap_threshold: number_in(value, HIGH_SERVICE_FLAP_THRESHOLD)?,
-        low_host_flap_threshold: number_in(value, LOW_HOST_FLAP_THRESHOLD)?,
-        high_host_flap_threshold: number_in(value, HIGH_HOST_FLAP_THRESHOLD)?,
+        low_service_flap_threshold: member_number(value, LOW_SERVICE_FLAP_THRESHOLD)?,
+        high_service_flap_threshold: member_number(value, HIGH_SERVICE_FLAP_THRESHOLD)?,
+        low_host_flap_threshold: member_number(value, LOW_HOST_FLAP_THRESHOLD)?,
+        high_host_flap_threshold: member_number(value, HIGH_HOST_FLAP_THRESHOLD)?,
         ..options
     })
 }
@@ -173,15 +176,15 @@ fn has_option_members(value: Option<&Value>) -> bool
     ensures { result ≡ has_option_members (option_map (λ v. view v.now) value.entry) }
 {
     match value {
-        Some(value) => has_only(value, &OPTION_MEMBERS),
+        Some(value) => has_only_members(value, &OPTION_MEMBERS),
         None => true,
     }
 }
 
 /// The delay of a member of an object. The object can be absent itself. Without the member it is the default,
 /// or None if the member is required.
-fn delay_in(object: Option<&Value>, wanted: Member) -> Option<DelayMethod>
-    ensures { result ≡ delay_in (as_row wanted) (option_map (λ v. view v.now) object.entry) }
+fn member_delay(object: Option<&Value>, wanted: Member) -> Option<DelayMethod>
+    ensures { result ≡ member_delay (as_row wanted) (option_map (λ v. view v.now) object.entry) }
 {
     match member(object, wanted.name) {
         Some(value) => delay_method(value),
@@ -213,8 +216,8 @@ pub(crate) fn delay_method(value: &Value) -> Option<DelayMethod>
 
 /// The factor of a member of an object. The object can be absent itself. Without the member it is the
 /// default, or None if the member is required.
-fn factor_in(object: Option<&Value>, wanted: Member) -> Option<InterleaveFactor>
-    ensures { result ≡ factor_in (as_row wanted) (option_map (λ v. view v.now) object.entry) }
+fn member_factor(object: Option<&Value>, wanted: Member) -> Option<InterleaveFactor>
+    ensures { result ≡ member_factor (as_row wanted) (option_map (λ v. view v.now) object.entry) }
 {
     match member(object, wanted.name) {
         Some(value) => interleave_factor(value),
@@ -242,39 +245,39 @@ pub(crate) fn interleave_factor(value: &Value) -> Option<InterleaveFactor>
     }
 }
 
-impl<'v> Item<'v> for HostDraft<'v> {
-    ghost Seen = { spec.HostDraft };
+impl<'v> Item<'v> for ParsedHost<'v> {
+    ghost ViewType = { spec.ParsedHost };
 
-    ghost seen = { host };
+    ghost view_of = { host };
 
-    ghost shape = { λ letters. host_draft };
+    ghost shape = { λ letters. parsed_host };
 
-    #[tactic(auto, unfolding(crate::specs::Reading::host_draft))]
-    fn read(value: &'v Value, _letters: &[&str]) -> Option<HostDraft<'v>> {
-        if !has_only(value, &HOST_MEMBERS) {
+    #[tactic(auto, unfolding(crate::specs::Reading::parsed_host))]
+    fn read(value: &'v Value, _letters: &[&str]) -> Option<ParsedHost<'v>> {
+        if !has_only_members(value, &HOST_MEMBERS) {
             return None;
         }
-        Some(HostDraft {
+        Some(ParsedHost {
             name: value.get(NAME.name).and_then(Value::as_str)?,
-            parents: texts_in(value.get(PARENTS.name))?,
+            parents: member_texts(value.get(PARENTS.name))?,
             check: read_check(value)?,
         })
     }
 }
 
-impl<'v> Item<'v> for ServiceDraft<'v> {
-    ghost Seen = { spec.ServiceDraft };
+impl<'v> Item<'v> for ParsedService<'v> {
+    ghost ViewType = { spec.ParsedService };
 
-    ghost seen = { service };
+    ghost view_of = { service };
 
-    ghost shape = { λ letters. service_draft };
+    ghost shape = { λ letters. parsed_service };
 
-    #[tactic(auto, unfolding(crate::specs::Reading::service_draft))]
-    fn read(value: &'v Value, _letters: &[&str]) -> Option<ServiceDraft<'v>> {
-        if !has_only(value, &SERVICE_MEMBERS) {
+    #[tactic(auto, unfolding(crate::specs::Reading::parsed_service))]
+    fn read(value: &'v Value, _letters: &[&str]) -> Option<ParsedService<'v>> {
+        if !has_only_members(value, &SERVICE_MEMBERS) {
             return None;
         }
-        Some(ServiceDraft {
+        Some(ParsedService {
             host: value.get(HOST.name).and_then(Value::as_str)?,
             description: value.get(DESCRIPTION.name).and_then(Value::as_str)?,
             check: read_check(value)?,
@@ -282,37 +285,37 @@ impl<'v> Item<'v> for ServiceDraft<'v> {
     }
 }
 
-impl<'v> Item<'v> for DependencyDraft<'v> {
-    ghost Seen = { spec.DependencyDraft };
+impl<'v> Item<'v> for ParsedDependency<'v> {
+    ghost ViewType = { spec.ParsedDependency };
 
-    ghost seen = { dependency };
+    ghost view_of = { dependency };
 
-    ghost shape = { dependency_draft };
+    ghost shape = { parsed_dependency };
 
-    #[tactic(auto, unfolding(crate::specs::Reading::dependency_draft))]
-    fn read(value: &'v Value, letters: &[&str]) -> Option<DependencyDraft<'v>> {
-        if !has_only(value, &SERVICE_DEPENDENCY_MEMBERS) {
+    #[tactic(auto, unfolding(crate::specs::Reading::parsed_dependency))]
+    fn read(value: &'v Value, letters: &[&str]) -> Option<ParsedDependency<'v>> {
+        if !has_only_members(value, &SERVICE_DEPENDENCY_MEMBERS) {
             return None;
         }
         let criteria = value.get(CRITERIA).and_then(Value::as_str);
-        Some(DependencyDraft {
+        Some(ParsedDependency {
             dependent: value.get(DEPENDENT.name).and_then(Value::as_str)?,
             master: value.get(MASTER.name).and_then(Value::as_str)?,
             criteria: read_criteria(criteria?, letters)?,
-            inherits: switch_in(Some(value), INHERITS_PARENT)?,
+            inherits: member_switch(Some(value), INHERITS_PARENT)?,
         })
     }
 }
 
 /// The members that say how an object is checked.
-#[tactic(auto, unfolding(crate::specs::Reading::check_draft))]
-fn read_check(value: &Value) -> Option<CheckDraft>
-    ensures { result ≡ check_draft (view value.now) }
+#[tactic(auto, unfolding(crate::specs::Reading::parsed_check))]
+fn read_check(value: &Value) -> Option<ParsedCheck>
+    ensures { result ≡ parsed_check (view value.now) }
 {
-    Some(CheckDraft {
-        check_interval: number_in(Some(value), CHECK_INTERVAL)?,
-        retry_interval: number_in(Some(value), RETRY_INTERVAL)?,
-        max_check_attempts: number_in(Some(value), MAX_CHECK_ATTEMPTS)?,
-        enabled: switch_in(Some(value), ENABLED)?,
+    Some(ParsedCheck {
+        check_interval: member_number(Some(value), CHECK_INTERVAL)?,
+        retry_interval: member_number(Some(value), RETRY_INTERVAL)?,
+        max_check_attempts: member_number(Some(value), MAX_CHECK_ATTEMPTS)?,
+        enabled: member_switch(Some(value), ENABLED)?,
     })
 }

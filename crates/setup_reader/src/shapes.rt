@@ -1,46 +1,47 @@
 //! Faults of shape, by the table of members.
+
 ghost use Rattle.std.specs.Prelude.{◌≡◌, bytes_eq, find, is_some, map, not, option_map, position, string_bytes, true};
 ghost use Rattle.std.specs.List.{list_any};
 ghost use Rattle.std.specs.BTreeMap.{keys};
 ghost use Rattle.serde_json.specs.Find.{as_str};
 ghost use Rattle.serde_json.specs.View.{view, members_view};
-ghost use Rattle.check_drafts.specs.Fault.{seen, shape_seen};
-ghost use Rattle.check_drafts.specs.Member.{as_row};
-ghost use Rattle.check_drafts.specs.Members.{members_at};
-ghost use Rattle.check_documents.specs.Criteria.{criteria_of};
-ghost use Rattle.check_documents.specs.Shapes.{first_unknown, has_kind, is_misfit, is_missing, is_other, names};
-ghost use Rattle.check_documents.specs.Shapes.{wrong_at, wrong_list, wrong_member, wrong_object, wrong_value};
-ghost use Rattle.check_documents.specs.Tree.{is_among, ◌>=>◌};
+ghost use Rattle.setup_model.specs.Fault.{view_of, shape_view};
+ghost use Rattle.setup_model.specs.Member.{as_row};
+ghost use Rattle.setup_model.specs.Members.{members_at};
+ghost use Rattle.setup_reader.specs.Criteria.{criteria_of};
+ghost use Rattle.setup_reader.specs.Shapes.{first_unknown, has_kind, has_wrong_kind, is_missing, has_other_kind, names};
+ghost use Rattle.setup_reader.specs.Shapes.{shape_fault, list_shape_fault, member_fault, object_fault, value_fault};
+ghost use Rattle.setup_reader.specs.JsonTree.{is_among, ◌>=>◌};
 
 use crate::criteria::read_criteria;
+use crate::json_tree::{is_known, texts};
 use crate::reading::{delay_method, interleave_factor};
-use crate::tree::{is_known, texts};
-use check_drafts::{
+use serde_json::{Map, Value};
+use setup_model::{
     Fault, HOST_LETTERS, Kind, Member, Place, SERVICE_LETTERS, ShapeFault, members_at,
 };
-use serde_json::{Map, Value};
 
 /// The fault of a value at a place whose shape is wrong by the table.
 pub(crate) fn shape_fault(place: Place, value: &Value) -> Fault
-    requires { is_some (wrong_value (members_at place) (view value.now)) ≡ true }
-    ensures { seen result ≡ wrong_at place (view value.now) }
+    requires { is_some (value_fault (members_at place) (view value.now)) ≡ true }
+    ensures { view_of result ≡ shape_fault place (view value.now) }
 {
-    Fault::Shape(place, wrong_shape(place, value).unwrap())
+    Fault::Shape(place, value_fault(place, value).unwrap())
 }
 
 /// The fault in the shape of the value at a place, or None if its shape is right.
-fn wrong_shape(place: Place, value: &Value) -> Option<ShapeFault>
-    ensures { option_map shape_seen result ≡ wrong_value (members_at place) (view value.now) }
+fn value_fault(place: Place, value: &Value) -> Option<ShapeFault>
+    ensures { option_map shape_view result ≡ value_fault (members_at place) (view value.now) }
 {
     match members_at(place) {
-        Some(members) => wrong_object(value, members),
-        None => wrong_list(value),
+        Some(members) => object_fault(value, members),
+        None => list_shape_fault(value),
     }
 }
 
 /// The fault of a value that must be a list, or None if it is one.
-fn wrong_list(value: &Value) -> Option<ShapeFault>
-    ensures { option_map shape_seen result ≡ wrong_list (view value.now) }
+fn list_shape_fault(value: &Value) -> Option<ShapeFault>
+    ensures { option_map shape_view result ≡ list_shape_fault (view value.now) }
 {
     if value.as_array().is_some() {
         None
@@ -50,23 +51,23 @@ fn wrong_list(value: &Value) -> Option<ShapeFault>
 }
 
 /// The fault of a value that must be an object with these members, or None if it is one.
-fn wrong_object(value: &Value, members: &[Member]) -> Option<ShapeFault>
-    ensures { option_map shape_seen result ≡ wrong_object (map as_row members.now) (view value.now) }
+fn object_fault(value: &Value, members: &[Member]) -> Option<ShapeFault>
+    ensures { option_map shape_view result ≡ object_fault (map as_row members.now) (view value.now) }
 {
     match value.as_object() {
-        Some(object) => wrong_member(value, object, members),
+        Some(object) => member_fault(value, object, members),
         None => Some(ShapeFault::NotAnObject),
     }
 }
 
 /// The fault of an object's first member at fault, or None if all its members are right.
-fn wrong_member(
+fn member_fault(
     value: &Value,
     object: &Map<String, Value>,
     members: &[Member],
 ) -> Option<ShapeFault>
-    ensures { option_map shape_seen result ≡
-        wrong_member (map as_row members.now) (view value.now) (members_view object.now.entries) }
+    ensures { option_map shape_view result ≡
+        member_fault (map as_row members.now) (view value.now) (members_view object.now.entries) }
 {
     if let Some(index) = first_unknown(object, members) {
         return Some(ShapeFault::Unknown(index));
@@ -74,8 +75,8 @@ fn wrong_member(
     if let Some(member) = first_missing(value, members) {
         return Some(ShapeFault::Missing(member));
     }
-    let member = first_misfit(value, members)?;
-    Some(ShapeFault::Misfit(member))
+    let member = first_wrong_kind(value, members)?;
+    Some(ShapeFault::WrongKind(member))
 }
 
 /// The index of the first member of an object that isn't one of these.
@@ -115,19 +116,19 @@ fn is_missing(object: &Value, member: Member) -> bool
 }
 
 /// The first of these members that is present and isn't of its kind.
-fn first_misfit(object: &Value, members: &[Member]) -> Option<Member>
-    ensures { option_map as_row result ≡ find (is_misfit (view object.now)) (map as_row members.now) }
+fn first_wrong_kind(object: &Value, members: &[Member]) -> Option<Member>
+    ensures { option_map as_row result ≡ find (has_wrong_kind (view object.now)) (map as_row members.now) }
 {
     for member in members {
-        if is_misfit(object, *member) {
+        if has_wrong_kind(object, *member) {
             return Some(*member);
         }
     }
     None
 }
 
-fn is_misfit(object: &Value, member: Member) -> bool
-    ensures { result ≡ is_misfit (view object.now) (as_row member) }
+fn has_wrong_kind(object: &Value, member: Member) -> bool
+    ensures { result ≡ has_wrong_kind (view object.now) (as_row member) }
 {
     match object.get(member.name) {
         Some(value) => !has_kind(value, member.kind),

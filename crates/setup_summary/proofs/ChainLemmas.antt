@@ -6,7 +6,7 @@ use Rattle.std.proofs.lemmas.List.{length-map}
 use Rattle.std.proofs.lemmas.List.Folds.{list_all-map}
 use Rattle.check_objects.specs.Configuration.{Configuration, IsSetup, masters_in, masters_of, parents_by_host, object_count}
 use Rattle.check_spread.proofs.TimesLemmas.{count_parts}
-use Rattle.link_order.specs.Cycles.{are_within}
+use Rattle.setup_order.specs.Cycles.{are_within}
 
 -- the links of each object or host, as lists that the code has
 module _ {L : Type 0} (items : L → List ℕ) (c : Configuration) (lists : List L) (is : IsSetup c) where
@@ -18,20 +18,20 @@ module _ {L : Type 0} (items : L → List ℕ) (c : Configuration) (lists : List
       let size = length-map lists items in
       let a = length-map c.dependencies masters_in in
       let b = count_parts c in
-      omega (arith, ap length e, a, b, is.listed, is.few, size)
+      omega (arith, ap length e, a, b, is.one_list_each, is.bounded, size)
 
   pub masters_within : map items lists ≡ masters_of c → are_within (length lists) (map items lists) ≡ true
   masters_within e =
       let size = length-map lists items in
       let a = length-map c.dependencies masters_in in
-      let same : length lists ≡ object_count c = omega (arith, ap length e, a, is.listed, size) in
-      within_by (masters_of c) (object_count c) e same is.mastered
+      let same : length lists ≡ object_count c = omega (arith, ap length e, a, is.one_list_each, size) in
+      within_by (masters_of c) (object_count c) e same is.masters_in_range
 
   pub few_hosts : map items lists ≡ parents_by_host c → length lists ≤ 4096
   few_hosts e =
       let size = length-map lists items in
       let a = length-map c.hosts (λ h. h.parents) in
-      omega (arith, ap length e, a, is.few, size)
+      omega (arith, ap length e, a, is.bounded, size)
 
   pub parents_within : map items lists ≡ parents_by_host c → are_within (length lists) (map items lists) ≡ true
   parents_within e =

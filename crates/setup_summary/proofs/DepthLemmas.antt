@@ -1,15 +1,16 @@
 -- The depths of objects, and the longest chain by them.
-use Rattle.std.proofs.Common.{◌≡◌, ℕ, zero, suc, ◌+◌, ◌<◌, ◌≤◌, ◌==◌, ◌⊎◌, inl, inr, Bool, true, false, List, [], ◌∷◌, ◌++◌, length, take, get_or, refl, sym, ◌∙◌, arith}
+use Rattle.std.proofs.Common.{◌≡◌, ℕ, zero, suc, ◌+◌, ◌<◌, ◌≤◌, ◌==◌, ◌⊎◌, inl, inr, Bool, true, false, List, [], ◌∷◌, ◌++◌, length, take, get_or, refl, sym}
+use Rattle.std.proofs.Common.{◌∙◌, arith}
 use Rattle.std.proofs.Common.{append_assoc, append-nil, replicate}
 use Rattle.std.specs.Prelude.{nat_lt, slice_set}
 use Rattle.std.specs.List.{list_any, list_all}
 use Rattle.std.proofs.lemmas.Bool.{cases_lt, cases_eq, eqb-true}
 use Rattle.std.proofs.lemmas.List.{get_or-set_same, get_or-set_other, length-set, length-replicate}
-use Rattle.link_order.specs.Cycles.{links_of, deep, any_below, has_cycle}
-use Rattle.link_order.specs.Orders.{is_among, follows, IsOrder}
-use Rattle.link_order.proofs.TestLemmas.{or_first, or_second, or_cases, and_first, and_second, and_both}
-use Rattle.link_order.proofs.ChainLemmas.{deep_less, some_below, among_times, all_among}
-use Rattle.check_summary.specs.Chains.{has_chain, greatest_to, longest_chain, depth_at, depth_over, greatest_of, IsDepth, HasDepths}
+use Rattle.setup_order.specs.Cycles.{links_of, deep, any_below, has_cycle}
+use Rattle.setup_order.specs.Orders.{is_among, is_topological, IsOrder}
+use Rattle.setup_order.proofs.TestLemmas.{or_first, or_second, or_cases, and_first, and_second, and_both}
+use Rattle.setup_order.proofs.ChainLemmas.{deep_less, some_below, among_times, all_among}
+use Rattle.setup_summary.specs.Chains.{has_chain, greatest_up_to, longest_chain, depth_at, depth_over, greatest_of, IsDepth, HasDepths}
 
 -- ---- chains of some length have all shorter ones
 
@@ -73,7 +74,7 @@ depth_is links placed depths o known h =
 pub record KnowsDepths (links : List (List ℕ)) (placed depths : List ℕ) : Type 0 where
   pub size : length depths ≡ length links
   pub known : (o : ℕ) → is_among placed o ≡ true → IsDepth links o (depth_at depths o)
-  pub few : (o : ℕ) → depth_at depths o ≤ length placed
+  pub bounded : (o : ℕ) → depth_at depths o ≤ length placed
 
 among-append : (xs ys : List ℕ) (y : ℕ) → is_among (xs ++ ys) y ≡ true → (is_among xs y ≡ true) ⊎ (is_among ys y ≡ true)
 among-append [] ys y h = inr h
@@ -92,7 +93,7 @@ among_one x y h = elim (or_cases (x == y) false h) [
 ]
 
 -- the links of the next object of an order lead to those before it
-pub links_placed : (links : List (List ℕ)) (placed os : List ℕ) (i : ℕ) (d : ℕ) → follows links placed os ≡ true → i < length os
+pub links_placed : (links : List (List ℕ)) (placed os : List ℕ) (i : ℕ) (d : ℕ) → is_topological links placed os ≡ true → i < length os
     → list_all (is_among (placed ++ take i os)) (links_of links (get_or os i d)) ≡ true
 links_placed links placed [] i d h l = absurd (omega arith)
 links_placed links placed (o ∷ os) zero d h l = rw append-nil (and_first _ _ h)
@@ -114,7 +115,7 @@ pub knows_more : (links : List (List ℕ)) (placed depths : List ℕ) (o : ℕ) 
 knows_more links placed depths o knows within h =
     let v = depth_over depths (links_of links o) in
     let here : IsDepth links o v = depth_is links placed depths o knows.known h in
-    let few : v ≤ length placed + 1 = over_few depths (links_of links o) (length placed) knows.few in
+    let bounded : v ≤ length placed + 1 = over_few depths (links_of links o) (length placed) knows.bounded in
     let same : depth_at (slice_set depths o v) o ≡ v = get_or-set_same depths o v 0 (omega (arith, knows.size, within)) in
     record {
       size = length-set depths o v ∙ knows.size;
@@ -125,15 +126,15 @@ knows_more links placed depths o knows within h =
           | inr b ↦ absurd (n (sym (among_one o p b)))
         ])
       ];
-      few = λ p. elim (cases_eq p o) [
-        | inl e ↦ rw (e, same, length_push placed o) few
-        | inr n ↦ rw (get_or-set_other depths o p v 0 n, length_push placed o) (let k = knows.few p in omega (arith, k))
+      bounded = λ p. elim (cases_eq p o) [
+        | inl e ↦ rw (e, same, length_push placed o) bounded
+        | inr n ↦ rw (get_or-set_other depths o p v 0 n, length_push placed o) (let k = knows.bounded p in omega (arith, k))
       ];
     }
 
 -- ---- the greatest depth
 
-pub greatest_is : (p : ℕ → Bool) (m n : ℕ) → m ≤ n → (m ≡ 0) ⊎ (p m ≡ true) → ((k : ℕ) → m < k → k ≤ n → p k ≡ false) → greatest_to p n ≡ m
+pub greatest_is : (p : ℕ → Bool) (m n : ℕ) → m ≤ n → (m ≡ 0) ⊎ (p m ≡ true) → ((k : ℕ) → m < k → k ≤ n → p k ≡ false) → greatest_up_to p n ≡ m
 greatest_is p m zero h at above = omega arith
 greatest_is p m (suc n) h at above = elim (cases_lt m (suc n)) [
   | inl l ↦ rw (above (suc n) l (omega arith)) (greatest_is p m n (omega arith) at (λ k a b. above k a (omega arith)))
@@ -145,7 +146,7 @@ greatest_is p m (suc n) h at above = elim (cases_lt m (suc n)) [
       ]
 ]
 
-greatest_top : (p : ℕ → Bool) (n : ℕ) → p n ≡ true → greatest_to p n ≡ n
+greatest_top : (p : ℕ → Bool) (n : ℕ) → p n ≡ true → greatest_up_to p n ≡ n
 greatest_top p zero e = refl
 greatest_top p (suc n) e = rw e refl
 
@@ -188,7 +189,7 @@ longest_by_depths links depths has =
           inr (some_below (λ o. deep links o m) (length links) r.0 below chain)
       | inr g ↦ inl (omega arith)
     ] in
-    sym (greatest_is (has_chain links) m (length links) (greatest_few depths (length links) has.few) at (λ k above within.
+    sym (greatest_is (has_chain links) m (length links) (greatest_few depths (length links) has.bounded) at (λ k above within.
     none_below (λ o. deep links o k) (length links) (λ o l.
     let most = greatest_above depths o in
     shallow_longer links (suc (depth_at depths o)) k o (omega (arith, most, above)) (has.each o l).none_longer)))
@@ -209,7 +210,7 @@ pub knows_none : (links : List (List ℕ)) (depths : List ℕ) → depths ≡ re
 knows_none links depths e = rw e record {
   size = length-replicate (length links) 0;
   known = λ o h. cc;
-  few = λ o. zeros (length links) o;
+  bounded = λ o. zeros (length links) o;
 }
 
 pub knows_all : (links : List (List ℕ)) (order depths : List ℕ) → IsOrder links order → KnowsDepths links order depths → HasDepths links depths
@@ -218,7 +219,7 @@ knows_all links order depths is knows = record {
   each = λ o below.
       let once = is.each_once o below in
       knows.known o (among_times order o (omega arith));
-  few = λ o. let k = knows.few o in omega (arith, k, is.size);
+  bounded = λ o. let k = knows.bounded o in omega (arith, k, is.size);
 }
 
 all_below : (xs ls : List ℕ) (n : ℕ) → list_all (λ x. nat_lt x n) xs ≡ true → list_all (is_among xs) ls ≡ true → list_all (λ l. nat_lt l n) ls ≡ true
@@ -236,4 +237,4 @@ pub all_placed_below : (links : List (List ℕ)) (order : List ℕ) (i d : ℕ) 
 all_placed_below links order i d is h =
     all_below (take i order) (links_of links (get_or order i d)) (length links)
     (all_taken (λ x. nat_lt x (length links)) i order is.within)
-    (links_placed links [] order i d is.behind_links h)
+    (links_placed links [] order i d is.after_links h)

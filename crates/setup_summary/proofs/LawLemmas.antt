@@ -7,19 +7,19 @@ use Rattle.std.proofs.lemmas.Bool.{cases_lt}
 use Rattle.std.proofs.lemmas.List.{map-append, take-map, drop-map}
 use Rattle.std.proofs.lemmas.List.Sums.{sum_by-cons}
 use Rattle.std.proofs.lemmas.List.Elements.{All-nil, All-cons, All-weaker}
-use Rattle.check_drafts.specs.declared.object.Object.{Object}
-use Rattle.check_drafts.specs.declared.options.DelayMethod.{DelayMethod}
+use Rattle.setup_model.specs.declared.parsed_setup.Object.{Object}
+use Rattle.setup_model.specs.declared.options.DelayMethod.{DelayMethod}
 use Rattle.check_objects.specs.Configuration.{Configuration, host_count}
 use Rattle.check_spread.specs.Spread.{earlier, factor_by, first_time, first_times, host_objects, host_spread, initial_times, is_scheduled, rank}
-use Rattle.check_spread.specs.Spread.{scheduled_among, picked}
-use Rattle.check_spread.specs.Spread.{service_objects, service_spread, spread_by, time_at}
-use Rattle.link_order.specs.Cycles.{deep, has_cycle}
-use Rattle.link_order.proofs.ChainLemmas.{some_below}
-use Rattle.check_summary.specs.declared.spans.Span.{Span}
-use Rattle.check_summary.specs.Chains.{greatest_to, has_chain, longest_chain, IsReached}
-use Rattle.check_summary.specs.Summary.{earliest, is_disabled, lacks_interval, later, latest, reasons_among, span_of, summary_of, with_spans}
-use Rattle.check_summary.specs.Worth.{moved, moved_span, reasons_count, IsFirstBy, IsLeast, IsGreatest}
-use Rattle.check_summary.proofs.DepthLemmas.{none_below, shallow_by, shallow_longer}
+use Rattle.check_spread.specs.Spread.{scheduled_among, choice_of}
+use Rattle.check_spread.specs.Spread.{service_objects, service_spread, spread_of_method, time_at}
+use Rattle.setup_order.specs.Cycles.{deep, has_cycle}
+use Rattle.setup_order.proofs.ChainLemmas.{some_below}
+use Rattle.setup_summary.specs.declared.spans.Span.{Span}
+use Rattle.setup_summary.specs.Chains.{greatest_up_to, has_chain, longest_chain, HasChainOfLength}
+use Rattle.setup_summary.specs.Summary.{earliest, is_disabled, has_no_interval, later, latest, reasons_among, span_of, summary_of, with_spans}
+use Rattle.setup_summary.specs.Facts.{summary_after_delay, span_after_delay, reasons_count, IsFirstBy, IsLeast, IsGreatest}
+use Rattle.setup_summary.proofs.DepthLemmas.{none_below, shallow_by, shallow_longer}
 
 -- ---- a later start
 
@@ -36,10 +36,10 @@ maps_moved f g m [] h = refl
 maps_moved f g m (x ∷ xs) h = ap (λ y. y ∷ map f xs) (h x) ∙ ap (λ l. m (g x) ∷ l) (maps_moved f g m xs h)
 
 times_moved : (c : Configuration) (start delay : ℕ) (method : DelayMethod) (minutes factor : ℕ) (objects : List Object)
-    → first_times (spread_by c (start + delay) method minutes factor) objects ≡ map (move delay) (first_times (spread_by c start method minutes factor) objects)
+    → first_times (spread_of_method c (start + delay) method minutes factor) objects ≡ map (move delay) (first_times (spread_of_method c start method minutes factor) objects)
 times_moved c start delay method minutes factor objects =
-    let late = spread_by c (start + delay) method minutes factor in
-    let soon = spread_by c start method minutes factor in
+    let late = spread_of_method c (start + delay) method minutes factor in
+    let soon = spread_of_method c start method minutes factor in
     maps_moved (λ p. first_time late objects p.0 p.1) (λ p. first_time soon objects p.0 p.1) (move delay) (enumerate_from 0 objects) (λ p.
     one_moved (is_scheduled p.1) delay
     (time_at late (scheduled_among late.interval_length objects) (rank late.factor objects p.0))
@@ -57,7 +57,7 @@ initial_moved c start delay =
     ∙ sym (map-append (move delay) (first_times (host_spread c start) (host_objects c)) (first_times (service_spread c start) (service_objects c)))
 
 picked_moved : (pick : ℕ → ℕ → ℕ) (delay : ℕ) → ((t u : ℕ) → pick (t + delay) (u + delay) ≡ pick t u + delay) → (t u : Option ℕ)
-    → picked pick (move delay t) (move delay u) ≡ move delay (picked pick t u)
+    → choice_of pick (move delay t) (move delay u) ≡ move delay (choice_of pick t u)
 picked_moved pick delay h None u = refl
 picked_moved pick delay h (Some t) None = refl
 picked_moved pick delay h (Some t) (Some u) = ap Some (h t u)
@@ -74,12 +74,12 @@ latest_moved delay (t ∷ ts) = ap (λ e. later (move delay t) e) (latest_moved 
 abbrev pub span_by : Option ℕ → Option ℕ → Span
 span_by first last = record { first = first; last = last }
 
-span_moved : (delay : ℕ) (ts us : List (Option ℕ)) → us ≡ map (move delay) ts → span_of us ≡ moved_span delay (span_of ts)
+span_moved : (delay : ℕ) (ts us : List (Option ℕ)) → us ≡ map (move delay) ts → span_of us ≡ span_after_delay delay (span_of ts)
 span_moved delay ts us e =
     ap span_of e ∙ ap (λ x. span_by x (latest (map (move delay) ts))) (earliest_moved delay ts)
     ∙ ap (λ x. span_by (move delay (earliest ts)) x) (latest_moved delay ts)
 
-pub summary_moved : (c : Configuration) (start delay : ℕ) → summary_of c (start + delay) ≡ moved delay (summary_of c start)
+pub summary_moved : (c : Configuration) (start delay : ℕ) → summary_of c (start + delay) ≡ summary_after_delay delay (summary_of c start)
 summary_moved c start delay =
     let n = host_count c in
     let soon = initial_times c start in
@@ -87,7 +87,7 @@ summary_moved c start delay =
     let all = initial_moved c start delay in
     let hosts = span_moved delay (take n soon) (take n late) (ap (take n) all ∙ take-map (move delay) n soon) in
     let services = span_moved delay (drop n soon) (drop n late) (ap (drop n) all ∙ drop-map (move delay) n soon) in
-    ap (λ s. with_spans c s (span_of (drop n late))) hosts ∙ ap (λ s. with_spans c (moved_span delay (span_of (take n soon))) s) services
+    ap (λ s. with_spans c s (span_of (drop n late))) hosts ∙ ap (λ s. with_spans c (span_after_delay delay (span_of (take n soon))) s) services
 
 -- ---- a span
 
@@ -106,7 +106,7 @@ abbrev Picks : (ℕ → ℕ → Type 0) → (ℕ → ℕ → ℕ) → Type 0
 Picks stands pick = (t e : ℕ) → ((pick t e ≡ e) × stands e t) ⊎ ((pick t e ≡ t) × ((u : ℕ) → stands e u → stands t u))
 
 first_with : (stands : ℕ → ℕ → Type 0) (pick : ℕ → ℕ → ℕ) → ((t : ℕ) → stands t t) → Picks stands pick → (t e : Option ℕ) (ts : List (Option ℕ))
-    → IsFirstBy stands ts e → IsFirstBy stands (t ∷ ts) (picked pick t e)
+    → IsFirstBy stands ts e → IsFirstBy stands (t ∷ ts) (choice_of pick t e)
 first_with stands pick itself picks None None ts h = All-cons (λ time. time ≡ None) None ts refl h
 first_with stands pick itself picks None (Some e) ts h = (contains_more None (Some e) ts h.0, All-cons (λ time. IfSome time (stands e)) None ts tt h.1)
 first_with stands pick itself picks (Some t) None ts h = (
@@ -156,35 +156,35 @@ reasons_add_up [] = refl
 reasons_add_up (o ∷ os) =
     let a = sum_by-cons (λ (x : Object). cond (is_scheduled x) 1 0) o os in
     let b = sum_by-cons (λ (x : Object). cond (is_disabled x) 1 0) o os in
-    let d = sum_by-cons (λ (x : Object). cond (lacks_interval x) 1 0) o os in
+    let d = sum_by-cons (λ (x : Object). cond (has_no_interval x) 1 0) o os in
     let one = one_reason o.enabled (o.check_interval == 0) in
     let rest = reasons_add_up os in
     omega (arith, a, b, d, one, rest)
 
 -- ---- the longest chain
 
-reached_by : (links : List (List ℕ)) (n m : ℕ) (b : Bool) → has_chain links (suc n) ≡ b → IsReached links m → IsReached links (cond b (suc n) m)
+reached_by : (links : List (List ℕ)) (n m : ℕ) (b : Bool) → has_chain links (suc n) ≡ b → HasChainOfLength links m → HasChainOfLength links (cond b (suc n) m)
 reached_by links n m true e h = e
 reached_by links n m false e h = h
 
-greatest_reached : (links : List (List ℕ)) (n : ℕ) → IsReached links (greatest_to (has_chain links) n)
+greatest_reached : (links : List (List ℕ)) (n : ℕ) → HasChainOfLength links (greatest_up_to (has_chain links) n)
 greatest_reached links zero = tt
 greatest_reached links (suc n) =
-    reached_by links n (greatest_to (has_chain links) n) (has_chain links (suc n)) refl (greatest_reached links n)
+    reached_by links n (greatest_up_to (has_chain links) n) (has_chain links (suc n)) refl (greatest_reached links n)
 
-pub longest_reached : (links : List (List ℕ)) → IsReached links (longest_chain links)
+pub longest_reached : (links : List (List ℕ)) → HasChainOfLength links (longest_chain links)
 unfolding longest_chain
 longest_reached links = greatest_reached links (length links)
 
-above_by : (p : ℕ → Bool) (n k : ℕ) (b : Bool) → p (suc n) ≡ b → cond b (suc n) (greatest_to p n) < k → k ≤ suc n
-    → (greatest_to p n < k → k ≤ n → p k ≡ false) → p k ≡ false
+above_by : (p : ℕ → Bool) (n k : ℕ) (b : Bool) → p (suc n) ≡ b → cond b (suc n) (greatest_up_to p n) < k → k ≤ suc n
+    → (greatest_up_to p n < k → k ≤ n → p k ≡ false) → p k ≡ false
 above_by p n k true e l h f = absurd (omega (arith, l, h))
 above_by p n k false e l h f = elim (cases_lt n k) [
   | inl more ↦ let same : k ≡ suc n = omega arith in rw same e
   | inr less ↦ f l less
 ]
 
-above_greatest : (p : ℕ → Bool) (n k : ℕ) → greatest_to p n < k → k ≤ n → p k ≡ false
+above_greatest : (p : ℕ → Bool) (n k : ℕ) → greatest_up_to p n < k → k ≤ n → p k ≡ false
 above_greatest p zero k l h = absurd (omega (arith, l, h))
 above_greatest p (suc n) k l h = above_by p n k (p (suc n)) refl l h (above_greatest p n k)
 

@@ -1,10 +1,9 @@
 -- How many parents the hosts of a setup have.
-use Rattle.std.proofs.Common.{◌≡◌, ℕ, zero, suc, ◌+◌, ◌<◌, ◌≤◌, ◌⊎◌, inl, inr, List, [], ◌∷◌, length, take, get_or, option_map, refl, ap, ◌∙◌, arith, false}
+use Rattle.std.proofs.Common.{◌≡◌, ℕ, zero, suc, ◌+◌, ◌<◌, ◌≤◌, ◌⊎◌, inl, inr, List, [], ◌∷◌, length, take, get_or, option_map, refl, ap, ◌∙◌, arith}
 use Rattle.std.specs.Prelude.{slice_get, unwrap_or, sum_by}
 use Rattle.std.proofs.lemmas.Bool.{cases_lt}
 use Rattle.std.proofs.lemmas.List.{take_all}
 use Rattle.std.proofs.lemmas.List.Sums.{sum_by-cons, sum_by_more}
-use Rattle.check_drafts.specs.declared.object.Object.{Object}
 use Rattle.check_objects.specs.Configuration.{Host}
 
 -- the parents of the host with this number; none where there is no such host
@@ -23,11 +22,10 @@ parents_past (x ∷ xs) (suc n) h = parents_past xs n (omega arith)
 
 parents_more_by : (hs : List Host) (n : ℕ) → (n < length hs) ⊎ (length hs ≤ n)
     → sum_by (λ h. length h.parents) (take (n + 1) hs) ≡ sum_by (λ h. length h.parents) (take n hs) + length (parents_in hs n)
-parents_more_by hs n (inl h) =
-    let none : Object = record { check_interval = 0; retry_interval = 0; max_check_attempts = 0; enabled = false } in
-    let d : Host = record { name = []; object = none; parents = [] } in
-    sum_by_more (λ x. length x.parents) hs n d h
-    ∙ ap (λ k. sum_by (λ x. length x.parents) (take n hs) + k) (ap length (parents_at hs n d h))
+parents_more_by [] n (inl h) = absurd (omega arith)
+parents_more_by (d ∷ hs) n (inl h) =
+    sum_by_more (λ x. length x.parents) (d ∷ hs) n d h
+    ∙ ap (λ k. sum_by (λ x. length x.parents) (take n (d ∷ hs)) + k) (ap length (parents_at (d ∷ hs) n d h))
 parents_more_by hs n (inr h) =
     let a = ap (λ l. sum_by (λ (x : Host). length x.parents) l) (take_all n hs h) in
     let b = ap (λ l. sum_by (λ (x : Host). length x.parents) l) (take_all (n + 1) hs (omega arith)) in

@@ -2,12 +2,12 @@
 use Rattle.std.specs.Prelude.{ℕ, Bool, List, [], ◌++◌, Option, Some, None, codes, decimal, flat_map, option_map, if◌then◌else◌}
 use Rattle.std.specs.List.{enumerate_from}
 use Rattle.check_objects.specs.Configuration.{Configuration, name_of, objects_of}
-use Rattle.check_saved.specs.Saved.{Saved, saved_named}
-use Rattle.check_saved.specs.declared.fault.SavedFault.{SavedFault}
-use Rattle.check_saved.specs.declared.fault.SavedFault.TheVariants as saved
-use Rattle.check_changes.specs.declared.figures.Figures.{Figures}
-use Rattle.check_changes.specs.declared.kept.Kept.{Kept}
-use Rattle.check_changes.specs.Changes.{figures_of, kept_by}
+use Rattle.check_saved_state.specs.Saved.{Saved, saved_by_name}
+use Rattle.check_saved_state.specs.declared.fault.SavedFault.{SavedFault}
+use Rattle.check_saved_state.specs.declared.fault.SavedFault.TheVariants as saved
+use Rattle.setup_summary.specs.declared.figures.Figures.{Figures}
+use Rattle.setup_summary.specs.declared.diffs.ObjectDiff.{ObjectDiff}
+use Rattle.setup_summary.specs.Changes.{figures_of, object_diff}
 
 -- the line of a count
 abbrev pub count_line : List ℕ → ℕ → List ℕ
@@ -20,31 +20,31 @@ figures_text f =
     ++ (count_line (codes "new") f.new ++ (count_line (codes "dropped") f.dropped ++ count_line (codes "given_up") f.given_up))
 
 -- the line of a value of an object, if the setup changes it
-abbrev pub changed_line : Bool → List ℕ → List ℕ → List ℕ
-changed_line changes value name = if changes then codes "changed " ++ (value ++ (codes " " ++ (name ++ codes "\n"))) else []
+abbrev pub change_line : Bool → List ℕ → List ℕ → List ℕ
+change_line changes value name = if changes then codes "changed " ++ (value ++ (codes " " ++ (name ++ codes "\n"))) else []
 
 -- the lines of an object that is kept
-unfoldable pub kept_text : List ℕ → Kept → List ℕ
-kept_text name k =
-    changed_line k.attempts (codes "attempts") name
-    ++ (changed_line k.interval (codes "interval") name ++ changed_line k.enabled (codes "enabled") name)
+unfoldable pub object_diff_text : List ℕ → ObjectDiff → List ℕ
+object_diff_text name k =
+    change_line k.attempts (codes "attempts") name
+    ++ (change_line k.interval (codes "interval") name ++ change_line k.enabled (codes "enabled") name)
 
 -- the lines of an object; a new one has none
-abbrev pub object_text : List ℕ → Option Kept → List ℕ
+abbrev pub object_text : List ℕ → Option ObjectDiff → List ℕ
 object_text name None = []
-object_text name (Some k) = kept_text name k
+object_text name (Some k) = object_diff_text name k
 
 -- the lines of all objects, in the order of their numbers
-abbrev pub changed_text : Configuration → Saved → List ℕ
-changed_text setup saved = flat_map (λ n. object_text n.name (option_map (kept_by setup n.object) (saved_named saved n.name))) (objects_of setup)
+abbrev pub change_lines : Configuration → Saved → List ℕ
+change_lines setup saved = flat_map (λ n. object_text n.name (option_map (object_diff setup n.object) (saved_by_name saved n.name))) (objects_of setup)
 
 -- the same of the objects by number
-abbrev pub changed_among : Configuration → List (Option Kept) → List ℕ
-changed_among setup kept = flat_map (λ p. object_text (name_of setup p.0) p.1) (enumerate_from 0 kept)
+abbrev pub change_lines_among : Configuration → List (Option ObjectDiff) → List ℕ
+change_lines_among setup kept = flat_map (λ p. object_text (name_of setup p.0) p.1) (enumerate_from 0 kept)
 
 -- all lines
 abbrev pub changes_text : Configuration → Saved → List ℕ
-changes_text setup saved = figures_text (figures_of setup saved) ++ changed_text setup saved
+changes_text setup saved = figures_text (figures_of setup saved) ++ change_lines setup saved
 
 -- ---- why a saved state is refused
 

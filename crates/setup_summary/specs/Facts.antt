@@ -1,27 +1,27 @@
 -- Facts about the figures of a summary.
 use Rattle.std.specs.Prelude.{◌≡◌, ℕ, ◌+◌, ◌≤◌, List, Option, Some, None, IfSome, All, option_map}
 use Rattle.std.specs.List.{Contains}
-use Rattle.check_summary.specs.declared.counts.Reasons.{Reasons}
-use Rattle.check_summary.specs.declared.spans.Span.{Span}
-use Rattle.check_summary.specs.declared.summary.Summary.{Summary}
+use Rattle.setup_summary.specs.declared.counts.Reasons.{Reasons}
+use Rattle.setup_summary.specs.declared.spans.Span.{Span}
+use Rattle.setup_summary.specs.declared.summary.Summary.{Summary}
 
 -- ---- a later start
 
-abbrev pub moved_span : ℕ → Span → Span
-moved_span delay span = record { first = option_map (λ time. time + delay) span.first; last = option_map (λ time. time + delay) span.last }
+abbrev pub span_after_delay : ℕ → Span → Span
+span_after_delay delay span = record { first = option_map (λ time. time + delay) span.first; last = option_map (λ time. time + delay) span.last }
 
 -- the same figures, with both spans later by a delay
-abbrev pub moved : ℕ → Summary → Summary
-moved delay s = record {
+abbrev pub summary_after_delay : ℕ → Summary → Summary
+summary_after_delay delay s = record {
   hosts = s.hosts;
   services = s.services;
   links = s.links;
   reasons = s.reasons;
   chains = s.chains;
   host_delay = s.host_delay;
-  host_span = moved_span delay s.host_span;
+  host_span = span_after_delay delay s.host_span;
   service_delay = s.service_delay;
-  service_span = moved_span delay s.service_span;
+  service_span = span_after_delay delay s.service_span;
   interleave_factor = s.interleave_factor;
 }
 

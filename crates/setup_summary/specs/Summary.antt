@@ -1,14 +1,14 @@
 -- The summary of a setup.
-use Rattle.std.specs.Prelude.{ℕ, max, ◌==◌, ◌&&◌, Bool, not, List, [], ◌∷◌, length, take, drop, count_by, sum_by, Option, Some, None}
-use Rattle.check_drafts.specs.declared.object.Object.{Object}
+use Rattle.std.specs.Prelude.{ℕ, max, ◌==◌, ◌&&◌, Bool, not, List, [], ◌∷◌, length, take, drop, count_by, sum_by, Option, None}
+use Rattle.setup_model.specs.declared.parsed_setup.Object.{Object}
 use Rattle.check_objects.specs.Configuration.{Configuration, host_count, masters_of, parents_by_host}
-use Rattle.check_spread.specs.Spread.{all_objects, earlier, factor_by, initial_times, is_scheduled, picked}
-use Rattle.check_summary.specs.Chains.{longest_chain}
-use Rattle.check_summary.specs.declared.chains.Chains.{Chains}
-use Rattle.check_summary.specs.declared.counts.Links.{Links}
-use Rattle.check_summary.specs.declared.counts.Reasons.{Reasons}
-use Rattle.check_summary.specs.declared.spans.Span.{Span}
-use Rattle.check_summary.specs.declared.summary.Summary.{Summary}
+use Rattle.check_spread.specs.Spread.{all_objects, earlier, factor_by, initial_times, is_scheduled, choice_of}
+use Rattle.setup_summary.specs.Chains.{longest_chain}
+use Rattle.setup_summary.specs.declared.chains.Chains.{Chains}
+use Rattle.setup_summary.specs.declared.counts.Links.{Links}
+use Rattle.setup_summary.specs.declared.counts.Reasons.{Reasons}
+use Rattle.setup_summary.specs.declared.spans.Span.{Span}
+use Rattle.setup_summary.specs.declared.summary.Summary.{Summary}
 
 -- ---- how many links
 
@@ -34,19 +34,19 @@ abbrev pub is_disabled : Object → Bool
 is_disabled o = not o.enabled
 
 -- its active checks are switched on, but it has no check interval
-abbrev pub lacks_interval : Object → Bool
-lacks_interval o = o.enabled && o.check_interval == 0
+abbrev pub has_no_interval : Object → Bool
+has_no_interval o = o.enabled && o.check_interval == 0
 
 -- the numbers of these objects that are scheduled, disabled, and without an interval: each object is one of these
 abbrev pub reasons_among : List Object → Reasons
 reasons_among objects =
-    record { scheduled = count_by is_scheduled objects; disabled = count_by is_disabled objects; without_interval = count_by lacks_interval objects }
+    record { scheduled = count_by is_scheduled objects; disabled = count_by is_disabled objects; without_interval = count_by has_no_interval objects }
 
 -- ---- the first and the last of the first checks
 
 -- the later of two times; if only one is given, it is that one
 abbrev pub later : Option ℕ → Option ℕ → Option ℕ
-later t u = picked max t u
+later t u = choice_of max t u
 
 -- the least of the times, if there is one
 abbrev pub earliest : List (Option ℕ) → Option ℕ

@@ -1,11 +1,11 @@
 -- The lines of a summary: a word and a value each.
 use Rattle.std.specs.Prelude.{ℕ, List, ◌++◌, Option, Some, None, codes, decimal}
-use Rattle.check_drafts.specs.declared.options.DelayMethod.{DelayMethod}
-use Rattle.check_drafts.specs.declared.options.DelayMethod.TheVariants as method
-use Rattle.check_summary.specs.declared.chains.Chains.{Chains}
-use Rattle.check_summary.specs.declared.counts.Reasons.{Reasons}
-use Rattle.check_summary.specs.declared.spans.Span.{Span}
-use Rattle.check_summary.specs.declared.summary.Summary.{Summary}
+use Rattle.setup_model.specs.declared.options.DelayMethod.{DelayMethod}
+use Rattle.setup_model.specs.declared.options.DelayMethod.TheVariants as method
+use Rattle.setup_summary.specs.declared.chains.Chains.{Chains}
+use Rattle.setup_summary.specs.declared.counts.Reasons.{Reasons}
+use Rattle.setup_summary.specs.declared.spans.Span.{Span}
+use Rattle.setup_summary.specs.declared.summary.Summary.{Summary}
 
 -- a line: a word, a space and a value
 abbrev pub value_line : List ℕ → List ℕ → List ℕ
@@ -62,8 +62,8 @@ unfoldable pub factor_text : Summary → List ℕ
 factor_text s = count_line (codes "interleave_factor") s.interleave_factor
 
 -- the first line of a good setup
-unfoldable pub good_text : List ℕ
-good_text = codes "setup ok\n"
+unfoldable pub ok_line : List ℕ
+ok_line = codes "setup ok\n"
 
 -- how the first checks are spread
 unfoldable pub spreads_text : Summary → List ℕ
@@ -71,4 +71,4 @@ spreads_text s = hosts_text s ++ (services_text s ++ factor_text s)
 
 -- all lines
 abbrev pub summary_text : Summary → List ℕ
-summary_text s = good_text ++ (sizes_text s ++ (chains_text s.chains ++ (reasons_text s.reasons ++ spreads_text s)))
+summary_text s = ok_line ++ (sizes_text s ++ (chains_text s.chains ++ (reasons_text s.reasons ++ spreads_text s)))

@@ -1,7 +1,7 @@
 //! The longest chains of dependencies, and of parents.
 
 ghost use Rattle.std.specs.Prelude.{◌≡◌, IfOk};
-ghost use Rattle.check_summary.specs.Summary.{chains_in};
+ghost use Rattle.setup_summary.specs.Summary.{chains_in};
 
 use crate::depths::longest_chain;
 use check_objects::Setup;
@@ -17,7 +17,7 @@ pub struct Chains {
 }
 
 /// The longest chains of a setup.
-pub(crate) fn find_chains(alloc: Global, setup: &Setup) -> Result<Chains, AllocError>
+pub(crate) fn chains_in(alloc: Global, setup: &Setup) -> Result<Chains, AllocError>
     ensures { IfOk result (λ chains. chains ≡ chains_in setup.now) }
 {
     Ok(Chains {

@@ -2,12 +2,12 @@
 
 ghost use Rattle.std.specs.Prelude.{◌≡◌, ◌≤◌, ◌++◌, OnErr, OnOk, length, string_bytes};
 ghost use Rattle.check_objects.specs.Configuration.{object_count};
-ghost use Rattle.check_changes.specs.Text.{changed_among, changed_line, changes_text, figures_text, kept_text, object_text};
+ghost use Rattle.setup_summary.specs.ChangeText.{change_lines_among, change_line, changes_text, figures_text, object_diff_text, object_text};
 
+use crate::diffs::{ObjectDiff, object_diffs};
 use crate::figures::Figures;
-use crate::kept::{Kept, list_kept};
 use check_objects::Setup;
-use check_saved::Saved;
+use check_saved_state::Saved;
 use std::alloc::{AllocError, Global};
 
 /// Appends the changes that a resume from this saved state over this setup makes, each line with its line
@@ -22,19 +22,19 @@ pub fn push_changes(
     setup: &Setup,
     saved: &Saved,
 ) -> Result<(), AllocError>
-    ensures pushed { OnOk result
+    ensures output { OnOk result
         (string_bytes text.new ≡ string_bytes text.old ++ changes_text setup.now saved.now) }
-    ensures unchanged { OnErr result (string_bytes text.new ≡ string_bytes text.old) }
+    ensures err { OnErr result (string_bytes text.new ≡ string_bytes text.old) }
 {
-    let kept = list_kept(alloc, setup, saved)?;
+    let kept = object_diffs(alloc, setup, saved)?;
     let mut lines = String::new(alloc);
     push_figures(&mut lines, Figures::of(setup, saved, &kept))?;
-    push_changed(&mut lines, setup, &kept)?;
+    push_object_changes(&mut lines, setup, &kept)?;
     text.push_str(lines.as_str())
 }
 
 /// Appends the figures, a line each.
-#[tactic(auto, unfolding(crate::specs::Text::figures_text))]
+#[tactic(auto, unfolding(crate::specs::ChangeText::figures_text))]
 fn push_figures(text: &mut String, figures: Figures) -> Result<(), AllocError>
     ensures { OnOk result
         (string_bytes text.new ≡ string_bytes text.old ++ figures_text figures) }
@@ -52,11 +52,15 @@ fn push_figures(text: &mut String, figures: Figures) -> Result<(), AllocError>
 }
 
 /// Appends the lines of all objects, by number.
-fn push_changed(text: &mut String, setup: &Setup, kept: &[Option<Kept>]) -> Result<(), AllocError>
+fn push_object_changes(
+    text: &mut String,
+    setup: &Setup,
+    kept: &[Option<ObjectDiff>],
+) -> Result<(), AllocError>
     requires each { length kept.now ≤ object_count setup.now }
-    requires few { length kept.now ≤ 4096 }
+    requires bounded { length kept.now ≤ 4096 }
     ensures { OnOk result
-        (string_bytes text.new ≡ string_bytes text.old ++ changed_among setup.now kept.now) }
+        (string_bytes text.new ≡ string_bytes text.old ++ change_lines_among setup.now kept.now) }
 {
     for (number, object) in kept.iter().enumerate() {
         push_object(text, setup.name(number as u32), *object)?;
@@ -65,21 +69,21 @@ fn push_changed(text: &mut String, setup: &Setup, kept: &[Option<Kept>]) -> Resu
 }
 
 /// Appends the lines of an object with this full name. A new one has none.
-fn push_object(text: &mut String, name: &str, object: Option<Kept>) -> Result<(), AllocError>
+fn push_object(text: &mut String, name: &str, object: Option<ObjectDiff>) -> Result<(), AllocError>
     ensures { OnOk result
         (string_bytes text.new ≡ string_bytes text.old ++ object_text name.now object) }
 {
     match object {
-        Some(kept) => push_kept(text, name, kept),
+        Some(kept) => push_object_diff(text, name, kept),
         None => Ok(()),
     }
 }
 
 /// Appends the lines of an object that is kept.
-#[tactic(auto, unfolding(crate::specs::Text::kept_text))]
-fn push_kept(text: &mut String, name: &str, kept: Kept) -> Result<(), AllocError>
+#[tactic(auto, unfolding(crate::specs::ChangeText::object_diff_text))]
+fn push_object_diff(text: &mut String, name: &str, kept: ObjectDiff) -> Result<(), AllocError>
     ensures { OnOk result
-        (string_bytes text.new ≡ string_bytes text.old ++ kept_text name.now kept) }
+        (string_bytes text.new ≡ string_bytes text.old ++ object_diff_text name.now kept) }
 {
     push_value(text, kept.attempts, "attempts", name)?;
     push_value(text, kept.interval, "interval", name)?;
@@ -89,7 +93,7 @@ fn push_kept(text: &mut String, name: &str, kept: Kept) -> Result<(), AllocError
 /// Appends the line of a value of an object, if the setup changes it.
 fn push_value(text: &mut String, changes: bool, value: &str, name: &str) -> Result<(), AllocError>
     ensures { OnOk result (string_bytes text.new
-        ≡ string_bytes text.old ++ changed_line changes value.now name.now) }
+        ≡ string_bytes text.old ++ change_line changes value.now name.now) }
 {
     if changes {
         writeln!(text, "changed {value} {name}")

@@ -2,7 +2,7 @@
 
 ghost use Rattle.std.specs.Prelude.{◌≡◌, count_by};
 ghost use Rattle.check_spread.specs.Spread.{is_scheduled};
-ghost use Rattle.check_summary.specs.Summary.{links_in, reasons_among, is_disabled, lacks_interval};
+ghost use Rattle.setup_summary.specs.Summary.{links_in, reasons_among, is_disabled, has_no_interval};
 
 use check_objects::{Object, Setup};
 
@@ -72,7 +72,7 @@ fn count_disabled(objects: &[Object]) -> usize
 
 /// How many of the objects are enabled, but have no check interval.
 fn count_without_interval(objects: &[Object]) -> usize
-    ensures { result ≡ count_by lacks_interval objects.now }
+    ensures { result ≡ count_by has_no_interval objects.now }
 {
     objects
         .iter()

@@ -3,23 +3,23 @@
 
 ghost use Rattle.std.specs.Prelude.{◌≡◌, ◌≤◌, ℕ, IfOk, length, map, nat_lt, true};
 ghost use Rattle.std.specs.List.{list_all};
-ghost use Rattle.link_order.specs.Cycles.{are_within};
-ghost use Rattle.link_order.specs.Orders.{IsOrder};
-ghost use Rattle.check_summary.specs.Chains.{depth_at, depth_over, greatest_of, longest_chain, HasDepths};
+ghost use Rattle.setup_order.specs.Cycles.{are_within};
+ghost use Rattle.setup_order.specs.Orders.{IsOrder};
+ghost use Rattle.setup_summary.specs.Chains.{depth_at, depth_over, greatest_of, longest_chain, HasDepths};
 
-use link_order::{OrderOrCycle, order_by_links};
+use setup_order::{OrderOrCycle, topological_order};
 use smallvec::SmallVec;
 use std::alloc::{AllocError, Global};
 
 /// The number of links in the longest chain, given the links of each object by its number. If a chain
 /// leads back, it is the number of objects. An Err means out of memory.
 pub(crate) fn longest_chain(alloc: Global, links: &[SmallVec<u32, 4>]) -> Result<usize, AllocError>
-    requires few { length links.now ≤ 4096 }
+    requires bounded { length links.now ≤ 4096 }
     requires within { are_within (length links.now) (map (λ list. list.items) links.now) ≡ true }
     ensures { IfOk result (λ count.
         count ≡ longest_chain (map (λ list. list.items) links.now)) }
 {
-    match order_by_links(alloc, links)? {
+    match topological_order(alloc, links)? {
         OrderOrCycle::Order(order) => {
             let depths = find_depths(alloc, links, &order)?;
             Ok(greatest_of(&depths))
@@ -34,7 +34,7 @@ fn find_depths(
     links: &[SmallVec<u32, 4>],
     order: &[u32],
 ) -> Result<Vec<usize>, AllocError>
-    requires few { length links.now ≤ 4096 }
+    requires bounded { length links.now ≤ 4096 }
     requires order { IsOrder (map (λ list. list.items) links.now) order.now }
     ensures { IfOk result (λ depths. HasDepths (map (λ list. list.items) links.now) depths.items) }
 {
@@ -49,7 +49,7 @@ fn find_depths(
 /// The depth of an object with these links, given the depths of the objects that they lead to.
 fn depth_over(links: &[u32], depths: &[usize]) -> usize
     requires within { list_all (λ link. nat_lt link (length depths.now)) links.now ≡ true }
-    requires few { (object : ℕ) → depth_at depths.now object ≤ 4096 }
+    requires bounded { (object : ℕ) → depth_at depths.now object ≤ 4096 }
     ensures { result ≡ depth_over depths.now links.now }
 {
     let mut most = 0;

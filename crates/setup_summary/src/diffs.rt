@@ -2,18 +2,18 @@
 
 ghost use Rattle.std.specs.Prelude.{◌≡◌, ◌≤◌, IfOk, length};
 ghost use Rattle.check_objects.specs.Configuration.{IsSetup};
-ghost use Rattle.check_changes.specs.Changes.{kept_by, kept_of};
+ghost use Rattle.setup_summary.specs.Changes.{object_diff, object_diffs};
 
 use check_objects::{MAX_INTERVAL, Object, Setup};
-use check_saved::{Saved, SavedObject};
+use check_saved_state::{Saved, SavedObject};
 use check_spread::milliseconds;
 use std::alloc::{AllocError, Global};
 
 /// An object that is kept: an object of the setup whose full name is in the saved state.
 #[derive(Clone, Copy, Debug, PartialEq, Eq)]
-pub struct Kept {
+pub struct ObjectDiff {
     /// Whether a check of it is out.
-    pub out: bool,
+    pub running: bool,
     /// Whether the setup has another maximum of attempts for it.
     pub attempts: bool,
     /// Whether the setup has another check interval for it, in milliseconds.
@@ -23,33 +23,33 @@ pub struct Kept {
 }
 
 /// Every object of the setup by number, or None if it is new. An Err means out of memory.
-pub(crate) fn list_kept(
+pub(crate) fn object_diffs(
     alloc: Global,
     setup: &Setup,
     saved: &Saved,
-) -> Result<Vec<Option<Kept>>, AllocError>
-    ensures kept { IfOk result (λ kept. kept.items ≡ kept_of setup.now saved.now) }
-    ensures few { IfOk result (λ kept. length kept.items ≤ 4096) }
+) -> Result<Vec<Option<ObjectDiff>>, AllocError>
+    ensures kept { IfOk result (λ kept. kept.items ≡ object_diffs setup.now saved.now) }
+    ensures bounded { IfOk result (λ kept. length kept.items ≤ 4096) }
 {
     let objects = saved.objects();
     let mut kept = vec![in alloc; None; setup.len()]?;
     for place in (0..objects.len()).rev() {
         let object = &objects[place];
         if let Some(number) = setup.number(&object.name) {
-            kept[number as usize] = Some(compare(setup, setup.object(number), object));
+            kept[number as usize] = Some(object_diff(setup, setup.object(number), object));
         }
     }
     Ok(kept)
 }
 
 /// Compares an object that is kept with its saved object.
-fn compare(setup: &Setup, object: &Object, saved: &SavedObject) -> Kept
+fn object_diff(setup: &Setup, object: &Object, saved: &SavedObject) -> ObjectDiff
     requires valid_setup { IsSetup setup.now }
     requires interval { object.now.check_interval ≤ MAX_INTERVAL }
-    ensures { result ≡ kept_by setup.now object.now saved.now }
+    ensures { result ≡ object_diff setup.now object.now saved.now }
 {
-    Kept {
-        out: saved.run.is_some(),
+    ObjectDiff {
+        running: saved.run.is_some(),
         attempts: object.max_check_attempts != saved.max_attempts,
         interval: milliseconds(setup, object.check_interval) != saved.interval,
         enabled: object.enabled != saved.setup_enabled,

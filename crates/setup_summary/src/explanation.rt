@@ -1,9 +1,9 @@
 //! The words that explain why a saved state is refused.
 
 ghost use Rattle.std.specs.Prelude.{◌≡◌, ◌++◌, OnErr, OnOk, string_bytes};
-ghost use Rattle.check_changes.specs.Text.{saved_explanation};
+ghost use Rattle.setup_summary.specs.ChangeText.{saved_explanation};
 
-use check_saved::SavedFault;
+use check_saved_state::SavedFault;
 use std::alloc::{AllocError, Global};
 use std::fmt;
 
@@ -15,9 +15,9 @@ pub fn push_explanation(
     text: &mut String,
     fault: SavedFault,
 ) -> Result<(), AllocError>
-    ensures pushed { OnOk result
+    ensures output { OnOk result
         (string_bytes text.new ≡ string_bytes text.old ++ saved_explanation fault) }
-    ensures unchanged { OnErr result (string_bytes text.new ≡ string_bytes text.old) }
+    ensures err { OnErr result (string_bytes text.new ≡ string_bytes text.old) }
 {
     let explanation = Explanation(fault);
     let line = format!(in alloc; "{explanation}")?;
@@ -30,7 +30,7 @@ struct Explanation(SavedFault);
 
 impl fmt::Display for Explanation {
     ghost use Rattle.std.specs.Prelude.{Some};
-    ghost use Rattle.check_changes.specs.Text.{saved_explanation};
+    ghost use Rattle.setup_summary.specs.ChangeText.{saved_explanation};
 
     ghost output = { λ e. Some (saved_explanation e.0) };
 

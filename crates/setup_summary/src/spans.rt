@@ -1,7 +1,7 @@
 //! The first and the last of the first checks.
 
 ghost use Rattle.std.specs.Prelude.{◌≡◌};
-ghost use Rattle.check_summary.specs.Summary.{earliest, latest, later, span_of};
+ghost use Rattle.setup_summary.specs.Summary.{earliest, latest, later, span_of};
 
 use check_spread::earlier;
 
@@ -14,17 +14,17 @@ pub struct Span {
 }
 
 /// The span of these times.
-pub(crate) fn find_span(times: &[Option<u64>]) -> Span
+pub(crate) fn span_of(times: &[Option<u64>]) -> Span
     ensures { result ≡ span_of times.now }
 {
     Span {
-        first: find_first(times),
-        last: find_last(times),
+        first: earliest(times),
+        last: latest(times),
     }
 }
 
 /// The least of the times, if there is one.
-fn find_first(times: &[Option<u64>]) -> Option<u64>
+fn earliest(times: &[Option<u64>]) -> Option<u64>
     ensures { result ≡ earliest times.now }
 {
     let mut first = None;
@@ -35,7 +35,7 @@ fn find_first(times: &[Option<u64>]) -> Option<u64>
 }
 
 /// The greatest of the times, if there is one.
-fn find_last(times: &[Option<u64>]) -> Option<u64>
+fn latest(times: &[Option<u64>]) -> Option<u64>
     ensures { result ≡ latest times.now }
 {
     let mut last = None;

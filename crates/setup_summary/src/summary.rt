@@ -2,11 +2,11 @@
 
 ghost use Rattle.std.specs.Prelude.{◌≡◌, ◌≤◌, IfOk, length};
 ghost use Rattle.check_objects.specs.Configuration.{IsSetup};
-ghost use Rattle.check_summary.specs.Summary.{summary_of};
+ghost use Rattle.setup_summary.specs.Summary.{summary_of};
 
-use crate::chains::{Chains, find_chains};
+use crate::chains::{Chains, chains_in};
 use crate::counts::{Links, Reasons, count_links, count_reasons};
-use crate::spans::{Span, find_span};
+use crate::spans::{Span, span_of};
 use check_objects::{DelayMethod, Setup};
 use check_spread::{LAST_MOMENT, copy_objects, initial_times, interleave_factor};
 use std::alloc::{AllocError, Global};
@@ -54,11 +54,11 @@ impl Summary {
             services: count_services(setup),
             links: count_links(setup),
             reasons: count_reasons(&objects),
-            chains: find_chains(alloc, setup)?,
+            chains: chains_in(alloc, setup)?,
             host_delay: options.host_inter_check_delay_method,
-            host_span: find_span(host_times),
+            host_span: span_of(host_times),
             service_delay: options.service_inter_check_delay_method,
-            service_span: find_span(service_times),
+            service_span: span_of(service_times),
             interleave_factor: interleave_factor(setup),
         })
     }

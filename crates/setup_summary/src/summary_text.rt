@@ -1,7 +1,8 @@
 //! The lines of a summary: a word and a value each.
 
 ghost use Rattle.std.specs.Prelude.{◌≡◌, ◌++◌, OnOk, codes, decimal, string_bytes};
-ghost use Rattle.check_summary.specs.Text.{value_line, count_line, moment_text, method_text, sizes_text, chains_text, reasons_text, hosts_text, services_text, factor_text, spread_text, spreads_text, good_text, summary_text};
+ghost use Rattle.setup_summary.specs.SummaryText.{value_line, count_line, moment_text, method_text, sizes_text, chains_text, reasons_text, hosts_text};
+ghost use Rattle.setup_summary.specs.SummaryText.{services_text, factor_text, spread_text, spreads_text, ok_line, summary_text};
 
 use crate::chains::Chains;
 use crate::counts::Reasons;
@@ -16,7 +17,7 @@ pub fn push_summary(text: &mut String, summary: &Summary) -> Result<(), AllocErr
     ensures { OnOk result
         (string_bytes text.new ≡ string_bytes text.old ++ summary_text summary.now) }
 {
-    push_good(text)?;
+    push_ok_line(text)?;
     push_sizes(text, summary)?;
     push_chains(text, summary.chains)?;
     push_reasons(text, summary.reasons)?;
@@ -24,7 +25,7 @@ pub fn push_summary(text: &mut String, summary: &Summary) -> Result<(), AllocErr
 }
 
 /// Appends how many objects and links there are.
-#[tactic(auto, unfolding(crate::specs::Text::sizes_text))]
+#[tactic(auto, unfolding(crate::specs::SummaryText::sizes_text))]
 fn push_sizes(text: &mut String, summary: &Summary) -> Result<(), AllocError>
     ensures { OnOk result
         (string_bytes text.new ≡ string_bytes text.old ++ sizes_text summary.now) }
@@ -36,7 +37,7 @@ fn push_sizes(text: &mut String, summary: &Summary) -> Result<(), AllocError>
 }
 
 /// Appends how many links the longest chains have.
-#[tactic(auto, unfolding(crate::specs::Text::chains_text))]
+#[tactic(auto, unfolding(crate::specs::SummaryText::chains_text))]
 fn push_chains(text: &mut String, chains: Chains) -> Result<(), AllocError>
     ensures { OnOk result
         (string_bytes text.new ≡ string_bytes text.old ++ chains_text chains) }
@@ -46,7 +47,7 @@ fn push_chains(text: &mut String, chains: Chains) -> Result<(), AllocError>
 }
 
 /// Appends how many objects are scheduled, and why the others aren't.
-#[tactic(auto, unfolding(crate::specs::Text::reasons_text))]
+#[tactic(auto, unfolding(crate::specs::SummaryText::reasons_text))]
 fn push_reasons(text: &mut String, reasons: Reasons) -> Result<(), AllocError>
     ensures { OnOk result
         (string_bytes text.new ≡ string_bytes text.old ++ reasons_text reasons) }
@@ -57,7 +58,7 @@ fn push_reasons(text: &mut String, reasons: Reasons) -> Result<(), AllocError>
 }
 
 /// Appends how the first checks are spread.
-#[tactic(auto, unfolding(crate::specs::Text::spreads_text))]
+#[tactic(auto, unfolding(crate::specs::SummaryText::spreads_text))]
 fn push_spreads(text: &mut String, summary: &Summary) -> Result<(), AllocError>
     ensures { OnOk result
         (string_bytes text.new ≡ string_bytes text.old ++ spreads_text summary.now) }
@@ -68,7 +69,7 @@ fn push_spreads(text: &mut String, summary: &Summary) -> Result<(), AllocError>
 }
 
 /// Appends how the first checks of hosts are spread.
-#[tactic(auto, unfolding(crate::specs::Text::hosts_text))]
+#[tactic(auto, unfolding(crate::specs::SummaryText::hosts_text))]
 fn push_hosts(text: &mut String, summary: &Summary) -> Result<(), AllocError>
     ensures { OnOk result
         (string_bytes text.new ≡ string_bytes text.old ++ hosts_text summary.now) }
@@ -84,7 +85,7 @@ fn push_hosts(text: &mut String, summary: &Summary) -> Result<(), AllocError>
 }
 
 /// Appends how the first checks of services are spread.
-#[tactic(auto, unfolding(crate::specs::Text::services_text))]
+#[tactic(auto, unfolding(crate::specs::SummaryText::services_text))]
 fn push_services(text: &mut String, summary: &Summary) -> Result<(), AllocError>
     ensures { OnOk result
         (string_bytes text.new ≡ string_bytes text.old ++ services_text summary.now) }
@@ -100,7 +101,7 @@ fn push_services(text: &mut String, summary: &Summary) -> Result<(), AllocError>
 }
 
 /// Appends the interleave factor of services.
-#[tactic(auto, unfolding(crate::specs::Text::factor_text))]
+#[tactic(auto, unfolding(crate::specs::SummaryText::factor_text))]
 fn push_factor(text: &mut String, summary: &Summary) -> Result<(), AllocError>
     ensures { OnOk result
         (string_bytes text.new ≡ string_bytes text.old ++ factor_text summary.now) }
@@ -109,7 +110,7 @@ fn push_factor(text: &mut String, summary: &Summary) -> Result<(), AllocError>
 }
 
 /// Appends how the first checks of one sort of object are spread: a line each with these words.
-#[tactic(auto, unfolding(crate::specs::Text::spread_text))]
+#[tactic(auto, unfolding(crate::specs::SummaryText::spread_text))]
 fn push_spread(
     text: &mut String,
     delay: &str,
@@ -127,9 +128,9 @@ fn push_spread(
 }
 
 /// Appends the first line of a good setup.
-#[tactic(auto, unfolding(crate::specs::Text::good_text))]
-fn push_good(text: &mut String) -> Result<(), AllocError>
-    ensures { OnOk result (string_bytes text.new ≡ string_bytes text.old ++ good_text) }
+#[tactic(auto, unfolding(crate::specs::SummaryText::ok_line))]
+fn push_ok_line(text: &mut String) -> Result<(), AllocError>
+    ensures { OnOk result (string_bytes text.new ≡ string_bytes text.old ++ ok_line) }
 {
     text.push_str("setup ok\n")
 }

@@ -1,7 +1,7 @@
 -- The board of a book: what its laws say of it, call by call and along a history.
 use Rattle.std.proofs.Common.{◌≡◌, ℕ, List, [], ◌∷◌, length, length-set, get_or, set, sym, refl, ap, ◌∙◌, Option, Some, None}
-use Rattle.ticket_steps.specs.declared.kept.Entry.{Entry}
-use Rattle.ticket_steps.specs.declared.kept.Kept.{Ghosts}
+use Rattle.ticket_steps.specs.declared.books.Entry.{Entry}
+use Rattle.ticket_steps.specs.declared.books.Kept.{Ghosts}
 use Rattle.ticket_steps.specs.Books.{BookState, IsLawfulBook}
 use Rattle.ticket_steps.specs.History.{replay, IsLegal}
 use Rattle.ticket_lock.specs.declared.views.Start.{Start}

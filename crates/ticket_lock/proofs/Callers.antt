@@ -2,9 +2,9 @@
 use Rattle.std.proofs.Common.{◌≡◌, ℕ, ◌+◌, ◌-◌, ◌*◌, ◌≤◌, length, take, drop, ap, ◌∙◌, arith, true}
 use Rattle.std.proofs.lemmas.List.{length-take-le, length-drop}
 use Rattle.ticket_lock.specs.declared.views.View.{View}
-use Rattle.ticket_lock.specs.Callers.{caller, keeping, given}
+use Rattle.ticket_lock.specs.Callers.{caller, caller_after_split, split_part}
 use Rattle.ticket_lock.specs.Tokens.{caller_in}
-use Rattle.ticket_lock.specs.Views.{draws_in, keeping_view, given_view}
+use Rattle.ticket_lock.specs.Views.{draws_in, view_after_split, split_view}
 
 module _ {K C R : Type 0} (v : View K C R) (n count draws : ℕ)
     (same : n ≡ count) (draws_is : draws_in v.start ≡ draws) (within : count ≤ length v.seat.numbers) where
@@ -20,8 +20,8 @@ module _ {K C R : Type 0} (v : View K C R) (n count draws : ℕ)
   pub given_len : length (drop (length v.seat.numbers - n) v.seat.numbers) ≡ count
   given_len = omega (arith, length-drop (length v.seat.numbers - n) v.seat.numbers, same, within)
 
-  pub keeping_is : caller_in (keeping_view n v) ≡ keeping draws count (caller_in v)
+  pub keeping_is : caller_in (view_after_split n v) ≡ caller_after_split draws count (caller_in v)
   keeping_is = λ i. caller v.seat.own (take (kept_is i) v.seat.numbers) (kept_len i * draws_is i) v.seat.calls true v.seen
 
-  pub given_is : caller_in (given_view n v) ≡ given draws count (caller_in v)
+  pub given_is : caller_in (split_view n v) ≡ split_part draws count (caller_in v)
   given_is = λ i. caller (v.seat.own + kept_is i) (drop (kept_is i) v.seat.numbers) (given_len i * draws_is i) 0 true v.seen

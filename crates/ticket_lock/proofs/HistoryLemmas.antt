@@ -5,11 +5,11 @@ use Rattle.std.proofs.lemmas.List.{append-nil}
 use mathlib.Core.Logic.{dite}
 use native.Mathlib.Decide.{dec_le}
 use mathlib.Core.List.{IsPrefix}
-use Rattle.ticket_steps.specs.declared.kept.Entry.{Entry}
+use Rattle.ticket_steps.specs.declared.books.Entry.{Entry}
 use Rattle.ticket_steps.specs.History.{of}
-use Rattle.ticket_steps.specs.Sums.{times}
-use Rattle.ticket_steps.proofs.Ofs.{of-yes, of-append}
-use Rattle.ticket_steps.proofs.Totals.{times-append}
+use Rattle.ticket_steps.specs.Sums.{occurrences}
+use Rattle.ticket_steps.proofs.EntryLemmas.{of-yes, of-append}
+use Rattle.ticket_steps.proofs.SumLemmas.{occurrences-append}
 use Rattle.ticket_lock.specs.Views.{Follows, longer}
 
 module _ {C R : Type 0} where
@@ -60,11 +60,11 @@ module _ {C R : Type 0} where
   longer_of ms ns xs ys log f g =
       let pre : IsPrefix (longer xs ys) log = longer_is xs ys (λ (l : List (Entry C R)). IsPrefix l log) (λ _. g.0) (λ _. f.0) in (
         pre,
-        λ p has. dite (dec_le (suc 0) (times p ms))
+        λ p has. dite (dec_le (suc 0) (occurrences p ms))
             (λ in_as. f.1 p in_as ∙ sym (squeezed p xs (longer xs ys) log
             (longer_is xs ys (λ (l : List (Entry C R)). IsPrefix xs l) (λ lt. shorter xs ys log f.0 g.0 (omega arith)) (λ _. ([], append-nil xs)))
             pre (f.1 p in_as)))
-            (λ out. let in_bs : 0 < times p ns = omega (arith, has, times-append p ms ns, out) in
+            (λ out. let in_bs : 0 < occurrences p ns = omega (arith, has, occurrences-append p ms ns, out) in
             g.1 p in_bs ∙ sym (squeezed p ys (longer xs ys) log
             (longer_is xs ys (λ (l : List (Entry C R)). IsPrefix ys l) (λ _. ([], append-nil ys)) (λ le. shorter ys xs log g.0 f.0 (omega arith)))
             pre (g.1 p in_bs))),
@@ -104,10 +104,10 @@ module _ {C R : Type 0} where
 
   -- the history goes on, with nothing of these numbers
   pub follows_later : (numbers : List ℕ) (seen log log' zs : List (Entry C R)) → Follows numbers seen log → log' ≡ log ++ zs
-      → ((p : ℕ) → 0 < times p numbers → of p log' ≡ of p log) → Follows numbers seen log'
+      → ((p : ℕ) → 0 < occurrences p numbers → of p log' ≡ of p log) → Follows numbers seen log'
   follows_later numbers seen log log' zs f is still =
       (subst (λ (l : List (Entry C R)). IsPrefix seen l) (sym is) (prefix_then seen log zs f.0), λ p has. still p has ∙ f.1 p has)
 
   -- the same for fewer numbers
-  pub follows_fewer : (ms ns : List ℕ) (seen log : List (Entry C R)) → Follows ns seen log → ((p : ℕ) → 0 < times p ms → 0 < times p ns) → Follows ms seen log
+  pub follows_fewer : (ms ns : List ℕ) (seen log : List (Entry C R)) → Follows ns seen log → ((p : ℕ) → 0 < occurrences p ms → 0 < occurrences p ns) → Follows ms seen log
   follows_fewer ms ns seen log f fewer = (f.0, λ p has. f.1 p (fewer p has))

@@ -1,9 +1,9 @@
-pub mod Seen
+pub mod HistoryLemmas
 pub mod Callers
 pub mod FreshSeats
 pub mod WordLemmas
 pub mod BoardLemmas
-pub mod Acts
+pub mod ActLemmas
 pub mod Events
 pub mod Obligations
 pub mod OnlyTables

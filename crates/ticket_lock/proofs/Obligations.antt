@@ -8,35 +8,36 @@ use lib.ListN.{get_elem?}
 use Rattle.std.specs.Option.{unwrap_or}
 use Rattle.atomic_table.specs.Table.{State, Me, Step, Act, step, keeps, takes, gives, Allows, Splits, Joins, opening as opens, rest}
 use Rattle.atomic_table.specs.Table.{stepped, carried_after, Valid}
-use Rattle.ticket_steps.specs.declared.kept.Entry.{Entry}
-use Rattle.ticket_steps.specs.declared.kept.Kept.{Ghosts}
+use Rattle.ticket_steps.specs.declared.books.Entry.{Entry}
+use Rattle.ticket_steps.specs.declared.books.Kept.{Ghosts}
 use Rattle.ticket_steps.specs.declared.seats.CoreSeat.{CoreSeat}
 use Rattle.ticket_steps.specs.declared.seats.Phase.TheVariants.{Idle, Waiting, Holding, Posted}
 use Rattle.ticket_steps.specs.Books.{empty_book}
-use Rattle.ticket_steps.specs.CoreStates.{CoreState, opened}
+use Rattle.ticket_steps.specs.CoreStates.{CoreState, opening_core}
 use Rattle.ticket_steps.specs.Happenings.{Happening, drew, waited, held, left_posted, split, gathered}
 use Rattle.ticket_steps.specs.History.{of, replay, IsLegal}
-use Rattle.ticket_steps.specs.Seats.{Holds, holds_one, tickets_of}
-use Rattle.ticket_steps.specs.Sums.{total, times}
+use Rattle.ticket_steps.specs.Seats.{Holds, holder_count_of, tickets_of}
+use Rattle.ticket_steps.specs.Sums.{total, occurrences}
 use Rattle.ticket_steps.proofs.Lists.{at_snoc, set_else}
 use Rattle.ticket_steps.proofs.SeatLemmas.{holds, alone_served, alone, in_line, served_le, one_calls, busy, holder_le, unnumbered_calls, tickets_waiting}
 use Rattle.ticket_steps.proofs.SeatLemmas.{tickets_holding, waits_in_line, holding_holds, posted_holds, no_holder, taken_at_home}
-use Rattle.ticket_steps.proofs.Totals.{times_le, times-same, below_yes, term_le}
+use Rattle.ticket_steps.proofs.SumLemmas.{times_le, occurrences-same, below_yes, term_le}
 use Rattle.ticket_lock.specs.declared.views.Start.{Start}
 use Rattle.ticket_lock.specs.declared.views.View.{View}
-use Rattle.ticket_lock.specs.Histories.{IsKnown}
+use Rattle.ticket_lock.specs.Histories.{IsTrueView}
 use Rattle.ticket_lock.specs.Layout.{first_words, grant_word, board_word, next_word}
-use Rattle.ticket_lock.specs.Plays.{DrawTells, LookTells, PostTells, LeaveTells, SecondLoadTells, GlanceTells}
-use Rattle.ticket_lock.specs.Rule.{IsTableOf, IsRuled}
+use Rattle.ticket_lock.specs.GhostSteps.{DrawFact, LookFact, PostFact, LeaveFact, SecondLoadFact, GlanceFact}
+use Rattle.ticket_lock.specs.Rule.{IsTableOf, ObeysRule}
 use Rattle.ticket_lock.specs.Slots.{IsBook}
-use Rattle.ticket_lock.specs.Steps.{Returns, IsPosted, word_in}
-use Rattle.ticket_lock.specs.Views.{spent_view, first_view, Follows, keeping_view, given_view, drawn_view, joined_view, reloaded_view, held_view}
-use Rattle.ticket_lock.specs.Views.{posted_view, glanced_view, left_view}
+use Rattle.ticket_lock.specs.Steps.{IsBookAfterCall, IsBookAfterPost, word_in}
+use Rattle.ticket_lock.specs.Views.{spent_view, first_view, Follows, view_after_split, split_view, view_after_draw, gathered_view, view_after_second_load}
+use Rattle.ticket_lock.specs.Views.{view_after_look}
+use Rattle.ticket_lock.specs.Views.{view_after_post, view_after_glance, view_after_leave}
 use Rattle.ticket_lock.proofs.BoardLemmas.{AreLaws}
 use Rattle.ticket_lock.proofs.Events.{lawful, lawful_book, next_small, seat_at, draw_event, wait_event, look_event, post_event, leave_event, leave_posted_event}
 use Rattle.ticket_lock.proofs.Events.{split_event, gather_event, second_load_same, glance_same, strangers_none}
 use Rattle.ticket_lock.proofs.WordLemmas.{watched_found, board_found, words_opened}
-use Rattle.ticket_lock.proofs.Seen.{follows_self, follows_longer, longer_is, all_seen, empty_before}
+use Rattle.ticket_lock.proofs.HistoryLemmas.{follows_self, follows_longer, longer_is, all_seen, empty_before}
 
 abbrev pub in_hand : {K : Type 0} → K → List (ℕ × Option K) → K
 in_hand d [] = d
@@ -53,18 +54,18 @@ module _ {K C R : Type 0} (k : Ghosts K C R) (start : Start K) where
   Core = CoreState k.State C R
 
   abbrev Rule : Table → Type 0
-  Rule s = IsRuled k start s
+  Rule s = ObeysRule k start s
 
   -- the table as it is made is that of the core's opening
   pub opens_with : (book : K) → k.opening book ≡ (k.opening start.book) → k.history book ≡ [] → k.refusals book ≡ 0 → 0 < start.numbers
       → start.numbers ≤ 1024 → start.draws ≤ 4294967295
-      → IsTableOf k start [] (opened start.numbers start.draws (k.opening start.book))
+      → IsTableOf k start [] (opening_core start.numbers start.draws (k.opening start.book))
       (opens (first_words (k.board (k.opening start.book))) (Some book ∷ []) (first_view start))
-  opens_with book state none_kept none_refused some_number few few_draws =
+  opens_with book state none_kept none_refused nonempty_numbers bounded bounded_draws =
       record {
-        some_number = some_number;
-        few_numbers = few;
-        few_draws = few_draws;
+        nonempty_numbers = nonempty_numbers;
+        bounded_numbers = bounded;
+        bounded_draws = bounded_draws;
         words = record { words = words_opened (k.board (k.opening start.book)); seats = refl; leads = refl };
         slot =
             record {
@@ -74,7 +75,7 @@ module _ {K C R : Type 0} (k : Ghosts K C R) (start : Start K) where
             };
         known = record {
           each = λ j v e. ⊎_elim (λ t. absurd (some-ne-none v (sym t)))
-              (λ t. subst (λ (w : V). IsKnown {S = k.State} start (empty_book (k.opening start.book)) w) t record {
+              (λ t. subst (λ (w : V). IsTrueView {S = k.State} start (empty_book (k.opening start.book)) w) t record {
                 start_is = λ o e'. cc;
                 seen = follows_self _ [];
                 one = follows_self [] [];
@@ -88,19 +89,19 @@ module _ {K C R : Type 0} (k : Ghosts K C R) (start : Start K) where
   pub starts : (book : K) → k.opening book ≡ (k.opening start.book) → k.history book ≡ [] → k.refusals book ≡ 0 → 0 < start.numbers
       → start.numbers ≤ 1024 → start.draws ≤ 4294967295
       → Rule (opens (first_words (k.board (k.opening start.book))) (Some book ∷ []) (first_view start))
-  starts book state none_kept none_refused some_number few few_draws =
-      ([], opened start.numbers start.draws (k.opening start.book), opens_with book state none_kept none_refused some_number few few_draws)
+  starts book state none_kept none_refused nonempty_numbers bounded bounded_draws =
+      ([], opening_core start.numbers start.draws (k.opening start.book), opens_with book state none_kept none_refused nonempty_numbers bounded bounded_draws)
 
   pub draws : (n id : ℕ) (me : Me (Option K) V) → me.0.seat.phase ≡ Idle → 0 < me.0.seat.left
-      → Allows Rule n id me next_word (λ x. (x + 1) % 18446744073709551616) (DrawTells (step n next_word 1 0 none) me)
-  draws n id me idle some_left s r wide at small =
-      let e = draw_event k start r.0 r.1 s id me r.2 at idle some_left in
-      (drawn_view (get_or s.words next_word 0) me.0, keeps, tt, (r.0 ++ drew me.0.seat.own r.1.next ∷ [], e.0, e.2), refl)
+      → Allows Rule n id me next_word (λ x. (x + 1) % 18446744073709551616) (DrawFact (step n next_word 1 0 none) me)
+  draws n id me idle has_left s r wide at small =
+      let e = draw_event k start r.0 r.1 s id me r.2 at idle has_left in
+      (view_after_draw (get_or s.words next_word 0) me.0, keeps, tt, (r.0 ++ drew me.0.seat.own r.1.next ∷ [], e.0, e.2), refl)
 
   -- what the play of a look says of a look that holds
   pub look_held_told : (hs : List (Happening C R)) (c : Core) (s : Table) (id : ℕ) (me : Me (Option K) V) (book : K) (st : Step (Option K))
       → IsTableOf k start hs c s → get_elem? s.views id ≡ some me.0 → me.0.seat.phase ≡ Waiting c.served → me.1 ≡ []
-      → IsBook k start c.book book → LookTells k st me (get_or s.words (grant_word c.served) 0) (held_view k c.served me.0 book, (0, Some book) ∷ me.1)
+      → IsBook k start c.book book → LookFact k st me (get_or s.words (grant_word c.served) 0) (view_after_look k c.served me.0 book, (0, Some book) ∷ me.1)
   look_held_told hs c s id me book st r at waits bare is_book =
       let v : V = me.0 in
       let is : get_or s.words (grant_word c.served) 0 ≡ c.served =
@@ -108,12 +109,12 @@ module _ {K C R : Type 0} (k : Ghosts K C R) (start : Start K) where
       let l = lawful k start hs c s r in
       let at' = seat_at k start hs c s r id v at in
       let old = r.known.each id v at in
-      let has : 0 < times c.served (tickets_of v.seat.phase) = omega (arith, tickets_waiting c.served c.served v.seat waits, times-same c.served []) in
+      let has : 0 < occurrences c.served (tickets_of v.seat.phase) = omega (arith, tickets_waiting c.served c.served v.seat waits, occurrences-same c.served []) in
       let ticket : (t' : ℕ) → v.seat.phase ≡ Waiting t' → c.served ≡ t' = λ t' e. let both : Waiting c.served ≡ Waiting t' = sym waits ∙ e in cc in
       λ t' phase. (
         λ _. (
           book,
-          (let same : c.served ≡ t' = ticket t' phase in λ i. (held_view k (same i) v book, (0, Some book) ∷ bare i)),
+          (let same : c.served ≡ t' = ticket t' phase in λ i. (view_after_look k (same i) v book, (0, Some book) ∷ bare i)),
           λ o known. let mine : o ≡ start = old.start_is o known in record {
             opening = is_book.opening ∙ ap (λ (z : Start K). k.opening z.book) (sym mine);
             follows = subst (Follows v.seat.numbers v.seen) (sym is_book.entries) old.seen;
@@ -124,7 +125,7 @@ module _ {K C R : Type 0} (k : Ghosts K C R) (start : Start K) where
               is_book.refused,
               ticket t' phase,
             );
-            few = omega (arith, ticket t' phase, in_line start.numbers start.draws c l id c.served v.seat at' has, next_small k start hs c s r);
+            bounded = omega (arith, ticket t' phase, in_line start.numbers start.draws c l id c.served v.seat at' has, next_small k start hs c s r);
           },
         ),
         λ miss. absurd (miss (is ∙ ticket t' phase)),
@@ -133,7 +134,7 @@ module _ {K C R : Type 0} (k : Ghosts K C R) (start : Start K) where
   -- and of one that waits
   pub look_waits_told : (hs : List (Happening C R)) (c : Core) (s : Table) (id ticket : ℕ) (me : Me (Option K) V) (st : Step (Option K))
       → IsTableOf k start hs c s → get_elem? s.views id ≡ some me.0 → me.0.seat.phase ≡ Waiting ticket → ticket ≢ c.served
-      → LookTells k st me (get_or s.words (grant_word ticket) 0) me
+      → LookFact k st me (get_or s.words (grant_word ticket) 0) me
   look_waits_told hs c s id ticket me st r at waits later =
       let v : V = me.0 in
       let l = lawful k start hs c s r in
@@ -157,13 +158,13 @@ module _ {K C R : Type 0} (k : Ghosts K C R) (start : Start K) where
   abbrev Leads : Table → ℕ → Me (Option K) V → Step (Option K) → ℕ → Type 0
   Leads s id me st t = (w : V) × (a : Act (Option K)) × Valid s.homes me.1 a
       × Rule (stepped s (grant_word t) (get_or s.words (grant_word t) 0) id me.1 w a)
-      × LookTells k st me (get_or s.words (grant_word t) 0) (w, carried_after me.1 a)
+      × LookFact k st me (get_or s.words (grant_word t) 0) (w, carried_after me.1 a)
 
   held_leads : (hs : List (Happening C R)) (c : Core) (s : Table) (id : ℕ) (me : Me (Option K) V) (st : Step (Option K)) → IsTableOf k start hs c s
       → get_elem? s.views id ≡ some me.0 → me.0.seat.phase ≡ Waiting c.served → me.1 ≡ [] → Leads s id me st c.served
   held_leads hs c s id me st r at waits bare =
       let e = look_event k start hs c s id me r at waits in (
-        held_view k c.served me.0 e.0,
+        view_after_look k c.served me.0 e.0,
         takes 0 (Some e.0),
         e.1,
         (hs ++ held me.0.seat.own ∷ [], e.3.0, e.3.2),
@@ -182,7 +183,7 @@ module _ {K C R : Type 0} (k : Ghosts K C R) (start : Start K) where
       )
 
   looks_at : (n id t : ℕ) (me : Me (Option K) V) → me.0.seat.phase ≡ Waiting t → me.1 ≡ []
-      → Allows Rule n id me (grant_word t) (λ x. x) (LookTells k (step n (grant_word t) 0 0 none) me)
+      → Allows Rule n id me (grant_word t) (λ x. x) (LookFact k (step n (grant_word t) 0 0 none) me)
   looks_at n id t me waits bare s r wide at small =
       let st : Step (Option K) = step n (grant_word t) 0 0 none in
       dite (ℕ_discrete t r.1.served)
@@ -190,21 +191,21 @@ module _ {K C R : Type 0} (k : Ghosts K C R) (start : Start K) where
       (λ later. waiting_leads r.0 r.1 s id t me st r.2 at waits later)
 
   pub looks : (n id t word : ℕ) (me : Me (Option K) V) → word ≡ grant_word t → me.0.seat.phase ≡ Waiting t → me.1 ≡ []
-      → Allows Rule n id me word (λ x. x) (LookTells k (step n word 0 0 none) me)
+      → Allows Rule n id me word (λ x. x) (LookFact k (step n word 0 0 none) me)
   looks n id t word me is waits bare =
-      subst (λ (w : ℕ). Allows Rule n id me w (λ x. x) (LookTells k (step n w 0 0 none) me)) (sym is) (looks_at n id t me waits bare)
+      subst (λ (w : ℕ). Allows Rule n id me w (λ x. x) (LookFact k (step n w 0 0 none) me)) (sym is) (looks_at n id t me waits bare)
 
   -- what the play of a leave says
   pub leave_told : (hs : List (Happening C R)) (c : Core) (s : Table) (id t : ℕ) (me : Me (Option K) V) (book : K) (st : Step (Option K))
       → IsTableOf k start hs c s → get_elem? s.views id ≡ some me.0 → Holds t me.0.seat.phase → me.1 ≡ (0, Some book) ∷ []
-      → (found : ℕ) → LeaveTells k st me found (left_view k me.0 book, [])
+      → (found : ℕ) → LeaveFact k st me found (view_after_leave k me.0 book, [])
   leave_told hs c s id t me book st r at holder hand found =
       let v : V = me.0 in
       let l = lawful k start hs c s r in
       let at' = seat_at k start hs c s r id v at in
-      let has : 0 < times t (tickets_of v.seat.phase) = omega (arith, tickets_holding t t v.seat holder, times-same t []) in
+      let has : 0 < occurrences t (tickets_of v.seat.phase) = omega (arith, tickets_holding t t v.seat holder, occurrences-same t []) in
       λ b h. (
-        (let same : book ≡ b = ap (in_hand book) (sym hand ∙ h) in λ i. (left_view k v (same i), [])),
+        (let same : book ≡ b = ap (in_hand book) (sym hand ∙ h) in λ i. (view_after_leave k v (same i), [])),
         omega (
           arith,
           one_calls start.numbers start.draws c l id v.seat at',
@@ -215,8 +216,8 @@ module _ {K C R : Type 0} (k : Ghosts K C R) (start : Start K) where
       )
 
   leaves_in : AreLaws k → (n id t : ℕ) (me : Me (Option K) V) (book : K) (o : Start K)
-      → me.1 ≡ (0, Some book) ∷ [] → me.0.seat.phase ≡ Holding t → me.0.start ≡ Some o → Returns k o me.0.seat.own me.0.seen me.0.refused None book
-      → Allows Rule n id me (grant_word (t + 1)) (λ _. t + 1) (λ _. LeaveTells k (step n (grant_word (t + 1)) (t + 1) 0 none) me (t + 1))
+      → me.1 ≡ (0, Some book) ∷ [] → me.0.seat.phase ≡ Holding t → me.0.start ≡ Some o → IsBookAfterCall k o me.0.seat.own me.0.seen me.0.refused None book
+      → Allows Rule n id me (grant_word (t + 1)) (λ _. t + 1) (λ _. LeaveFact k (step n (grant_word (t + 1)) (t + 1) 0 none) me (t + 1))
   leaves_in laws n id t me book o hand holder known ret s r wide at small =
       let v : V = me.0 in
       let hs = r.0 in
@@ -224,18 +225,18 @@ module _ {K C R : Type 0} (k : Ghosts K C R) (start : Start K) where
       let mine : o ≡ start = (r.2.known.each id v at).start_is o known in
       let st : Step (Option K) = step n (grant_word (t + 1)) (t + 1) 0 none in
       let e = leave_event k start laws hs c s id t me book r.2 at holder hand
-      (subst (λ (z : Start K). Returns k z v.seat.own v.seen v.refused None book) mine ret) in (
-        left_view k v book,
+      (subst (λ (z : Start K). IsBookAfterCall k z v.seat.own v.seen v.refused None book) mine ret) in (
+        view_after_leave k v book,
         gives,
         tt,
         (hs ++ e.0 ∷ [], e.2.0, e.2.2),
-        subst (λ (q : List (ℕ × Option K)). LeaveTells k st me (t + 1) (left_view k v book, q)) (ap rest (sym hand))
+        subst (λ (q : List (ℕ × Option K)). LeaveFact k st me (t + 1) (view_after_leave k v book, q)) (ap rest (sym hand))
             (leave_told hs c s id t me book st r.2 at (holding_holds t v.seat.phase holder) hand (t + 1)),
       )
 
   leaves_posted_in : (n id t : ℕ) (me : Me (Option K) V) (book : K) (o : Start K)
-      → me.1 ≡ (0, Some book) ∷ [] → me.0.seat.phase ≡ Posted t → me.0.start ≡ Some o → IsPosted k o me.0.seen me.0.refused book
-      → Allows Rule n id me (grant_word (t + 1)) (λ _. t + 1) (λ _. LeaveTells k (step n (grant_word (t + 1)) (t + 1) 0 none) me (t + 1))
+      → me.1 ≡ (0, Some book) ∷ [] → me.0.seat.phase ≡ Posted t → me.0.start ≡ Some o → IsBookAfterPost k o me.0.seen me.0.refused book
+      → Allows Rule n id me (grant_word (t + 1)) (λ _. t + 1) (λ _. LeaveFact k (step n (grant_word (t + 1)) (t + 1) 0 none) me (t + 1))
   leaves_posted_in n id t me book o hand holder known ret s r wide at small =
       let v : V = me.0 in
       let hs = r.0 in
@@ -243,46 +244,46 @@ module _ {K C R : Type 0} (k : Ghosts K C R) (start : Start K) where
       let mine : o ≡ start = (r.2.known.each id v at).start_is o known in
       let st : Step (Option K) = step n (grant_word (t + 1)) (t + 1) 0 none in
       let e = leave_posted_event k start hs c s id t me book r.2 at holder hand
-      (subst (λ (z : Start K). IsPosted k z v.seen v.refused book) mine ret) in (
-        left_view k v book,
+      (subst (λ (z : Start K). IsBookAfterPost k z v.seen v.refused book) mine ret) in (
+        view_after_leave k v book,
         gives,
         tt,
         (hs ++ left_posted v.seat.own ∷ [], e.0, e.2),
-        subst (λ (q : List (ℕ × Option K)). LeaveTells k st me (t + 1) (left_view k v book, q)) (ap rest (sym hand))
+        subst (λ (q : List (ℕ × Option K)). LeaveFact k st me (t + 1) (view_after_leave k v book, q)) (ap rest (sym hand))
             (leave_told hs c s id t me book st r.2 at (posted_holds t v.seat.phase holder) hand (t + 1)),
       )
 
   leaves_either : AreLaws k → (posted : Bool) (n id t : ℕ) (me : Me (Option K) V) (book : K) (o : Start K)
       → me.1 ≡ (0, Some book) ∷ [] → me.0.seat.phase ≡ cond posted (Posted t) (Holding t) → me.0.start ≡ Some o
-      → (posted ≡ false → Returns k o me.0.seat.own me.0.seen me.0.refused None book) → (posted ≡ true → IsPosted k o me.0.seen me.0.refused book)
-      → Allows Rule n id me (grant_word (t + 1)) (λ _. t + 1) (λ _. LeaveTells k (step n (grant_word (t + 1)) (t + 1) 0 none) me (t + 1))
+      → (posted ≡ false → IsBookAfterCall k o me.0.seat.own me.0.seen me.0.refused None book) → (posted ≡ true → IsBookAfterPost k o me.0.seen me.0.refused book)
+      → Allows Rule n id me (grant_word (t + 1)) (λ _. t + 1) (λ _. LeaveFact k (step n (grant_word (t + 1)) (t + 1) 0 none) me (t + 1))
   leaves_either laws true n id t me book o hand holder known ret is = leaves_posted_in n id t me book o hand holder known (is refl)
   leaves_either laws false n id t me book o hand holder known ret is = leaves_in laws n id t me book o hand holder known (ret refl)
 
   pub leaves : AreLaws k → (posted : Bool) (n id t word : ℕ) (me : Me (Option K) V) (book : K) (o : Start K) → word ≡ grant_word (t + 1)
       → me.1 ≡ (0, Some book) ∷ [] → me.0.seat.phase ≡ cond posted (Posted t) (Holding t) → me.0.start ≡ Some o
-      → (posted ≡ false → Returns k o me.0.seat.own me.0.seen me.0.refused None book) → (posted ≡ true → IsPosted k o me.0.seen me.0.refused book)
-      → Allows Rule n id me word (λ _. t + 1) (λ _. LeaveTells k (step n word (t + 1) 0 none) me (t + 1))
+      → (posted ≡ false → IsBookAfterCall k o me.0.seat.own me.0.seen me.0.refused None book) → (posted ≡ true → IsBookAfterPost k o me.0.seen me.0.refused book)
+      → Allows Rule n id me word (λ _. t + 1) (λ _. LeaveFact k (step n word (t + 1) 0 none) me (t + 1))
   leaves laws posted n id t word me book o is hand holder known ret posts =
-      subst (λ (w : ℕ). Allows Rule n id me w (λ _. t + 1) (λ _. LeaveTells k (step n w (t + 1) 0 none) me (t + 1))) (sym is)
+      subst (λ (w : ℕ). Allows Rule n id me w (λ _. t + 1) (λ _. LeaveFact k (step n w (t + 1) 0 none) me (t + 1))) (sym is)
       (leaves_either laws posted n id t me book o hand holder known ret posts)
 
   -- what the play of a post says
   pub post_told : (t : ℕ) (me : Me (Option K) V) (entries : List (Entry C R)) (refused : ℕ) (st : Step (Option K)) → me.0.seat.phase ≡ Holding t
-      → (found : ℕ) → PostTells entries refused st me found (posted_view t entries refused me.0, me.1)
+      → (found : ℕ) → PostFact entries refused st me found (view_after_post t entries refused me.0, me.1)
   post_told t me entries refused st holder found =
-      λ t' e. let both : Holding t ≡ Holding t' = sym holder ∙ e in let same : t ≡ t' = cc in λ i. (posted_view (same i) entries refused me.0, me.1)
+      λ t' e. let both : Holding t ≡ Holding t' = sym holder ∙ e in let same : t ≡ t' = cc in λ i. (view_after_post (same i) entries refused me.0, me.1)
 
   posts_in : AreLaws k → (n id t place : ℕ) (me : Me (Option K) V) (book : K) (o : Start K) → me.0.seat.phase ≡ Holding t
-      → me.0.start ≡ Some o → Returns k o me.0.seat.own me.0.seen me.0.refused (Some place) book
+      → me.0.start ≡ Some o → IsBookAfterCall k o me.0.seat.own me.0.seen me.0.refused (Some place) book
       → Allows Rule n id me (board_word place) (λ _. word_in k book place)
-      (λ _. PostTells (k.history book) (k.refusals book) (step n (board_word place) (word_in k book place) 0 none) me (word_in k book place))
+      (λ _. PostFact (k.history book) (k.refusals book) (step n (board_word place) (word_in k book place) 0 none) me (word_in k book place))
   posts_in laws n id t place me book o holder known ret s r wide at small =
       let v : V = me.0 in
       let mine : o ≡ start = (r.2.known.each id v at).start_is o known in
       let e = post_event k start laws r.0 r.1 s id t place me book r.2 at holder
-      (subst (λ (z : Start K). Returns k z v.seat.own v.seen v.refused (Some place) book) mine ret) in (
-        posted_view t (k.history book) (k.refusals book) v,
+      (subst (λ (z : Start K). IsBookAfterCall k z v.seat.own v.seen v.refused (Some place) book) mine ret) in (
+        view_after_post t (k.history book) (k.refusals book) v,
         keeps,
         tt,
         (r.0 ++ e.0 ∷ [], e.2.0, e.2.2),
@@ -291,15 +292,15 @@ module _ {K C R : Type 0} (k : Ghosts K C R) (start : Start K) where
 
   pub posts : AreLaws k → (n id t place word number : ℕ) (entries : List (Entry C R)) (refused : ℕ) (me : Me (Option K) V) (book : K) (o : Start K)
       → word ≡ board_word place → number ≡ word_in k book place → entries ≡ k.history book → refused ≡ k.refusals book
-      → me.0.seat.phase ≡ Holding t → me.0.start ≡ Some o → Returns k o me.0.seat.own me.0.seen me.0.refused (Some place) book
-      → Allows Rule n id me word (λ _. number) (λ _. PostTells entries refused (step n word number 0 none) me number)
+      → me.0.seat.phase ≡ Holding t → me.0.start ≡ Some o → IsBookAfterCall k o me.0.seat.own me.0.seen me.0.refused (Some place) book
+      → Allows Rule n id me word (λ _. number) (λ _. PostFact entries refused (step n word number 0 none) me number)
   posts laws n id t place word number entries refused me book o at stores has kept holder known ret =
       rw (at, stores, has, kept) (posts_in laws n id t place me book o holder known ret)
 
   -- what the play of a glance says
   pub glance_told : (hs : List (Happening C R)) (c : Core) (s : Table) (id place : ℕ) (me : Me (Option K) V) (st : Step (Option K))
       → IsTableOf k start hs c s → get_elem? s.views id ≡ some me.0 → st.word ≡ board_word place
-      → GlanceTells k st me (get_or s.words (board_word place) 0) (glanced_view c.book.entries me.0, me.1)
+      → GlanceFact k st me (get_or s.words (board_word place) 0) (view_after_glance c.book.entries me.0, me.1)
   glance_told hs c s id place me st r at loads =
       let v : V = me.0 in
       let old = r.known.each id v at in
@@ -318,9 +319,9 @@ module _ {K C R : Type 0} (k : Ghosts K C R) (start : Start K) where
       )
 
   glances_at : (n id place : ℕ) (me : Me (Option K) V) → me.0.seat.phase ≡ Idle
-      → Allows Rule n id me (board_word place) (λ x. x) (GlanceTells k (step n (board_word place) 0 0 none) me)
+      → Allows Rule n id me (board_word place) (λ x. x) (GlanceFact k (step n (board_word place) 0 0 none) me)
   glances_at n id place me idle s r wide at small = (
-    glanced_view r.1.book.entries me.0,
+    view_after_glance r.1.book.entries me.0,
     keeps,
     tt,
     (r.0, r.1, glance_same k start r.0 r.1 s id place me r.2 at idle),
@@ -328,27 +329,27 @@ module _ {K C R : Type 0} (k : Ghosts K C R) (start : Start K) where
   )
 
   pub glances : (n id place word : ℕ) (me : Me (Option K) V) → word ≡ board_word place → me.0.seat.phase ≡ Idle
-      → Allows Rule n id me word (λ x. x) (GlanceTells k (step n word 0 0 none) me)
+      → Allows Rule n id me word (λ x. x) (GlanceFact k (step n word 0 0 none) me)
   glances n id place word me is idle =
-      subst (λ (w : ℕ). Allows Rule n id me w (λ x. x) (GlanceTells k (step n w 0 0 none) me)) (sym is) (glances_at n id place me idle)
+      subst (λ (w : ℕ). Allows Rule n id me w (λ x. x) (GlanceFact k (step n w 0 0 none) me)) (sym is) (glances_at n id place me idle)
 
   pub splits : (id count : ℕ) (v : V) (o : Start K) → v.start ≡ Some o → v.seat.phase ≡ Idle → v.seat.fresh ≡ true → 0 < count
-      → count < length v.seat.numbers → Splits Rule id v (keeping_view count v) (given_view count v)
+      → count < length v.seat.numbers → Splits Rule id v (view_after_split count v) (split_view count v)
   splits id count v o known idle fresh some_count less s r at =
       let mine : o ≡ start = (r.2.known.each id v at).start_is o known in
       let e = split_event k start r.0 r.1 s id count v r.2 at (known ∙ ap Some mine) idle fresh some_count less in
       (r.0 ++ split v.seat.own count ∷ [], e.0, e.2)
 
-  pub joins : (id other : ℕ) (v w : V) → v.seat.phase ≡ Idle → w.seat.phase ≡ Idle → Joins Rule id v other w (joined_view v w) spent_view
+  pub joins : (id other : ℕ) (v w : V) → v.seat.phase ≡ Idle → w.seat.phase ≡ Idle → Joins Rule id v other w (gathered_view v w) spent_view
   joins id other v w idle idle' s r at apart at_other =
-      let there : get_elem? s.views other ≡ some w = sym (set_else s.views id other (joined_view v w) apart) ∙ at_other in
+      let there : get_elem? s.views other ≡ some w = sym (set_else s.views id other (gathered_view v w) apart) ∙ at_other in
       let e = gather_event k start r.0 r.1 s id other v w r.2 at apart there idle idle' in
       (r.0 ++ gathered v.seat.own w.seat.own ∷ [], e.0, e.2)
 
   -- what the second load of a gather says
   pub second_load_told : (hs : List (Happening C R)) (c : Core) (s : Table) (id : ℕ) (me : Me (Option K) V) (st : Step (Option K))
       → IsTableOf k start hs c s → get_elem? s.views id ≡ some me.0
-      → SecondLoadTells st me (get_or s.words next_word 0) (reloaded_view me.0, me.1)
+      → SecondLoadFact st me (get_or s.words next_word 0) (view_after_second_load me.0, me.1)
   second_load_told hs c s id me st r at =
       let v : V = me.0 in
       let old = r.known.each id v at in
@@ -360,14 +361,14 @@ module _ {K C R : Type 0} (k : Ghosts K C R) (start : Start K) where
             (rw is (longer_is v.one.seen v.two.seen (λ (q : List (Entry C R)). length v.one.seen ≤ length q) (λ lt. omega arith) (λ _. omega arith))),
         follows_longer v.two.numbers v.two.seen v.seen c.book.entries old.two old.seen.0
             (rw is (longer_is v.one.seen v.two.seen (λ (q : List (Entry C R)). length v.two.seen ≤ length q) (λ _. omega arith) (λ le. le))),
-        omega (arith, l.count, r.few_numbers, term_le (λ (p : CoreSeat). length p.numbers) c.seats id v.seat at'),
+        omega (arith, l.count, r.bounded_numbers, term_le (λ (p : CoreSeat). length p.numbers) c.seats id v.seat at'),
         omega (arith, one_calls start.numbers start.draws c l id v.seat at', served_le start.numbers start.draws c l, next_small k start hs c s r),
       )
 
   pub second_loads : (n id : ℕ) (me : Me (Option K) V) → me.0.seat.phase ≡ Idle
-      → Allows Rule n id me next_word (λ x. x) (SecondLoadTells (step n next_word 0 0 none) me)
+      → Allows Rule n id me next_word (λ x. x) (SecondLoadFact (step n next_word 0 0 none) me)
   second_loads n id me idle s r wide at small = (
-    reloaded_view me.0,
+    view_after_second_load me.0,
     keeps,
     tt,
     (r.0, r.1, second_load_same k start r.0 r.1 s id me r.2 at idle),
@@ -398,19 +399,19 @@ module _ {K C R : Type 0} (k : Ghosts K C R) (start : Start K) where
         holder_le start.draws c.served u (l.each j u e),
         times_le c.served (tickets_of u.phase),
         busy start.draws c.served u (l.each j u e),
-      )) ∙ ap holds_one idle in
+      )) ∙ ap holder_count_of idle in
       let calls : total (λ (p : CoreSeat). p.calls) c.seats ≡ v.seat.calls =
       sole (λ (p : CoreSeat). p.calls) (λ j u e gone_is. unnumbered_calls start.draws c.served u (l.each j u e) gone_is) in
       let there = r.2.slot.home free in
       let strangers : (p : ℕ) → start.numbers ≤ p → of p c.book.entries ≡ [] = λ p h. strangers_none k start hs c s r.2 p h in
-      let seen : c.book.entries ≡ v.seen = all_seen v.seen c.book.entries old.seen.0 (λ p. dite (dec_le (suc 0) (times p v.seat.numbers))
+      let seen : c.book.entries ≡ v.seen = all_seen v.seen c.book.entries old.seen.0 (λ p. dite (dec_le (suc 0) (occurrences p v.seat.numbers))
       (λ has. old.seen.1 p has)
       (λ out. empty_before p v.seen c.book.entries old.seen.0 (strangers p (dite (dec_le start.numbers p) (λ le. le) (λ lt. absurd (omega (
         arith,
         out,
         l.numbered p,
         below_yes p start.numbers (omega arith),
-        sole (λ (q : CoreSeat). times p q.numbers) (λ j u e gone_is. omega (arith, times_le p u.numbers, gone_is)),
+        sole (λ (q : CoreSeat). occurrences p q.numbers) (λ j u e gone_is. omega (arith, times_le p u.numbers, gone_is)),
       ))))))) in (
         there.0,
         there.1,

@@ -1,10 +1,10 @@
 -- What is so of every seat, at any time, and what its token says of it.
 use Rattle.std.proofs.Common.{◌≡◌, ◌<◌, ◌≤◌, ◌^◌, length, arith, ap, ◌∙◌, subst}
-use Rattle.ticket_steps.specs.declared.kept.Kept.{Ghosts}
+use Rattle.ticket_steps.specs.declared.books.Kept.{Ghosts}
 use Rattle.ticket_steps.specs.declared.seats.CoreSeat.{CoreSeat}
 use Rattle.ticket_steps.specs.History.{IsLegal}
-use Rattle.ticket_steps.specs.Sums.{times}
-use Rattle.ticket_lock.specs.declared.counts.SeatCounts.{SeatCounts}
+use Rattle.ticket_steps.specs.Sums.{occurrences}
+use Rattle.ticket_lock.specs.declared.tokens.SeatCounts.{SeatCounts}
 use Rattle.ticket_lock.specs.declared.lock.TicketLock.{TicketLock}
 use Rattle.ticket_lock.specs.declared.tokens.Seat.{Seat}
 use Rattle.ticket_lock.specs.Counts.{AreCountsOf}
@@ -14,31 +14,31 @@ use Rattle.ticket_lock.specs.Tokens.{seat_of, start_of, IsSeatOf}
 -- the counts of a seat stay its counts in another phase
 pub counts_stay : (f : SeatCounts) (s t : CoreSeat) → t.own ≡ s.own → t.numbers ≡ s.numbers → t.left ≡ s.left → t.calls ≡ s.calls
     → AreCountsOf f s → AreCountsOf f t
-counts_stay f s t own numbers left calls told = record {
-  own = own ∙ told.own;
-  count = ap length numbers ∙ told.count;
-  left = left ∙ told.left;
-  calls = calls ∙ told.calls;
-  some_number = told.some_number;
-  few_numbers = told.few_numbers;
-  few_calls = told.few_calls;
-  among = rw (own, numbers) told.among;
+counts_stay f s t own numbers left calls agreement = record {
+  own = own ∙ agreement.own;
+  count = ap length numbers ∙ agreement.count;
+  left = left ∙ agreement.left;
+  calls = calls ∙ agreement.calls;
+  nonempty_numbers = agreement.nonempty_numbers;
+  bounded_numbers = agreement.bounded_numbers;
+  bounded_calls = agreement.bounded_calls;
+  among = rw (own, numbers) agreement.among;
 }
 
 module _ {K C R : Type 0} {G : Ghosts K C R} where
   -- it answers for its own number, and so for at least one, and for at most 1,024
-  pub own_number : (seat : Seat K C R G) → 0 < times (seat_of seat).own (seat_of seat).numbers
-  own_number seat = seat.told.among
+  pub own_number : (seat : Seat K C R G) → 0 < occurrences (seat_of seat).own (seat_of seat).numbers
+  own_number seat = seat.agreement.among
 
-  pub some_number : (seat : Seat K C R G) → 0 < length (seat_of seat).numbers
-  some_number seat = omega (arith, seat.told.count, seat.told.some_number)
+  pub nonempty_numbers : (seat : Seat K C R G) → 0 < length (seat_of seat).numbers
+  nonempty_numbers seat = omega (arith, seat.agreement.count, seat.agreement.nonempty_numbers)
 
-  pub few_numbers : (seat : Seat K C R G) → length (seat_of seat).numbers ≤ 1024
-  few_numbers seat = omega (arith, seat.told.count, seat.told.few_numbers)
+  pub bounded_numbers : (seat : Seat K C R G) → length (seat_of seat).numbers ≤ 1024
+  bounded_numbers seat = omega (arith, seat.agreement.count, seat.agreement.bounded_numbers)
 
   -- it has ended fewer than 2^42 calls
-  pub few_calls : (seat : Seat K C R G) → (seat_of seat).calls < 2 ^ 42
-  few_calls seat = omega (arith, seat.told.calls, seat.told.few_calls)
+  pub bounded_calls : (seat : Seat K C R G) → (seat_of seat).calls < 2 ^ 42
+  bounded_calls seat = omega (arith, seat.agreement.calls, seat.agreement.bounded_calls)
 
   -- what it has seen is a legal history from the book with which its lock was opened
   pub legal_history : (lock : TicketLock K C R G) (seat : Seat K C R G) → IsSeatOf lock seat

@@ -1,7 +1,7 @@
 -- The words of the table, read and written. What a word is and where it stands is opened only here.
 use Rattle.std.proofs.Common.{◌≡◌, ◌↔◌, ℕ, suc, ◌+◌, ◌-◌, ◌<◌, ◌≤◌, List, [], ◌∷◌, ◌++◌, length, get_or, set, sym, refl, ap, ◌∙◌, arith}
 use Rattle.std.proofs.lemmas.List.{get_or_append_left, get_or-append-add, set-append_left, set-append_right}
-use Rattle.ticket_steps.specs.Grants.{watched}
+use Rattle.ticket_steps.specs.Grants.{watched_word}
 use Rattle.ticket_steps.proofs.GrantLemmas.{grants_left, grants_opened}
 use Rattle.ticket_lock.specs.Layout.{first_words, grant_word, board_word, next_word}
 use Rattle.ticket_lock.specs.Words.{AreWordsOf}
@@ -10,14 +10,14 @@ use Rattle.ticket_lock.specs.Words.{AreWordsOf}
 pub words_opened : (board : List ℕ) → AreWordsOf 0 0 board (first_words board)
 words_opened board = record { grants = 0 ∷ 0 ∷ 0 ∷ 0 ∷ []; words = refl; keep = grants_opened }
 
-behind : (ticket : ℕ) → grant_word ticket ≡ suc (watched ticket)
+behind : (ticket : ℕ) → grant_word ticket ≡ suc (watched_word ticket)
 behind ticket = omega arith
 
 behind_all : (place : ℕ) → board_word place ≡ suc (4 + place)
 behind_all place = omega arith
 
 module _ (next served : ℕ) (board ws : List ℕ) (w : AreWordsOf next served board ws) where
-  in_four : (ticket : ℕ) → watched ticket < length w.grants
+  in_four : (ticket : ℕ) → watched_word ticket < length w.grants
   in_four ticket = omega (arith, w.keep.four)
 
   pub next_found : get_or ws next_word 0 ≡ next
@@ -29,18 +29,18 @@ module _ (next served : ℕ) (board ws : List ℕ) (w : AreWordsOf next served b
   -- the word that a ticket watches which isn't left yet
   pub watched_found : (ticket : ℕ) → served ≤ ticket → (get_or ws (grant_word ticket) 0 ≡ ticket) ↔ (ticket ≡ served)
   watched_found ticket le =
-      let at : get_or ws (grant_word ticket) 0 ≡ get_or w.grants (watched ticket) 0 =
-      (λ i. get_or (w.words i) (behind ticket i) 0) ∙ get_or_append_left w.grants board 0 (watched ticket) (in_four ticket) in
+      let at : get_or ws (grant_word ticket) 0 ≡ get_or w.grants (watched_word ticket) 0 =
+      (λ i. get_or (w.words i) (behind ticket i) 0) ∙ get_or_append_left w.grants board 0 (watched_word ticket) (in_four ticket) in
       let is = w.keep.found ticket le in (λ e. is.0 (sym at ∙ e), λ e. at ∙ is.1 e)
 
   -- once the next number is served
   pub next_granted : AreWordsOf next (served + 1) board (set ws (grant_word (served + 1)) (served + 1))
   next_granted = record {
-    grants = set w.grants (watched (served + 1)) (served + 1);
+    grants = set w.grants (watched_word (served + 1)) (served + 1);
     words =
         (λ i. set (w.words i) (behind (served + 1) i) (served + 1))
-        ∙ ap (λ (q : List ℕ). next ∷ q) (set-append_left w.grants board (watched (served + 1)) (served + 1) (in_four (served + 1)));
-    keep = grants_left served (watched (served + 1)) w.grants w.keep refl;
+        ∙ ap (λ (q : List ℕ). next ∷ q) (set-append_left w.grants board (watched_word (served + 1)) (served + 1) (in_four (served + 1)));
+    keep = grants_left served (watched_word (served + 1)) w.grants w.keep refl;
   }
 
   -- a word of the board

@@ -2,7 +2,7 @@
 use Rattle.std.specs.Prelude.{ℕ, Some, refl}
 use Rattle.std.specs.Coded.{Coded, Coded-set, code_by, coded×, coded_option, coded_ℕ, ×_prop}
 use Rattle.atomic_table.specs.Seated.{table_id_coded}
-use Rattle.ticket_steps.specs.declared.kept.Kept.{Ghosts}
+use Rattle.ticket_steps.specs.declared.books.Kept.{Ghosts}
 use Rattle.ticket_lock.specs.declared.lock.TicketLock.{TicketLock}
 use Rattle.ticket_lock.specs.declared.tokens.Seat.{Seat}
 use Rattle.ticket_lock.specs.declared.tokens.Turn.{Turn}

@@ -1,7 +1,7 @@
 -- The board that a lock shows.
 use Rattle.std.specs.Prelude.{ℕ, List, length}
-use Rattle.ticket_steps.specs.declared.kept.Entry.{Entry}
-use Rattle.ticket_steps.specs.declared.kept.Kept.{Ghosts}
+use Rattle.ticket_steps.specs.declared.books.Entry.{Entry}
+use Rattle.ticket_steps.specs.declared.books.Kept.{Ghosts}
 use Rattle.ticket_steps.specs.History.{replay}
 
 module _ {K C R : Type 0} (k : Ghosts K C R) where

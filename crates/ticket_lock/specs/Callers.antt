@@ -1,7 +1,7 @@
 -- The part of a seat, a turn or a hold that contracts see: its caller.
 use Rattle.std.specs.Prelude.{◌≡◌, ℕ, ◌+◌, ◌-◌, ◌*◌, ◌<◌, ◌^◌, List, [], ◌++◌, length, take, drop, Bool, true, false, slice_index}
-use Rattle.ticket_steps.specs.declared.kept.Entry.{Entry}
-use Rattle.ticket_steps.specs.declared.kept.Kept.{Ghosts}
+use Rattle.ticket_steps.specs.declared.books.Entry.{Entry}
+use Rattle.ticket_steps.specs.declared.books.Kept.{Ghosts}
 use Rattle.ticket_steps.specs.History.{IsLegal}
 use Rattle.ticket_steps.specs.Sums.{counted}
 use Rattle.ticket_lock.specs.declared.views.Start.{Start}
@@ -32,42 +32,42 @@ module _ {C R : Type 0} where
   first_caller numbers draws = caller 0 (counted 0 numbers) (numbers * draws) 0 true []
 
   -- a fresh caller without its last numbers and the draws of these numbers
-  abbrev pub keeping : ℕ → ℕ → Caller C R → Caller C R
-  keeping draws count c = caller c.own (take (length c.numbers - count) c.numbers) ((length c.numbers - count) * draws) c.calls true c.seen
+  abbrev pub caller_after_split : ℕ → ℕ → Caller C R → Caller C R
+  caller_after_split draws count c = caller c.own (take (length c.numbers - count) c.numbers) ((length c.numbers - count) * draws) c.calls true c.seen
 
   -- the caller that gets these numbers
-  abbrev pub given : ℕ → ℕ → Caller C R → Caller C R
-  given draws count c = caller (c.own + (length c.numbers - count)) (drop (length c.numbers - count) c.numbers) (count * draws) 0 true c.seen
+  abbrev pub split_part : ℕ → ℕ → Caller C R → Caller C R
+  split_part draws count c = caller (c.own + (length c.numbers - count)) (drop (length c.numbers - count) c.numbers) (count * draws) 0 true c.seen
 
   -- a caller that has drawn
-  abbrev pub drawn : Caller C R → Caller C R
-  drawn c = caller c.own c.numbers (c.left - 1) c.calls false c.seen
+  abbrev pub caller_after_draw : Caller C R → Caller C R
+  caller_after_draw c = caller c.own c.numbers (c.left - 1) c.calls false c.seen
 
   -- a caller that has seen this history
-  abbrev pub having_seen : List (Entry C R) → Caller C R → Caller C R
-  having_seen history c = caller c.own c.numbers c.left c.calls c.fresh history
+  abbrev pub caller_with_history : List (Entry C R) → Caller C R → Caller C R
+  caller_with_history history c = caller c.own c.numbers c.left c.calls c.fresh history
 
   -- a caller that has ended a call, and has seen the history after it
-  abbrev pub ended : List (Entry C R) → Caller C R → Caller C R
-  ended history c = caller c.own c.numbers c.left (c.calls + 1) c.fresh history
+  abbrev pub caller_after_call : List (Entry C R) → Caller C R → Caller C R
+  caller_after_call history c = caller c.own c.numbers c.left (c.calls + 1) c.fresh history
 
   -- a caller into which another was gathered
-  abbrev pub joined : Caller C R → Caller C R → Caller C R
-  joined c other = caller c.own (c.numbers ++ other.numbers) c.left (c.calls + other.calls) false (longer c.seen other.seen)
+  abbrev pub gathered_caller : Caller C R → Caller C R → Caller C R
+  gathered_caller c other = caller c.own (c.numbers ++ other.numbers) c.left (c.calls + other.calls) false (longer c.seen other.seen)
 
 module _ {K C R : Type 0} (k : Ghosts K C R) where
   -- a book that is handed out to a caller whose ticket is served
-  pub record IsHanded (start : Start K) (numbers : List ℕ) (seen : List (Entry C R)) (ticket : ℕ) (book : K) : Type 0 where
+  pub record IsHandedOut (start : Start K) (numbers : List ℕ) (seen : List (Entry C R)) (ticket : ℕ) (book : K) : Type 0 where
     -- it is the book with which the lock was opened
     pub opening : k.opening book ≡ k.opening start.book
     -- its entries begin with all that the caller has seen, and the rest has no entries of the caller's numbers
     pub follows : Follows numbers seen (k.history book)
     -- the number of its entries and refusals is the ticket: calls end in the order of their draws
     pub counted : length (k.history book) + k.refusals book ≡ ticket
-    pub few : ticket < 2 ^ 42
+    pub bounded : ticket < 2 ^ 42
 
   -- the glance of a caller with these numbers, after which it has seen these entries: it found this number in this word of the table
-  pub record IsGlanced (start : Start K) (numbers : List ℕ) (seen entries : List (Entry C R)) (word found : ℕ) : Type 0 where
+  pub record IsGlanceResult (start : Start K) (numbers : List ℕ) (seen entries : List (Entry C R)) (word found : ℕ) : Type 0 where
     -- the entries begin with all that the caller has seen, and the rest has no entries of the caller's numbers
     pub follows : Follows numbers seen entries
     -- they are a legal history from the book with which the lock was opened

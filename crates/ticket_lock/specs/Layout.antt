@@ -1,6 +1,6 @@
 -- The layout of the table: the place of each of its words, and the list of them all. Only this file defines it.
 use Rattle.std.specs.Prelude.{ℕ, ◌+◌, List, [], ◌∷◌, ◌++◌}
-use Rattle.ticket_steps.specs.Grants.{watched}
+use Rattle.ticket_steps.specs.Grants.{watched_word}
 
 -- the place of the next ticket
 abbrev pub next_word : ℕ
@@ -8,7 +8,7 @@ next_word = 0
 
 -- the place of the grant word that a ticket watches; the seat that waits with the ticket reads it, and the holder before it writes it
 abbrev pub grant_word : ℕ → ℕ
-grant_word ticket = watched ticket + 1
+grant_word ticket = watched_word ticket + 1
 
 -- the place of a word of the board
 abbrev pub board_word : ℕ → ℕ

@@ -1,8 +1,8 @@
 -- A history that is legal from the opening of the lock.
 use Rattle.std.specs.Prelude.{◌≡◌, List, Option, Some, None}
 use Rattle.std.specs.Coded.{Unit-prop}
-use Rattle.ticket_steps.specs.declared.kept.Entry.{Entry}
-use Rattle.ticket_steps.specs.declared.kept.Kept.{Ghosts}
+use Rattle.ticket_steps.specs.declared.books.Entry.{Entry}
+use Rattle.ticket_steps.specs.declared.books.Kept.{Ghosts}
 use Rattle.ticket_steps.specs.History.{IsLegal, IsLegal-prop}
 use Rattle.ticket_lock.specs.declared.views.Start.{Start}
 

@@ -9,7 +9,7 @@ pub mod Steps
 pub mod Legal
 pub mod Counts
 pub mod Callers
-pub mod Plays
+pub mod GhostSteps
 pub mod Tokens
 pub mod Posting
 pub mod Belonging

@@ -4,7 +4,7 @@ use Rattle.std.specs.Prelude.{◌≡◌, ◌<◌, Option, Some, length}
 use mathlib.Core.Option.{none, some}
 use lib.ListN.{get_elem?}
 use Rattle.atomic_table.specs.Table.{State}
-use Rattle.ticket_steps.specs.declared.kept.Kept.{Ghosts}
+use Rattle.ticket_steps.specs.declared.books.Kept.{Ghosts}
 use Rattle.ticket_steps.specs.Books.{BookState}
 use Rattle.ticket_steps.specs.CoreStates.{CoreState, IsHome}
 use Rattle.ticket_steps.specs.Seats.{holders}

@@ -1,6 +1,6 @@
 -- The parts of the lock that clauses see, and those of its seats, turns and holds.
 use Rattle.std.specs.Prelude.{◌≡◌, ℕ, Some, Bool}
-use Rattle.ticket_steps.specs.declared.kept.Kept.{Ghosts}
+use Rattle.ticket_steps.specs.declared.books.Kept.{Ghosts}
 use Rattle.ticket_lock.specs.declared.lock.Look.{Look}
 use Rattle.ticket_lock.specs.declared.lock.Look.TheVariants.{Held, Waiting}
 use Rattle.ticket_lock.specs.declared.lock.TicketLock.{TicketLock}

@@ -1,9 +1,10 @@
 //! The seven kinds of step (split, draw, look, post, leave, gather, glance), and the facts that the seat
 //! learns from each of them.
+
 ghost use Rattle.std.specs.Prelude.{ℕ, List, []};
-ghost use Rattle.ticket_steps.specs.declared.kept.Entry.{Entry as EntryOf};
-ghost use Rattle.ticket_lock.specs.Plays.{DrawTells, LookTells, PostTells, LeaveTells, SecondLoadTells, GlanceTells};
-ghost use Rattle.ticket_lock.specs.Views.{keeping_view, given_view, joined_view, spent_view};
+ghost use Rattle.ticket_steps.specs.declared.books.Entry.{Entry as EntryOf};
+ghost use Rattle.ticket_lock.specs.GhostSteps.{DrawFact, LookFact, PostFact, LeaveFact, SecondLoadFact, GlanceFact};
+ghost use Rattle.ticket_lock.specs.Views.{view_after_split, split_view, gathered_view, spent_view};
 
 use crate::views::View;
 use atomic_table::{Join, Play, Split};
@@ -16,7 +17,7 @@ pub(crate) struct Draws<K> {
 }
 
 impl<K: Kept> Play<Option<K>, View<K, K::Call, K::Reply>> for Draws<K> {
-    ghost then = { DrawTells };
+    ghost then = { DrawFact };
 }
 
 /// The step of a look.
@@ -25,7 +26,7 @@ pub(crate) struct Looks<K> {
 }
 
 impl<K: Kept> Play<Option<K>, View<K, K::Call, K::Reply>> for Looks<K> {
-    ghost then = { LookTells K.Kept };
+    ghost then = { LookFact K.Kept };
 }
 
 /// The entries and the refusals of the book after a call that is posted. No step sees the book while a holder
@@ -49,7 +50,7 @@ pub(crate) struct Posts<K, A> {
 
 impl<K: Kept, A: After<K::Call, K::Reply>> Play<Option<K>, View<K, K::Call, K::Reply>>
     for Posts<K, A> {
-    ghost then = { PostTells A.entries A.refused };
+    ghost then = { PostFact A.entries A.refused };
 }
 
 /// The step of a leave.
@@ -58,7 +59,7 @@ pub(crate) struct Leaves<K> {
 }
 
 impl<K: Kept> Play<Option<K>, View<K, K::Call, K::Reply>> for Leaves<K> {
-    ghost then = { LeaveTells K.Kept };
+    ghost then = { LeaveFact K.Kept };
 }
 
 /// The number of numbers that a split gives away. Each call chooses it.
@@ -76,16 +77,16 @@ pub(crate) struct Splits<N> {
 }
 
 impl<K, C, R, N: Count> Split<View<K, C, R>> for Splits<N> {
-    ghost left = { keeping_view N.count };
+    ghost left = { view_after_split N.count };
 
-    ghost right = { given_view N.count };
+    ghost right = { split_view N.count };
 }
 
 /// The step of a gather.
 pub(crate) struct Gathers;
 
 impl<K, C, R> Join<View<K, C, R>> for Gathers {
-    ghost both = { joined_view };
+    ghost both = { gathered_view };
 
     ghost spent = { spent_view };
 }
@@ -97,7 +98,7 @@ pub(crate) struct SecondLoad<K> {
 }
 
 impl<K: Kept> Play<Option<K>, View<K, K::Call, K::Reply>> for SecondLoad<K> {
-    ghost then = { SecondLoadTells };
+    ghost then = { SecondLoadFact };
 }
 
 /// The step of a glance.
@@ -106,5 +107,5 @@ pub(crate) struct Glances<K> {
 }
 
 impl<K: Kept> Play<Option<K>, View<K, K::Call, K::Reply>> for Glances<K> {
-    ghost then = { GlanceTells K.Kept };
+    ghost then = { GlanceFact K.Kept };
 }

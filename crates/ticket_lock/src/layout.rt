@@ -3,6 +3,7 @@
 //! Only this file defines it. The words are next to each other: the next ticket, the four grant words, and
 //! the words of the board. A machine with many cores might need each grant word in a cache line of its own.
 //! Such a layout requires another list, and another place for each word.
+
 ghost use Rattle.std.specs.Prelude.{◌≡◌, ◌<◌, IfOk};
 ghost use Rattle.ticket_lock.specs.Layout.{grant_word, board_word, first_words};
 

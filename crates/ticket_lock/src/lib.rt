@@ -10,16 +10,15 @@
 //! core, for all orders of the threads' steps. The board shows the state after the one history.
 //!
 //! - `lock`: the lock and its calls; `layout`: the place of each word in the table.
-//! - `tokens`: seats, turns and holds; `counts`: their numbers at run time.
-//! - `views`: the knowledge of seats in proofs, and the rule; `plays`: the seven kinds of step (split, draw,
+//! - `tokens`: seats, turns and holds, with their numbers at run time.
+//! - `views`: the knowledge of seats in proofs, and the rule; `ghost_steps`: the seven kinds of step (split, draw,
 //!   look, post, leave, gather, glance).
 //! - `steps`: the law that each kind of step is one event of the core; `laws`: the law of every seat.
 
-mod counts;
+mod ghost_steps;
 mod laws;
 mod layout;
 mod lock;
-mod plays;
 mod steps;
 mod tokens;
 mod views;

@@ -1,19 +1,20 @@
 //! The lock and its calls: open, split, draw, look, post, leave, gather, glance and close.
+
 ghost use Rattle.std.specs.Prelude.{⊤, ◌≡◌, ◌↔◌, ℕ, ◌+◌, ◌-◌, ◌*◌, ◌^◌, ◌<◌, ◌≤◌, true, false, [], ◌∷◌, length, slice_index, Some, None, IsErr, IfOk, IfErr};
 ghost use Rattle.ticket_steps.specs.Books.{book_state, IsLawfulBook};
 ghost use Rattle.ticket_steps.specs.History.{of, IsLegal};
 ghost use Rattle.ticket_lock.specs.Boards.{board_after, board_length};
-ghost use Rattle.ticket_lock.specs.Callers.{first_caller, keeping, given, drawn, having_seen, ended, joined, IsHanded};
+ghost use Rattle.ticket_lock.specs.Callers.{first_caller, caller_after_split, split_part, caller_after_draw, caller_with_history, caller_after_call};
+ghost use Rattle.ticket_lock.specs.Callers.{gathered_caller, IsHandedOut};
 ghost use Rattle.ticket_lock.specs.Layout.{word_count};
-ghost use Rattle.ticket_lock.specs.Steps.{Returns, IsPosted};
+ghost use Rattle.ticket_lock.specs.Steps.{IsBookAfterCall, IsBookAfterPost};
 ghost use Rattle.ticket_lock.specs.Views.{Follows};
 
-use crate::counts::SeatCounts;
-use crate::layout::{NEXT, board_word, first_words, grant_word};
-use crate::plays::{
+use crate::ghost_steps::{
     After, Count, Draws, Gathers, Glances, Leaves, Looks, Posts, SecondLoad, Splits,
 };
-use crate::tokens::{Hold, Seat, TableSeat, Turn};
+use crate::layout::{NEXT, board_word, first_words, grant_word};
+use crate::tokens::{Hold, Seat, SeatCounts, TableSeat, Turn};
 use crate::views::{LockRule, TableStart, View};
 use atomic_table::{Refused, Table};
 use std::alloc::Global;
@@ -48,7 +49,7 @@ pub struct TicketLock<K: Kept> {
     pub(crate) numbers: u32,
     pub(crate) draws: u32,
     ghost sized: { (table.shared.table_id.words ≡ word_count table.shared.key.words) × (table.shared.table_id.slots ≡ 1) },
-    ghost told: { (table.shared.key.numbers ≡ numbers) × (table.shared.key.draws ≡ draws) },
+    ghost agreement: { (table.shared.key.numbers ≡ numbers) × (table.shared.key.draws ≡ draws) },
 }
 
 /// The outcome of a look.
@@ -75,7 +76,7 @@ impl<K: Kept> TicketLock<K> {
             × ((start_of made.0).numbers ≡ numbers) × ((start_of made.0).draws ≡ 2 ^ 32 - 1)) }
         ensures lock { IfOk result (λ made. IsSeatOf made.0 made.1) }
         ensures seat { IfOk result (λ made. seat_of made.1 ≡ first_caller numbers (2 ^ 32 - 1)) }
-        ensures refused { IfErr result (λ back. back ≡ book) }
+        ensures err { IfErr result (λ back. back ≡ book) }
     {
         TicketLock::open_with(alloc, book, numbers, DRAWS)
     }
@@ -96,7 +97,7 @@ impl<K: Kept> TicketLock<K> {
             × ((start_of made.0).numbers ≡ numbers) × ((start_of made.0).draws ≡ draws)) }
         ensures lock { IfOk result (λ made. IsSeatOf made.0 made.1) }
         ensures seat { IfOk result (λ made. seat_of made.1 ≡ first_caller numbers draws) }
-        ensures refused { IfErr result (λ back. back ≡ book) }
+        ensures err { IfErr result (λ back. back ≡ book) }
     {
         let opening = TableStart {
             book: Snapshot::of(&book),
@@ -147,8 +148,8 @@ impl<K: Kept> TicketLock<K> {
         requires count { (0 < count) × (count < length (seat_of seat).numbers) }
         requires fresh { (seat_of seat).fresh ≡ true }
         ensures lock { IsSeatOf self.now result.0 × IsSeatOf self.now result.1 }
-        ensures kept { seat_of result.0 ≡ keeping (start_of self.now).draws count (seat_of seat) }
-        ensures given { seat_of result.1 ≡ given (start_of self.now).draws count (seat_of seat) }
+        ensures kept { seat_of result.0 ≡ caller_after_split (start_of self.now).draws count (seat_of seat) }
+        ensures split_part { seat_of result.1 ≡ split_part (start_of self.now).draws count (seat_of seat) }
     {
         self.split_by::<Brand>(seat, count)
     }
@@ -158,9 +159,9 @@ impl<K: Kept> TicketLock<K> {
         requires { (count ≡ N.count) × (0 < count) × (count < length (seat_of seat).numbers)
             × ((seat_of seat).fresh ≡ true) × IsSeatOf self.now seat }
         ensures kept { IsSeatOf self.now result.0
-            × (seat_of result.0 ≡ keeping (start_of self.now).draws count (seat_of seat)) }
-        ensures given { IsSeatOf self.now result.1
-            × (seat_of result.1 ≡ given (start_of self.now).draws count (seat_of seat)) }
+            × (seat_of result.0 ≡ caller_after_split (start_of self.now).draws count (seat_of seat)) }
+        ensures split_part { IsSeatOf self.now result.1
+            × (seat_of result.1 ≡ split_part (start_of self.now).draws count (seat_of seat)) }
     {
         let Seat {
             mut table_seat,
@@ -169,7 +170,7 @@ impl<K: Kept> TicketLock<K> {
         } = seat;
         let other = self.table.shared.split_seat::<Splits<N>>(&mut table_seat);
         let kept = counts.count - count;
-        let given = Seat {
+        let split_part = Seat {
             table_seat: other,
             counts: SeatCounts {
                 number: counts.number + kept,
@@ -189,7 +190,7 @@ impl<K: Kept> TicketLock<K> {
             },
             parts: kept as u64,
         };
-        (seat, given)
+        (seat, split_part)
     }
 
     /// Takes the next ticket, by one of the seat's draws. The call returns the seat as it was exactly if the
@@ -197,9 +198,9 @@ impl<K: Kept> TicketLock<K> {
     pub fn draw(&self, seat: Seat<K>) -> Result<Turn<K>, Seat<K>>
         requires { IsSeatOf self.now seat }
         ensures spent { IsErr result ↔ ((seat_of seat).left ≡ 0) }
-        ensures back { IfErr result (λ back. back ≡ seat) }
+        ensures err { IfErr result (λ back. back ≡ seat) }
         ensures lock { IfOk result (λ turn. IsTurnOf self.now turn) }
-        ensures drawn { IfOk result (λ turn. turn_of turn ≡ drawn (seat_of seat)) }
+        ensures caller_after_draw { IfOk result (λ turn. turn_of turn ≡ caller_after_draw (seat_of seat)) }
     {
         if seat.counts.left == 0 {
             return Err(seat);
@@ -234,12 +235,12 @@ impl<K: Kept> TicketLock<K> {
         ensures lock { MatchLook result (λ hold book. IsHoldOf self.now hold)
             (λ back. IsTurnOf self.now back) }
         ensures caller { MatchLook result
-            (λ hold book. (hold_of hold ≡ having_seen (K.history book) (turn_of turn))
+            (λ hold book. (hold_of hold ≡ caller_with_history (K.history book) (turn_of turn))
             × (held_ticket_of hold ≡ ticket_of turn) × (has_posted hold ≡ false)
             × (refused_before hold ≡ K.refusals book))
             (λ back. (turn_of back ≡ turn_of turn) × (ticket_of back ≡ ticket_of turn)) }
         ensures book { MatchLook result
-            (λ hold book. IsHanded K.Kept (start_of self.now) (turn_of turn).numbers
+            (λ hold book. IsHandedOut K.Kept (start_of self.now) (turn_of turn).numbers
             (turn_of turn).seen (ticket_of turn) book)
             (λ back. length (turn_of turn).numbers < (start_of self.now).numbers) }
         ensures lawful { MatchLook result
@@ -281,12 +282,12 @@ impl<K: Kept> TicketLock<K> {
     pub fn post(&self, hold: Hold<K>, book: &K, place: u32) -> Hold<K>
         requires lock { IsHoldOf self.now hold }
         requires unposted { has_posted hold ≡ false }
-        requires book { Returns K.Kept (start_of self.now) (hold_of hold).own (hold_of hold).seen
+        requires book { IsBookAfterCall K.Kept (start_of self.now) (hold_of hold).own (hold_of hold).seen
             (refused_before hold) (Some place) book.now }
         requires place { place < words_of self.now }
         ensures lock { IsHoldOf self.now result }
         ensures posted { has_posted result ≡ true }
-        ensures caller { (hold_of result ≡ having_seen (K.history book.now) (hold_of hold))
+        ensures caller { (hold_of result ≡ caller_with_history (K.history book.now) (hold_of hold))
             × (held_ticket_of result ≡ held_ticket_of hold) }
         ensures refused { refused_before result ≡ K.refusals book.now }
     {
@@ -313,12 +314,12 @@ impl<K: Kept> TicketLock<K> {
     /// is of the hold's own number, and its call is not posted.
     pub fn leave(&self, hold: Hold<K>, book: K) -> Seat<K>
         requires lock { IsHoldOf self.now hold }
-        requires recorded { has_posted hold ≡ false → Returns K.Kept (start_of self.now)
+        requires recorded { has_posted hold ≡ false → IsBookAfterCall K.Kept (start_of self.now)
             (hold_of hold).own (hold_of hold).seen (refused_before hold) None book }
-        requires posted { has_posted hold ≡ true → IsPosted K.Kept (start_of self.now)
+        requires posted { has_posted hold ≡ true → IsBookAfterPost K.Kept (start_of self.now)
             (hold_of hold).seen (refused_before hold) book }
         ensures lock { IsSeatOf self.now result }
-        ensures ended { seat_of result ≡ ended (K.history book) (hold_of hold) }
+        ensures caller_after_call { seat_of result ≡ caller_after_call (K.history book) (hold_of hold) }
     {
         let Hold {
             mut table_seat,
@@ -350,7 +351,7 @@ impl<K: Kept> TicketLock<K> {
     pub fn gather(&self, seat: Seat<K>, other: Seat<K>) -> Seat<K>
         requires lock { IsSeatOf self.now seat × IsSeatOf self.now other }
         ensures lock { IsSeatOf self.now result }
-        ensures joined { seat_of result ≡ joined (seat_of seat) (seat_of other) }
+        ensures gathered_caller { seat_of result ≡ gathered_caller (seat_of seat) (seat_of other) }
         ensures seen { Follows (seat_of seat).numbers (seat_of seat).seen (seat_of result).seen }
         ensures seen_by_other { Follows (seat_of other).numbers (seat_of other).seen
             (seat_of result).seen }
@@ -390,7 +391,7 @@ impl<K: Kept> TicketLock<K> {
         requires lock { IsSeatOf self.now seat }
         requires place { place < words_of self.now }
         ensures lock { IsSeatOf self.now result.0 }
-        ensures caller { seat_of result.0 ≡ having_seen (seat_of result.0).seen (seat_of seat) }
+        ensures caller { seat_of result.0 ≡ caller_with_history (seat_of result.0).seen (seat_of seat) }
         ensures seen { Follows (seat_of seat).numbers (seat_of seat).seen (seat_of result.0).seen }
         ensures legal { IsLegal K.step (K.opening (start_of self.now).book) (seat_of result.0).seen }
         ensures word { result.1 ≡ slice_index
@@ -410,7 +411,7 @@ impl<K: Kept> TicketLock<K> {
     pub fn close(self, seat: Seat<K>) -> Result<K, (TicketLock<K>, Seat<K>)>
         requires { IsSeatOf self seat }
         ensures missing { IsErr result ↔ (length (seat_of seat).numbers < (start_of self).numbers) }
-        ensures back { IfErr result (λ back. (back.0 ≡ self) × (back.1 ≡ seat)) }
+        ensures err { IfErr result (λ back. (back.0 ≡ self) × (back.1 ≡ seat)) }
         ensures opening { IfOk result (λ book. K.opening book ≡ K.opening (start_of self).book) }
         ensures history { IfOk result (λ book. K.history book ≡ (seat_of seat).seen) }
         ensures calls { IfOk result (λ book.

@@ -2,14 +2,14 @@
 //!
 //! Threads share no bytes of a token. Only in proofs, a token carries the knowledge of its caller: the
 //! history that the caller has seen. It is always a first part of the one history of the book.
+
 ghost use Rattle.std.specs.Prelude.{◌≡◌, ◌+◌, ◌^◌, ◌<◌, ◌≤◌, nat_lt, false, cond, [], ◌∷◌, length, None};
 ghost use Rattle.std.specs.Coded.{Coded-set};
 ghost use Rattle.ticket_steps.specs.declared.seats.Phase.TheVariants.{Idle, Waiting, Holding, Posted};
-ghost use Rattle.ticket_steps.specs.Sums.{counted, times};
+ghost use Rattle.ticket_steps.specs.Sums.{counted, occurrences};
 ghost use Rattle.ticket_lock.specs.Counts.{AreCountsOf};
 ghost use Rattle.ticket_lock.specs.Legal.{IsLegalFrom, IsLegalFrom-prop};
 
-use crate::counts::SeatCounts;
 use crate::views::View;
 use ticket_steps::Kept;
 
@@ -33,7 +33,7 @@ pub struct Seat<K: Kept> {
     ghost bare: { table_seat.me.1 ≡ [] },
     ghost legal: { IsLegalFrom K.Kept table_seat.me.0.start table_seat.me.0.seen } by { IsLegalFrom-prop K.Kept (Coded-set K.Reply.code) _ _ },
     ghost idle: { table_seat.me.0.seat.phase ≡ Idle },
-    ghost told: { AreCountsOf counts table_seat.me.0.seat },
+    ghost agreement: { AreCountsOf counts table_seat.me.0.seat },
     ghost fresh_is: { table_seat.me.0.seat.fresh ≡ nat_lt 0 parts },
     ghost range: { 0 < parts → counts.number + counts.count ≤ 1024 },
     ghost row: { 0 < parts → table_seat.me.0.seat.numbers ≡ counted counts.number counts.count },
@@ -50,7 +50,7 @@ pub struct Turn<K: Kept> {
     ghost waits: { table_seat.me.0.seat.phase ≡ Waiting ticket },
     ghost bare: { table_seat.me.1 ≡ [] },
     ghost legal: { IsLegalFrom K.Kept table_seat.me.0.start table_seat.me.0.seen } by { IsLegalFrom-prop K.Kept (Coded-set K.Reply.code) _ _ },
-    ghost told: { AreCountsOf counts table_seat.me.0.seat },
+    ghost agreement: { AreCountsOf counts table_seat.me.0.seat },
     ghost stale: { table_seat.me.0.seat.fresh ≡ false },
 }
 
@@ -64,11 +64,11 @@ pub struct Hold<K: Kept> {
     pub(crate) counts: SeatCounts,
     pub(crate) ticket: u64,
     pub(crate) posted: bool,
-    ghost few: { ticket < 2 ^ 42 },
+    ghost bounded: { ticket < 2 ^ 42 },
     ghost out: { table_seat.me.1 ≡ (0, None) ∷ [] },
     ghost legal: { IsLegalFrom K.Kept table_seat.me.0.start table_seat.me.0.seen } by { IsLegalFrom-prop K.Kept (Coded-set K.Reply.code) _ _ },
     ghost holds: { table_seat.me.0.seat.phase ≡ cond posted (Posted ticket) (Holding ticket) },
-    ghost told: { AreCountsOf counts table_seat.me.0.seat },
+    ghost agreement: { AreCountsOf counts table_seat.me.0.seat },
     ghost stale: { table_seat.me.0.seat.fresh ≡ false },
 }
 
@@ -79,7 +79,7 @@ impl<K: Kept> Seat<K> {
     /// answers.
     pub fn number(&self) -> u32
         ensures own { result ≡ (seat_of self.now).own }
-        ensures among { 0 < times result (seat_of self.now).numbers }
+        ensures among { 0 < occurrences result (seat_of self.now).numbers }
     {
         self.counts.number
     }
@@ -87,8 +87,8 @@ impl<K: Kept> Seat<K> {
     /// How many numbers it answers for now, including its own.
     pub fn count(&self) -> u32
         ensures numbers { result ≡ length (seat_of self.now).numbers }
-        ensures some { 0 < result }
-        ensures few { result ≤ 1024 }
+        ensures nonempty { 0 < result }
+        ensures bounded { result ≤ 1024 }
     {
         self.counts.count
     }
@@ -110,7 +110,7 @@ impl<K: Kept> Seat<K> {
     /// The calls that it and the seats gathered into it have ended.
     pub fn calls(&self) -> u64
         ensures calls { result ≡ (seat_of self.now).calls }
-        ensures few { result < 2 ^ 42 }
+        ensures bounded { result < 2 ^ 42 }
     {
         self.counts.calls
     }
@@ -150,4 +150,17 @@ impl<K: Kept> Hold<K> {
     {
         self.posted
     }
+}
+
+/// The numbers that a caller takes along from seat to turn to hold.
+#[derive(Clone, Copy)]
+pub(crate) struct SeatCounts {
+    /// Its own number.
+    pub(crate) number: u32,
+    /// How many numbers it answers for.
+    pub(crate) count: u32,
+    /// The draws that it has left.
+    pub(crate) left: u64,
+    /// The calls that it and the callers gathered into it have ended.
+    pub(crate) calls: u64,
 }

@@ -1,9 +1,10 @@
 //! The knowledge of the table's seats, and the rule of the table.
 //!
 //! Only `TableStart` has values at run time. Views are the data that the rule describes.
+
 ghost use Rattle.std.specs.Prelude.{◌≡◌};
 ghost use Rattle.ticket_lock.specs.Boards.{board_length};
-ghost use Rattle.ticket_lock.specs.Rule.{IsRuled};
+ghost use Rattle.ticket_lock.specs.Rule.{ObeysRule};
 ghost use Rattle.ticket_lock.specs.Views.{first_view};
 
 use atomic_table::TableRule;
@@ -57,7 +58,7 @@ pub struct LockRule<K> {
 }
 
 impl<K: Kept> TableRule<Option<K>, View<K, K::Call, K::Reply>, TableStart<K>> for LockRule<K> {
-    ghost holds = { λ opening. IsRuled K.Kept
+    ghost holds = { λ opening. ObeysRule K.Kept
         (record { book = opening.book.value; numbers = opening.numbers; draws = opening.draws }) };
 
     ghost first = { λ opening. first_view

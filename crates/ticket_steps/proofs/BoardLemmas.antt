@@ -1,8 +1,8 @@
 -- What a call leaves of the book and its board, whether it was recorded or refused.
 use Rattle.std.proofs.Common.{◌≡◌, ℕ, ◌+◌, [], ◌∷◌, ◌++◌, length, length-set, get_or, set, sym, ap, ◌∙◌, subst, Result, Ok, Err, Some, None, IfOk, OnErr}
 use lib.Seq.{set-get_or}
-use Rattle.ticket_steps.specs.declared.kept.Kept.{Ghosts}
-use Rattle.ticket_steps.specs.declared.kept.NoMemory.{NoMemory}
+use Rattle.ticket_steps.specs.declared.books.Kept.{Ghosts}
+use Rattle.ticket_steps.specs.declared.books.NoMemory.{NoMemory}
 use Rattle.ticket_steps.specs.Books.{BookState, book_state, with_entry, with_refusal}
 use Rattle.ticket_steps.specs.History.{entry, replay, IsLegal}
 use Rattle.ticket_steps.proofs.Histories.{recorded_is}

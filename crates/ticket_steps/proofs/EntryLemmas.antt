@@ -5,10 +5,10 @@ use Rattle.std.proofs.lemmas.List.{append-nil}
 use Rattle.std.proofs.lemmas.List.Sums.{sum_by-cons}
 use mathlib.Core.Logic.{dite}
 use native.Mathlib.Decide.{ℕ_discrete, dec_le}
-use Rattle.ticket_steps.specs.declared.kept.Entry.{Entry}
+use Rattle.ticket_steps.specs.declared.books.Entry.{Entry}
 use Rattle.ticket_steps.specs.History.{of}
-use Rattle.ticket_steps.specs.Sums.{counted, times}
-use Rattle.ticket_steps.proofs.Totals.{below_no, below_yes, counted_below}
+use Rattle.ticket_steps.specs.Sums.{counted, occurrences}
+use Rattle.ticket_steps.proofs.SumLemmas.{below_no, below_yes, counted_below}
 
 zeros : (numbers : List ℕ) → sum_by (λ p. 0) numbers ≡ 0
 zeros [] = refl
@@ -44,7 +44,7 @@ module _ {C R : Type 0} where
 
   -- one entry more counts once for each place where its number stands
   counts-cons : (e : Entry C R) (es : List (Entry C R)) (numbers : List ℕ)
-      → sum_by (count_of (e ∷ es)) numbers ≡ times e.pass numbers + sum_by (count_of es) numbers
+      → sum_by (count_of (e ∷ es)) numbers ≡ occurrences e.pass numbers + sum_by (count_of es) numbers
   counts-cons e es [] = refl
   counts-cons e es (p ∷ ps) =
       let here : count_of (e ∷ es) p ≡ cond (e.pass == p) 1 0 + count_of es p = put-length e (of p es) (e.pass == p) in

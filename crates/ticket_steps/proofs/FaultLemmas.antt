@@ -2,7 +2,7 @@
 use Rattle.std.proofs.Common.{◌≡◌, ◌≢◌, ℕ, ◌<◌, List, length, get_or, arith, sym, refl, ap, ◌∙◌, subst, true, Ok, Err, Some, None}
 use mathlib.Core.Option.{some}
 use lib.ListN.{get_elem?}
-use Rattle.ticket_steps.specs.declared.kept.Kept.{Ghosts}
+use Rattle.ticket_steps.specs.declared.books.Kept.{Ghosts}
 use Rattle.ticket_steps.specs.declared.seats.CoreSeat.{CoreSeat}
 use Rattle.ticket_steps.specs.declared.seats.Phase.{Phase as PhaseOf}
 use Rattle.ticket_steps.specs.declared.seats.Phase.TheVariants.{Idle, Waiting, Holding, Posted}
@@ -12,18 +12,18 @@ use Rattle.ticket_steps.specs.declared.events.Seen.{Seen}
 use Rattle.ticket_steps.specs.declared.events.Fault.{Fault}
 use Rattle.ticket_steps.specs.declared.events.Fault.TheVariants.{NoSeat, Phase, Spent}
 use Rattle.ticket_steps.specs.CoreStates.{CoreState}
-use Rattle.ticket_steps.specs.Faults.{NamesSeats, FitsPhases, IsPlaced, Fits, HasDraw, IsFault, Shows, Steps}
+use Rattle.ticket_steps.specs.Faults.{NamesSeats, FitsPhases, FitsBoard, Fits, HasDraw, IsFault, Shows, Steps}
 use Rattle.ticket_steps.specs.Happenings.{Happening, split, drew, waited, held, posted, post_refused, left_posted, recorded, refused, glanced, gathered}
-use Rattle.ticket_steps.specs.Happenings.{IsOf, Moves}
+use Rattle.ticket_steps.specs.Happenings.{IsOfEvent, Moves}
 use Rattle.ticket_steps.specs.Lawful.{IsLawful}
-use Rattle.ticket_steps.specs.Seats.{IsThere, Stands, is_there}
+use Rattle.ticket_steps.specs.Seats.{HasSeat, IsSeatAt, is_present}
 use Rattle.ticket_steps.proofs.LawfulSteps.{moves_lawful}
 use Rattle.ticket_steps.proofs.Lists.{at_same, read_at}
 use Rattle.ticket_steps.proofs.SeatLemmas.{named_once}
 
 -- a seat that stands in a phase of those that are there
-pub stands_there : (seats : List CoreSeat) (i own : ℕ) (phase : PhaseOf) (p : CoreSeat) → is_there phase ≡ true → Stands seats i own phase p → IsThere seats own
-stands_there seats i own phase p there st = (i, p, st.0, st.1, ap is_there st.2 ∙ there)
+pub stands_there : (seats : List CoreSeat) (i own : ℕ) (phase : PhaseOf) (p : CoreSeat) → is_present phase ≡ true → IsSeatAt seats i own phase p → HasSeat seats own
+stands_there seats i own phase p there st = (i, p, st.0, st.1, ap is_present st.2 ∙ there)
 
 module _ {C : Type 0} where
   pub fits_names : (seats : List CoreSeat) (e : Event C) → FitsPhases seats e → NamesSeats seats e
@@ -59,7 +59,7 @@ module _ {K C R : Type 0} (k : Ghosts K C R) where
     abbrev May : List CoreSeat → Event C → Type 0
     May seats e = FitsPhases seats e × HasDraw seats e
 
-    moves_may : (b c : CoreState k.State C R) (e : Event C) (h : Happening C R) → IsOf e h → Moves k draws b h c → May b.seats e
+    moves_may : (b c : CoreState k.State C R) (e : Event C) (h : Happening C R) → IsOfEvent e h → Moves k draws b h c → May b.seats e
     moves_may b c e (split own count) is t = subst (May b.seats) (sym is) ((t.0, t.1, t.2, t.3, t.4, t.5), tt)
     moves_may b c e (drew own ticket) is t = subst (May b.seats) (sym is) ((t.0, t.1, t.2), (t.0, t.1, t.2, t.3))
     moves_may b c e (waited own) is t = subst (May b.seats) (sym is) ((t.0, t.1, t.2, t.3), tt)
@@ -75,7 +75,7 @@ module _ {K C R : Type 0} (k : Ghosts K C R) where
     -- a step that is shown
     pub steps_shown : (b c : CoreState k.State C R) (e : Event C) (seen : Seen R) → Shows k draws b e seen c → Steps k draws b e (Ok seen) c
     steps_shown b c e seen t = record {
-      shown = t;
+      readout = t;
       fault = λ f. (λ h. absurd (cc), λ a. let m = moves_may b c e t.0 t.1 t.3 in absurd (no_fault b e f (m.0, t.4) m.1 a));
       same = tt;
     }
@@ -88,16 +88,16 @@ module _ {K C R : Type 0} (k : Ghosts K C R) where
     -- a step that has a fault
     pub steps_fault : (b : CoreState k.State C R) (e : Event C) (f : Fault) → IsFault k b e f → Steps k draws b e (Err f) b
     steps_fault b e f a = record {
-      shown = tt;
+      readout = tt;
       fault = λ g. (λ (h : Err f ≡ Err g). let same : f ≡ g = cc in subst (IsFault k b e) same a, λ d. ap Err (one_fault b e f g a d));
       same = refl;
     }
 
 -- the seat that is called by a number is the only one
 pub phase_is : {S C R : Type 0} (numbers draws : ℕ) (c : CoreState S C R) (i k own : ℕ) (p q : CoreSeat) (phase : PhaseOf) → IsLawful numbers draws c
-    → get_elem? c.seats i ≡ some p → p.own ≡ own → is_there p.phase ≡ true → is_there phase ≡ true → Stands c.seats k own phase q → q ≡ p
+    → get_elem? c.seats i ≡ some p → p.own ≡ own → is_present p.phase ≡ true → is_present phase ≡ true → IsSeatAt c.seats k own phase q → q ≡ p
 phase_is numbers draws c i k own p q phase l at called there there' st =
-    let same : k ≡ i = named_once numbers draws c l i k p q at st.0 there (ap is_there st.2 ∙ there') (called ∙ sym st.1) in
+    let same : k ≡ i = named_once numbers draws c l i k p q at st.0 there (ap is_present st.2 ∙ there') (called ∙ sym st.1) in
     at_same c.seats i q p (subst (λ (n : ℕ). get_elem? c.seats n ≡ some q) same st.0) at
 
 -- an element that was read at the place where p stands is p
@@ -106,11 +106,11 @@ read_is xs i at read = read ∙ read_at xs i _ _ at
 
 -- a seat that is there, called by its own number: which events it is not fit for
 module _ {K C R : Type 0} (k : Ghosts K C R) (numbers draws : ℕ) (c : CoreState k.State C R) (l : IsLawful numbers draws c) (i own : ℕ) (p : CoreSeat)
-    (at : get_elem? c.seats i ≡ some p) (called : p.own ≡ own) (there : is_there p.phase ≡ true) where
-  here : IsThere c.seats own
+    (at : get_elem? c.seats i ≡ some p) (called : p.own ≡ own) (there : is_present p.phase ≡ true) where
+  here : HasSeat c.seats own
   here = (i, p, at, called, there)
 
-  same_phase : (phase : PhaseOf) (j : ℕ) (q : CoreSeat) → is_there phase ≡ true → Stands c.seats j own phase q → p.phase ≡ phase
+  same_phase : (phase : PhaseOf) (j : ℕ) (q : CoreSeat) → is_present phase ≡ true → IsSeatAt c.seats j own phase q → p.phase ≡ phase
   same_phase phase j q there' st = ap (λ (s : CoreSeat). s.phase) (sym (phase_is numbers draws c i j own p q phase l at called there there' st)) ∙ st.2
 
   pub unfit_split : (count : ℕ) → ((p.phase ≡ Idle) × (p.fresh ≡ true) × (0 < count) × (count < length p.numbers) → ⊥)
@@ -151,10 +151,10 @@ module _ {K C R : Type 0} (k : Ghosts K C R) (numbers draws : ℕ) (c : CoreStat
   unfit_glance place wrong = (here, λ f. wrong (same_phase Idle f.0.0 f.0.1 refl f.0.2))
 
   -- an event of this seat that doesn't fit the board
-  pub unplaced : (e : Event C) → (IsThere c.seats own → NamesSeats c.seats e) → (IsPlaced k c.book.state e → ⊥) → IsFault k c e Phase
+  pub unplaced : (e : Event C) → (HasSeat c.seats own → NamesSeats c.seats e) → (FitsBoard k c.book.state e → ⊥) → IsFault k c e Phase
   unplaced e names wrong = (names here, λ f. wrong f.1)
 
-  pub unfit_gather : (j other : ℕ) (q : CoreSeat) → get_elem? c.seats j ≡ some q → q.own ≡ other → is_there q.phase ≡ true
+  pub unfit_gather : (j other : ℕ) (q : CoreSeat) → get_elem? c.seats j ≡ some q → q.own ≡ other → is_present q.phase ≡ true
       → ((own ≢ other) × (p.phase ≡ Idle) × (q.phase ≡ Idle) → ⊥) → IsFault k c (Gather own other) Phase
   unfit_gather j other q at' called' there' wrong = (
     (here, (j, q, at', called', there')),

@@ -4,7 +4,7 @@ use Rattle.std.proofs.lemmas.Grind.{get_or-set_at}
 use Rattle.std.proofs.lemmas.List.Recursion.{max_bounds, max_least}
 use mathlib.Core.Logic.{dite}
 use native.Mathlib.Decide.{ℕ_discrete}
-use Rattle.ticket_steps.specs.Grants.{AreGrantsOf, IsLastGrant, greatest, watched}
+use Rattle.ticket_steps.specs.Grants.{AreGrantsOf, IsLastGrant, greatest, watched_word}
 
 -- where each word is the last grant that it can be, all else follows
 grants_are : (served : ℕ) (words : List ℕ) → length words ≡ 4
@@ -12,12 +12,12 @@ grants_are : (served : ℕ) (words : List ℕ) → length words ≡ 4
 grants_are served words four each = record {
   four = four;
   greatest_is =
-      let top = max_bounds greatest (λ (n : ℕ). n) refl (λ n ns. refl) words (watched served) 0 (omega (arith, four)) in
+      let top = max_bounds greatest (λ (n : ℕ). n) refl (λ n ns. refl) words (watched_word served) 0 (omega (arith, four)) in
       let least = max_least greatest (λ (n : ℕ). n) refl (λ n ns. refl) words 0 served (λ i lt. (each i (omega (arith, four))).within) in
-      let here = (each (watched served) (omega arith)).last served (omega arith) refl in
+      let here = (each (watched_word served) (omega arith)).last served (omega arith) refl in
       omega (arith, top, least, here);
   found = λ ticket le.
-      let here = each (watched ticket) (omega arith) in
+      let here = each (watched_word ticket) (omega arith) in
       (λ e. omega (arith, here.within, e, le), λ e. omega (arith, here.within, e, here.last ticket (omega (arith, e)) refl));
   each = each;
 }
@@ -42,7 +42,7 @@ grants_opened = grants_are 0 (0 ∷ 0 ∷ 0 ∷ 0 ∷ []) refl
     })
 
 -- a leave writes the next ticket into the word that this one watches
-pub grants_left : (served place : ℕ) (words : List ℕ) → AreGrantsOf served words → place ≡ watched (served + 1)
+pub grants_left : (served place : ℕ) (words : List ℕ) → AreGrantsOf served words → place ≡ watched_word (served + 1)
     → AreGrantsOf (served + 1) (set words place (served + 1))
 grants_left served place words before is =
     grants_are (served + 1) (set words place (served + 1)) (length-set words place (served + 1) ∙ before.four)
@@ -54,5 +54,5 @@ grants_left served place words before is =
       within = omega (arith, old.within);
       own = old.own;
       last = λ ticket le watches. old.last ticket (dite (ℕ_discrete ticket (served + 1))
-          (λ next. absurd (other (sym watches ∙ (ap watched next ∙ sym is)))) (λ earlier. omega (arith, le, earlier))) watches;
+          (λ next. absurd (other (sym watches ∙ (ap watched_word next ∙ sym is)))) (λ earlier. omega (arith, le, earlier))) watches;
     }))

@@ -1,6 +1,6 @@
 -- One more entry at the end of a history.
 use Rattle.std.proofs.Common.{◌≡◌, ℕ, List, [], ◌∷◌, ◌++◌, refl, sym, ap, ◌∙◌, subst}
-use Rattle.ticket_steps.specs.declared.kept.Entry.{Entry}
+use Rattle.ticket_steps.specs.declared.books.Entry.{Entry}
 use Rattle.ticket_steps.specs.Books.{BookState, book_state, empty_book, with_entry, with_refusal, IsLawfulBook}
 use Rattle.ticket_steps.specs.History.{entry, replay, IsLegal}
 

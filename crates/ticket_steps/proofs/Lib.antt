@@ -1,7 +1,7 @@
 pub mod Histories
 pub mod Lists
-pub mod Totals
-pub mod Ofs
+pub mod SumLemmas
+pub mod EntryLemmas
 pub mod GrantLemmas
 pub mod BoardLemmas
 pub mod CoreLemmas

@@ -4,27 +4,27 @@ use Rattle.std.proofs.Common.{Bool, true, false, cond, eqb, ne_eqb, ◌≢◌}
 use Rattle.std.proofs.Math.Seq.{take-suc}
 use Rattle.std.proofs.lemmas.List.{append-nil}
 use mathlib.Core.List.{IsPrefix}
-use Rattle.ticket_steps.specs.declared.kept.Entry.{Entry}
-use Rattle.ticket_steps.specs.declared.kept.Kept.{Ghosts}
+use Rattle.ticket_steps.specs.declared.books.Entry.{Entry}
+use Rattle.ticket_steps.specs.declared.books.Kept.{Ghosts}
 use Rattle.ticket_steps.specs.declared.events.Event.{Event}
 use Rattle.ticket_steps.specs.declared.seats.CoreSeat.{CoreSeat}
 use Rattle.ticket_steps.specs.declared.seats.Phase.{Phase}
 use Rattle.ticket_steps.specs.declared.seats.Phase.TheVariants.{Holding}
-use Rattle.ticket_steps.specs.Books.{BookState, IsLawfulBook, calls_taken, with_entry, with_refusal}
+use Rattle.ticket_steps.specs.Books.{BookState, IsLawfulBook, calls_handled, with_entry, with_refusal}
 use Rattle.ticket_steps.specs.declared.events.Seen.{Seen}
-use Rattle.ticket_steps.specs.CoreStates.{CoreState, opened}
+use Rattle.ticket_steps.specs.CoreStates.{CoreState, opening_core}
 use Rattle.ticket_steps.specs.Faults.{Shows, LeadsBy}
 use Rattle.ticket_steps.specs.Happenings.{Happening, split, drew, waited, held, posted, post_refused, left_posted, recorded, refused, glanced, gathered}
 use Rattle.ticket_steps.specs.Happenings.{calls_made, turns_ended, recorded_by, Moves, Leads}
 use Rattle.ticket_steps.specs.History.{entry, of}
 use Rattle.ticket_steps.specs.Lawful.{IsLawful}
-use Rattle.ticket_steps.specs.Seats.{Stands, is_there}
+use Rattle.ticket_steps.specs.Seats.{IsSeatAt, is_present}
 use Rattle.ticket_steps.specs.Schedules.{Schedule, IsSchedule, IsLine, ShowsAt}
 use Rattle.ticket_steps.proofs.Histories.{lawful_empty, lawful_entry, lawful_refusal}
 use Rattle.ticket_steps.proofs.LawfulSteps.{lawful_opened, moves_lawful, taken_entry, taken_refusal}
-use Rattle.ticket_steps.proofs.Ofs.{of-append}
+use Rattle.ticket_steps.proofs.EntryLemmas.{of-append}
 use Rattle.ticket_steps.proofs.SeatLemmas.{own_below}
-use Rattle.ticket_steps.proofs.Totals.{below_yes, below_no}
+use Rattle.ticket_steps.proofs.SumLemmas.{below_yes, below_no}
 
 module _ {K C R : Type 0} (k : Ghosts K C R) where
   module _ (draws : ℕ) where
@@ -134,14 +134,14 @@ module _ {K C R : Type 0} (k : Ghosts K C R) where
         (λ (l : List (Entry C R)). of n b.book.entries ++ l) (sym (recorded-cons n h hs))))
 
     abbrev taken : CoreState k.State C R → ℕ
-    taken c = calls_taken c.book
+    taken c = calls_handled c.book
 
     abbrev served : CoreState k.State C R → ℕ
     served c = c.served
 
     -- the book has taken in the calls that were made since, and the number served has risen by the turns that have ended
     abbrev pub Counts : CoreState k.State C R → CoreState k.State C R → List (Happening C R) → Type 0
-    Counts b c hs = (calls_taken c.book ≡ calls_taken b.book + calls_made hs) × (c.served ≡ b.served + turns_ended hs)
+    Counts b c hs = (calls_handled c.book ≡ calls_handled b.book + calls_made hs) × (c.served ≡ b.served + turns_ended hs)
 
     moves_count : (b c : CoreState k.State C R) (h : Happening C R) → Moves k draws b h c → Counts b c (h ∷ [])
     moves_count b c (split own count) t = (omega (arith, ap taken t.6), omega (arith, ap served t.6))
@@ -193,9 +193,9 @@ module _ {K C R : Type 0} (k : Ghosts K C R) where
 
     -- a seat that is there has no number from all of them on, so what it records is nothing to such a number
     nothing : (numbers n : ℕ) (b : CoreState k.State C R) (own : ℕ) (call : C) (reply : R) (phase : Phase) → IsLawful numbers draws b → numbers ≤ n
-        → (i : ℕ) (p : CoreSeat) → is_there phase ≡ true → Stands b.seats i own phase p → cond (eqb own n) (entry own call reply ∷ []) [] ≡ []
+        → (i : ℕ) (p : CoreSeat) → is_present phase ≡ true → IsSeatAt b.seats i own phase p → cond (eqb own n) (entry own call reply ∷ []) [] ≡ []
     nothing numbers n b own call reply phase l le i p there st =
-        let below = own_below numbers draws b l i p st.0 (ap is_there st.2 ∙ there) in
+        let below = own_below numbers draws b l i p st.0 (ap is_present st.2 ∙ there) in
         let apart : own ≢ n = λ e. omega (arith, below, le, st.1, e) in
         ap (λ (x : Bool). cond x (entry own call reply ∷ []) []) (ne_eqb own n apart)
 
@@ -231,30 +231,30 @@ module _ {K C R : Type 0} (k : Ghosts K C R) where
 
   pub schedule_lawful : (s : Schedule k.State C R) → IsSchedule k s → IsLawful s.numbers s.draws s.end
   schedule_lawful s is =
-      leads_lawful s.draws s.numbers (opened s.numbers s.draws s.opening) s.end s.happened (lawful_opened s.numbers s.draws s.opening is.some_number) is.leads
+      leads_lawful s.draws s.numbers (opening_core s.numbers s.draws s.opening) s.end s.happenings (lawful_opened s.numbers s.draws s.opening is.nonempty_numbers) is.leads
 
   pub schedule_book : (s : Schedule k.State C R) → IsSchedule k s → IsLawfulBook k.step s.opening s.end.book
-  schedule_book s is = leads_lawful_book s.draws s.opening (opened s.numbers s.draws s.opening) s.end s.happened (lawful_empty k.step s.opening) is.leads
+  schedule_book s is = leads_lawful_book s.draws s.opening (opening_core s.numbers s.draws s.opening) s.end s.happenings (lawful_empty k.step s.opening) is.leads
 
-  pub schedule_of : (s : Schedule k.State C R) → IsSchedule k s → (n : ℕ) → of n s.end.book.entries ≡ recorded_by n s.happened
-  schedule_of s is n = leads_of s.draws n (opened s.numbers s.draws s.opening) s.end s.happened is.leads
+  pub schedule_of : (s : Schedule k.State C R) → IsSchedule k s → (n : ℕ) → of n s.end.book.entries ≡ recorded_by n s.happenings
+  schedule_of s is n = leads_of s.draws n (opening_core s.numbers s.draws s.opening) s.end s.happenings is.leads
 
   pub schedule_glanced : (s : Schedule k.State C R) → IsSchedule k s → (own place word : ℕ) (before after : List (Happening C R))
-      → s.happened ≡ before ++ glanced own place word ∷ after → ShowsAt k s.opening place word s.end.book.entries
-  schedule_glanced s is own place word before after happened =
-      leads_glanced s.draws s.opening own place word (opened s.numbers s.draws s.opening) s.end before after (lawful_empty k.step s.opening)
-      (subst (λ (hs : List (Happening C R)). Leads k s.draws (opened s.numbers s.draws s.opening) hs s.end) happened is.leads)
+      → s.happenings ≡ before ++ glanced own place word ∷ after → ShowsAt k s.opening place word s.end.book.entries
+  schedule_glanced s is own place word before after happenings =
+      leads_glanced s.draws s.opening own place word (opening_core s.numbers s.draws s.opening) s.end before after (lawful_empty k.step s.opening)
+      (subst (λ (hs : List (Happening C R)). Leads k s.draws (opening_core s.numbers s.draws s.opening) hs s.end) happenings is.leads)
 
-  pub schedule_made : (s : Schedule k.State C R) → IsSchedule k s → calls_made s.happened ≡ calls_taken s.end.book
-  schedule_made s is = omega (arith, (leads_count s.draws (opened s.numbers s.draws s.opening) s.end s.happened is.leads).0)
+  pub schedule_made : (s : Schedule k.State C R) → IsSchedule k s → calls_made s.happenings ≡ calls_handled s.end.book
+  schedule_made s is = omega (arith, (leads_count s.draws (opening_core s.numbers s.draws s.opening) s.end s.happenings is.leads).0)
 
-  pub schedule_ended : (s : Schedule k.State C R) → IsSchedule k s → turns_ended s.happened ≡ s.end.served
-  schedule_ended s is = omega (arith, (leads_count s.draws (opened s.numbers s.draws s.opening) s.end s.happened is.leads).1)
+  pub schedule_ended : (s : Schedule k.State C R) → IsSchedule k s → turns_ended s.happenings ≡ s.end.served
+  schedule_ended s is = omega (arith, (leads_count s.draws (opening_core s.numbers s.draws s.opening) s.end s.happenings is.leads).1)
 
   pub schedule_strangers : (s : Schedule k.State C R) → IsSchedule k s → (n : ℕ) → s.numbers ≤ n → of n s.end.book.entries ≡ []
   schedule_strangers s is n le =
-      leads_strangers s.draws s.numbers n (opened s.numbers s.draws s.opening) s.end s.happened
-      (lawful_opened s.numbers s.draws s.opening is.some_number) le refl is.leads
+      leads_strangers s.draws s.numbers n (opening_core s.numbers s.draws s.opening) s.end s.happenings
+      (lawful_opened s.numbers s.draws s.opening is.nonempty_numbers) le refl is.leads
 
 pub lawful_line : {S C R : Type 0} (numbers draws : ℕ) (c : CoreState S C R) → IsLawful numbers draws c → c.served ≤ c.next → IsLine c
 lawful_line numbers draws c l le = record {

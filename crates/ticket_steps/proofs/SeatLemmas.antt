@@ -7,32 +7,33 @@ use lib.ListN.{get_elem?}
 use Rattle.ticket_steps.specs.declared.seats.CoreSeat.{CoreSeat}
 use Rattle.ticket_steps.specs.declared.seats.Phase.{Phase}
 use Rattle.ticket_steps.specs.declared.seats.Phase.TheVariants.{Idle, Waiting, Holding, Posted, Gone}
-use Rattle.ticket_steps.specs.Books.{calls_taken}
+use Rattle.ticket_steps.specs.Books.{calls_handled}
 use Rattle.ticket_steps.specs.CoreStates.{CoreState}
 use Rattle.ticket_steps.specs.Lawful.{IsSeat, IsLawful}
-use Rattle.ticket_steps.specs.Seats.{Holds, tickets_of, holds_one, posted_one, is_there, tickets_at, holders, posters}
-use Rattle.ticket_steps.specs.Sums.{total, times, once_below, counted}
-use Rattle.ticket_steps.proofs.Totals.{times-same, times-other, times_le, below_le, below_no, below_yes, between, term_le, terms_le, sums_le, sums_lt}
-use Rattle.ticket_steps.proofs.Totals.{only_term, counted_last}
+use Rattle.ticket_steps.specs.Seats.{Holds, tickets_of, holder_count_of, poster_count_of, is_present, tickets_at, holders, posters}
+use Rattle.ticket_steps.specs.Sums.{total, occurrences, once_below, counted}
+use Rattle.ticket_steps.proofs.SumLemmas.{occurrences-same, occurrences-other, times_le, below_le, below_no, below_yes, between, term_le, terms_le, sums_le}
+use Rattle.ticket_steps.proofs.SumLemmas.{sums_lt}
+use Rattle.ticket_steps.proofs.SumLemmas.{only_term, counted_last}
 
 abbrev pub tickets : ℕ → CoreSeat → ℕ
-tickets t s = times t (tickets_of s.phase)
+tickets t s = occurrences t (tickets_of s.phase)
 
 abbrev pub holds : CoreSeat → ℕ
-holds s = holds_one s.phase
+holds s = holder_count_of s.phase
 
 abbrev pub posts : CoreSeat → ℕ
-posts s = posted_one s.phase
+posts s = poster_count_of s.phase
 
 -- a seat in one of the two phases of a holder holds
 pub holding_holds : (t : ℕ) (p : Phase) → p ≡ Holding t → Holds t p
-holding_holds t p e = (ap holds_one e, ap tickets_of e)
+holding_holds t p e = (ap holder_count_of e, ap tickets_of e)
 
 pub posted_holds : (t : ℕ) (p : Phase) → p ≡ Posted t → Holds t p
-posted_holds t p e = (ap holds_one e, ap tickets_of e)
+posted_holds t p e = (ap holder_count_of e, ap tickets_of e)
 
 -- a seat that holds is there
-pub holder_there : (p : Phase) → holds_one p ≡ 1 → is_there p ≡ true
+pub holder_there : (p : Phase) → holder_count_of p ≡ 1 → is_present p ≡ true
 holder_there Idle e = absurd (omega (arith, e))
 holder_there (Waiting t) e = absurd (omega (arith, e))
 holder_there (Holding t) e = refl
@@ -44,24 +45,24 @@ pub same_ticket : (t k : ℕ) → t ∷ [] ≡ k ∷ [] → t ≡ k
 same_ticket t k e = cc
 
 -- the ticket of a seat in a known phase
-pub tickets_idle : (t : ℕ) (s : CoreSeat) → s.phase ≡ Idle → times t (tickets_of s.phase) ≡ 0
-tickets_idle t s e = ap (λ (p : Phase). times t (tickets_of p)) e
+pub tickets_idle : (t : ℕ) (s : CoreSeat) → s.phase ≡ Idle → occurrences t (tickets_of s.phase) ≡ 0
+tickets_idle t s e = ap (λ (p : Phase). occurrences t (tickets_of p)) e
 
-pub tickets_waiting : (t k : ℕ) (s : CoreSeat) → s.phase ≡ Waiting k → times t (tickets_of s.phase) ≡ times t (k ∷ [])
-tickets_waiting t k s e = ap (λ (p : Phase). times t (tickets_of p)) e
+pub tickets_waiting : (t k : ℕ) (s : CoreSeat) → s.phase ≡ Waiting k → occurrences t (tickets_of s.phase) ≡ occurrences t (k ∷ [])
+tickets_waiting t k s e = ap (λ (p : Phase). occurrences t (tickets_of p)) e
 
-pub tickets_holding : (t k : ℕ) (s : CoreSeat) → Holds k s.phase → times t (tickets_of s.phase) ≡ times t (k ∷ [])
-tickets_holding t k s e = ap (times t) e.1
+pub tickets_holding : (t k : ℕ) (s : CoreSeat) → Holds k s.phase → occurrences t (tickets_of s.phase) ≡ occurrences t (k ∷ [])
+tickets_holding t k s e = ap (occurrences t) e.1
 
-holder_le_as : (served : ℕ) (p : Phase) → ((t : ℕ) → Holds t p → t ≡ served) → holds_one p ≤ times served (tickets_of p)
+holder_le_as : (served : ℕ) (p : Phase) → ((t : ℕ) → Holds t p → t ≡ served) → holder_count_of p ≤ occurrences served (tickets_of p)
 holder_le_as served Idle h = omega arith
 holder_le_as served (Waiting t) h = omega arith
-holder_le_as served (Holding t) h = omega (arith, ap (λ (k : ℕ). times served (k ∷ [])) (h t (refl, refl)), times-same served [])
-holder_le_as served (Posted t) h = omega (arith, ap (λ (k : ℕ). times served (k ∷ [])) (h t (refl, refl)), times-same served [])
+holder_le_as served (Holding t) h = omega (arith, ap (λ (k : ℕ). occurrences served (k ∷ [])) (h t (refl, refl)), occurrences-same served [])
+holder_le_as served (Posted t) h = omega (arith, ap (λ (k : ℕ). occurrences served (k ∷ [])) (h t (refl, refl)), occurrences-same served [])
 holder_le_as served Gone h = omega arith
 
 -- a holder has the number served as its ticket
-pub holder_le : (draws served : ℕ) (s : CoreSeat) → IsSeat draws served s → holds_one s.phase ≤ times served (tickets_of s.phase)
+pub holder_le : (draws served : ℕ) (s : CoreSeat) → IsSeat draws served s → holder_count_of s.phase ≤ occurrences served (tickets_of s.phase)
 holder_le draws served s is = holder_le_as served s.phase is.holder
 
 busy_as : (p : Phase) → length (tickets_of p) ≤ 1
@@ -71,7 +72,7 @@ busy_as (Holding t) = omega arith
 busy_as (Posted t) = omega arith
 busy_as Gone = omega arith
 
-gone_none_as : (p : Phase) → is_there p ≡ false → length (tickets_of p) ≡ 0
+gone_none_as : (p : Phase) → is_present p ≡ false → length (tickets_of p) ≡ 0
 gone_none_as Idle h = absurd (cc)
 gone_none_as (Waiting t) h = absurd (cc)
 gone_none_as (Holding t) h = absurd (cc)
@@ -79,7 +80,7 @@ gone_none_as (Posted t) h = absurd (cc)
 gone_none_as Gone h = refl
 
 -- a seat that has posted holds
-posted_le_as : (p : Phase) → posted_one p ≤ holds_one p
+posted_le_as : (p : Phase) → poster_count_of p ≤ holder_count_of p
 posted_le_as Idle = omega arith
 posted_le_as (Waiting t) = omega arith
 posted_le_as (Holding t) = omega arith
@@ -89,23 +90,23 @@ posted_le_as Gone = omega arith
 pub posters_le : (seats : List CoreSeat) → posters seats ≤ holders seats
 posters_le seats = sums_le posts holds seats (λ k u e. posted_le_as u.phase)
 
-there_or_not : (p : Phase) → (is_there p ≡ true) ⊎ (is_there p ≡ false)
-there_or_not p = elim (is_there p) as (λ b. (b ≡ true) ⊎ (b ≡ false)) [ true ↦ inl refl | false ↦ inr refl ]
+there_or_not : (p : Phase) → (is_present p ≡ true) ⊎ (is_present p ≡ false)
+there_or_not p = elim (is_present p) as (λ b. (b ≡ true) ⊎ (b ≡ false)) [ true ↦ inl refl | false ↦ inr refl ]
 
 -- a seat with a ticket answers for some number
 pub busy : (draws served : ℕ) (s : CoreSeat) → IsSeat draws served s → length (tickets_of s.phase) ≤ length s.numbers
 busy draws served s is = ⊎_elim
-    (λ (t : is_there s.phase ≡ true). omega (arith, busy_as s.phase, is.own t, times_le s.own s.numbers))
-    (λ (t : is_there s.phase ≡ false). omega (arith, gone_none_as s.phase t)) (there_or_not s.phase)
+    (λ (t : is_present s.phase ≡ true). omega (arith, busy_as s.phase, is.own t, times_le s.own s.numbers))
+    (λ (t : is_present s.phase ≡ false). omega (arith, gone_none_as s.phase t)) (there_or_not s.phase)
 
 -- a seat without numbers has ended no calls
 pub unnumbered_calls : (draws served : ℕ) (s : CoreSeat) → IsSeat draws served s → length s.numbers ≡ 0 → s.calls ≡ 0
 unnumbered_calls draws served s is none = ⊎_elim
-    (λ (t : is_there s.phase ≡ true). absurd (omega (arith, none, is.own t, times_le s.own s.numbers)))
-    (λ (t : is_there s.phase ≡ false). (is.gone t).1) (there_or_not s.phase)
+    (λ (t : is_present s.phase ≡ true). absurd (omega (arith, none, is.own t, times_le s.own s.numbers)))
+    (λ (t : is_present s.phase ≡ false). (is.gone_seat t).1) (there_or_not s.phase)
 
 -- and has posted none
-pub unnumbered_posts : (draws served : ℕ) (s : CoreSeat) → IsSeat draws served s → length s.numbers ≡ 0 → posted_one s.phase ≡ 0
+pub unnumbered_posts : (draws served : ℕ) (s : CoreSeat) → IsSeat draws served s → length s.numbers ≡ 0 → poster_count_of s.phase ≡ 0
 unnumbered_posts draws served s is none = omega (
   arith,
   none,
@@ -127,32 +128,32 @@ module _ {S C R : Type 0} (numbers draws : ℕ) (c : CoreState S C R) (l : IsLaw
   one_holder = omega (arith, holders_le, one_served, below_le c.served c.next)
 
   -- the book has taken in as many calls as were ended, and at most one that was posted
-  pub taken_le : calls_taken c.book ≤ c.served + 1
+  pub taken_le : calls_handled c.book ≤ c.served + 1
   taken_le = omega (arith, l.counted, posters_le c.seats, one_holder)
 
   -- where no seat holds, they are as many
-  pub taken_at_home : holders c.seats ≡ 0 → calls_taken c.book ≡ c.served
+  pub taken_at_home : holders c.seats ≡ 0 → calls_handled c.book ≡ c.served
   taken_at_home home = omega (arith, l.counted, posters_le c.seats, home)
 
   -- where the seat that is served waits, no seat holds
   pub no_holder : (i : ℕ) (p : CoreSeat) → get_elem? c.seats i ≡ some p → p.phase ≡ Waiting c.served → holders c.seats ≡ 0
   no_holder i p at waits =
-      let mine : times c.served (tickets_of p.phase) ≡ 1 = tickets_waiting c.served c.served p waits ∙ times-same c.served [] in
-      let fewer : holders c.seats < tickets_at c.served c.seats = sums_lt holds (tickets c.served) c.seats i p at (omega (arith, ap holds_one waits, mine))
+      let mine : occurrences c.served (tickets_of p.phase) ≡ 1 = tickets_waiting c.served c.served p waits ∙ occurrences-same c.served [] in
+      let fewer : holders c.seats < tickets_at c.served c.seats = sums_lt holds (tickets c.served) c.seats i p at (omega (arith, ap holder_count_of waits, mine))
       (λ k u e. holder_le draws c.served u (l.each k u e)) in
       omega (arith, one_served, below_le c.served c.next)
 
   -- beside the seat that is served no other has its ticket
-  pub sole : (i k : ℕ) (p u : CoreSeat) → get_elem? c.seats i ≡ some p → times c.served (tickets_of p.phase) ≡ 1 → k ≢ i
-      → get_elem? c.seats k ≡ some u → times c.served (tickets_of u.phase) ≡ 0
+  pub sole : (i k : ℕ) (p u : CoreSeat) → get_elem? c.seats i ≡ some p → occurrences c.served (tickets_of p.phase) ≡ 1 → k ≢ i
+      → get_elem? c.seats k ≡ some u → occurrences c.served (tickets_of u.phase) ≡ 0
   sole i k p u at mine other e = omega (arith, mine, terms_le (tickets c.served) c.seats i k p u other at e, one_served, below_le c.served c.next)
 
   -- a ticket that a seat has was drawn and isn't left yet
-  pub in_line : (i t : ℕ) (p : CoreSeat) → get_elem? c.seats i ≡ some p → 0 < times t (tickets_of p.phase) → c.served < c.next
+  pub in_line : (i t : ℕ) (p : CoreSeat) → get_elem? c.seats i ≡ some p → 0 < occurrences t (tickets_of p.phase) → c.served < c.next
   in_line i t p at has = between t c.served c.next (omega (arith, l.tickets t, term_le (tickets t) c.seats i p at))
 
   -- it is the number served or a later one
-  pub not_left : (i t : ℕ) (p : CoreSeat) → get_elem? c.seats i ≡ some p → 0 < times t (tickets_of p.phase) → c.served ≤ t
+  pub not_left : (i t : ℕ) (p : CoreSeat) → get_elem? c.seats i ≡ some p → 0 < occurrences t (tickets_of p.phase) → c.served ≤ t
   not_left i t p at has = dite (dec_le c.served t) (λ le. le)
       (λ left. absurd (omega (arith, l.tickets t, term_le (tickets t) c.seats i p at, below_yes t c.served (omega arith), below_le t c.next)))
 
@@ -162,14 +163,14 @@ module _ {S C R : Type 0} (numbers draws : ℕ) (c : CoreState S C R) (l : IsLaw
       (λ gt. absurd (omega (arith, l.tickets c.next, below_no c.next c.next (omega arith), below_yes c.next c.served (omega arith))))
 
   pub waits_in_line : (i t : ℕ) (p : CoreSeat) → get_elem? c.seats i ≡ some p → p.phase ≡ Waiting t → c.served ≤ t
-  waits_in_line i t p at waits = not_left i t p at (omega (arith, tickets_waiting t t p waits, times-same t []))
+  waits_in_line i t p at waits = not_left i t p at (omega (arith, tickets_waiting t t p waits, occurrences-same t []))
 
   -- a seat that waits while all others have no numbers is the one that is served
   pub alone_served : (i t : ℕ) (p : CoreSeat) → get_elem? c.seats i ≡ some p → p.phase ≡ Waiting t → numbers ≤ length p.numbers → t ≡ c.served
   alone_served i t p at waits all =
-      let mine : times t (tickets_of p.phase) ≡ 1 = tickets_waiting t t p waits ∙ times-same t [] in
+      let mine : occurrences t (tickets_of p.phase) ≡ 1 = tickets_waiting t t p waits ∙ occurrences-same t [] in
       let one : once_below c.served c.next ≡ 1 = below_yes c.served c.next (in_line i t p at (omega (arith, mine))) in
-      let only : tickets_at c.served c.seats ≡ times c.served (tickets_of p.phase) = only_term (tickets c.served) c.seats i p at
+      let only : tickets_at c.served c.seats ≡ occurrences c.served (tickets_of p.phase) = only_term (tickets c.served) c.seats i p at
       (λ k u other e. omega (
         arith,
         times_le c.served (tickets_of u.phase),
@@ -177,8 +178,8 @@ module _ {S C R : Type 0} (numbers draws : ℕ) (c : CoreState S C R) (l : IsLaw
         terms_le (λ (s : CoreSeat). length s.numbers) c.seats i k p u other at e,
         l.count,
       )) in
-      let found : times c.served (t ∷ []) ≡ 1 = sym (tickets_waiting c.served t p waits) ∙ (sym only ∙ (one_served ∙ one)) in
-      dite (ℕ_discrete c.served t) (λ e. sym e) (λ ne. absurd (omega (arith, times-other c.served t [] ne, found)))
+      let found : occurrences c.served (t ∷ []) ≡ 1 = sym (tickets_waiting c.served t p waits) ∙ (sym only ∙ (one_served ∙ one)) in
+      dite (ℕ_discrete c.served t) (λ e. sym e) (λ ne. absurd (omega (arith, occurrences-other c.served t [] ne, found)))
 
   -- where one seat stands for all numbers, no other seat counts
   pub alone : (i : ℕ) (p : CoreSeat) → get_elem? c.seats i ≡ some p → numbers ≤ length p.numbers
@@ -187,25 +188,25 @@ module _ {S C R : Type 0} (numbers draws : ℕ) (c : CoreState S C R) (l : IsLaw
       (λ k u other e. h k u e (omega (arith, terms_le (λ (s : CoreSeat). length s.numbers) c.seats i k p u other at e, l.count, all)))
 
   -- two seats that are there and have the same own number are one
-  pub named_once : (i k : ℕ) (p q : CoreSeat) → get_elem? c.seats i ≡ some p → get_elem? c.seats k ≡ some q → is_there p.phase ≡ true
-      → is_there q.phase ≡ true → p.own ≡ q.own → k ≡ i
+  pub named_once : (i k : ℕ) (p q : CoreSeat) → get_elem? c.seats i ≡ some p → get_elem? c.seats k ≡ some q → is_present p.phase ≡ true
+      → is_present q.phase ≡ true → p.own ≡ q.own → k ≡ i
   named_once i k p q at at' there there' same = dite (ℕ_discrete k i) (λ e. e) (λ ne. absurd (omega (
     arith,
     (l.each i p at).own there,
     (l.each k q at').own there',
-    ap (λ (n : ℕ). times n q.numbers) same,
-    terms_le (λ (s : CoreSeat). times p.own s.numbers) c.seats i k p q ne at at',
+    ap (λ (n : ℕ). occurrences n q.numbers) same,
+    terms_le (λ (s : CoreSeat). occurrences p.own s.numbers) c.seats i k p q ne at at',
     l.numbered p.own,
     below_le p.own numbers,
   )))
 
   -- a seat's own number is below the number of numbers
-  pub own_below : (i : ℕ) (p : CoreSeat) → get_elem? c.seats i ≡ some p → is_there p.phase ≡ true → p.own < numbers
+  pub own_below : (i : ℕ) (p : CoreSeat) → get_elem? c.seats i ≡ some p → is_present p.phase ≡ true → p.own < numbers
   own_below i p at there = dite (dec_le numbers p.own)
       (λ le. absurd (omega (
         arith,
         (l.each i p at).own there,
-        term_le (λ (s : CoreSeat). times p.own s.numbers) c.seats i p at,
+        term_le (λ (s : CoreSeat). occurrences p.own s.numbers) c.seats i p at,
         l.numbered p.own,
         below_no p.own numbers le,
       )))
@@ -213,19 +214,19 @@ module _ {S C R : Type 0} (numbers draws : ℕ) (c : CoreState S C R) (l : IsLaw
 
   -- a fresh seat's range is within the numbers
   pub range_within : (i : ℕ) (p : CoreSeat) → get_elem? c.seats i ≡ some p → p.fresh ≡ true → 0 < length p.numbers → p.own + length p.numbers ≤ numbers
-  range_within i p at fresh some_number =
+  range_within i p at fresh nonempty_numbers =
       let whole = ((l.each i p at).whole fresh).0 in
       let k : ℕ = length p.numbers - 1 in
       let len : k + 1 ≡ length p.numbers = omega arith in
-      let last : 0 < times (p.own + k) p.numbers = omega
-      (arith, counted_last p.own k, ap (times (p.own + k)) (ap (counted p.own) len), ap (times (p.own + k)) whole) in
+      let last : 0 < occurrences (p.own + k) p.numbers = omega
+      (arith, counted_last p.own k, ap (occurrences (p.own + k)) (ap (counted p.own) len), ap (occurrences (p.own + k)) whole) in
       dite (dec_le numbers (p.own + k))
       (λ le. absurd (omega (
         arith,
         last,
         l.numbered (p.own + k),
         below_no (p.own + k) numbers le,
-        term_le (λ (s : CoreSeat). times (p.own + k) s.numbers) c.seats i p at,
+        term_le (λ (s : CoreSeat). occurrences (p.own + k) s.numbers) c.seats i p at,
       )))
       (λ lt. omega (arith, len))
 

@@ -5,7 +5,7 @@ use mathlib.Core.Logic.{dite}
 use native.Mathlib.Decide.{ℕ_discrete, dec_le}
 use mathlib.Core.Option.{some, some-injective, some-ne-none}
 use lib.ListN.{get_elem?}
-use Rattle.ticket_steps.specs.Sums.{total, times, once_below, counted}
+use Rattle.ticket_steps.specs.Sums.{total, occurrences, once_below, counted}
 
 abbrev pub one_if : Bool → ℕ
 one_if b = cond b 1 0
@@ -54,21 +54,21 @@ module _ {A : Type 0} where
   sums_lt f g (x ∷ xs) zero v e lt h = omega (arith, ap f (some-injective x v e), ap g (some-injective x v e), sums_le f g xs (λ k u d. h (suc k) u d))
   sums_lt f g (x ∷ xs) (suc j) v e lt h = omega (arith, h zero x refl, sums_lt f g xs j v e lt (λ k u d. h (suc k) u d))
 
-pub times-same : (n : ℕ) (xs : List ℕ) → times n (n ∷ xs) ≡ 1 + times n xs
-times-same n xs = ap (λ (b : Bool). one_if b + times n xs) (eq-eqb n n refl)
+pub occurrences-same : (n : ℕ) (xs : List ℕ) → occurrences n (n ∷ xs) ≡ 1 + occurrences n xs
+occurrences-same n xs = ap (λ (b : Bool). one_if b + occurrences n xs) (eq-eqb n n refl)
 
-pub times-other : (n x : ℕ) (xs : List ℕ) → n ≢ x → times n (x ∷ xs) ≡ times n xs
-times-other n x xs ne = omega (arith, ap (λ (b : Bool). one_if b) (ne_eqb n x ne))
+pub occurrences-other : (n x : ℕ) (xs : List ℕ) → n ≢ x → occurrences n (x ∷ xs) ≡ occurrences n xs
+occurrences-other n x xs ne = omega (arith, ap (λ (b : Bool). one_if b) (ne_eqb n x ne))
 
-pub times_le : (n : ℕ) (xs : List ℕ) → times n xs ≤ length xs
+pub times_le : (n : ℕ) (xs : List ℕ) → occurrences n xs ≤ length xs
 times_le n [] = omega arith
 times_le n (x ∷ xs) =
     dite (ℕ_discrete n x) (λ e. omega (arith, ap (λ (b : Bool). one_if b) (eq-eqb n x e), times_le n xs))
-    (λ ne. omega (arith, times-other n x xs ne, times_le n xs))
+    (λ ne. omega (arith, occurrences-other n x xs ne, times_le n xs))
 
-pub times-append : (n : ℕ) (xs ys : List ℕ) → times n (xs ++ ys) ≡ times n xs + times n ys
-times-append n [] ys = omega arith
-times-append n (x ∷ xs) ys = omega (arith, times-append n xs ys)
+pub occurrences-append : (n : ℕ) (xs ys : List ℕ) → occurrences n (xs ++ ys) ≡ occurrences n xs + occurrences n ys
+occurrences-append n [] ys = omega arith
+occurrences-append n (x ∷ xs) ys = omega (arith, occurrences-append n xs ys)
 
 pub below_yes : (x n : ℕ) → x < n → once_below x n ≡ 1
 below_yes x n h = ap (λ (b : Bool). one_if b) (lt-ltb x n h)
@@ -76,12 +76,12 @@ below_yes x n h = ap (λ (b : Bool). one_if b) (lt-ltb x n h)
 pub below_no : (x n : ℕ) → n ≤ x → once_below x n ≡ 0
 below_no x n h = ap (λ (b : Bool). one_if b) (le-ltb x n h)
 
-pub below_more : (x n : ℕ) → once_below x n + times x (n ∷ []) ≡ once_below x (n + 1)
+pub below_more : (x n : ℕ) → once_below x n + occurrences x (n ∷ []) ≡ once_below x (n + 1)
 below_more x n = dite (ℕ_discrete x n)
     (λ e. omega (arith, below_no x n (omega arith), below_yes x (n + 1) (omega arith), ap (λ (b : Bool). one_if b) (eq-eqb x n e)))
     (λ ne. dite (dec_le x n)
-    (λ le. omega (arith, below_yes x n (omega (arith, ne)), below_yes x (n + 1) (omega arith), times-other x n [] ne))
-    (λ gt. omega (arith, below_no x n (omega arith), below_no x (n + 1) (omega (arith, ne)), times-other x n [] ne)))
+    (λ le. omega (arith, below_yes x n (omega (arith, ne)), below_yes x (n + 1) (omega arith), occurrences-other x n [] ne))
+    (λ gt. omega (arith, below_no x n (omega arith), below_no x (n + 1) (omega (arith, ne)), occurrences-other x n [] ne)))
 
 -- only the number a is below b and not below a
 pub below_gap : (x a b : ℕ) → a ≤ b → once_below x a ≤ once_below x b
@@ -99,18 +99,18 @@ pub length-counted : (n k : ℕ) → length (counted n k) ≡ k
 length-counted n zero = refl
 length-counted n (suc k) = omega (arith, length-counted (n + 1) k)
 
-pub counted_first : (n k : ℕ) → 0 < k → 0 < times n (counted n k)
+pub counted_first : (n k : ℕ) → 0 < k → 0 < occurrences n (counted n k)
 counted_first n zero h = absurd (omega arith)
-counted_first n (suc k) h = omega (arith, times-same n (counted (n + 1) k))
+counted_first n (suc k) h = omega (arith, occurrences-same n (counted (n + 1) k))
 
-pub counted_below : (p n k : ℕ) → times p (counted n k) + once_below p n ≡ once_below p (n + k)
+pub counted_below : (p n k : ℕ) → occurrences p (counted n k) + once_below p n ≡ once_below p (n + k)
 counted_below p n zero = let d : n + zero ≡ n = omega arith in omega (arith, ap (once_below p) d)
 counted_below p n (suc k) = let d : n + suc k ≡ n + 1 + k = omega arith in omega (arith, ap (once_below p) d, counted_below p (n + 1) k, below_more p n)
 
-pub times-take-drop : (n k : ℕ) (xs : List ℕ) → times n (take k xs) + times n (drop k xs) ≡ times n xs
-times-take-drop n zero xs = omega arith
-times-take-drop n (suc k) [] = omega arith
-times-take-drop n (suc k) (x ∷ xs) = omega (arith, times-take-drop n k xs)
+pub occurrences-take-drop : (n k : ℕ) (xs : List ℕ) → occurrences n (take k xs) + occurrences n (drop k xs) ≡ occurrences n xs
+occurrences-take-drop n zero xs = omega arith
+occurrences-take-drop n (suc k) [] = omega arith
+occurrences-take-drop n (suc k) (x ∷ xs) = omega (arith, occurrences-take-drop n k xs)
 
 pub take-counted : (n k j : ℕ) → k ≤ j → take k (counted n j) ≡ counted n k
 take-counted n zero j h = refl
@@ -133,5 +133,5 @@ counted_more n (suc k) =
     ap (counted n) d ∙ ap (λ (l : List ℕ). n ∷ l) (counted_more (n + 1) k ∙ ap (λ (x : ℕ). counted (n + 1) k ++ x ∷ []) e)
 
 -- the last number of a range is one of its numbers
-pub counted_last : (n k : ℕ) → 0 < times (n + k) (counted n (k + 1))
-counted_last n k = omega (arith, ap (times (n + k)) (counted_more n k), times-append (n + k) (counted n k) ((n + k) ∷ []), times-same (n + k) [])
+pub counted_last : (n k : ℕ) → 0 < occurrences (n + k) (counted n (k + 1))
+counted_last n k = omega (arith, ap (occurrences (n + k)) (counted_more n k), occurrences-append (n + k) (counted n k) ((n + k) ∷ []), occurrences-same (n + k) [])

@@ -1,6 +1,6 @@
 -- The facts of every kind of book: its state, its entries and its refusals.
 use Rattle.std.specs.Prelude.{◌≡◌, ℕ, ◌+◌, List, [], ◌∷◌, ◌++◌, length}
-use Rattle.ticket_steps.specs.declared.kept.Entry.{Entry}
+use Rattle.ticket_steps.specs.declared.books.Entry.{Entry}
 use Rattle.ticket_steps.specs.History.{entry, replay, IsLegal}
 
 pub record BookState (S C R : Type 0) : Type 0 where
@@ -17,8 +17,8 @@ module _ {S C R : Type 0} where
   empty_book state = book_state state [] 0
 
   -- the number of calls that a book has handled: its entries, and its refused calls
-  abbrev pub calls_taken : BookState S C R → ℕ
-  calls_taken book = length book.entries + book.refused
+  abbrev pub calls_handled : BookState S C R → ℕ
+  calls_handled book = length book.entries + book.refused
 
   -- one more refusal, and nothing else changed
   abbrev pub with_refusal : BookState S C R → BookState S C R

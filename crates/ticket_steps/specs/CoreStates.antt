@@ -1,7 +1,7 @@
 -- The states of the core: the next ticket, the number served, the seats and the book.
 use Rattle.std.specs.Prelude.{◌≡◌, ℕ, ◌+◌, List, [], ◌∷◌}
 use Rattle.ticket_steps.specs.declared.seats.CoreSeat.{CoreSeat}
-use Rattle.ticket_steps.specs.Books.{BookState, calls_taken, empty_book}
+use Rattle.ticket_steps.specs.Books.{BookState, calls_handled, empty_book}
 use Rattle.ticket_steps.specs.Seats.{fresh_seat, holders, posters}
 use Rattle.ticket_steps.specs.Sums.{counted}
 
@@ -19,8 +19,8 @@ module _ {S C R : Type 0} where
   core_state next served seats book = record { next = next; served = served; seats = seats; book = book }
 
   -- the opening state: one fresh seat, with its own number 0, for all numbers, and an empty book at home
-  abbrev pub opened : ℕ → ℕ → S → CoreState S C R
-  opened numbers draws state = core_state 0 0 (fresh_seat draws 0 (counted 0 numbers) 0 ∷ []) (empty_book state)
+  abbrev pub opening_core : ℕ → ℕ → S → CoreState S C R
+  opening_core numbers draws state = core_state 0 0 (fresh_seat draws 0 (counted 0 numbers) 0 ∷ []) (empty_book state)
 
   -- the book is out exactly while a seat holds
   abbrev pub IsHome : CoreState S C R → Type 0
@@ -28,4 +28,4 @@ module _ {S C R : Type 0} where
 
   -- the counts: the number of calls that the book has handled is the number served, plus one while a seat has posted and not left
   abbrev pub IsCounted : CoreState S C R → Type 0
-  IsCounted c = calls_taken c.book ≡ c.served + posters c.seats
+  IsCounted c = calls_handled c.book ≡ c.served + posters c.seats

@@ -1,24 +1,24 @@
 -- The parts of a counter book that contracts see.
 use Rattle.std.specs.Prelude.{ℕ, List, vec_capacity}
-use Rattle.ticket_steps.specs.declared.kept.Entry.{Entry}
+use Rattle.ticket_steps.specs.declared.books.Entry.{Entry}
 use Rattle.ticket_steps.specs.declared.counter.CounterBook.{CounterBook}
 
 -- the history
-abbrev pub entries_of : CounterBook → List (Entry ℕ ℕ)
-entries_of book = book.entries.items
+abbrev pub counter_entries : CounterBook → List (Entry ℕ ℕ)
+counter_entries book = book.entries.items
 
 -- the sum of all calls, modulo 2^64
-abbrev pub sum_of : CounterBook → ℕ
-sum_of book = book.sum
+abbrev pub counter_sum : CounterBook → ℕ
+counter_sum book = book.sum
 
 -- the number of refused calls
-abbrev pub refused_of : CounterBook → ℕ
-refused_of book = book.refused
+abbrev pub counter_refusals : CounterBook → ℕ
+counter_refusals book = book.refused
 
 -- the number of entries for which it had room at first
-abbrev pub room_of : CounterBook → ℕ
-room_of book = book.room
+abbrev pub counter_room : CounterBook → ℕ
+counter_room book = book.room
 
 -- the number of entries for which it has room now
-abbrev pub capacity_of : CounterBook → ℕ
-capacity_of book = vec_capacity book.entries
+abbrev pub counter_capacity : CounterBook → ℕ
+counter_capacity book = vec_capacity book.entries

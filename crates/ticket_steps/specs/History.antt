@@ -1,7 +1,7 @@
 -- Histories: lists of entries, and the single thread that could have made the same calls.
 use Rattle.std.specs.Prelude.{◌≡◌, ℕ, List, [], ◌∷◌, cond, ◌==◌}
 use Rattle.std.specs.Coded.{×_prop, Unit-prop}
-use Rattle.ticket_steps.specs.declared.kept.Entry.{Entry}
+use Rattle.ticket_steps.specs.declared.books.Entry.{Entry}
 
 module _ {C R : Type 0} where
   -- the entry of one call, under the number of the seat that made it

@@ -4,23 +4,23 @@ use mathlib.Core.Option.{some}
 use lib.ListN.{get_elem?}
 use Rattle.ticket_steps.specs.declared.seats.CoreSeat.{CoreSeat}
 use Rattle.ticket_steps.specs.CoreStates.{CoreState, IsCounted}
-use Rattle.ticket_steps.specs.Seats.{Holds, is_there, tickets_at, answering}
-use Rattle.ticket_steps.specs.Sums.{total, times, once_below, counted}
+use Rattle.ticket_steps.specs.Seats.{Holds, is_present, tickets_at, answering}
+use Rattle.ticket_steps.specs.Sums.{total, occurrences, once_below, counted}
 
 -- the facts of each seat when this number is served
 pub record IsSeat (draws served : ℕ) (s : CoreSeat) : Type 0 where
   -- a holder's ticket is the number served
   pub holder : (ticket : ℕ) → Holds ticket s.phase → ticket ≡ served
   -- a seat answers for its own number
-  pub own : is_there s.phase ≡ true → 0 < times s.own s.numbers
+  pub own : is_present s.phase ≡ true → 0 < occurrences s.own s.numbers
   -- a fresh seat has a range of numbers and all their draws
   pub whole : s.fresh ≡ true → (s.numbers ≡ counted s.own (length s.numbers)) × (s.left ≡ length s.numbers * draws)
   -- a seat that was gathered into another has nothing left
-  pub gone : is_there s.phase ≡ false → (s.numbers ≡ []) × (s.calls ≡ 0) × (s.left ≡ 0) × (s.fresh ≡ false)
+  pub gone_seat : is_present s.phase ≡ false → (s.numbers ≡ []) × (s.calls ≡ 0) × (s.left ≡ 0) × (s.fresh ≡ false)
 
 -- the number of seats that can still be split off a seat
-abbrev pub spare : CoreSeat → ℕ
-spare s = cond s.fresh (length s.numbers - 1) 0
+abbrev pub spare_seats : CoreSeat → ℕ
+spare_seats s = cond s.fresh (length s.numbers - 1) 0
 
 -- the facts of every core state, in numbers
 pub record IsLawful {S C R : Type 0} (numbers draws : ℕ) (c : CoreState S C R) : Type 0 where
@@ -33,4 +33,4 @@ pub record IsLawful {S C R : Type 0} (numbers draws : ℕ) (c : CoreState S C R)
   pub counted : IsCounted c
   pub calls : total (λ (s : CoreSeat). s.calls) c.seats ≡ c.served
   pub supply : c.next + total (λ (s : CoreSeat). s.left) c.seats ≤ numbers * draws
-  pub places : length c.seats + total spare c.seats ≤ numbers
+  pub places : length c.seats + total spare_seats c.seats ≤ numbers

@@ -1,9 +1,9 @@
 -- Schedules: the events since an opening, made by the seats in any order, and the core state at the end.
 use Rattle.std.specs.Prelude.{◌≡◌, ℕ, ◌<◌, ◌≤◌, List, length, slice_index}
 use mathlib.Core.List.{IsPrefix}
-use Rattle.ticket_steps.specs.declared.kept.Entry.{Entry}
-use Rattle.ticket_steps.specs.declared.kept.Kept.{Ghosts}
-use Rattle.ticket_steps.specs.CoreStates.{CoreState, opened}
+use Rattle.ticket_steps.specs.declared.books.Entry.{Entry}
+use Rattle.ticket_steps.specs.declared.books.Kept.{Ghosts}
+use Rattle.ticket_steps.specs.CoreStates.{CoreState, opening_core}
 use Rattle.ticket_steps.specs.Happenings.{Happening, Leads}
 use Rattle.ticket_steps.specs.History.{IsLegal, replay}
 use Rattle.ticket_steps.specs.Seats.{tickets_at}
@@ -15,14 +15,14 @@ pub record Schedule (S C R : Type 0) : Type 0 where
   pub numbers : ℕ
   pub draws : ℕ
   -- each event with its outcome, oldest first
-  pub happened : List (Happening C R)
+  pub happenings : List (Happening C R)
   pub end : CoreState S C R
 
 -- the events lead from the opening to the end
 pub record IsSchedule {K C R : Type 0} (k : Ghosts K C R) (s : Schedule k.State C R) : Type 0 where
-  pub some_number : 0 < s.numbers
-  pub few_numbers : s.numbers ≤ 1024
-  pub leads : Leads k s.draws (opened s.numbers s.draws s.opening) s.happened s.end
+  pub nonempty_numbers : 0 < s.numbers
+  pub bounded_numbers : s.numbers ≤ 1024
+  pub leads : Leads k s.draws (opening_core s.numbers s.draws s.opening) s.happenings s.end
 
 -- the word at this place is the word after some first part of these entries, which is a legal history from the opening state
 pub record ShowsAt {K C R : Type 0} (k : Ghosts K C R) (opening : k.State) (place word : ℕ) (later : List (Entry C R)) : Type 0 where

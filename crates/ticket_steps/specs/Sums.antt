@@ -7,9 +7,9 @@ total f [] = 0
 total f (x ∷ xs) = f x + total f xs
 
 -- how often n occurs in a list
-abbrev pub times : ℕ → List ℕ → ℕ
-times n [] = 0
-times n (x ∷ xs) = cond (n == x) 1 0 + times n xs
+abbrev pub occurrences : ℕ → List ℕ → ℕ
+occurrences n [] = 0
+occurrences n (x ∷ xs) = cond (n == x) 1 0 + occurrences n xs
 
 -- 1 if x is below n, otherwise 0
 abbrev pub once_below : ℕ → ℕ → ℕ

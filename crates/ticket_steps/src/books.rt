@@ -1,7 +1,8 @@
 //! Books: sequential objects that store the history of their calls.
+
 ghost use Rattle.std.specs.Prelude.{◌≡◌, ℕ, ◌+◌, ◌^◌, ◌<◌, List, [], ◌∷◌, ◌++◌, length, slice_index, slice_set};
 ghost use Rattle.std.specs.Prelude.{Option, Some, None, IfOk, OnErr};
-ghost use Rattle.ticket_steps.specs.declared.kept.Entry.{Entry as EntryOf};
+ghost use Rattle.ticket_steps.specs.declared.books.Entry.{Entry as EntryOf};
 ghost use Rattle.ticket_steps.specs.History.{entry, replay, IsLegal};
 
 /// One call of a history: the number of the seat (or pass) that made it, the call and its reply.

@@ -1,17 +1,19 @@
 //! The core as a program that makes one step or a list of steps, on one thread.
-ghost use Rattle.std.specs.Prelude.{◌≡◌, ◌↔◌, ◌+◌, ◌-◌, ◌^◌, ◌<◌, ◌≤◌, [], length, take, true, IfOk, IfErr, OnErr, OnOk, Some, None, slice_get, vec_capacity, vec_len};
+
+ghost use Rattle.std.specs.Prelude.{◌≡◌, ◌↔◌, ◌+◌, ◌-◌, ◌^◌, ◌<◌, ◌≤◌, [], length, take, true, IfOk, IfErr, OnErr, OnOk, Some, None, slice_get, vec_capacity};
+ghost use Rattle.std.specs.Prelude.{vec_len};
 ghost use mathlib.Core.Option.{some};
 ghost use lib.ListN.{get_elem?};
 ghost use Rattle.ticket_steps.specs.Books.{book_state, IsLawfulBook};
-ghost use Rattle.ticket_steps.specs.CoreStates.{core_state, opened};
+ghost use Rattle.ticket_steps.specs.CoreStates.{core_state, opening_core};
 ghost use Rattle.ticket_steps.specs.Faults.{IsFault, Shows, LeadsBy, Steps};
 ghost use Rattle.ticket_steps.specs.Lawful.{IsLawful};
-ghost use Rattle.ticket_steps.specs.Seats.{IsThere, is_there};
+ghost use Rattle.ticket_steps.specs.Seats.{HasSeat, is_present};
 ghost use Rattle.ticket_steps.specs.Sums.{counted};
 
+use crate::books::Kept;
 use crate::events::{Event, Fault, Seen};
 use crate::grants::Grants;
-use crate::kept::Kept;
 use crate::seats::{CoreSeat, DRAWS, Phase};
 use std::alloc::{AllocError, Global};
 use std::collections::LinkedList;
@@ -29,16 +31,16 @@ pub struct Core<K: Kept> {
     draws: u32,
     book: K,
     board: Vec<u64>,
-    ghost few: { numbers ≤ 1024 },
-    ghost few_draws: { draws ≤ 4294967295 },
-    ghost roomy: { numbers ≤ vec_capacity seats },
-    ghost shown: { board.items ≡ K.board (K.state book) },
+    ghost bounded: { numbers ≤ 1024 },
+    ghost bounded_draws: { draws ≤ 4294967295 },
+    ghost seat_capacity: { numbers ≤ vec_capacity seats },
+    ghost readout: { board.items ≡ K.board (K.state book) },
     ghost lawful: { IsLawful numbers draws (core_state next grants seats.items
         (book_state (K.state book) (K.history book) (K.refusals book))) },
 }
 
 impl<K: Kept> Core<K> {
-    ghost use Rattle.ticket_steps.specs.Cores.{state_of, opening_of, numbers_of, draws_of, IsOpenedAlike};
+    ghost use Rattle.ticket_steps.specs.Cores.{core_state_of, core_opening, core_numbers, core_draws, HasSameOpening};
 
     /// A core with one seat, whose own number is 0, for all of `numbers`, and with the book at home. Each
     /// number brings 2^32 - 1 draws, the most that [`Core::open_with`] gives. The call makes places for all
@@ -48,11 +50,11 @@ impl<K: Kept> Core<K> {
         requires numbers { (0 < numbers) × (numbers ≤ 1024) }
         requires empty { (K.history book ≡ []) × (K.refusals book ≡ 0) }
         requires words { length (K.board (K.state book)) ≤ 4096 }
-        ensures opened { IfOk result (λ core.
-            state_of core ≡ opened numbers (2 ^ 32 - 1) (K.opening book)) }
-        ensures alike { IfOk result (λ core. (opening_of core ≡ K.opening book)
-            × (numbers_of core ≡ numbers) × (draws_of core ≡ 2 ^ 32 - 1)) }
-        ensures refused { IfErr result (λ back. back ≡ book) }
+        ensures opening_core { IfOk result (λ core.
+            core_state_of core ≡ opening_core numbers (2 ^ 32 - 1) (K.opening book)) }
+        ensures same_opening { IfOk result (λ core. (core_opening core ≡ K.opening book)
+            × (core_numbers core ≡ numbers) × (core_draws core ≡ 2 ^ 32 - 1)) }
+        ensures err { IfErr result (λ back. back ≡ book) }
     {
         Core::open_with(alloc, book, numbers, DRAWS)
     }
@@ -65,11 +67,11 @@ impl<K: Kept> Core<K> {
         requires draws { 0 < draws }
         requires empty { (K.history book ≡ []) × (K.refusals book ≡ 0) }
         requires words { length (K.board (K.state book)) ≤ 4096 }
-        ensures opened { IfOk result (λ core.
-            state_of core ≡ opened numbers draws (K.opening book)) }
-        ensures alike { IfOk result (λ core. (opening_of core ≡ K.opening book)
-            × (numbers_of core ≡ numbers) × (draws_of core ≡ draws)) }
-        ensures refused { IfErr result (λ back. back ≡ book) }
+        ensures opening_core { IfOk result (λ core.
+            core_state_of core ≡ opening_core numbers draws (K.opening book)) }
+        ensures same_opening { IfOk result (λ core. (core_opening core ≡ K.opening book)
+            × (core_numbers core ≡ numbers) × (core_draws core ≡ draws)) }
+        ensures err { IfErr result (λ back. back ≡ book) }
     {
         let Ok(all) = first_numbers(alloc, numbers) else {
             return Err(book);
@@ -103,14 +105,14 @@ impl<K: Kept> Core<K> {
     /// before `Phase`, and `Phase` before `Spent`. It is not a fault if the call of a `Post` or a `Leave` is
     /// refused, out of memory. The seat has posted or left then, and sees the refusal.
     pub fn step(&mut self, event: Event<K::Call>) -> Result<Seen<K::Reply>, Fault>
-        ensures shown { IfOk result (λ seen.
-            Shows K.Kept (draws_of self.old) (state_of self.old) event seen (state_of self.new)) }
+        ensures readout { IfOk result (λ seen.
+            Shows K.Kept (core_draws self.old) (core_state_of self.old) event seen (core_state_of self.new)) }
         ensures fault { (f : Fault)
-            → (result ≡ Err f) ↔ IsFault K.Kept (state_of self.old) event f }
-        ensures same { OnErr result (state_of self.new ≡ state_of self.old) }
-        ensures alike { IsOpenedAlike self.old self.new }
-        ensures lawful { IsLawful (numbers_of self.new) (draws_of self.new) (state_of self.new) }
-        ensures book { IsLawfulBook K.step (opening_of self.new) (state_of self.new).book }
+            → (result ≡ Err f) ↔ IsFault K.Kept (core_state_of self.old) event f }
+        ensures same { OnErr result (core_state_of self.new ≡ core_state_of self.old) }
+        ensures same_opening { HasSameOpening self.old self.new }
+        ensures lawful { IsLawful (core_numbers self.new) (core_draws self.new) (core_state_of self.new) }
+        ensures book { IsLawfulBook K.step (core_opening self.new) (core_state_of self.new).book }
     {
         match event {
             Event::Split { seat, count } => self.split(seat, count),
@@ -130,16 +132,16 @@ impl<K: Kept> Core<K> {
     /// from 0, and the fault. The events before it have happened.
     pub fn run(&mut self, events: &[Event<K::Call>]) -> Result<(), (usize, Fault)>
         ensures all { OnOk result (
-            LeadsBy K.Kept (draws_of self.old) (state_of self.old) events.now (state_of self.new)) }
+            LeadsBy K.Kept (core_draws self.old) (core_state_of self.old) events.now (core_state_of self.new)) }
         ensures place { IfErr result (λ stop. stop.0 < length events.now) }
-        ensures before { IfErr result (λ stop. LeadsBy K.Kept (draws_of self.old)
-            (state_of self.old) (take stop.0 events.now) (state_of self.new)) }
+        ensures before { IfErr result (λ stop. LeadsBy K.Kept (core_draws self.old)
+            (core_state_of self.old) (take stop.0 events.now) (core_state_of self.new)) }
         ensures fault { IfErr result (λ stop. (event : Event K.Call)
             → slice_get events.now stop.0 ≡ Some event
-            → IsFault K.Kept (state_of self.new) event stop.1) }
-        ensures alike { IsOpenedAlike self.old self.new }
-        ensures lawful { IsLawful (numbers_of self.new) (draws_of self.new) (state_of self.new) }
-        ensures book { IsLawfulBook K.step (opening_of self.new) (state_of self.new).book }
+            → IsFault K.Kept (core_state_of self.new) event stop.1) }
+        ensures same_opening { HasSameOpening self.old self.new }
+        ensures lawful { IsLawful (core_numbers self.new) (core_draws self.new) (core_state_of self.new) }
+        ensures book { IsLawfulBook K.step (core_opening self.new) (core_state_of self.new).book }
     {
         for (place, event) in events.iter().enumerate() {
             if let Err(fault) = self.step(*event) {
@@ -152,31 +154,31 @@ impl<K: Kept> Core<K> {
     /// The book, as it is at home or as the holder took it out.
     pub fn book(&self) -> &K
         ensures { book_state (K.state result.now) (K.history result.now) (K.refusals result.now)
-            ≡ (state_of self.now).book }
+            ≡ (core_state_of self.now).book }
     {
         &self.book
     }
 
     fn split(&mut self, seat: u32, count: u32) -> Result<Seen<K::Reply>, Fault>
-        ensures step { Steps K.Kept (draws_of self.old) (state_of self.old) (Event.Split seat count)
-            result (state_of self.new) }
-        ensures alike { IsOpenedAlike self.old self.new }
+        ensures step { Steps K.Kept (core_draws self.old) (core_state_of self.old) (Event.Split seat count)
+            result (core_state_of self.new) }
+        ensures same_opening { HasSameOpening self.old self.new }
     {
-        let at = self.place_of(seat)?;
+        let at = self.seat_index(seat)?;
         if !self.seats[at].can_split(count) {
             return Err(Fault::Phase);
         }
-        let given = self.seats[at].split_off(count, self.draws);
-        self.seats.push_reserved(given);
+        let other_seat = self.seats[at].split_off(count, self.draws);
+        self.seats.push_reserved(other_seat);
         Ok(Seen::Split)
     }
 
     fn draw(&mut self, seat: u32) -> Result<Seen<K::Reply>, Fault>
-        ensures step { Steps K.Kept (draws_of self.old) (state_of self.old) (Event.Draw seat)
-            result (state_of self.new) }
-        ensures alike { IsOpenedAlike self.old self.new }
+        ensures step { Steps K.Kept (core_draws self.old) (core_state_of self.old) (Event.Draw seat)
+            result (core_state_of self.new) }
+        ensures same_opening { HasSameOpening self.old self.new }
     {
-        let at = self.place_of(seat)?;
+        let at = self.seat_index(seat)?;
         let place = &self.seats[at];
         if !place.is_idle() {
             return Err(Fault::Phase);
@@ -191,11 +193,11 @@ impl<K: Kept> Core<K> {
     }
 
     fn look(&mut self, seat: u32) -> Result<Seen<K::Reply>, Fault>
-        ensures step { Steps K.Kept (draws_of self.old) (state_of self.old) (Event.Look seat)
-            result (state_of self.new) }
-        ensures alike { IsOpenedAlike self.old self.new }
+        ensures step { Steps K.Kept (core_draws self.old) (core_state_of self.old) (Event.Look seat)
+            result (core_state_of self.new) }
+        ensures same_opening { HasSameOpening self.old self.new }
     {
-        let at = self.place_of(seat)?;
+        let at = self.seat_index(seat)?;
         let Phase::Waiting(ticket) = self.seats[at].phase else {
             return Err(Fault::Phase);
         };
@@ -208,11 +210,11 @@ impl<K: Kept> Core<K> {
 
     /// Records the holder's call, and shows the outcome on the board. The seat continues to hold.
     fn post(&mut self, seat: u32, call: K::Call) -> Result<Seen<K::Reply>, Fault>
-        ensures step { Steps K.Kept (draws_of self.old) (state_of self.old) (Event.Post seat call)
-            result (state_of self.new) }
-        ensures alike { IsOpenedAlike self.old self.new }
+        ensures step { Steps K.Kept (core_draws self.old) (core_state_of self.old) (Event.Post seat call)
+            result (core_state_of self.new) }
+        ensures same_opening { HasSameOpening self.old self.new }
     {
-        let at = self.place_of(seat)?;
+        let at = self.seat_index(seat)?;
         let Phase::Holding(ticket) = self.seats[at].phase else {
             return Err(Fault::Phase);
         };
@@ -227,11 +229,11 @@ impl<K: Kept> Core<K> {
 
     /// The holder leaves after it has posted its call: nothing more is recorded.
     fn leave_posted(&mut self, seat: u32) -> Result<Seen<K::Reply>, Fault>
-        ensures step { Steps K.Kept (draws_of self.old) (state_of self.old) (Event.Leave seat None)
-            result (state_of self.new) }
-        ensures alike { IsOpenedAlike self.old self.new }
+        ensures step { Steps K.Kept (core_draws self.old) (core_state_of self.old) (Event.Leave seat None)
+            result (core_state_of self.new) }
+        ensures same_opening { HasSameOpening self.old self.new }
     {
-        let at = self.place_of(seat)?;
+        let at = self.seat_index(seat)?;
         let Phase::Posted(ticket) = self.seats[at].phase else {
             return Err(Fault::Phase);
         };
@@ -242,11 +244,11 @@ impl<K: Kept> Core<K> {
 
     /// Records the holder's call, which the board doesn't show, and the seat leaves.
     fn leave(&mut self, seat: u32, call: K::Call) -> Result<Seen<K::Reply>, Fault>
-        ensures step { Steps K.Kept (draws_of self.old) (state_of self.old)
-            (Event.Leave seat (Some call)) result (state_of self.new) }
-        ensures alike { IsOpenedAlike self.old self.new }
+        ensures step { Steps K.Kept (core_draws self.old) (core_state_of self.old)
+            (Event.Leave seat (Some call)) result (core_state_of self.new) }
+        ensures same_opening { HasSameOpening self.old self.new }
     {
-        let at = self.place_of(seat)?;
+        let at = self.seat_index(seat)?;
         let Phase::Holding(ticket) = self.seats[at].phase else {
             return Err(Fault::Phase);
         };
@@ -260,10 +262,10 @@ impl<K: Kept> Core<K> {
     }
 
     fn glance(&self, seat: u32, place: u32) -> Result<Seen<K::Reply>, Fault>
-        ensures step { Steps K.Kept (draws_of self.now) (state_of self.now)
-            (Event.Glance seat place) result (state_of self.now) }
+        ensures step { Steps K.Kept (core_draws self.now) (core_state_of self.now)
+            (Event.Glance seat place) result (core_state_of self.now) }
     {
-        let at = self.place_of(seat)?;
+        let at = self.seat_index(seat)?;
         if !self.seats[at].is_idle() {
             return Err(Fault::Phase);
         }
@@ -274,31 +276,31 @@ impl<K: Kept> Core<K> {
     }
 
     fn gather(&mut self, seat: u32, other: u32) -> Result<Seen<K::Reply>, Fault>
-        ensures step { Steps K.Kept (draws_of self.old) (state_of self.old)
-            (Event.Gather seat other) result (state_of self.new) }
-        ensures alike { IsOpenedAlike self.old self.new }
+        ensures step { Steps K.Kept (core_draws self.old) (core_state_of self.old)
+            (Event.Gather seat other) result (core_state_of self.new) }
+        ensures same_opening { HasSameOpening self.old self.new }
     {
-        let at = self.place_of(seat)?;
-        let from = self.place_of(other)?;
+        let at = self.seat_index(seat)?;
+        let from = self.seat_index(other)?;
         if seat == other || !self.seats[at].is_idle() || !self.seats[from].is_idle() {
             return Err(Fault::Phase);
         }
-        let given = self.seats[from].give_up();
-        self.seats[at].join(given);
+        let other_seat = self.seats[from].retire();
+        self.seats[at].join(other_seat);
         Ok(Seen::Gathered)
     }
 
     /// The place in the list of the seat with this own number.
-    fn place_of(&self, own: u32) -> Result<usize, Fault>
+    fn seat_index(&self, own: u32) -> Result<usize, Fault>
         ensures found { IfOk result (λ i. (p : CoreSeat)
-            × (get_elem? (state_of self.now).seats i ≡ some p)
-            × (p.own ≡ own) × (is_there p.phase ≡ true)) }
+            × (get_elem? (core_state_of self.now).seats i ≡ some p)
+            × (p.own ≡ own) × (is_present p.phase ≡ true)) }
         ensures within { IfOk result (λ i. i < vec_len self.now.seats) }
         ensures missing { IfErr result (λ fault. (fault ≡ Fault.NoSeat)
-            × (IsThere (state_of self.now).seats own → ⊥)) }
+            × (HasSeat (core_state_of self.now).seats own → ⊥)) }
     {
         for (at, seat) in self.seats.iter().enumerate() {
-            if seat.is_called(own) {
+            if seat.is_named(own) {
                 return Ok(at);
             }
         }

@@ -1,10 +1,11 @@
 //! The smallest book: a call is a number, and the reply is the sum of all calls so far, modulo 2^64.
+
 ghost use Rattle.std.specs.Prelude.{◌≡◌, ℕ, ◌+◌, ◌^◌, ◌<◌, ◌≤◌, [], ◌∷◌, ◌++◌, length, IfOk, OnErr, vec_capacity};
 ghost use Rattle.std.specs.Coded.{Coded-set, coded_ℕ};
-ghost use Rattle.ticket_steps.specs.Counting.{counts, sum_board, sum_place, sum_within, sum_unposted, sum_posted};
+ghost use Rattle.ticket_steps.specs.Counting.{counter_step, sum_board, sum_slot, sum_within, sum_unposted, sum_posted};
 ghost use Rattle.ticket_steps.specs.History.{entry, replay, IsLegal, IsLegal-prop};
 
-use crate::kept::{Entry, Kept, NoMemory};
+use crate::books::{Entry, Kept, NoMemory};
 use std::alloc::{AllocError, Global};
 
 /// A running sum that stores its history. It is opened with the sum 0.
@@ -15,19 +16,19 @@ pub struct CounterBook {
     refused: u64,
     room: usize,
     ghost reserved: { room ≤ vec_capacity entries },
-    ghost legal: { IsLegal counts 0 entries.items } by { IsLegal-prop counts (Coded-set coded_ℕ) 0 entries.items },
-    ghost summed: { sum ≡ replay counts 0 entries.items },
+    ghost legal: { IsLegal counter_step 0 entries.items } by { IsLegal-prop counter_step (Coded-set coded_ℕ) 0 entries.items },
+    ghost summed: { sum ≡ replay counter_step 0 entries.items },
 }
 
 impl CounterBook {
-    ghost use Rattle.ticket_steps.specs.CounterBooks.{entries_of, refused_of, sum_of, room_of};
+    ghost use Rattle.ticket_steps.specs.CounterBooks.{counter_entries, counter_refusals, counter_sum, counter_room};
 
     /// An empty book with room for `room` entries: their calls need no memory. If there is no memory for
     /// the room, nothing is made.
     pub fn open(alloc: Global, room: usize) -> Result<CounterBook, AllocError>
-        ensures empty { IfOk result (λ book. (entries_of book ≡ []) × (refused_of book ≡ 0)) }
-        ensures sum { IfOk result (λ book. sum_of book ≡ 0) }
-        ensures room { IfOk result (λ book. room_of book ≡ room) }
+        ensures empty { IfOk result (λ book. (counter_entries book ≡ []) × (counter_refusals book ≡ 0)) }
+        ensures sum { IfOk result (λ book. counter_sum book ≡ 0) }
+        ensures room { IfOk result (λ book. counter_room book ≡ room) }
     {
         let entries = Vec::with_capacity(alloc, room)?;
         Ok(CounterBook {
@@ -40,14 +41,14 @@ impl CounterBook {
 
     /// The number of entries for which the book had room at first.
     pub fn room(&self) -> usize
-        ensures { result ≡ room_of self.now }
+        ensures { result ≡ counter_room self.now }
     {
         self.room
     }
 }
 
 impl Kept for CounterBook {
-    ghost use Rattle.ticket_steps.specs.CounterBooks.{capacity_of, entries_of, refused_of, sum_of, room_of};
+    ghost use Rattle.ticket_steps.specs.CounterBooks.{counter_capacity, counter_entries, counter_refusals, counter_sum, counter_room};
 
     type Call = u8;
 
@@ -55,19 +56,19 @@ impl Kept for CounterBook {
 
     ghost State = { ℕ };
 
-    ghost step = { counts };
+    ghost step = { counter_step };
 
     ghost board = { sum_board };
 
-    ghost posts_at = { sum_place };
+    ghost posts_at = { sum_slot };
 
     ghost opening = { λ _. 0 };
 
-    ghost state = { sum_of };
+    ghost state = { counter_sum };
 
-    ghost history = { entries_of };
+    ghost history = { counter_entries };
 
-    ghost refusals = { refused_of };
+    ghost refusals = { counter_refusals };
 
     ghost legal = { λ book. book.legal };
 
@@ -82,17 +83,17 @@ impl Kept for CounterBook {
     /// Adds the call to the sum. `NoMemory` comes only if the entries have reached the room, and fill
     /// everything that was reserved since.
     fn record(&mut self, pass: u32, call: u8) -> Result<u64, NoMemory>
-        requires { refused_of self.old < 2 ^ 60 }
-        ensures same { room_of self.new ≡ room_of self.old }
+        requires { counter_refusals self.old < 2 ^ 60 }
+        ensures same { counter_room self.new ≡ counter_room self.old }
         ensures replied { IfOk result (λ reply.
-            (entries_of self.new ≡ entries_of self.old ++ entry pass call reply ∷ [])
-            × (refused_of self.new ≡ refused_of self.old)) }
+            (counter_entries self.new ≡ counter_entries self.old ++ entry pass call reply ∷ [])
+            × (counter_refusals self.new ≡ counter_refusals self.old)) }
         ensures refused { OnErr result (
-            (entries_of self.new ≡ entries_of self.old)
-            × (sum_of self.new ≡ sum_of self.old)
-            × (refused_of self.new ≡ refused_of self.old + 1)) }
-        ensures full { OnErr result (room_of self.old ≤ length (entries_of self.old)) }
-        ensures used_up { OnErr result (capacity_of self.old ≤ length (entries_of self.old)) }
+            (counter_entries self.new ≡ counter_entries self.old)
+            × (counter_sum self.new ≡ counter_sum self.old)
+            × (counter_refusals self.new ≡ counter_refusals self.old + 1)) }
+        ensures full { OnErr result (counter_room self.old ≤ length (counter_entries self.old)) }
+        ensures used_up { OnErr result (counter_capacity self.old ≤ length (counter_entries self.old)) }
     {
         let reply = self.sum.wrapping_add(call as u64);
         if self.entries.push(Entry { pass, call, reply }).is_err() {

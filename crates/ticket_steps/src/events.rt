@@ -1,5 +1,5 @@
 //! The events of a seat, the results that it sees, and the faults.
-use crate::kept::NoMemory;
+use crate::books::NoMemory;
 
 /// One step of one seat. The seat's own number names it.
 #[derive(Clone, Copy, PartialEq, Eq, Debug)]

@@ -2,8 +2,9 @@
 //!
 //! Ticket t watches the word t mod 4, and is served when that word is t. So a leave writes one word, and
 //! three of four waiting seats watch other words.
+
 ghost use Rattle.std.specs.Prelude.{◌≡◌, ◌↔◌, ℕ, ◌+◌, ◌^◌, ◌<◌, ◌≤◌, IsTrue};
-ghost use Rattle.ticket_steps.specs.Grants.{watched, greatest, AreGrantsOf, IsLastGrant};
+ghost use Rattle.ticket_steps.specs.Grants.{watched_word, greatest, AreGrantsOf, IsLastGrant};
 
 use std::marker::Model;
 
@@ -58,7 +59,7 @@ impl Grants {
 
 /// The place of the grant word that a ticket watches.
 pub fn watched_word(ticket: u64) -> usize
-    ensures { result ≡ watched ticket }
+    ensures { result ≡ watched_word ticket }
 {
     (ticket % 4) as usize
 }

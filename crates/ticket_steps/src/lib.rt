@@ -7,7 +7,7 @@
 //! The crate `ticket_lock` is the same lock over atomic words, and its proof uses the definitions of this
 //! crate.
 //!
-//! - `kept`: books. A `Kept` is a sequential object that stores the history of its calls.
+//! - `books`: books. A `Kept` is a sequential object that stores the history of its calls.
 //! - `counter`: the smallest book, a running sum.
 //! - `seats`: the seats of the core, with their phases.
 //! - `events`: the events of a seat, the results that it sees, and the faults.
@@ -15,17 +15,17 @@
 //! - `core_steps`: the core as a program that makes one step or a list of steps.
 //! - `schedules`: the law of every schedule.
 
+mod books;
 mod core_steps;
 pub mod counter;
 mod events;
 mod grants;
-mod kept;
 mod schedules;
 mod seats;
 
+pub use books::{Entry, Kept, NoMemory};
 pub use core_steps::Core;
 pub use events::{Event, Fault, Seen};
 pub use grants::{Grants, watched_word};
-pub use kept::{Entry, Kept, NoMemory};
 pub use schedules::every_schedule;
 pub use seats::{CoreSeat, DRAWS, Phase};

@@ -1,17 +1,18 @@
 //! The law that holds after every schedule.
+
 ghost use Rattle.std.specs.Prelude.{◌≡◌, ℕ, ◌+◌, ◌<◌, ◌≤◌, ◌*◌, List, [], ◌∷◌, ◌++◌, length, true};
 ghost use mathlib.Core.Option.{some};
 ghost use lib.ListN.{get_elem?};
 ghost use Rattle.ticket_steps.specs.declared.seats.CoreSeat.{CoreSeat};
-ghost use Rattle.ticket_steps.specs.Books.{IsLawfulBook, calls_taken};
+ghost use Rattle.ticket_steps.specs.Books.{IsLawfulBook, calls_handled};
 ghost use Rattle.ticket_steps.specs.CoreStates.{IsCounted};
 ghost use Rattle.ticket_steps.specs.Happenings.{Happening, calls_made, glanced, recorded_by, turns_ended};
 ghost use Rattle.ticket_steps.specs.History.{of};
 ghost use Rattle.ticket_steps.specs.Schedules.{Schedule, IsSchedule, IsLine, ShowsAt};
-ghost use Rattle.ticket_steps.specs.Seats.{Holds, answering, holders, is_there};
+ghost use Rattle.ticket_steps.specs.Seats.{Holds, answering, holders, is_present};
 ghost use Rattle.ticket_steps.specs.Sums.{total, once_below};
 
-use crate::kept::Kept;
+use crate::books::Kept;
 
 /// A law without code. It holds of the core after every schedule, for every kind of book.
 ///
@@ -44,9 +45,9 @@ pub fn every_schedule<K: Kept>()
     ensures counted { (s : Schedule K.State K.Call K.Reply) → IsSchedule K.Kept s
         → IsCounted s.end }
     ensures made { (s : Schedule K.State K.Call K.Reply) → IsSchedule K.Kept s
-        → calls_made s.happened ≡ calls_taken s.end.book }
+        → calls_made s.happenings ≡ calls_handled s.end.book }
     ensures ended { (s : Schedule K.State K.Call K.Reply) → IsSchedule K.Kept s
-        → turns_ended s.happened ≡ s.end.served }
+        → turns_ended s.happenings ≡ s.end.served }
     ensures calls { (s : Schedule K.State K.Call K.Reply) → IsSchedule K.Kept s
         → total (λ (p : CoreSeat). p.calls) s.end.seats ≡ s.end.served }
     ensures alone { (s : Schedule K.State K.Call K.Reply) → IsSchedule K.Kept s
@@ -55,17 +56,17 @@ pub fn every_schedule<K: Kept>()
     ensures lawful { (s : Schedule K.State K.Call K.Reply) → IsSchedule K.Kept s
         → IsLawfulBook K.step s.opening s.end.book }
     ensures entries { (s : Schedule K.State K.Call K.Reply) → IsSchedule K.Kept s
-        → (number : ℕ) → of number s.end.book.entries ≡ recorded_by number s.happened }
+        → (number : ℕ) → of number s.end.book.entries ≡ recorded_by number s.happenings }
     ensures glanced { (s : Schedule K.State K.Call K.Reply) → IsSchedule K.Kept s
         → (own place word : ℕ) (before after : List (Happening K.Call K.Reply))
-        → s.happened ≡ before ++ glanced own place word ∷ after
+        → s.happenings ≡ before ++ glanced own place word ∷ after
         → ShowsAt K.Kept s.opening place word s.end.book.entries }
     ensures strangers { (s : Schedule K.State K.Call K.Reply) → IsSchedule K.Kept s
         → (number : ℕ) → s.numbers ≤ number → of number s.end.book.entries ≡ [] }
     ensures named { (s : Schedule K.State K.Call K.Reply) → IsSchedule K.Kept s
         → (i k : ℕ) (p q : CoreSeat)
-        → get_elem? s.end.seats i ≡ some p → is_there p.phase ≡ true
-        → get_elem? s.end.seats k ≡ some q → is_there q.phase ≡ true → p.own ≡ q.own → k ≡ i }
+        → get_elem? s.end.seats i ≡ some p → is_present p.phase ≡ true
+        → get_elem? s.end.seats k ≡ some q → is_present q.phase ≡ true → p.own ≡ q.own → k ≡ i }
     ensures numbered { (s : Schedule K.State K.Call K.Reply) → IsSchedule K.Kept s
         → (number : ℕ) → answering number s.end.seats ≡ once_below number s.numbers }
     ensures supply { (s : Schedule K.State K.Call K.Reply) → IsSchedule K.Kept s

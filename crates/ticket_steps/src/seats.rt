@@ -1,7 +1,9 @@
 //! The seats of the core.
+
 ghost use Rattle.std.specs.Prelude.{◌≡◌, ◌↔◌, ◌+◌, ◌*◌, ◌^◌, ◌<◌, ◌≤◌, length, IsTrue, true};
 ghost use Rattle.ticket_steps.specs.declared.seats.Phase.TheVariants.{Idle};
-ghost use Rattle.ticket_steps.specs.Seats.{is_there, keeping, given, waiting, holding, posting, ended, joined, gone};
+ghost use Rattle.ticket_steps.specs.Seats.{is_present, seat_after_split, other_seat, waiting_seat, holding_seat, posted_seat, seat_after_turn, gathered_seat};
+ghost use Rattle.ticket_steps.specs.Seats.{gone_seat};
 
 use std::collections::LinkedList;
 
@@ -43,8 +45,8 @@ pub struct CoreSeat {
 
 impl CoreSeat {
     /// Whether events name this seat by that number.
-    pub(crate) fn is_called(&self, own: u32) -> bool
-        ensures { IsTrue result ↔ ((self.now.own ≡ own) × (is_there self.now.phase ≡ true)) }
+    pub(crate) fn is_named(&self, own: u32) -> bool
+        ensures { IsTrue result ↔ ((self.now.own ≡ own) × (is_present self.now.phase ≡ true)) }
     {
         match self.phase {
             Phase::Gone => false,
@@ -71,9 +73,9 @@ impl CoreSeat {
         requires idle { self.old.phase ≡ Idle }
         requires fresh { self.old.fresh ≡ true }
         requires count { count ≤ length self.old.numbers }
-        requires few { self.old.own + length self.old.numbers < 2 ^ 32 }
-        ensures kept { self.new ≡ keeping draws count self.old }
-        ensures given { result ≡ given draws count self.old }
+        requires bounded { self.old.own + length self.old.numbers < 2 ^ 32 }
+        ensures kept { self.new ≡ seat_after_split draws count self.old }
+        ensures other_seat { result ≡ other_seat draws count self.old }
     {
         let kept = self.numbers.len() - count as usize;
         let Ok(numbers) = self.numbers.split_off(kept) else {
@@ -93,7 +95,7 @@ impl CoreSeat {
     /// Waits with a ticket that it has drawn.
     pub(crate) fn wait(&mut self, ticket: u64)
         requires { 0 < self.old.left }
-        ensures { self.new ≡ waiting ticket self.old }
+        ensures { self.new ≡ waiting_seat ticket self.old }
     {
         self.phase = Phase::Waiting(ticket);
         self.left -= 1;
@@ -101,14 +103,14 @@ impl CoreSeat {
     }
 
     pub(crate) fn hold(&mut self, ticket: u64)
-        ensures { self.new ≡ holding ticket self.old }
+        ensures { self.new ≡ holding_seat ticket self.old }
     {
         self.phase = Phase::Holding(ticket);
     }
 
     /// Still holds, with its call recorded.
     pub(crate) fn post(&mut self, ticket: u64)
-        ensures { self.new ≡ posting ticket self.old }
+        ensures { self.new ≡ posted_seat ticket self.old }
     {
         self.phase = Phase::Posted(ticket);
     }
@@ -116,16 +118,16 @@ impl CoreSeat {
     /// Ends its turn.
     pub(crate) fn end(&mut self)
         requires { self.old.calls + 1 < 2 ^ 64 }
-        ensures { self.new ≡ ended self.old }
+        ensures { self.new ≡ seat_after_turn self.old }
     {
         self.phase = Phase::Idle;
         self.calls += 1;
     }
 
     /// Is gathered into another seat. Returns its former value.
-    pub(crate) fn give_up(&mut self) -> CoreSeat
+    pub(crate) fn retire(&mut self) -> CoreSeat
         ensures was { result ≡ self.old }
-        ensures gone { self.new ≡ gone }
+        ensures gone_seat { self.new ≡ gone_seat }
     {
         let Ok(numbers) = self.numbers.split_off(0) else {
             unreachable!()
@@ -151,7 +153,7 @@ impl CoreSeat {
         requires idle { self.old.phase ≡ Idle }
         requires numbers { length self.old.numbers + length other.numbers < 2 ^ 63 }
         requires calls { self.old.calls + other.calls < 2 ^ 64 }
-        ensures { self.new ≡ joined self.old other }
+        ensures { self.new ≡ gathered_seat self.old other }
     {
         let CoreSeat {
             own: _,

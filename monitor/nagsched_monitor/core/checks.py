@@ -4,55 +4,55 @@ from typing import Callable, Dict, List, Mapping, Optional, Tuple
 
 from ..scheduler.protocol import Call, Enable, Reschedule, Standing, Take
 from ..scheduler.scheduling import Scheduling
-from ..site.site import Watched
-from . import rhythm
+from ..site.site import ObjectDefinition
+from . import phases
 from .clock import Clock
-from .hosts import hosts_of
-from .object_state import Known
-from .passive import Passive
+from .hosts import hosts_to_check
+from .object_state import ObjectState
+from .passive import PassiveResults
 from .plan import Plan
-from .rhythm import HOST_FIRST, RESULT_FIRST
+from .phases import HOST_FIRST, RESULT_FIRST
 
 
 class Checks:
     """The times of a site's checks."""
 
-    def __init__(self, scheduling: Scheduling, passive: Passive, operator: Mapping[str, bool], clock: Clock, log: Callable[[str], None]) -> None:
+    def __init__(self, scheduling: Scheduling, passive: PassiveResults, operator: Mapping[str, bool], clock: Clock, log: Callable[[str], None]) -> None:
         self._scheduling, self._passive, self._clock, self._log = scheduling, passive, clock, log
         # The operators' switches.
-        self._operator: Dict[str, bool] = dict(operator)
+        self._operator_switches: Dict[str, bool] = dict(operator)
         # The next checks that wait to be set, and the objects that were switched on.
-        self._wanted: Dict[str, Reschedule] = {}
+        self._planned_checks: Dict[str, Reschedule] = {}
         self._to_spread: List[str] = []
         # The periods that include the minute for which they were looked at last.
         self._periods: Mapping[str, bool] = {}
         self._minute: Optional[int] = None
 
     @property
-    def _objects(self) -> Dict[str, Known]:
-        return self._scheduling.known.objects
+    def _objects(self) -> Dict[str, ObjectState]:
+        return self._scheduling.states.objects
 
     def has_more(self) -> bool:
         """Whether something has to be planned at once."""
-        return bool(self._to_spread) or any(self._scheduling.is_known_open(self._objects[name]) for name in self._wanted if name in self._objects)
+        return bool(self._to_spread) or any(self._scheduling.is_object_open(self._objects[name]) for name in self._planned_checks if name in self._objects)
 
     def plan(self, plan: Plan, now: int, is_after_pause: bool) -> None:
         """Plans next checks, after requests have set theirs."""
         self._plan_freshness(now)
         self._plan_spread(is_after_pause, now)
-        self._plan_wanted(plan, now)
+        self._plan_planned_checks(plan, now)
 
     # ---- switches and periods
 
-    def is_wanted_on(self, watched: Watched, switch: Optional[bool] = None) -> bool:
+    def is_to_be_enabled(self, definition: ObjectDefinition, switch: Optional[bool] = None) -> bool:
         """Whether the active checks of an object have to be on: both the operator's switch and its period have to allow them."""
-        on = self._operator.get(watched.name, watched.enabled) if switch is None else switch
-        return on and not watched.passive_only and self._is_in_period(watched)
+        on = self._operator_switches.get(definition.name, definition.enabled) if switch is None else switch
+        return on and not definition.passive_only and self._is_in_period(definition)
 
-    def _is_in_period(self, watched: Watched) -> bool:
-        return watched.period is None or self._periods.get(watched.period, True)
+    def _is_in_period(self, definition: ObjectDefinition) -> bool:
+        return definition.period is None or self._periods.get(definition.period, True)
 
-    def look_at_periods_again(self) -> None:
+    def recheck_periods(self) -> None:
         self._minute = None
 
     def plan_periods(self, plan: Plan) -> None:
@@ -61,11 +61,11 @@ class Checks:
         minute = int(wall // 60)
         if minute == self._minute:
             return
-        self._periods = self._scheduling.site.periods.active(wall)
-        changed = [known for known in self._objects.values() if known.on != self.is_wanted_on(known.watched)]
-        opened = [known for known in changed if self._scheduling.is_known_open(known)]
-        plan.calls += [(known.watched.part, Enable(known.name, not known.on), None) for known in opened]
-        begun = [known.name for known in changed if not known.on]
+        self._periods = self._scheduling.site.periods.active_by_name(wall)
+        changed = [obj for obj in self._objects.values() if obj.on != self.is_to_be_enabled(obj.definition)]
+        opened = [obj for obj in changed if self._scheduling.is_object_open(obj)]
+        plan.calls += [(obj.definition.part, Enable(obj.name, not obj.on), None) for obj in opened]
+        begun = [obj.name for obj in changed if not obj.on]
 
         def switched() -> None:
             self._minute = minute if len(opened) == len(changed) else None
@@ -73,80 +73,80 @@ class Checks:
 
         plan.then.append(switched)
 
-    def switch(self, known: Known, on: bool) -> List[Call]:
+    def switch_calls(self, obj: ObjectState, on: bool) -> List[Call]:
         """The calls that set an operator's switch."""
-        wanted = self.is_wanted_on(known.watched, on)
-        return [Enable(known.name, wanted)] if known.on != wanted else []
+        wanted = self.is_to_be_enabled(obj.definition, on)
+        return [Enable(obj.name, wanted)] if obj.on != wanted else []
 
-    def switched(self, known: Known, on: Optional[bool]) -> None:
+    def apply_switch(self, obj: ObjectState, on: Optional[bool]) -> None:
         """An operator's switch was stored; None if it was removed."""
         if on is None:
-            self._operator.pop(known.name, None)
+            self._operator_switches.pop(obj.name, None)
         else:
-            self._operator[known.name] = on
+            self._operator_switches[obj.name] = on
         if on is not False:
-            self._to_spread.append(known.name)
+            self._to_spread.append(obj.name)
 
     # ---- next checks that wait to be set
 
-    def want(self, known: Known, time: int, forced: bool) -> None:
+    def plan_check(self, obj: ObjectState, time: int, forced: bool) -> None:
         """Has the next check of an object set, with the next plan."""
-        self._wanted[known.name] = Reschedule(known.name, time, forced)
+        self._planned_checks[obj.name] = Reschedule(obj.name, time, forced)
 
-    def forget(self, name: str) -> None:
+    def drop_planned_check(self, name: str) -> None:
         """An operator sets the next check of this object."""
-        self._wanted.pop(name, None)
+        self._planned_checks.pop(name, None)
 
-    def _plan_wanted(self, plan: Plan, now: int) -> None:
+    def _plan_planned_checks(self, plan: Plan, now: int) -> None:
         done = []
-        for name, call in self._wanted.items():
-            known = self._objects.get(name)
-            if known is not None and not self._scheduling.is_known_open(known):
+        for name, call in self._planned_checks.items():
+            obj = self._objects.get(name)
+            if obj is not None and not self._scheduling.is_object_open(obj):
                 continue
             done.append(call)
-            if known is not None and known.run is None:
-                plan.calls.append((known.watched.part, call, None))
+            if obj is not None and obj.run is None:
+                plan.calls.append((obj.definition.part, call, None))
                 (plan.at_once if call.time <= now else plan.later).add(name)
-        plan.then.append(partial(self._consume, done))
+        plan.then.append(partial(self._drop_made, done))
 
-    def _consume(self, done: List[Reschedule]) -> None:
+    def _drop_made(self, done: List[Reschedule]) -> None:
         for call in done:
-            if self._wanted.get(call.name) is call:
-                del self._wanted[call.name]
+            if self._planned_checks.get(call.name) is call:
+                del self._planned_checks[call.name]
 
     def _plan_freshness(self, now: int) -> None:
         """Asks for a check of each object that had no result within its freshness, which runs its command."""
         for name in self._scheduling.site.with_freshness:
-            known = self._objects[name]
-            if known.is_stale(now) and name not in self._passive and self._scheduling.is_known_open(known) and self._is_in_period(known.watched):
-                self._log(f"{name}: no result for {(known.watched.freshness or 0) / 1000:g} seconds; its command is run")
-                self.want(known, now, True)
+            obj = self._objects[name]
+            if obj.is_stale(now) and name not in self._passive and self._scheduling.is_object_open(obj) and self._is_in_period(obj.definition):
+                self._log(f"{name}: no result for {(obj.definition.freshness or 0) / 1000:g} seconds; its command is run")
+                self.plan_check(obj, now, True)
 
     def _plan_spread(self, is_after_pause: bool, now: int) -> None:
         """Spreads the overdue checks after a pause, and the checks of objects that were switched on."""
         names = self._objects if is_after_pause else [name for name in self._to_spread if name in self._objects]
-        overdue: List[Tuple[int, str, Known]] = []
-        for known in (self._objects[name] for name in names if name not in self._passive):
-            due = known.waits_until()
-            never = known.next is None and known.run is None and known.on and known.watched.check_interval > 0
+        overdue: List[Tuple[int, str, ObjectState]] = []
+        for obj in (self._objects[name] for name in names if name not in self._passive):
+            due = obj.due_time()
+            never = obj.next is None and obj.run is None and obj.on and obj.definition.check_interval > 0
             if never or due is not None and due < now:
-                overdue.append((now if due is None else due, known.name, known))
+                overdue.append((now if due is None else due, obj.name, obj))
         overdue.sort(key=lambda each: each[:2])
-        times = rhythm.spread([(name, known.watched.check_interval) for _, name, known in overdue], now)
-        for (_, _, known), time in zip(overdue, times):
-            self.want(known, time, known.forced)
-            known.phase = time if known.phase is None else known.phase
+        times = phases.spread_times([(name, obj.definition.check_interval) for _, name, obj in overdue], now)
+        for (_, _, obj), time in zip(overdue, times):
+            self.plan_check(obj, time, obj.forced)
+            obj.phase = time if obj.phase is None else obj.phase
         self._to_spread = []
 
     # ---- due checks
 
     def plan_takes(self, plan: Plan, now: int) -> None:
         """A take for each check that is due and has a free slot."""
-        known = self._scheduling.known
-        free = self._scheduling.site.options.slots - known.running.here() + plan.freed
-        due = {part: names - plan.later for part, names in known.all_due(now).items()}
+        obj = self._scheduling.states
+        free = self._scheduling.site.options.slots - obj.running.local_plugin_count() + plan.freed
+        due = {part: names - plan.later for part, names in obj.due_by_part(now).items()}
         for name in plan.at_once:
-            due.setdefault(known.objects[name].watched.part, set()).add(name)
+            due.setdefault(obj.objects[name].definition.part, set()).add(name)
         for part, names in due.items():
             if self._scheduling.is_open(part):
                 count = max(0, min(len(names), free))
@@ -155,22 +155,22 @@ class Checks:
 
     # ---- consequences of a result
 
-    def reported(self, known: Known, before: Optional[Standing], standing: Standing, now: int) -> None:
+    def apply_result(self, obj: ObjectState, before: Optional[Standing], standing: Standing, now: int) -> None:
         """The object returns to its phase, and hosts may matter."""
-        if known.asked is not None and standing.next == known.asked[0]:
+        if obj.operator_check is not None and standing.next == obj.operator_check[0]:
             pass  # an operator set it while the check ran
-        elif known.asked is not None and known.asked[0] > now:
-            self.want(known, *known.asked)
-        elif known.on and not standing.is_soft_problem():
-            time = rhythm.return_to(known.phase, known.watched.check_interval, standing.next, now)
+        elif obj.operator_check is not None and obj.operator_check[0] > now:
+            self.plan_check(obj, *obj.operator_check)
+        elif obj.on and not standing.is_soft_problem():
+            time = phases.time_back_in_phase(obj.phase, obj.definition.check_interval, standing.next, now)
             if time is not None:
-                self.want(known, time, known.forced)
-        for host in hosts_of(known, before, standing, self._objects, self._scheduling.site.children.get(known.name, ())):
-            self._look_at(host, now)
+                self.plan_check(obj, time, obj.forced)
+        for host in hosts_to_check(obj, before, standing, self._objects, self._scheduling.site.children.get(obj.name, ())):
+            self._check_host(host, now)
 
-    def _look_at(self, host: Known, now: int) -> None:
+    def _check_host(self, host: ObjectState, now: int) -> None:
         """Has a host checked now, unless a result came recently or its check is running, off or already asked for."""
         horizon = self._scheduling.site.options.cached_host_check_horizon * 1000
         is_fresh = host.last_result is not None and now - host.last_result < horizon
         if not is_fresh and host.run is None and host.on and host.next not in (HOST_FIRST, RESULT_FIRST):
-            self.want(host, HOST_FIRST, host.forced)
+            self.plan_check(host, HOST_FIRST, host.forced)

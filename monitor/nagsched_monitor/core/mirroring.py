@@ -6,25 +6,25 @@ those of its mirrors are calls of one turn, which are stored together.
 from typing import AbstractSet, Any, Dict, List, Mapping, Optional, Sequence, Set, Tuple
 
 from ..scheduler.protocol import Answer, Call, PutOff, Report, Reschedule, Take, Taken
-from .rhythm import MIRROR_FIRST
-from .running import Owner, Place, Run, Running
+from .phases import MIRROR_FIRST
+from .run_table import ObjectKey, Owner, Run, RunTable
 
 # A call, its part, and the output of the plugin that it reports.
-AskedOf = Tuple[int, Call, Optional[str]]
+PlannedCall = Tuple[int, Call, Optional[str]]
 
 
 class Mirrors:
     """The mirrors of a site, by their parts and names."""
 
-    def __init__(self, names: Mapping[int, AbstractSet[str]], running: Running) -> None:
+    def __init__(self, names: Mapping[int, AbstractSet[str]], running: RunTable) -> None:
         self.names, self._running = names, running
         self._parts: Dict[str, List[int]] = {}
         for part in sorted(names):
             for name in names[part]:
                 self._parts.setdefault(name, []).append(part)
-        self._asked_for: Set[Place] = set()
+        self._expected: Set[ObjectKey] = set()
 
-    def of(self, part: int) -> AbstractSet[str]:
+    def names_of(self, part: int) -> AbstractSet[str]:
         """The names of a part's mirrors."""
         return self.names.get(part, frozenset())
 
@@ -34,7 +34,7 @@ class Mirrors:
 
     # ---- answers
 
-    def owns(self, part: int, call: Call, answer: Answer) -> bool:
+    def apply_answer(self, part: int, call: Call, answer: Answer) -> bool:
         """Whether an answer is about a mirror, which is then updated."""
         names = self.names.get(part)
         if not names:
@@ -44,57 +44,57 @@ class Mirrors:
             return False
         if isinstance(answer, Taken):
             self._running.begin(Run((part, name), answer.run, Owner.ORIGINAL))
-            self._asked_for.discard((part, name))
+            self._expected.discard((part, name))
         elif isinstance(call, Reschedule):
-            self._asked_for.add((part, name))
+            self._expected.add((part, name))
         elif isinstance(call, Report):
             self._running.end((part, name))
         return True
 
-    def read_saved(self, part: int, members: Sequence[Mapping[str, Any]]) -> List[Mapping[str, Any]]:
+    def apply_saved(self, part: int, members: Sequence[Mapping[str, Any]]) -> List[Mapping[str, Any]]:
         """Takes in the runs of mirrors among the objects of a part, from its scheduler's saved state; returns the other objects."""
         own = []
         for it in members:
-            if it["name"] not in self.of(part):
+            if it["name"] not in self.names_of(part):
                 own.append(it)
             elif it["run"] is not None:
                 self._running.begin(Run((part, it["name"]), it["run"]["number"], Owner.ORIGINAL))
         return own
 
-    def become(self, names: Mapping[int, AbstractSet[str]], others: AbstractSet[int]) -> "Mirrors":
+    def change_site(self, names: Mapping[int, AbstractSet[str]], others: AbstractSet[int]) -> "Mirrors":
         """The mirrors of another site, in which these parts are others."""
-        for run in self._running.of_owner(Owner.ORIGINAL):
-            part, name = run.place
+        for run in self._running.owned_by(Owner.ORIGINAL):
+            part, name = run.key
             if part in others or name not in names.get(part, ()):
-                self._running.end(run.place)
+                self._running.end(run.key)
         return Mirrors(names, self._running)
 
-    def left_over(self) -> List[Place]:
+    def take_missing(self) -> List[ObjectKey]:
         """The mirrors that should have been taken since the last call, and weren't. The list is empty unless another object came before them."""
-        left, self._asked_for = sorted(self._asked_for), set()
+        left, self._expected = sorted(self._expected), set()
         return left
 
     # ---- calls
 
-    def takes(self, moment: int) -> List[AskedOf]:
+    def take_calls(self, moment: int) -> List[PlannedCall]:
         """The calls that take the mirrors that aren't running."""
-        places = [(part, name) for part, names in self.names.items() for name in sorted(names) if self._running.of((part, name)) is None]
-        return [call for place in places for call in taken_again(place, moment)]
+        places = [(part, name) for part, names in self.names.items() for name in sorted(names) if self._running.get((part, name)) is None]
+        return [call for place in places for call in retake_calls(place, moment)]
 
     def are_running(self, name: str) -> bool:
         """Whether a result of this object can be reported to all of its mirrors."""
-        return all(self._running.of((part, name)) is not None for part in self.parts_of(name))
+        return all(self._running.get((part, name)) is not None for part in self.parts_of(name))
 
-    def reports(self, report: Report, moment: int) -> List[AskedOf]:
+    def report_calls(self, report: Report, moment: int) -> List[PlannedCall]:
         """The reports to the mirrors of an object whose result is reported; they are taken again after them."""
-        whole: List[AskedOf] = []
+        whole: List[PlannedCall] = []
         for part in self.parts_of(report.name):
-            run = self._running.of((part, report.name))
+            run = self._running.get((part, report.name))
             assert run is not None
-            whole += [(part, Report(report.name, run.number, report.code), None), *taken_again((part, report.name), moment)]
+            whole += [(part, Report(report.name, run.number, report.code), None), *retake_calls((part, report.name), moment)]
         return whole
 
 
-def taken_again(place: Place, moment: int) -> List[AskedOf]:
+def retake_calls(place: ObjectKey, moment: int) -> List[PlannedCall]:
     part, name = place
     return [(part, Reschedule(name, MIRROR_FIRST, True), None), (part, Take(moment), None)]

@@ -4,13 +4,13 @@ from dataclasses import dataclass, field, replace
 from typing import Any, Dict, Iterable, List, Mapping, Optional, Set, Tuple
 
 from ..scheduler.protocol import Abandon, Answer, Call, Done, Enable, Freed, PutOff, Refused, Report, Reschedule, Standing, Take, Taken
-from ..site.site import Watched
-from . import rhythm
-from .running import Place, Run, Running
+from ..site.site import ObjectDefinition
+from . import phases
+from .run_table import ObjectKey, Run, RunTable
 
 
 @dataclass
-class Past:
+class StateHistory:
     """How long an object has been in its state, in seconds since 1970 of the wall clock; None if that isn't known."""
 
     # The state that it has had since then, and the hard one.
@@ -25,49 +25,49 @@ class Past:
 
 
 @dataclass
-class Known:
+class ObjectState:
     """The known state of an object."""
 
-    watched: Watched
-    running: Running
+    definition: ObjectDefinition
+    running: RunTable
     # Whether the scheduler has its checks on, and other facts as the scheduler has them.
     on: bool
     next: Optional[int] = None
     forced: bool = False
     # The time for which its last run waited.
-    due: Optional[int] = None
+    last_due: Optional[int] = None
     standing: Optional[Standing] = None
-    # A moment of its own rhythm: its other checks are whole intervals away.
+    # A moment in its phase: its other checks are whole intervals away.
     phase: Optional[int] = None
     # The time to which an operator set its next check, and whether it is forced, until that check is made.
-    asked: Optional[Tuple[int, bool]] = None
+    operator_check: Optional[Tuple[int, bool]] = None
     # The moment of its last result, and the output of that result.
     last_result: Optional[int] = None
-    words: str = ""
+    output: str = ""
     # The moment since which a result is awaited, if none came while this monitor runs.
     awaited_since: int = 0
-    past: Past = field(default_factory=Past)
+    history: StateHistory = field(default_factory=StateHistory)
     name: str = field(init=False)
 
     def __post_init__(self) -> None:
-        self.name = self.watched.name
+        self.name = self.definition.name
 
     @property
-    def place(self) -> Place:
-        return self.watched.part, self.name
+    def key(self) -> ObjectKey:
+        return self.definition.part, self.name
 
     @property
     def run(self) -> Optional[Run]:
         """Its running check."""
-        return self.running.of((self.watched.part, self.name))
+        return self.running.get((self.definition.part, self.name))
 
-    def waits_until(self) -> Optional[int]:
+    def due_time(self) -> Optional[int]:
         """The time for which it waits; None if it is running, off, or has no next check."""
         return self.next if (self.on or self.forced) and self.next is not None and self.run is None else None
 
     def is_stale(self, now: int) -> bool:
         """Whether no result came within its freshness."""
-        freshness = self.watched.freshness
+        freshness = self.definition.freshness
         if freshness is None or self.forced or self.run is not None:
             return False
         return now - (self.awaited_since if self.last_result is None else self.last_result) >= freshness
@@ -77,14 +77,14 @@ class Known:
 
 
 @dataclass
-class Due:
+class DueQueue:
     """The objects of a part by the times for which they wait."""
 
     _times: Dict[str, int] = field(default_factory=dict)
     _heap: List[Tuple[int, str]] = field(default_factory=list)
     _due: Set[str] = field(default_factory=set)
 
-    def set(self, name: str, time: Optional[int]) -> None:
+    def set_time(self, name: str, time: Optional[int]) -> None:
         """Sets the time for which an object waits, or None."""
         if time is not None and self._times.get(name) == time:
             return
@@ -95,7 +95,7 @@ class Due:
             self._times[name] = time
             heapq.heappush(self._heap, (time, name))
 
-    def now(self, moment: int) -> Set[str]:
+    def due_names(self, moment: int) -> Set[str]:
         """The objects whose time has come."""
         while self._heap and self._heap[0][0] <= moment:
             time, name = heapq.heappop(self._heap)
@@ -103,132 +103,132 @@ class Due:
                 self._due.add(name)
         return self._due
 
-    def first(self) -> Optional[int]:
+    def first_time(self) -> Optional[int]:
         """The earliest time after the last moment that was asked for."""
         while self._heap and self._times.get(self._heap[0][1]) != self._heap[0][0]:
             heapq.heappop(self._heap)
         return self._heap[0][0] if self._heap else None
 
-    def second(self) -> Optional[int]:
+    def second_time(self) -> Optional[int]:
         """The time after the first one, if it is known without a search."""
         times = [time for time, name in self._heap[1:3] if self._times.get(name) == time]
         return min(times) if times else None
 
 
-class AllKnown:
+class ObjectStates:
     """The known state of all objects of a site."""
 
     def __init__(self) -> None:
-        self.objects: Dict[str, Known] = {}
-        self.running = Running()
-        self._due: Dict[int, Due] = {}
+        self.objects: Dict[str, ObjectState] = {}
+        self.running = RunTable()
+        self._due_queues: Dict[int, DueQueue] = {}
 
-    def add(self, watched: Watched, on: bool) -> None:
-        self.objects[watched.name] = Known(watched, self.running, on)
-        self._due.setdefault(watched.part, Due())
+    def add(self, definition: ObjectDefinition, on: bool) -> None:
+        self.objects[definition.name] = ObjectState(definition, self.running, on)
+        self._due_queues.setdefault(definition.part, DueQueue())
 
-    def become(self, objects: Mapping[str, Watched], now: int) -> None:
+    def change_site(self, objects: Mapping[str, ObjectDefinition], now: int) -> None:
         """Takes over another site, and keeps the state of the objects that stay. A check of an object that moves to another part is abandoned there."""
-        before, self.objects, self._due = self.objects, {}, {}
-        for watched in objects.values():
-            kept = before.pop(watched.name, None)
-            self.add(watched, watched.enabled)
-            if kept is None:
-                self.objects[watched.name].awaited_since = now
+        before, self.objects, self._due_queues = self.objects, {}, {}
+        for definition in objects.values():
+            earlier = before.pop(definition.name, None)
+            self.add(definition, definition.enabled)
+            if earlier is None:
+                self.objects[definition.name].awaited_since = now
             else:
-                self.objects[watched.name] = self._moved(kept, watched, now)
-        for known in before.values():
-            self.leave(known)
-        for known in self.objects.values():
-            self._set_due(known)
+                self.objects[definition.name] = self._state_in_new_site(earlier, definition, now)
+        for obj in before.values():
+            self.end_run(obj)
+        for obj in self.objects.values():
+            self._set_due(obj)
 
-    def _moved(self, kept: Known, watched: Watched, now: int) -> Known:
+    def _state_in_new_site(self, earlier: ObjectState, definition: ObjectDefinition, now: int) -> ObjectState:
         """The state of an object that stays."""
-        if kept.watched.part != watched.part:
-            self.leave(kept)
-        on = kept.on if kept.watched.enabled == watched.enabled else watched.enabled
-        since = now if kept.watched.freshness is None and kept.last_result is None else kept.awaited_since
-        phase = kept.phase
-        if phase is not None and kept.watched.check_interval != watched.check_interval:
-            phase = rhythm.moved(phase, kept.name, kept.watched.check_interval, watched.check_interval)
-        return replace(kept, watched=watched, on=on, awaited_since=since, phase=phase)
+        if earlier.definition.part != definition.part:
+            self.end_run(earlier)
+        on = earlier.on if earlier.definition.enabled == definition.enabled else definition.enabled
+        since = now if earlier.definition.freshness is None and earlier.last_result is None else earlier.awaited_since
+        phase = earlier.phase
+        if phase is not None and earlier.definition.check_interval != definition.check_interval:
+            phase = phases.phase_after_change(phase, earlier.name, earlier.definition.check_interval, definition.check_interval)
+        return replace(earlier, definition=definition, on=on, awaited_since=since, phase=phase)
 
-    def leave(self, known: Known) -> None:
+    def end_run(self, obj: ObjectState) -> None:
         """Ends an object's run. A plugin that still runs has no owner any more, and the next run of the object waits for it."""
-        run = self.running.end(known.place)
+        run = self.running.end(obj.key)
         if run is not None and run.job is not None:
-            self.running.left[known.name] = run.job
+            self.running.leftover_jobs[obj.name] = run.job
 
-    def read_saved(self, members: Iterable[Mapping[str, Any]]) -> List[str]:
+    def apply_saved(self, members: Iterable[Mapping[str, Any]]) -> List[str]:
         """Takes in objects from their scheduler's saved state. Returns the names of the objects whose known state was different."""
         others = []
         for it in members:
-            known = self.objects.get(it["name"])
-            if known is None:
+            obj = self.objects.get(it["name"])
+            if obj is None:
                 continue
-            run, number = known.run, None if it.get("run") is None else it["run"]["number"]
+            run, number = obj.run, None if it.get("run") is None else it["run"]["number"]
             saved = (it["enabled"], it["forced"], it.get("next_check"), number)
-            if saved != (known.on, known.forced, known.next, None if run is None else run.number):
-                others.append(known.name)
-            known.on, known.forced, known.next, _ = saved
+            if saved != (obj.on, obj.forced, obj.next, None if run is None else run.number):
+                others.append(obj.name)
+            obj.on, obj.forced, obj.next, _ = saved
             if number is None:
-                self.running.end(known.place)
+                self.running.end(obj.key)
             elif run is None or run.number != number:
-                self.running.begin(Run(known.place, number))
-            self._set_due(known)
+                self.running.begin(Run(obj.key, number))
+            self._set_due(obj)
         return others
 
-    def _set_due(self, known: Known) -> None:
-        self._due[known.watched.part].set(known.name, known.waits_until())
+    def _set_due(self, obj: ObjectState) -> None:
+        self._due_queues[obj.definition.part].set_time(obj.name, obj.due_time())
 
-    def all_due(self, moment: int) -> Dict[int, Set[str]]:
+    def due_by_part(self, moment: int) -> Dict[int, Set[str]]:
         """The objects whose time has come, by their parts."""
         all_due: Dict[int, Set[str]] = {}
-        for part, due in self._due.items():
-            names = due.now(moment)
+        for part, due in self._due_queues.items():
+            names = due.due_names(moment)
             if names:
                 all_due[part] = names
         return all_due
 
-    def first(self) -> Optional[int]:
+    def first_time(self) -> Optional[int]:
         """The earliest time for which an object waits that isn't due yet."""
         first: Optional[int] = None
-        for due in self._due.values():
-            time = due.first()
+        for due in self._due_queues.values():
+            time = due.first_time()
             if time is not None and (first is None or time < first):
                 first = time
         return first
 
-    def second(self) -> Optional[int]:
+    def second_time(self) -> Optional[int]:
         """The time after the first one, if it is known without a search."""
-        times = [time for due in self._due.values() for time in (due.first(), due.second()) if time is not None]
+        times = [time for due in self._due_queues.values() for time in (due.first_time(), due.second_time()) if time is not None]
         return sorted(times)[1] if len(times) > 1 else None
 
-    def hear(self, call: Call, answer: Answer) -> Optional[Known]:
+    def apply_answer(self, call: Call, answer: Answer) -> Optional[ObjectState]:
         """Takes in an answer; returns the object that it is about, if it is one of these."""
         if not isinstance(call, Take):
-            known = self.objects.get(call.name)
+            obj = self.objects.get(call.name)
         elif isinstance(answer, (Taken, PutOff)):
-            known = self.objects.get(answer.name)
+            obj = self.objects.get(answer.name)
         else:
             return None
-        if known is None or isinstance(answer, Refused):
-            return known
+        if obj is None or isinstance(answer, Refused):
+            return obj
         if isinstance(answer, Taken):
-            self.running.begin(Run(known.place, answer.run, forced=known.forced))
-            known.due, known.next, known.forced = known.next, None, False
+            self.running.begin(Run(obj.key, answer.run, forced=obj.forced))
+            obj.last_due, obj.next, obj.forced = obj.next, None, False
         elif isinstance(answer, PutOff):
-            known.next = answer.next
+            obj.next = answer.next
         elif isinstance(answer, Standing):
-            known.standing, known.next = answer, answer.next
+            obj.standing, obj.next = answer, answer.next
             if isinstance(call, Report):
-                self.running.end(known.place)
+                self.running.end(obj.key)
         elif isinstance(answer, Freed) and isinstance(call, Abandon):
-            self.running.end(known.place)
-            known.next = answer.next
+            self.running.end(obj.key)
+            obj.next = answer.next
         elif isinstance(answer, Done) and isinstance(call, Reschedule):
-            known.next, known.forced = call.time, call.forced
+            obj.next, obj.forced = call.time, call.forced
         elif isinstance(answer, Done) and isinstance(call, Enable):
-            known.on = call.on
-        self._due[known.watched.part].set(known.name, known.waits_until())
-        return known
+            obj.on = call.on
+        self._due_queues[obj.definition.part].set_time(obj.name, obj.due_time())
+        return obj

@@ -5,36 +5,36 @@ from typing import Container, Deque, Dict, Iterable, List
 
 from ..scheduler.protocol import Report, Reschedule, Take
 from ..scheduler.scheduling import Scheduling
-from ..store.rows import KeptResult
+from ..store.rows import StoredResult
 from ..store.writes import drop_result
-from .mirroring import AskedOf
-from .object_state import Known
+from .mirroring import PlannedCall
+from .object_state import ObjectState
 from .plan import Plan
-from .rhythm import RESULT_FIRST
-from .running import Owner
+from .phases import RESULT_FIRST
+from .run_table import Owner
 
 # The greatest number of results that may wait.
 MOST_WAITING = 10_000
 
 
-class Passive:
+class PassiveResults:
     """Passive results, those of one object in the order in which they came. All are stored."""
 
-    def __init__(self, results: Iterable[KeptResult], scheduling: Scheduling) -> None:
+    def __init__(self, results: Iterable[StoredResult], scheduling: Scheduling) -> None:
         self._scheduling = scheduling
-        self._results: Dict[str, Deque[KeptResult]] = {}
+        self._results: Dict[str, Deque[StoredResult]] = {}
         self.count = 0
         for result in results:
-            self.expect(result)
+            self.add(result)
 
-    def expect(self, result: KeptResult) -> None:
+    def add(self, result: StoredResult) -> None:
         self._results.setdefault(result.name, collections.deque()).append(result)
         self.count += 1
 
     def __contains__(self, name: object) -> bool:
         return name in self._results
 
-    def first(self, name: str) -> KeptResult:
+    def first_result(self, name: str) -> StoredResult:
         return self._results[name][0]
 
     def is_deliverable(self) -> bool:
@@ -42,33 +42,33 @@ class Passive:
         return any(self._is_takeable(name) for name in self._results)
 
     def _is_takeable(self, name: str) -> bool:
-        known = self._scheduling.known.objects.get(name)
-        return known is not None and known.run is None and known.next != RESULT_FIRST and self._scheduling.is_known_open(known)
+        obj = self._scheduling.states.objects.get(name)
+        return obj is not None and obj.run is None and obj.next != RESULT_FIRST and self._scheduling.is_object_open(obj)
 
     def plan_takes(self, plan: Plan, now: int) -> None:
         """Takes each object that has a result and isn't running."""
         for name in self._results:
-            known = self._scheduling.known.objects[name]
+            obj = self._scheduling.states.objects[name]
             if self._is_takeable(name):
-                plan.calls += taken_for_result(known, now)
-            elif known.next == RESULT_FIRST and known.run is None and self._scheduling.is_known_open(known):
-                plan.calls.append((known.watched.part, Take(now), None))  # the limit of running checks was reached when it had to be taken
+                plan.calls += calls_for_result(obj, now)
+            elif obj.next == RESULT_FIRST and obj.run is None and self._scheduling.is_object_open(obj):
+                plan.calls.append((obj.definition.part, Take(now), None))  # the limit of running checks was reached when it had to be taken
                 plan.later.add(name)
 
     def plan_reports(self, plan: Plan, now: int) -> None:
         """Reports the results for which their objects were taken."""
-        for run in self._scheduling.known.running.of_owner(Owner.RESULT):
-            part, name = run.place
-            known, result = self._scheduling.known.objects.get(name), run.result
-            if result is None or known is None or not self._scheduling.is_reportable(run.place):
+        for run in self._scheduling.states.running.owned_by(Owner.RESULT):
+            part, name = run.key
+            obj, result = self._scheduling.states.objects.get(name), run.result
+            if result is None or obj is None or not self._scheduling.is_reportable(run.key):
                 continue
-            plan.calls += self._scheduling.reports(part, Report(name, run.number, result.code), result.words, now)
+            plan.calls += self._scheduling.report_calls(part, Report(name, run.number, result.code), result.words, now)
             plan.writes.append(drop_result(result.id))
-            plan.then.append(partial(self._reported, result))
+            plan.then.append(partial(self._remove_first, result))
             if len(self._results[name]) > 1:
-                plan.calls += taken_for_result(known, now)
+                plan.calls += calls_for_result(obj, now)
 
-    def _reported(self, result: KeptResult) -> None:
+    def _remove_first(self, result: StoredResult) -> None:
         results = self._results[result.name]
         assert results[0].id == result.id
         results.popleft()
@@ -76,7 +76,7 @@ class Passive:
         if not results:
             del self._results[result.name]
 
-    def drop_others(self, names: Container[str]) -> List[KeptResult]:
+    def drop_others(self, names: Container[str]) -> List[StoredResult]:
         """Drops the results of objects that aren't among these, and returns them."""
         gone = [result for name in self._results if name not in names for result in self._results[name]]
         self._results = {name: results for name, results in self._results.items() if name in names}
@@ -84,6 +84,6 @@ class Passive:
         return gone
 
 
-def taken_for_result(known: Known, now: int) -> List[AskedOf]:
-    part = known.watched.part
-    return [(part, Reschedule(known.name, RESULT_FIRST, True), None), (part, Take(now), None)]
+def calls_for_result(obj: ObjectState, now: int) -> List[PlannedCall]:
+    part = obj.definition.part
+    return [(part, Reschedule(obj.name, RESULT_FIRST, True), None), (part, Take(now), None)]

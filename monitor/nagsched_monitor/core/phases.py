@@ -13,12 +13,12 @@ MIRROR_FIRST, RESULT_FIRST, HOST_FIRST = 0, 1, 2
 FIRST_TIME = 3
 
 
-def on_time(due: Optional[int]) -> Optional[int]:
+def due_time(due: Optional[int]) -> Optional[int]:
     """The time at which a check was due; None if it was asked for at once."""
     return due if due is not None and due >= FIRST_TIME else None
 
 
-def spread(overdue: Sequence[Tuple[str, int]], now: int) -> List[int]:
+def spread_times(overdue: Sequence[Tuple[str, int]], now: int) -> List[int]:
     """The times of checks that are overdue, in the order in which they were due: each has its name and its interval in milliseconds."""
     count = len(overdue)
     return [now + min(interval or WINDOW, WINDOW) * place // count for place, (_, interval) in enumerate(overdue)]
@@ -29,7 +29,7 @@ def next_in_phase(phase: int, interval: int, now: int) -> int:
     return phase + ((now - phase) // interval + 1) * interval
 
 
-def return_to(phase: Optional[int], interval: int, next_check: Optional[int], now: int) -> Optional[int]:
+def time_back_in_phase(phase: Optional[int], interval: int, next_check: Optional[int], now: int) -> Optional[int]:
     """The time to which a next check has to be moved so that it is in phase; None if it is, or the object has no phase."""
     if phase is None or interval == 0 or next_check is None:
         return None
@@ -37,6 +37,6 @@ def return_to(phase: Optional[int], interval: int, next_check: Optional[int], no
     return next_in_phase(phase, interval, now) if min(off, interval - off) > TOLERANCE else None
 
 
-def moved(phase: int, name: str, before: int, interval: int) -> int:
+def phase_after_change(phase: int, name: str, before: int, interval: int) -> int:
     """The phase of an object whose interval changes: objects fill a longer interval evenly, by their names."""
     return phase + before * (zlib.crc32(name.encode()) % max(1, interval // before)) if before > 0 else phase

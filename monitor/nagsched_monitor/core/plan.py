@@ -3,14 +3,14 @@ from dataclasses import dataclass, field
 from typing import Callable, List, Set
 
 from ..store.store import Write
-from .mirroring import AskedOf
+from .mirroring import PlannedCall
 
 
 @dataclass
 class Plan:
     """One list of calls, with everything that is written with them. Then the actions after all of it is stored, and after the calls were answered."""
 
-    calls: List[AskedOf] = field(default_factory=list)
+    calls: List[PlannedCall] = field(default_factory=list)
     writes: List[Write] = field(default_factory=list)
     then: List[Callable[[], None]] = field(default_factory=list)
     last: List[Callable[[], None]] = field(default_factory=list)

@@ -3,17 +3,17 @@ import collections
 from functools import partial
 from typing import Callable, Counter, Deque, Dict, List, Optional
 
-from ..run.jobs import Event, Finished, Gone, Job, Lost, Runners
+from ..run.jobs import Event, Job, JobFinished, JobLost, Runners, StuckJobEnded
 from ..scheduler.protocol import Abandon, Report, Reschedule
 from ..scheduler.scheduling import Scheduling
 from ..site.command_lines import Command
 from ..store.counters import Counters
 from .clock import Clock
-from .mirroring import AskedOf
-from .object_state import Known
+from .mirroring import PlannedCall
+from .object_state import ObjectState
 from .plan import Plan
-from .rhythm import on_time
-from .running import Owner, Run
+from .phases import due_time
+from .run_table import Owner, Run
 from .verdict import verdict
 
 # How often a check whose runner ended is made again, and its result if it is lost once more.
@@ -36,69 +36,69 @@ class PluginRuns:
         # Plugins that were killed and haven't ended, by the names of their objects.
         self._stuck: Dict[str, Job] = {}
         # How often in a row the check of an object was lost, and couldn't be run here.
-        self._lost: Counter[str] = collections.Counter()
-        self._put_off: Counter[str] = collections.Counter()
-        self._swept = clock.moment()
+        self._losses: Counter[str] = collections.Counter()
+        self._delays: Counter[str] = collections.Counter()
+        self._last_sweep = clock.moment()
         self.latest_start = 0
 
     # ---- the beginning
 
-    def start(self, known: Known, run: Run, command: Command) -> None:
+    def start(self, obj: ObjectState, run: Run, command: Command) -> None:
         """Runs the plugin of a check that was taken. If the plugin of an earlier run still runs, this run ends."""
-        left = self._scheduling.known.running.left.pop(known.name, None)
+        left = self._scheduling.states.running.leftover_jobs.pop(obj.name, None)
         if left is not None:
-            self._own(run, left)
+            self._assign(run, left)
             return
-        time = on_time(known.due)
+        time = due_time(obj.last_due)
         late = 0
         if time is not None:
             late = self._clock.moment() - time
             self.latest_start = max(self.latest_start, late)
-            self._counters.started(late)
-        known.past.late = max(0, late) / 1000
-        job = Job(known.name, run.number, command.words, command.limit, known.watched.runner)
-        self._own(run, job)
-        if known.name in self._stuck:
-            self._events.append(Finished(job, "limit", 0, "the plugin of an earlier check still runs and can't be killed"))
+            self._counters.count_start(late)
+        obj.history.late = max(0, late) / 1000
+        job = Job(obj.name, run.number, command.arguments, command.limit, obj.definition.runner)
+        self._assign(run, job)
+        if obj.name in self._stuck:
+            self._events.append(JobFinished(job, "limit", 0, "the plugin of an earlier check still runs and can't be killed"))
         else:
             self._runners.start(job)
 
-    def _own(self, run: Run, job: Job) -> None:
+    def _assign(self, run: Run, job: Job) -> None:
         remote = None if job.runner is None else self._scheduling.site.runners.get(job.runner)
         wait = 0 if remote is None else round(2 * remote.wait * 1000) + MARGIN  # for the runner, and for the queue after it
         run.owner, run.job, run.deadline = Owner.PLUGIN, job, self._clock.moment() + round(job.limit * 1000) + wait + MARGIN
 
     # ---- the end
 
-    def hear(self, now: int) -> None:
+    def collect_events(self, now: int) -> None:
         """Takes in the events of runners, and looks over all runs every second."""
         self._events.extend(self._runners.events())
-        if now - self._swept >= SWEEP:
-            self._swept = now
-            self._sweep(now)
+        if now - self._last_sweep >= SWEEP:
+            self._last_sweep = now
+            self._end_overdue(now)
 
-    def _sweep(self, now: int) -> None:
+    def _end_overdue(self, now: int) -> None:
         """Ends a run that is past its deadline, by ending its runner. A run that no runner has belongs to nobody."""
-        running = self._scheduling.known.running
-        ended, there = {id(event.job) for event in self._events}, self._runners.jobs()
-        for run in running.of_owner(Owner.PLUGIN):
+        running = self._scheduling.states.running
+        ended, there = {id(event.job) for event in self._events}, self._runners.job_ids()
+        for run in running.owned_by(Owner.PLUGIN):
             if run.job is None or id(run.job) in ended:
                 continue
             if id(run.job) not in there:
-                self._log(f"{run.place[1]}: no runner has run {run.number}")
+                self._log(f"{run.key[1]}: no runner has run {run.number}")
                 run.owner = Owner.NOBODY
             elif run.deadline is not None and run.deadline < now:
-                self._log(f"{run.place[1]}: run {run.number} gave no result in time")
+                self._log(f"{run.key[1]}: run {run.number} gave no result in time")
                 self._runners.kill(run.job)
                 run.deadline = now + MARGIN
-        for name, job in list(running.left.items()):
+        for name, job in list(running.leftover_jobs.items()):
             if id(job) not in ended and id(job) not in there:
-                del running.left[name]
+                del running.leftover_jobs[name]
 
     def _run_of(self, event: Event) -> Optional[Run]:
         """The run that ends with a plugin."""
-        known = self._scheduling.known.objects.get(event.job.name)
-        run = None if known is None else known.run
+        obj = self._scheduling.states.objects.get(event.job.name)
+        run = None if obj is None else obj.run
         return run if run is not None and run.job is event.job else None
 
     def plan(self, plan: Plan, now: int) -> None:
@@ -106,77 +106,77 @@ class PluginRuns:
         left: Deque[Event] = collections.deque()
         for event in self._events:
             run = self._run_of(event)
-            if isinstance(event, Gone) or run is None:
-                plan.then.append(partial(self._forget, event))
-            elif self._scheduling.is_reportable(run.place):
-                plan.calls += self._ended(run, event, now)
+            if isinstance(event, StuckJobEnded) or run is None:
+                plan.then.append(partial(self._drop_event, event))
+            elif self._scheduling.is_reportable(run.key):
+                plan.calls += self._ending_calls(run, event, now)
                 plan.freed += event.job.runner is None
-                plan.then.append(partial(self._count, event))
+                plan.then.append(partial(self._count_losses, event))
             else:
                 left.append(event)
-        for run in self._scheduling.known.running.of_owner(Owner.NOBODY):
-            if self._scheduling.is_open(run.place[0]):
-                plan.calls += abandoned(run, now)
-                plan.then.append(partial(self._log, f"given up: run {run.number} of {run.place[1]}"))
-        plan.then.append(partial(self._consume, len(self._events), left))
+        for run in self._scheduling.states.running.owned_by(Owner.NOBODY):
+            if self._scheduling.is_open(run.key[0]):
+                plan.calls += abandon_calls(run, now)
+                plan.then.append(partial(self._log, f"given up: run {run.number} of {run.key[1]}"))
+        plan.then.append(partial(self._drop_planned, len(self._events), left))
 
-    def _consume(self, count: int, left: Deque[Event]) -> None:
+    def _drop_planned(self, count: int, left: Deque[Event]) -> None:
         for _ in range(count):
             self._events.popleft()
         self._events.extendleft(reversed(left))
 
-    def _forget(self, event: Event) -> None:
+    def _drop_event(self, event: Event) -> None:
         """A plugin has ended that no run waits for."""
-        name, left = event.job.name, self._scheduling.known.running.left
+        name, left = event.job.name, self._scheduling.states.running.leftover_jobs
         if self._stuck.get(name) is event.job:
             del self._stuck[name]
             self._log(f"{name}: the plugin that couldn't be killed has ended")
-        elif not isinstance(event, Gone):
+        elif not isinstance(event, StuckJobEnded):
             if left.get(name) is event.job:
                 del left[name]
             self._log(f"{name}: the result of run {event.job.run} is dropped: it was given up, or the object isn't part of the site any more")
 
-    def _ended(self, run: Run, event: Event, now: int) -> List[AskedOf]:
+    def _ending_calls(self, run: Run, event: Event, now: int) -> List[PlannedCall]:
         """The calls that end a run. A lost check is made again; a service's check whose runner ended is UNKNOWN the third time."""
-        part, name = run.place
-        known = self._scheduling.known.objects[name]
-        if isinstance(event, Finished):
-            code, words = verdict(event, known.watched.is_host(), self._scheduling.site.options.timeout_code)
-            return self._scheduling.reports(part, Report(name, run.number, code), words, now)
-        if self._is_put_off(event):
-            again = min(LONGEST_RETRY, RETRY << min(self._put_off[name], 16))
-            why = event.why if isinstance(event, Lost) else ""
+        part, name = run.key
+        obj = self._scheduling.states.objects[name]
+        if isinstance(event, JobFinished):
+            code, words = verdict(event, obj.definition.is_host(), self._scheduling.site.options.timeout_code)
+            return self._scheduling.report_calls(part, Report(name, run.number, code), words, now)
+        if self._is_delayed(event):
+            again = min(LONGEST_RETRY, RETRY << min(self._delays[name], 16))
+            why = event.why if isinstance(event, JobLost) else ""
             self._log(f"{name}: its plugin can't be run now, and is tried again in {again / 1000:g} seconds: {why}")
             return [(part, Abandon(name, run.number, now), None), (part, Reschedule(name, now + again, run.forced), None)]
-        if isinstance(event, Lost) and self._lost[name] == MOST_LOST:
-            return self._scheduling.reports(part, Report(name, run.number, UNKNOWN), f"{event.why} {MOST_LOST + 1} times", now)
-        return abandoned(run, now)
+        if isinstance(event, JobLost) and self._losses[name] == MOST_LOST:
+            return self._scheduling.report_calls(part, Report(name, run.number, UNKNOWN), f"{event.why} {MOST_LOST + 1} times", now)
+        return abandon_calls(run, now)
 
-    def _is_put_off(self, event: Event) -> bool:
+    def _is_delayed(self, event: Event) -> bool:
         """Whether a lost check says nothing about its object, and is made again after a pause: a host is never DOWN because of its runners."""
         name = event.job.name
-        return isinstance(event, Lost) and (event.is_local or self._lost[name] == MOST_LOST and self._scheduling.known.objects[name].watched.is_host())
+        return isinstance(event, JobLost) and (event.is_local or self._losses[name] == MOST_LOST and self._scheduling.states.objects[name].definition.is_host())
 
-    def _count(self, event: Event) -> None:
+    def _count_losses(self, event: Event) -> None:
         """Counts how often in a row a check was lost, and couldn't be run here."""
         name = event.job.name
-        if self._is_put_off(event):
-            self._put_off[name] += 1
-            self._counters.result("not_started")
+        if self._is_delayed(event):
+            self._delays[name] += 1
+            self._counters.count_result("not_started")
             return
-        self._put_off.pop(name, None)
-        if isinstance(event, Lost) and self._lost[name] < MOST_LOST:
-            self._lost[name] += 1
+        self._delays.pop(name, None)
+        if isinstance(event, JobLost) and self._losses[name] < MOST_LOST:
+            self._losses[name] += 1
         else:
-            self._lost.pop(name, None)
-        if isinstance(event, Finished) and event.is_stuck:
+            self._losses.pop(name, None)
+        if isinstance(event, JobFinished) and event.is_stuck:
             self._stuck[name] = event.job
             self._log(f"{name}: its plugin can't be killed; no other is started beside it")
 
 
-def abandoned(run: Run, now: int) -> List[AskedOf]:
+def abandon_calls(run: Run, now: int) -> List[PlannedCall]:
     """The calls that abandon a run; its check is made again, forced if it was."""
-    part, name = run.place
-    abandon: AskedOf = (part, Abandon(name, run.number, now), None)
-    is_set = run.forced or run.again is not None
-    return [abandon, (part, Reschedule(name, now if run.again is None else run.again, run.forced), None)] if is_set else [abandon]
+    part, name = run.key
+    abandon: PlannedCall = (part, Abandon(name, run.number, now), None)
+    is_set = run.forced or run.retry_at is not None
+    return [abandon, (part, Reschedule(name, now if run.retry_at is None else run.retry_at, run.forced), None)] if is_set else [abandon]

@@ -4,10 +4,10 @@ from dataclasses import dataclass
 from typing import Dict, Iterator, List, Optional, Tuple
 
 from ..run.jobs import Job
-from ..store.rows import KeptResult
+from ..store.rows import StoredResult
 
 # A part and the full name of an object in it.
-Place = Tuple[int, str]
+ObjectKey = Tuple[int, str]
 
 
 class Owner(enum.Enum):
@@ -27,51 +27,51 @@ class Owner(enum.Enum):
 class Run:
     """A check that a scheduler returned and that hasn't ended."""
 
-    place: Place
+    key: ObjectKey
     number: int
     owner: Owner = Owner.NOBODY
     # The moment after which it is abandoned; None for a mirror's, which ends with the next result of its original.
     deadline: Optional[int] = None
     job: Optional[Job] = None
-    result: Optional[KeptResult] = None
+    result: Optional[StoredResult] = None
     # Whether the check was forced, as the next try then is.
     forced: bool = False
     # The moment at which its check is made again if it is abandoned; None for at once.
-    again: Optional[int] = None
+    retry_at: Optional[int] = None
     # When it was taken, in seconds since 1970 of the wall clock.
-    began: Optional[float] = None
+    began_at: Optional[float] = None
 
 
-class Running:
+class RunTable:
     """All runs of a site, by their objects: each has one at most."""
 
     def __init__(self) -> None:
-        self._runs: Dict[Place, Run] = {}
+        self._runs: Dict[ObjectKey, Run] = {}
         # Plugins whose runs are over, by the names of their objects: no second plugin is started while they run.
-        self.left: Dict[str, Job] = {}
+        self.leftover_jobs: Dict[str, Job] = {}
 
     def begin(self, run: Run) -> None:
-        self._runs[run.place] = run
+        self._runs[run.key] = run
 
-    def end(self, place: Place) -> Optional[Run]:
+    def end(self, place: ObjectKey) -> Optional[Run]:
         return self._runs.pop(place, None)
 
-    def of(self, place: Place) -> Optional[Run]:
+    def get(self, place: ObjectKey) -> Optional[Run]:
         return self._runs.get(place)
 
     def __iter__(self) -> Iterator[Run]:
         return iter(list(self._runs.values()))
 
-    def plugins(self) -> int:
+    def plugin_count(self) -> int:
         """The number of running plugins."""
-        return sum(run.owner is Owner.PLUGIN for run in self._runs.values()) + len(self.left)
+        return sum(run.owner is Owner.PLUGIN for run in self._runs.values()) + len(self.leftover_jobs)
 
-    def here(self) -> int:
+    def local_plugin_count(self) -> int:
         """The number of plugins that run on this machine."""
-        jobs = [run.job for run in self._runs.values() if run.owner is Owner.PLUGIN] + list(self.left.values())
+        jobs = [run.job for run in self._runs.values() if run.owner is Owner.PLUGIN] + list(self.leftover_jobs.values())
         return sum(job is not None and job.runner is None for job in jobs)
 
-    def of_owner(self, owner: Owner) -> List[Run]:
+    def owned_by(self, owner: Owner) -> List[Run]:
         return [run for run in self._runs.values() if run.owner is owner]
 
     def overdue(self, now: int) -> List[Run]:

@@ -2,12 +2,12 @@
 import re
 
 # The number of stored bytes of a plugin's standard output, and of its standard error.
-KEPT_BYTES = 4_096
+MOST_OUTPUT_BYTES = 4_096
 # Control characters, and characters that turn the direction of the text after them. A tab becomes a space.
 CONTROLS = re.compile("[\x00-\x08\x0b-\x1f\x7f-\x9f\u2028\u2029\u202a-\u202e\u2066-\u2069\ufeff]")
 
 
-def plain(text: str, most: int = KEPT_BYTES) -> str:
+def plain_text(text: str, most: int = MOST_OUTPUT_BYTES) -> str:
     """A text without control characters, cut to a number of bytes of UTF-8."""
     cleaned = CONTROLS.sub(" ", text.replace("\r\n", "\n").replace("\t", " "))
     return cleaned.encode(errors="replace")[:most].decode(errors="ignore").rstrip("\n")

@@ -33,16 +33,16 @@ class Client:
     unread: bytes = b""
     unsent: bytes = b""
     # The requests without an answer, the time of its last line, and whether it sends no more.
-    asked: int = 0
-    heard: float = 0.0
-    is_over: bool = False
+    unanswered: int = 0
+    last_line_at: float = 0.0
+    has_ended: bool = False
 
 
-class Control:
+class ControlSocket:
     """The socket of a monitor. The caller watches its files, and calls `work` in each turn."""
 
     def __init__(self, folder: pathlib.Path, ask: Callable[[Request], None], watch: Watch, unwatch: Callable[[int], None]) -> None:
-        self._ask, self._watch, self._unwatch = ask, watch, unwatch
+        self._add_request, self._watch, self._unwatch = ask, watch, unwatch
         self._path = folder / NAME
         self._path.unlink(missing_ok=True)
         self._socket = socket.socket(socket.AF_UNIX, socket.SOCK_STREAM)
@@ -71,16 +71,16 @@ class Control:
         except BlockingIOError:
             return
         except OSError:
-            self._forget(file)
+            self._drop_client(file)
             return
-        client.heard = time.monotonic()
+        client.last_line_at = time.monotonic()
         client.unread += data
         if not data:
-            self._hear_no_more(file, client)
+            self._stop_reading(file, client)
 
-    def _hear_no_more(self, file: int, client: Client) -> None:
-        if not client.is_over:
-            client.is_over = True
+    def _stop_reading(self, file: int, client: Client) -> None:
+        if not client.has_ended:
+            client.has_ended = True
             self._unwatch(file)
 
     def _accept(self) -> None:
@@ -92,41 +92,41 @@ class Control:
             connection.close()
             return
         connection.setblocking(False)
-        self._clients[connection.fileno()] = Client(connection, heard=time.monotonic())
+        self._clients[connection.fileno()] = Client(connection, last_line_at=time.monotonic())
         self._watch(connection.fileno(), self.read)
 
     def work(self) -> bool:
         """Passes on the lines that have come, sends answers, and forgets closed connections. Returns whether more lines wait."""
         has_more = False
         for file, client in list(self._clients.items()):
-            self._hand_on(file, client)
+            self._pass_on_lines(file, client)
             self._send(file, client)
             has_more |= b"\n" in client.unread
-            is_idle = not client.asked and not client.unsent and (client.is_over or time.monotonic() - client.heard > IDLE)
+            is_idle = not client.unanswered and not client.unsent and (client.has_ended or time.monotonic() - client.last_line_at > IDLE)
             if is_idle and b"\n" not in client.unread:
-                self._forget(file)
+                self._drop_client(file)
         return has_more
 
     def is_sending(self) -> bool:
         """Whether an answer waits for its reader."""
         return any(client.unsent for client in self._clients.values())
 
-    def _hand_on(self, file: int, client: Client) -> None:
+    def _pass_on_lines(self, file: int, client: Client) -> None:
         *lines, rest = client.unread.split(b"\n", LINES_IN_TURN)
         client.unread = rest
         for line in lines:
-            client.asked += 1
-            self._ask(Request(line, partial(self._reply, file, client)))
+            client.unanswered += 1
+            self._add_request(Request(line, partial(self._reply, file, client)))
         if len(rest) > LONGEST_LINE and b"\n" not in rest:
             client.unsent += b'{"error": "the line is too long"}\n'
             client.unread = b""
-            self._hear_no_more(file, client)
+            self._stop_reading(file, client)
 
     def _reply(self, file: int, client: Client, answer: bytes) -> None:
-        client.asked -= 1
+        client.unanswered -= 1
         client.unsent += answer
         if len(client.unsent) > UNREAD_BYTES:
-            self._forget(file)
+            self._drop_client(file)
 
     def _send(self, file: int, client: Client) -> None:
         """Sends as much as its reader accepts now."""
@@ -137,19 +137,19 @@ class Control:
             pass
         except OSError:
             client.unsent = b""  # the client reads no more
-            self._hear_no_more(file, client)
+            self._stop_reading(file, client)
 
-    def _forget(self, file: int) -> None:
+    def _drop_client(self, file: int) -> None:
         client = self._clients.pop(file, None)
         if client is not None:
-            self._hear_no_more(file, client)
+            self._stop_reading(file, client)
             client.connection.close()
 
     def close(self) -> None:
         """Sends the remaining answers, and closes all connections."""
         for file, client in list(self._clients.items()):
             self._send(file, client)
-            self._forget(file)
+            self._drop_client(file)
         self._unwatch(self._socket.fileno())
         self._socket.close()
         self._path.unlink(missing_ok=True)
@@ -160,12 +160,12 @@ def short_path(path: pathlib.Path) -> str:
     return os.path.relpath(path) if len(os.path.relpath(path)) < len(str(path)) else str(path)
 
 
-def ask(folder: pathlib.Path, request: bytes, seconds: float = 30) -> bytes:
+def send_request(folder: pathlib.Path, request: bytes, seconds: float = 30) -> bytes:
     """The answer of the monitor of a folder; nothing if it ended meanwhile."""
-    return b"".join(ask_all(folder, [request], seconds))
+    return b"".join(send_requests(folder, [request], seconds))
 
 
-def ask_all(folder: pathlib.Path, requests: Sequence[bytes], seconds: float = 30) -> List[bytes]:
+def send_requests(folder: pathlib.Path, requests: Sequence[bytes], seconds: float = 30) -> List[bytes]:
     """The answers to requests that are made together. If the monitor ends meanwhile, only those that came before, whose requests were obeyed."""
     answers: List[bytes] = []
     try:

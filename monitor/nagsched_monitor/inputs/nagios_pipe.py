@@ -96,12 +96,12 @@ def requests_of(line: bytes, services: Services) -> Tuple[str, List[Request]]:
     if command not in COMMANDS:
         raise RequestFault(f"{command} isn't obeyed here")
     try:
-        return command, made(rest, services, *COMMANDS[command])
+        return command, command_requests(rest, services, *COMMANDS[command])
     except ValueError as error:
         raise RequestFault(f"{command}: {error}") from None
 
 
-def made(rest: str, services: Services, do: str, of: int, members: Sequence[str], forced: bool) -> List[Request]:
+def command_requests(rest: str, services: Services, do: str, of: int, members: Sequence[str], forced: bool) -> List[Request]:
     """The requests of a command. The text of a `ValueError` names the fault in its line."""
     count = max(of, 1)
     total = count + len(members)
@@ -112,23 +112,23 @@ def made(rest: str, services: Services, do: str, of: int, members: Sequence[str]
         raise ValueError(f"it has {total} words after it, and no {len(words)}")
     name = ";".join(words[:count])
     if do == "result":
-        return [{"do": do, "name": name, **result(words[count], words[count + 1], of == HOST)}]
+        return [{"do": do, "name": name, **result_members(words[count], words[count + 1], of == HOST)}]
     if do != "reschedule":
         return [{"do": do, "name": name}]
     if of == SERVICES and name not in services:
         raise ValueError(f"there is no host {name[:SHOWN]!r}")
     names = [f"{name};{description}" for description in services[name]] if of == SERVICES else [name]
-    return [{"do": do, "name": each, "at": number(words[count]), "force": forced} for each in names]
+    return [{"do": do, "name": each, "at": read_number(words[count]), "force": forced} for each in names]
 
 
-def result(code: str, output: str, is_host: bool) -> Request:
+def result_members(code: str, output: str, is_host: bool) -> Request:
     """A host's code is a state here, which the scheduler turns into DOWN or UNREACHABLE. The pipe has two letters for each line feed of the output."""
-    if is_host and number(code) > 2:
+    if is_host and read_number(code) > 2:
         raise ValueError(f"no state of a host: {code}")
-    return {"code": (2 if number(code) else 0) if is_host else number(code), "output": output.replace("\\n", "\n")}
+    return {"code": (2 if read_number(code) else 0) if is_host else read_number(code), "output": output.replace("\\n", "\n")}
 
 
-def number(word: str) -> int:
+def read_number(word: str) -> int:
     if not re.fullmatch("[0-9]{1,15}", word.strip()):
         raise ValueError(f"no number: {word[:SHOWN]!r}")
     return int(word)

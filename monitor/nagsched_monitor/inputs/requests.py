@@ -17,15 +17,15 @@ from functools import partial
 from typing import TYPE_CHECKING, Any, Callable, Dict, Mapping, Optional, Sequence, Set
 
 from ..core.clock import Clock
-from ..core.object_state import Known
+from ..core.object_state import ObjectState
 from ..core.passive import MOST_WAITING
 from ..core.plan import Plan
-from ..core.rhythm import FIRST_TIME
-from ..core.text import KEPT_BYTES, plain
+from ..core.phases import FIRST_TIME
+from ..core.text import MOST_OUTPUT_BYTES, plain_text
 from ..faults import AskAgain, ConversationEnded, MonitorFault, NotStored, RequestFault
 from ..scheduler.protocol import Reschedule
-from ..store.rows import KeptResult
-from ..store.writes import MOST_REQUESTS, keep_request, keep_result, set_switch
+from ..store.rows import StoredResult
+from ..store.writes import MOST_REQUESTS, set_switch, store_request, store_result
 
 if TYPE_CHECKING:
     from ..core.engine import Engine
@@ -48,12 +48,12 @@ class Request:
 
 
 @dataclass
-class Step(Plan):
+class RequestPlan(Plan):
     """The part of a turn's plan that a request adds."""
 
     answer: Optional[Dict[str, Any]] = None
     # The line of the log, if something changes.
-    said: str = ""
+    log_text: str = ""
 
 
 class Requests:
@@ -68,52 +68,52 @@ class Requests:
         self._numbers = engine.store.requests()
         self._planned: Set[str] = set()
         self._results = 0
-        self._words: Dict[str, Callable[[Members, Request], Step]] = {
-            "signs": self._signs,
-            "reschedule": self._reschedule,
-            "enable": partial(self._switch, on=True),
-            "disable": partial(self._switch, on=False),
-            "default": partial(self._switch, on=None),
-            "result": self._result,
-            "reload": self._reload,
-            "save": self._save,
-            "stop": self._stop,
+        self._planners: Dict[str, Callable[[Members, Request], RequestPlan]] = {
+            "signs": self._plan_signs,
+            "reschedule": self._plan_reschedule,
+            "enable": partial(self._plan_switch, on=True),
+            "disable": partial(self._plan_switch, on=False),
+            "default": partial(self._plan_switch, on=None),
+            "result": self._plan_result,
+            "reload": self._plan_reload,
+            "save": self._plan_save,
+            "stop": self._plan_stop,
         }
 
     def begin_turn(self) -> None:
         self._planned.clear()
         self._results = 0
 
-    def plan(self, request: Request) -> Step:
+    def plan(self, request: Request) -> RequestPlan:
         """The step of a request. A refused request has an empty step and its answer."""
         try:
-            members = read_request(request.line, self._words)
+            members = read_request(request.line, self._planners)
             number = members.pop("number", None)
             if number is not None:
-                known = self._known_answer(number)
-                if known is not None:
-                    request.answer = known
-                    return Step()
-            step = self._words[members["do"]](members, request)
+                earlier = self._earlier_answer(number)
+                if earlier is not None:
+                    request.answer = earlier
+                    return RequestPlan()
+            step = self._planners[members["do"]](members, request)
         except RequestFault as fault:
             request.answer = {"error": str(fault), **({"again": True} if isinstance(fault, AskAgain) else {})}
-            return Step()
+            return RequestPlan()
         except Exception as error:  # any exception: one request doesn't hold up the others
             for line in traceback.format_exception(type(error), error, error.__traceback__):
                 self.log(f"fault: {line}")
             request.answer = {"error": f"the monitor has a fault: {type(error).__name__}: {error}"}
-            return Step()
+            return RequestPlan()
         request.answer = step.answer
-        if step.said:
-            step.then.append(partial(self.log, f"asked: {step.said}"))
+        if step.log_text:
+            step.then.append(partial(self.log, f"asked: {step.log_text}"))
         if number is not None and step.answer is not None and (step.calls or step.writes):
             answer = json.dumps(step.answer, ensure_ascii=False)
-            step.writes.append(keep_request(number, answer))
+            step.writes.append(store_request(number, answer))
             step.then.append(partial(self._remember, number, answer))
             self._planned.add(number)
         return step
 
-    def _known_answer(self, number: object) -> Optional[Dict[str, Any]]:
+    def _earlier_answer(self, number: object) -> Optional[Dict[str, Any]]:
         """The earlier answer to a number that was already obeyed."""
         if not isinstance(number, str) or not 0 < len(number) <= LONGEST_NUMBER:
             raise RequestFault(f"number is a text of 1 to {LONGEST_NUMBER} characters")
@@ -132,50 +132,50 @@ class Requests:
         """Answers the requests of a turn whose answers are known."""
         for request in asked:
             if request.answer is not None:
-                request.reply(encoded(request.answer))
+                request.reply(encode_answer(request.answer))
 
     def refuse(self, asked: Sequence[Request], why: str) -> None:
         """Nothing of a turn was stored."""
         for request in asked:
             is_known = request.answer is not None and ("error" in request.answer or request.only_reads)
-            request.reply(encoded(request.answer if is_known and request.answer is not None else {"error": why, "again": True}))
+            request.reply(encode_answer(request.answer if is_known and request.answer is not None else {"error": why, "again": True}))
 
     # ---- reading a request
 
-    def _named(self, members: Members) -> Known:
+    def _find_object(self, members: Members) -> ObjectState:
         name = members.get("name")
         if not isinstance(name, str):
             raise RequestFault("name is the full name of an object")
-        known = self.engine.objects.get(name)
-        if known is None:
+        obj = self.engine.objects.get(name)
+        if obj is None:
             raise RequestFault(f"there is no object {name!r}")
-        return known
+        return obj
 
-    def _callable(self, members: Members) -> Known:
-        known = self._named(members)
-        if not self.engine.scheduling.is_known_open(known):
+    def _find_open_object(self, members: Members) -> ObjectState:
+        obj = self._find_object(members)
+        if not self.engine.scheduling.is_object_open(obj):
             raise AskAgain("the scheduler of this object is being started again")
-        return known
+        return obj
 
     # ---- the words
 
-    def _signs(self, members: Members, request: Request) -> Step:
-        only(members)
+    def _plan_signs(self, members: Members, request: Request) -> RequestPlan:
+        check_members(members)
         request.only_reads = True
         engine, wall = self.engine, self._clock.wall()
         try:
             changes, first = engine.store.waiting_changes()
         except NotStored:
             changes, first = 0, None
-        return Step(answer={
-            "turn": wall - engine.since_turn() / 1000, "is_stuck": engine.is_stuck, "passive_waiting": engine.passive.count, "changes_waiting": changes,
-            "oldest_change": 0.0 if first is None else max(0.0, wall - first), "runners": engine.runners.signs(), "out": engine.out(), "made": engine.made,
-            "latest_start": engine.plugins.latest_start,
+        return RequestPlan(answer={
+            "turn": wall - engine.time_since_turn() / 1000, "is_stuck": engine.is_stuck, "passive_waiting": engine.passive.count, "changes_waiting": changes,
+            "oldest_change": 0.0 if first is None else max(0.0, wall - first), "runners": engine.runners.process_counts(),
+            "out": engine.running_plugin_count(), "made": engine.result_count, "latest_start": engine.plugins.latest_start,
         })
 
-    def _reschedule(self, members: Members, request: Request) -> Step:
-        only(members, "name", "at", "force")
-        known = self._callable(members)
+    def _plan_reschedule(self, members: Members, request: Request) -> RequestPlan:
+        check_members(members, "name", "at", "force")
+        obj = self._find_open_object(members)
         now, wall = self._clock.moment(), self._clock.wall()
         at, forced = members.get("at", wall), members.get("force", False)
         if isinstance(at, bool) or not isinstance(at, (int, float)) or not isinstance(forced, bool):
@@ -183,33 +183,33 @@ class Requests:
         time = now + round((at - wall) * 1000) if abs(at) < LAST_MOMENT / 1000 else -1
         if not FIRST_TIME <= time <= LAST_MOMENT:
             raise RequestFault(f"no time at which a check can be: {at!r}")
-        if known.watched.command is None:
-            raise RequestFault(f"{known.name} has no command")
+        if obj.definition.command is None:
+            raise RequestFault(f"{obj.name} has no command")
         time = max(time, now)  # a time that is past means now
-        told = round(wall + (time - now) / 1000, 3)
-        answer = {"done": "reschedule", "name": known.name, "at": told, "on": known.on or forced}
-        said = f"reschedule {known.name} at {told:.0f}{' forced' * forced}"
-        step = Step([(known.watched.part, Reschedule(known.name, time, forced), None)], answer=answer, said=said)
+        wall_time = round(wall + (time - now) / 1000, 3)
+        answer = {"done": "reschedule", "name": obj.name, "at": wall_time, "on": obj.on or forced}
+        log_text = f"reschedule {obj.name} at {wall_time:.0f}{' forced' * forced}"
+        step = RequestPlan([(obj.definition.part, Reschedule(obj.name, time, forced), None)], answer=answer, log_text=log_text)
         if time <= now:
-            step.at_once.add(known.name)
-        step.then.append(partial(setattr, known, "asked", (time, forced)))
+            step.at_once.add(obj.name)
+        step.then.append(partial(setattr, obj, "operator_check", (time, forced)))
         return step
 
-    def _switch(self, members: Members, request: Request, on: Optional[bool]) -> Step:
-        only(members, "name")
-        known = self._callable(members)
-        if on and known.watched.command is None:
-            raise RequestFault(f"{known.name} has no command")
-        word, will_be = members["do"], known.watched.enabled if on is None else on
-        calls = self.engine.checks.switch(known, will_be)
-        answer = {"done": word, "name": known.name, "on": self.engine.checks.is_wanted_on(known.watched, will_be)}
-        step = Step([(known.watched.part, call, None) for call in calls], [set_switch(known.name, on)], answer=answer, said=f"{word} {known.name}")
-        step.then.append(partial(self.engine.checks.switched, known, on))
+    def _plan_switch(self, members: Members, request: Request, on: Optional[bool]) -> RequestPlan:
+        check_members(members, "name")
+        obj = self._find_open_object(members)
+        if on and obj.definition.command is None:
+            raise RequestFault(f"{obj.name} has no command")
+        word, will_be = members["do"], obj.definition.enabled if on is None else on
+        calls = self.engine.checks.switch_calls(obj, will_be)
+        answer = {"done": word, "name": obj.name, "on": self.engine.checks.is_to_be_enabled(obj.definition, will_be)}
+        step = RequestPlan([(obj.definition.part, call, None) for call in calls], [set_switch(obj.name, on)], answer=answer, log_text=f"{word} {obj.name}")
+        step.then.append(partial(self.engine.checks.apply_switch, obj, on))
         return step
 
-    def _result(self, members: Members, request: Request) -> Step:
-        only(members, "name", "code", "output")
-        known = self._named(members)
+    def _plan_result(self, members: Members, request: Request) -> RequestPlan:
+        check_members(members, "name", "code", "output")
+        obj = self._find_object(members)
         code, output = members.get("code"), members.get("output", "")
         if isinstance(code, bool) or not isinstance(code, int) or not 0 <= code <= 3:
             raise RequestFault(f"no code from 0 to 3: {code!r}")
@@ -218,34 +218,35 @@ class Requests:
         if self.engine.passive.count + self._results >= MOST_WAITING:
             raise AskAgain(f"{MOST_WAITING} results wait to be reported")
         self._results += 1
-        words = plain(output, KEPT_BYTES)
+        words = plain_text(output, MOST_OUTPUT_BYTES)
         number = self.engine.store.last_result + self._results
-        result = KeptResult(number, known.name, code, words)
-        step = Step(writes=[keep_result(known.name, code, words, number)], answer={"done": "result", "name": known.name}, said=f"result {known.name} {code}")
-        step.then.append(partial(self._accepted, result))
+        result = StoredResult(number, obj.name, code, words)
+        writes, answer = [store_result(obj.name, code, words, number)], {"done": "result", "name": obj.name}
+        step = RequestPlan(writes=writes, answer=answer, log_text=f"result {obj.name} {code}")
+        step.then.append(partial(self._add_result, result))
         return step
 
-    def _accepted(self, result: KeptResult) -> None:
+    def _add_result(self, result: StoredResult) -> None:
         self.engine.store.last_result = max(self.engine.store.last_result, result.id)
-        self.engine.passive.expect(result)
+        self.engine.passive.add(result)
 
-    def _reload(self, members: Members, request: Request) -> Step:
-        only(members)
-        return Step(then=[partial(self.reload, request)])
+    def _plan_reload(self, members: Members, request: Request) -> RequestPlan:
+        check_members(members)
+        return RequestPlan(then=[partial(self.reload, request)])
 
-    def _save(self, members: Members, request: Request) -> Step:
-        only(members)
-        return Step(last=[partial(self._saved, request)])
+    def _plan_save(self, members: Members, request: Request) -> RequestPlan:
+        check_members(members)
+        return RequestPlan(last=[partial(self._save_now, request)])
 
-    def _saved(self, request: Request) -> None:
+    def _save_now(self, request: Request) -> None:
         try:
             request.answer = {"done": "save"} if self.engine.save() else {"error": "this nagsched saves no states; all calls are kept"}
         except (NotStored, ConversationEnded, MonitorFault) as fault:
             request.answer = {"error": str(fault), "again": True}
 
-    def _stop(self, members: Members, request: Request) -> Step:
-        only(members)
-        return Step(then=[self.stop], answer={"done": "stop"}, said="stop")
+    def _plan_stop(self, members: Members, request: Request) -> RequestPlan:
+        check_members(members)
+        return RequestPlan(then=[self.stop], answer={"done": "stop"}, log_text="stop")
 
 
 def read_request(line: bytes, words: Mapping[str, Any]) -> Dict[str, Any]:
@@ -262,11 +263,11 @@ def read_request(line: bytes, words: Mapping[str, Any]) -> Dict[str, Any]:
     return members
 
 
-def only(members: Members, *known: str) -> None:
+def check_members(members: Members, *names: str) -> None:
     for member in members:
-        if member != "do" and member not in known:
+        if member != "do" and member not in names:
             raise RequestFault(f"a member {member!r} isn't known here")
 
 
-def encoded(answer: Mapping[str, Any]) -> bytes:
+def encode_answer(answer: Mapping[str, Any]) -> bytes:
     return json.dumps(answer, ensure_ascii=False).encode() + b"\n"

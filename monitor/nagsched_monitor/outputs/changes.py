@@ -11,7 +11,7 @@ from typing import IO, Callable, List, Optional, Sequence, Tuple
 from ..core.text import first_line
 from ..faults import NotStored
 from ..scheduler.protocol import Standing
-from ..store.rows import KeptChange
+from ..store.rows import StoredChange
 from ..store.store import Store
 from ..store.writes import drop_documents
 
@@ -37,14 +37,14 @@ def is_important(before: Optional[Standing], now: Standing) -> bool:
     return now.kind == "HARD" and (now.is_problem() or was_hard) or flapping_changed
 
 
-def line_of(change: KeptChange, zone: Optional[datetime.tzinfo]) -> str:
+def change_line(change: StoredChange, zone: Optional[datetime.tzinfo]) -> str:
     """A change as a line of the log, with date and zone."""
     when = datetime.datetime.fromtimestamp(change.time, zone).astimezone(zone).isoformat(sep=" ", timespec="seconds")
     flapping = " FLAPPING" if change.flapping else ""
     return f"{when} {change.name} is {change.state} {change.kind} {change.attempt}{flapping}: {first_line(change.words)}"
 
 
-def document_of(change: KeptChange, before: Optional[Standing]) -> str:
+def change_document(change: StoredChange, before: Optional[Standing]) -> str:
     """A change as the line of JSON that the command reads."""
     members = {
         "time": change.time,
@@ -69,13 +69,13 @@ class Notifier:
         self._command, self._store, self._log, self._clock, self._wall = command, store, log, clock, wall
         self._process: Optional["subprocess.Popen[bytes]"] = None
         # The number of the last change that the command got, and when the command is killed.
-        self._handed, self._deadline = 0, 0.0
+        self._last_passed, self._deadline = 0, 0.0
         self._pause = PAUSE
         self._not_before = 0.0
         # Why the last try failed: the command couldn't be run, or the database couldn't be read or written.
         self._trouble: Optional[str] = None
         # The last change that was accepted or is too old, if that couldn't be stored yet: it isn't passed again.
-        self._ended: Optional[int] = None
+        self._to_drop: Optional[int] = None
 
     def is_wanted(self) -> bool:
         return self._command is not None
@@ -89,16 +89,16 @@ class Notifier:
         if self._command is None:
             return
         if self._process is not None:
-            self._see_to(self._process)
+            self._check_command(self._process)
         if self._process is None and self._clock() >= self._not_before:
             try:
-                self._next(self._command)
+                self._start_command(self._command)
             except (OSError, NotStored) as error:  # there is no room for a file or a process now, or the database can't be read or written
-                self._wait(f"the command for changes waits: {error}")
+                self._retry_later(f"the command for changes waits: {error}")
 
-    def _next(self, command: str) -> None:
-        if self._ended is not None:
-            self._drop(self._ended)
+    def _start_command(self, command: str) -> None:
+        if self._to_drop is not None:
+            self._drop(self._to_drop)
         waiting = self._store.outbox()
         old = [each for each in waiting if self._wall() - float(json.loads(each[1]).get("time", 0.0)) > MOST_AGE]
         for _, document in old:
@@ -107,11 +107,11 @@ class Notifier:
             self._drop(old[-1][0])
             waiting = [each for each in waiting if each[0] > old[-1][0]]
         if waiting:
-            with file_with("".join(f"{document}\n" for _, document in waiting).encode()) as given:
+            with file_of_bytes("".join(f"{document}\n" for _, document in waiting).encode()) as given:
                 self._process = subprocess.Popen(["/bin/sh", "-c", command], stdin=given, start_new_session=True)
-            self._handed, self._deadline = waiting[-1][0], self._clock() + LIMIT
+            self._last_passed, self._deadline = waiting[-1][0], self._clock() + LIMIT
 
-    def _wait(self, why: str) -> None:
+    def _retry_later(self, why: str) -> None:
         """Tries again after a pause; the log says why, once."""
         self._not_before = self._clock() + self._pause
         self._pause = min(LONGEST_PAUSE, 2 * self._pause)
@@ -119,7 +119,7 @@ class Notifier:
             self._log(f"{why}; it is tried again")
         self._trouble = why
 
-    def _see_to(self, process: "subprocess.Popen[bytes]") -> None:
+    def _check_command(self, process: "subprocess.Popen[bytes]") -> None:
         status = process.poll()
         if status is None and self._clock() < self._deadline:
             return
@@ -127,19 +127,19 @@ class Notifier:
             kill_group(process)
         self._process = None
         if status != 0:
-            self._wait(f"the command for changes {f'took longer than {LIMIT:g} seconds' if status is None else f'ended with {status}'}")
+            self._retry_later(f"the command for changes {f'took longer than {LIMIT:g} seconds' if status is None else f'ended with {status}'}")
             return
         self._pause, self._trouble = PAUSE, None
         try:
-            self._drop(self._handed)
+            self._drop(self._last_passed)
         except NotStored as error:
-            self._wait(str(error))
+            self._retry_later(str(error))
 
     def _drop(self, number: int) -> None:
         """Drops the changes up to this one, which were accepted or are too old."""
-        self._ended = number
+        self._to_drop = number
         self._store.write(drop_documents(number))
-        self._ended = None
+        self._to_drop = None
 
     def close(self) -> None:
         """Waits for the running command; its changes stay if it fails."""
@@ -148,7 +148,7 @@ class Notifier:
                 self._process.wait(timeout=LIMIT)
             except subprocess.TimeoutExpired:
                 kill_group(self._process)
-            self._see_to(self._process)
+            self._check_command(self._process)
 
 
 def kill_group(process: "subprocess.Popen[bytes]") -> None:
@@ -160,7 +160,7 @@ def kill_group(process: "subprocess.Popen[bytes]") -> None:
         pass  # it has just ended, runs as another user, or hangs: nobody waits for it
 
 
-def file_with(data: bytes) -> IO[bytes]:
+def file_of_bytes(data: bytes) -> IO[bytes]:
     """A file without a name that contains these bytes, at its beginning."""
     file = tempfile.TemporaryFile()
     file.write(data)
@@ -168,6 +168,6 @@ def file_with(data: bytes) -> IO[bytes]:
     return file
 
 
-def standing_problems(standings: Sequence[Tuple[str, Standing]]) -> List[str]:
+def problem_lines(standings: Sequence[Tuple[str, Standing]]) -> List[str]:
     """A line for each problem at the monitor's start."""
     return [f"{name} is {standing.state} {standing.kind} {standing.attempt}" for name, standing in standings if standing.is_problem()]

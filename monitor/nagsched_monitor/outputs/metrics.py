@@ -8,7 +8,7 @@ from ..inputs import control
 from ..site.groups_file import Groups, labels_of
 from ..store.counters import BOUNDS, BUCKETS, RESULTS
 from .nagios_blocks import HOST_STATES, SERVICE_STATES
-from .status_query import Picture
+from .status_query import SiteStatus
 
 # The limit for the monitor's answer, in seconds.
 PATIENCE = 3.0
@@ -19,12 +19,12 @@ Sample = Tuple[str, Mapping[str, str], float]
 Signs = Mapping[str, Any]
 
 
-def escaped(text: str) -> str:
+def label_value(text: str) -> str:
     """The value of a label in the format."""
     return text.replace("\\", "\\\\").replace('"', '\\"').replace("\n", "\\n")
 
 
-def number(value: float) -> str:
+def number_text(value: float) -> str:
     return str(int(value)) if value == int(value) and abs(value) < 2**53 else repr(value)
 
 
@@ -32,8 +32,8 @@ def family(name: str, kind: str, help_text: str, samples: Sequence[Sample], site
     """The lines of a family. Each sample has the label `site`."""
     lines = [f"# HELP {name} {help_text}", f"# TYPE {name} {kind}"]
     for suffix, labels, value in samples:
-        inner = ",".join(f'{label}="{escaped(text)}"' for label, text in {"site": site, **labels}.items())
-        lines.append(f"{name}{suffix}{{{inner}}} {number(value)}")
+        inner = ",".join(f'{label}="{label_value(text)}"' for label, text in {"site": site, **labels}.items())
+        lines.append(f"{name}{suffix}{{{inner}}} {number_text(value)}")
     return lines
 
 
@@ -47,34 +47,34 @@ def latency(figures: Mapping[str, float]) -> List[Sample]:
     return [*samples, ("_sum", {}, figures.get("late.sum", 0)), ("_count", {}, count)]
 
 
-def signs_of(folder: pathlib.Path) -> Signs:
+def read_signs(folder: pathlib.Path) -> Signs:
     """The monitor's own signs of life; nothing if it gives no answer."""
     try:
-        signs: Signs = json.loads(control.ask(folder, b'{"do":"signs"}', PATIENCE) or b"{}")
+        signs: Signs = json.loads(control.send_request(folder, b'{"do":"signs"}', PATIENCE) or b"{}")
     except (MonitorFault, ValueError):
         return {}
     return signs
 
 
-def one(value: float) -> List[Sample]:
+def single_sample(value: float) -> List[Sample]:
     return [("", {}, value)]
 
 
-def signs_families(picture: Picture, signs: Signs, site: str) -> List[List[str]]:
+def signs_families(status: SiteStatus, signs: Signs, site: str) -> List[List[str]]:
     """The signs of life of the monitor. Most of them are missing while it gives no answer."""
     runners: Mapping[str, Mapping[str, int]] = signs.get("runners", {})
     of_runners: Dict[str, List[Sample]] = {
         what: [("", {"runner": name}, float(its[what])) for name, its in runners.items()] for what in ("running", "wanted", "stuck", "waiting")}
-    told = {name: one(float(signs[name])) if name in signs else [] for name in ("is_stuck", "passive_waiting", "changes_waiting", "oldest_change")}
-    last_turn = signs.get("turn", picture.figures.get("written_at"))
+    by_name = {name: single_sample(float(signs[name])) if name in signs else [] for name in ("is_stuck", "passive_waiting", "changes_waiting", "oldest_change")}
+    last_turn = signs.get("turn", status.figures.get("written_at"))
     families: Sequence[Tuple[str, str, List[Sample]]] = (
-        ("nagsched_up", "1 if the monitor answers, 0 if it doesn't.", one(bool(signs))),
+        ("nagsched_up", "1 if the monitor answers, 0 if it doesn't.", single_sample(bool(signs))),
         ("nagsched_last_turn_timestamp_seconds", "When the last turn of the monitor's loop began that could be stored.",
-         [] if last_turn is None else one(last_turn)),
-        ("nagsched_stuck", "1 while nothing can be stored, so that no check is made.", told["is_stuck"]),
-        ("nagsched_passive_waiting", "Passive results that wait to be reported.", told["passive_waiting"]),
-        ("nagsched_changes_waiting", "Changes that the command for changes hasn't taken.", told["changes_waiting"]),
-        ("nagsched_oldest_change_seconds", "How long the oldest of these has waited.", told["oldest_change"]),
+         [] if last_turn is None else single_sample(last_turn)),
+        ("nagsched_stuck", "1 while nothing can be stored, so that no check is made.", by_name["is_stuck"]),
+        ("nagsched_passive_waiting", "Passive results that wait to be reported.", by_name["passive_waiting"]),
+        ("nagsched_changes_waiting", "Changes that the command for changes hasn't taken.", by_name["changes_waiting"]),
+        ("nagsched_oldest_change_seconds", "How long the oldest of these has waited.", by_name["oldest_change"]),
         ("nagsched_runners", "Runner processes that run.", of_runners["running"]),
         ("nagsched_runners_wanted", "Runner processes that there should be.", of_runners["wanted"]),
         ("nagsched_runners_stuck", "Runner processes that stand still: a result is later than its limit allows.", of_runners["stuck"]),
@@ -83,12 +83,12 @@ def signs_families(picture: Picture, signs: Signs, site: str) -> List[List[str]]
     return [family(name, "gauge", help_text, samples, site) for name, help_text, samples in families]
 
 
-def object_families(picture: Picture, groups: Mapping[str, Groups], site: str) -> List[List[str]]:
+def object_families(status: SiteStatus, groups: Mapping[str, Groups], site: str) -> List[List[str]]:
     """The state of each object that was checked. Soft problems and flapping objects have one more series."""
     states: List[Sample] = []
     soft: List[Sample] = []
     flapping: List[Sample] = []
-    for it in picture.objects:
+    for it in status.objects:
         labels = labels_of(it.name, groups)
         if it.state in STATES:
             states.append(("", labels, STATES[str(it.state)]))
@@ -103,38 +103,38 @@ def object_families(picture: Picture, groups: Mapping[str, Groups], site: str) -
     ]
 
 
-def metrics(picture: Picture, groups: Mapping[str, Groups], signs: Signs, site: str) -> str:
+def metrics(status: SiteStatus, groups: Mapping[str, Groups], signs: Signs, site: str) -> str:
     """All families."""
-    figures = picture.figures
+    figures = status.figures
     results: List[Sample] = [("", {"result": result}, figures.get(f"checks.{result}", 0)) for result in RESULTS]
-    objects: List[Sample] = [("", {"state": state, "kind": kind}, count) for (state, kind), count in sorted(picture.counts().items())]
+    objects: List[Sample] = [("", {"state": state, "kind": kind}, count) for (state, kind), count in sorted(status.state_counts().items())]
     saved = figures.get("saved_at")
-    since = [] if saved is None else one(round(max(0.0, picture.now - saved), 3))
+    since = [] if saved is None else single_sample(round(max(0.0, status.now - saved), 3))
     families = [family(name, kind, help_text, samples, site) for name, kind, help_text, samples in (
         ("nagsched_checks_total", "counter", "Results that were reported, by the state of the object or why there is none.", results),
         ("nagsched_check_latency_seconds", "histogram", "How late checks began.", latency(figures)),
-        ("nagsched_due", "gauge", "Objects whose time has come and whose check hasn't begun.", one(picture.due())),
-        ("nagsched_out", "gauge", "Objects whose plugins run.", one(len(picture.out()))),
+        ("nagsched_due", "gauge", "Objects whose time has come and whose check hasn't begun.", single_sample(status.due_count())),
+        ("nagsched_out", "gauge", "Objects whose plugins run.", single_sample(len(status.running_checks()))),
         ("nagsched_objects", "gauge", "Objects by state and kind.", objects),
-        ("nagsched_calls_total", "counter", "Calls that were made of the scheduler.", one(figures.get("calls", 0))),
-        ("nagsched_saves_total", "counter", "States of the scheduler that were saved.", one(figures.get("saves", 0))),
+        ("nagsched_calls_total", "counter", "Calls that were made of the scheduler.", single_sample(figures.get("calls", 0))),
+        ("nagsched_saves_total", "counter", "States of the scheduler that were saved.", single_sample(figures.get("saves", 0))),
         ("nagsched_seconds_since_save", "gauge", "Seconds since the state was saved last.", since),
-        ("nagsched_faults_total", "counter", "Turns that ended with a fault of the monitor's own.", one(figures.get("faults", 0))),
+        ("nagsched_faults_total", "counter", "Turns that ended with a fault of the monitor's own.", single_sample(figures.get("faults", 0))),
     )]
-    return "".join(f"{line}\n" for lines in (*families, *signs_families(picture, signs, site), *object_families(picture, groups, site)) for line in lines)
+    return "".join(f"{line}\n" for lines in (*families, *signs_families(status, signs, site), *object_families(status, groups, site)) for line in lines)
 
 
-def status(picture: Picture, groups: Mapping[str, Groups], site: str) -> Dict[str, Any]:
+def status_document(status: SiteStatus, groups: Mapping[str, Groups], site: str) -> Dict[str, Any]:
     """The content of the page, as data."""
-    figures = picture.figures
+    figures = status.figures
     lately = ("checks_a_second", "latest_start", "latest_start_lately", "begun_at", "written_at", "calls", "saves", "saved_at")
     return {
         "site": site,
-        "time": picture.now,
-        "is_silent": picture.silence() is not None,
+        "time": status.now,
+        "is_silent": status.silent_seconds() is not None,
         **{name: figures.get(name) for name in lately},
-        "due": picture.due(),
-        "out": len(picture.out()),
-        "wrong": [it.name for it in picture.wrong()],
-        "objects": [{**it._asdict(), **groups.get(it.name, {})} for it in picture.objects],
+        "due": status.due_count(),
+        "out": len(status.running_checks()),
+        "wrong": [it.name for it in status.problems()],
+        "objects": [{**it._asdict(), **groups.get(it.name, {})} for it in status.objects],
     }

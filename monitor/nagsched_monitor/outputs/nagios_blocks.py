@@ -3,7 +3,7 @@ import json
 from dataclasses import dataclass, field
 from typing import Any, Dict, List, Mapping, Optional, Tuple
 
-from ..store.rows import KeptStanding
+from ..store.rows import StoredStanding
 
 # Nagios's numbers for states.
 HOST_STATES = {"UP": 0, "DOWN": 1, "UNREACHABLE": 2}
@@ -47,36 +47,36 @@ class Program:
     """The monitor itself."""
 
     process: int
-    started: int
+    started_at: int
     # Whether a command is run for changes.
-    notifies: bool
+    has_notifications: bool
     # When objects were last in a state that isn't their current one, by name and state.
-    left: Dict[str, Dict[str, float]] = field(default_factory=dict)
+    last_times: Dict[str, Dict[str, float]] = field(default_factory=dict)
 
 
 def settings_of(setup: Mapping[str, Any]) -> Dict[str, Settings]:
     """The settings of a setup's objects, by their full names."""
-    settings = {host["name"]: settings_from(host) for host in setup.get("hosts", ())}
-    settings.update((f"{it['host']};{it['description']}", settings_from(it)) for it in setup.get("services", ()))
+    settings = {host["name"]: object_settings(host) for host in setup.get("hosts", ())}
+    settings.update((f"{it['host']};{it['description']}", object_settings(it)) for it in setup.get("services", ()))
     return settings
 
 
-def settings_from(members: Mapping[str, Any]) -> Settings:
+def object_settings(members: Mapping[str, Any]) -> Settings:
     return Settings(members.get("check_interval", 5), members.get("retry_interval", 1), members["max_check_attempts"])
 
 
-def plain(text: str) -> str:
+def printable_text(text: str) -> str:
     """A text without spaces around it and without control characters."""
     text = text.strip()
     return text if text.isprintable() else text.translate(PLAIN)
 
 
-def seconds(time: Optional[float]) -> int:
+def whole_seconds(time: Optional[float]) -> int:
     """A time in whole seconds, as in Nagios; a missing time is 0."""
     return 0 if time is None else int(time)
 
 
-def status_file(program: Program, settings: Mapping[str, Settings], standings: List[KeptStanding], now: float) -> str:
+def status_file(program: Program, settings: Mapping[str, Settings], standings: List[StoredStanding], now: float) -> str:
     """The whole file."""
     hosts = [kept for kept in standings if ";" not in kept.name]
     services = [kept for kept in standings if ";" in kept.name]
@@ -90,7 +90,7 @@ def info_block(now: float) -> str:
     return f"info {{\n\tcreated={int(now)}\n\tversion=4.4.6\n\tlast_update_check=0\n\tupdate_available=0\n\tlast_version=\n\tnew_version=\n\t}}\n"
 
 
-def counts(standings: List[KeptStanding], now: float) -> str:
+def check_counts(standings: List[StoredStanding], now: float) -> str:
     """The number of these objects that were checked within each of the spans."""
     times = [kept.last_check for kept in standings if kept.last_check is not None]
     return ",".join(str(sum(time > now - span for time in times)) for span in SPANS)
@@ -101,63 +101,64 @@ def block(kind: str, members: Mapping[str, object]) -> str:
     return f"{kind} {{\n{lines}\t}}\n"
 
 
-def program_block(program: Program, hosts: List[KeptStanding], services: List[KeptStanding], settings: Mapping[str, Settings], now: float) -> str:
+def program_block(program: Program, hosts: List[StoredStanding], services: List[StoredStanding], settings: Mapping[str, Settings], now: float) -> str:
     nothing = Settings()
     checked = {
-        f"{how}_{what}_check_stats": counts([kept for kept in all_of if settings.get(kept.name, nothing).is_passive == passive], now)
+        f"{how}_{what}_check_stats": check_counts([kept for kept in all_of if settings.get(kept.name, nothing).is_passive == passive], now)
         for what, all_of in (("host", hosts), ("service", services))
         for how, passive in (("active_scheduled", False), ("passive", True))
     }
-    own = {"nagios_pid": program.process, "program_start": program.started, "enable_notifications": int(program.notifies), "global_host_event_handler": "",
-           "global_service_event_handler": ""}
+    own = {"nagios_pid": program.process, "program_start": program.started_at, "enable_notifications": int(program.has_notifications),
+           "global_host_event_handler": "", "global_service_event_handler": ""}
     return block("programstatus", {**OF_PROGRAM, **own, **checked, **{f"{each}_stats": "0,0,0" for each in NO_STATS}})
 
 
-def outputs(words: str) -> Tuple[str, str, str]:
+def split_output(words: str) -> Tuple[str, str, str]:
     """A plugin's output, its long output with each line feed as two letters, and its performance data."""
     first, _, others = words.partition("\n")
     output, _, performance = first.partition("|")
     long_output, _, more = others.partition("|")
-    return output, "\\n".join(plain(line) for line in long_output.rstrip("\n").split("\n")), f"{performance} {more}".strip()
+    return output, "\\n".join(printable_text(line) for line in long_output.rstrip("\n").split("\n")), f"{performance} {more}".strip()
 
 
-def object_block(program: Program, its: Settings, kept: KeptStanding, now: float) -> str:
+def object_block(program: Program, its: Settings, kept: StoredStanding, now: float) -> str:
     """The block of a host or a service."""
     host, is_service, description = kept.name.partition(";")
     states = SERVICE_STATES if is_service else HOST_STATES
     state = states.get(kept.state or "", 0)
-    output, long_output, performance = outputs(kept.words)
-    left = program.left.get(kept.name, {})
+    output, long_output, performance = split_output(kept.words)
+    left = program.last_times.get(kept.name, {})
     return block("servicestatus" if is_service else "hoststatus", {
         "host_name": host, **({"service_description": description} if is_service else {}),
         "check_command": its.command, "check_period": its.period, "check_interval": f"{its.check_interval:f}", "retry_interval": f"{its.retry_interval:f}",
         "has_been_checked": int(kept.state not in (None, "PENDING")), "should_be_scheduled": int(kept.next_check is not None and bool(kept.is_on)),
         "check_execution_time": f"{kept.took or 0:.3f}", "check_latency": f"{kept.late or 0:.3f}", "check_type": int(its.is_passive),
         "current_state": state, "last_hard_state": state if kept.kind == "HARD" else 0,
-        "plugin_output": plain(output), "long_plugin_output": long_output, "performance_data": plain(performance),
-        "last_check": seconds(kept.last_check), "next_check": seconds(kept.next_check),
+        "plugin_output": printable_text(output), "long_plugin_output": long_output, "performance_data": printable_text(performance),
+        "last_check": whole_seconds(kept.last_check), "next_check": whole_seconds(kept.next_check),
         "current_attempt": kept.attempt or 1, "max_attempts": its.max_attempts, "state_type": int(kept.kind != "SOFT"),
-        "last_state_change": seconds(kept.since), "last_hard_state_change": seconds(kept.hard_since),
-        **{f"last_time_{word.lower()}": seconds(kept.last_check if word == kept.state else left.get(word)) for word in states},
-        "notifications_enabled": int(program.notifies), "active_checks_enabled": int(kept.is_on), "passive_checks_enabled": 1, "flap_detection_enabled": 1,
+        "last_state_change": whole_seconds(kept.since), "last_hard_state_change": whole_seconds(kept.hard_since),
+        **{f"last_time_{word.lower()}": whole_seconds(kept.last_check if word == kept.state else left.get(word)) for word in states},
+        "notifications_enabled": int(program.has_notifications), "active_checks_enabled": int(kept.is_on), "passive_checks_enabled": 1,
+        "flap_detection_enabled": 1,
         "last_update": int(now), "is_flapping": int(kept.flapping), "percent_state_change": "0.00", "notification_period": "", "event_handler": "",
         **dict.fromkeys(ZEROS, 0),
     })
 
 
-def names_of_commands(document: Mapping[str, Any]) -> Dict[str, str]:
+def command_names(document: Mapping[str, Any]) -> Dict[str, str]:
     """The program of each object's command, without its folder. Its arguments aren't written: they may contain passwords."""
     names = {}
     for name, members in document.items():
         words = str(members.get("line", "")).split(maxsplit=1)
         if words and "=" not in words[0]:
-            names[name] = plain(words[0].rpartition("/")[2])
+            names[name] = printable_text(words[0].rpartition("/")[2])
     return names
 
 
-def with_files(settings: Dict[str, Settings], commands: bytes, periods: bytes, passive: bytes) -> None:
+def add_file_settings(settings: Dict[str, Settings], commands: bytes, periods: bytes, passive: bytes) -> None:
     """Adds the settings of the other files of a site. Each file may be empty."""
-    for name, command in names_of_commands(json.loads(commands or b"{}")).items():
+    for name, command in command_names(json.loads(commands or b"{}")).items():
         if name in settings:
             settings[name].command = command
     for name, period in json.loads(periods or b"{}").get("objects", {}).items():

@@ -17,9 +17,9 @@ from ..faults import MonitorFault, RequestFault
 from ..inputs import control
 from ..inputs.nagios_pipe import Pipe, Request, requests_of
 from ..program.helper_process import ignore_signals
-from ..store.rows import KeptStanding
-from .nagios_blocks import Program, Settings, settings_of, status_file, with_files
-from .status_query import MEMBERS, NotShown, opened, standings_of
+from ..store.rows import StoredStanding
+from .nagios_blocks import Program, Settings, add_file_settings, settings_of, status_file
+from .status_query import MEMBERS, StatusUnavailable, open_database, read_standings
 
 # How often the status file is written, and the longest pause before waiting requests are sent again, in seconds.
 EVERY = 10.0
@@ -34,7 +34,7 @@ def log(line: str) -> None:
     print(f"nagios files: {line}", flush=True)
 
 
-class Reader:
+class StatusReader:
     """The parts of the database and the files of a site that the status file needs."""
 
     def __init__(self, site: pathlib.Path, program: Program) -> None:
@@ -45,12 +45,12 @@ class Reader:
         self._last_state: Dict[str, str] = {}
         self.settings: Dict[str, Settings] = {}
 
-    def read(self) -> List[KeptStanding]:
+    def read(self) -> List[StoredStanding]:
         """The standings by name; the settings and the earlier states are brought up to date."""
-        with opened(self._site) as database:
+        with open_database(self._site) as database:
             self._read_settings(database)
             self._read_changes(database)
-            return sorted(standings_of(database, MEMBERS))
+            return sorted(read_standings(database, MEMBERS))
 
     def _read_settings(self, database: sqlite3.Connection) -> None:
         """Reads the setups and the other files of the site, if they have changed."""
@@ -62,7 +62,7 @@ class Reader:
         for setup in setups.values():
             settings.update(settings_of(json.loads(setup)))
         try:
-            with_files(settings, *files)
+            add_file_settings(settings, *files)
         except (ValueError, AttributeError) as error:
             log(f"the files of the site are half read: {error}")  # they are being edited, and weren't reloaded
         self._setups, self._files, self.settings = setups, files, settings
@@ -72,7 +72,7 @@ class Reader:
         for number, moment, name, state in database.execute("SELECT id, time, name, state FROM changes WHERE id > ? ORDER BY id", (self._last_change,)):
             before = self._last_state.get(name, "OK" if ";" in name else "UP")
             if before != state:
-                self._program.left.setdefault(name, {})[before] = moment
+                self._program.last_times.setdefault(name, {})[before] = moment
             self._last_state[name], self._last_change = state, number
 
 
@@ -83,14 +83,14 @@ class NagiosFiles:
         self._site, self._folder, self._every = site, folder, every
         folder.mkdir(parents=True, exist_ok=True)
         self._program = Program(os.getppid(), int(time.time()), notifies)
-        self._reader = Reader(site, self._program)
+        self._reader = StatusReader(site, self._program)
         self._pipe = Pipe(folder)
         self._waiting: Deque[Tuple[str, Request]] = collections.deque()
         self._services: Dict[str, List[str]] = {}
         self._fault: Optional[str] = None
         self._mark, self._count = f"pipe-{os.getpid()}-{time.time_ns()}", 0
 
-    def work(self) -> None:
+    def run(self) -> None:
         """Works until its standard input ends."""
         next_write = time.monotonic()
         while True:
@@ -105,8 +105,8 @@ class NagiosFiles:
             if sys.stdin.fileno() in ready and not os.read(sys.stdin.fileno(), 4096):
                 break
             if self._pipe.file in ready:
-                self.hear(self._pipe.read())
-            self.ask()
+                self.read_commands(self._pipe.read())
+            self.send_requests()
         for name, _ in self._waiting:
             log(f"{name}: the monitor ended before it")
         self._pipe.close()
@@ -117,10 +117,10 @@ class NagiosFiles:
         """Writes the status file again; if that fails, the old one stays."""
         try:
             standings = self._reader.read()
-            self._services = services_of(standings)
-            replaced(self._folder / "status.dat", status_file(self._program, self._reader.settings, standings, time.time()).encode(errors="replace"))
+            self._services = services_by_host(standings)
+            replace_file(self._folder / "status.dat", status_file(self._program, self._reader.settings, standings, time.time()).encode(errors="replace"))
             fault = None
-        except (OSError, NotShown, ValueError) as error:
+        except (OSError, StatusUnavailable, ValueError) as error:
             fault = f"status.dat isn't written: {error}"
         if fault is not None and fault != self._fault:
             log(fault)
@@ -128,7 +128,7 @@ class NagiosFiles:
 
     # ---- the pipe
 
-    def hear(self, lines: Sequence[bytes]) -> None:
+    def read_commands(self, lines: Sequence[bytes]) -> None:
         """Takes in lines of the pipe, and logs each one that isn't obeyed. Each request has a number, so that it isn't obeyed twice when it is sent twice."""
         for line in lines:
             try:
@@ -140,28 +140,28 @@ class NagiosFiles:
                 self._count += 1
                 self._waiting.append((name, {**request, "number": f"{self._mark}-{self._count}"}))
 
-    def ask(self) -> None:
+    def send_requests(self) -> None:
         """Has the monitor obey the waiting requests. Requests that it doesn't answer, or can't obey now, are sent again."""
         while self._waiting:
             some = [self._waiting[place] for place in range(min(AT_ONCE, len(self._waiting)))]
             try:
-                answers = control.ask_all(self._site, [json.dumps(request, ensure_ascii=False).encode(errors="replace") for _, request in some])
+                answers = control.send_requests(self._site, [json.dumps(request, ensure_ascii=False).encode(errors="replace") for _, request in some])
             except MonitorFault:
                 return  # it begins, ends or reads its site; the request is sent again
             again = []
             for asked, answer in zip(some, answers):
                 self._waiting.popleft()
-                told = json.loads(answer)
-                if told.get("again", False):
+                reply = json.loads(answer)
+                if reply.get("again", False):
                     again.append(asked)
-                elif "error" in told:
-                    log(f"{asked[0]}: {asked[1].get('name', '')}: {told['error']}")
+                elif "error" in reply:
+                    log(f"{asked[0]}: {asked[1].get('name', '')}: {reply['error']}")
             self._waiting.extendleft(reversed(again))
             if again or len(answers) < len(some):
                 return
 
 
-def services_of(standings: Sequence[KeptStanding]) -> Dict[str, List[str]]:
+def services_by_host(standings: Sequence[StoredStanding]) -> Dict[str, List[str]]:
     """The services of each host."""
     services: Dict[str, List[str]] = {kept.name: [] for kept in standings if ";" not in kept.name}
     for kept in standings:
@@ -171,7 +171,7 @@ def services_of(standings: Sequence[KeptStanding]) -> Dict[str, List[str]]:
     return services
 
 
-def replaced(path: pathlib.Path, data: bytes) -> None:
+def replace_file(path: pathlib.Path, data: bytes) -> None:
     """Writes a file as a whole: a reader gets the old one or this."""
     new = path.with_name(f"{path.name}.new")
     new.unlink(missing_ok=True)
@@ -186,7 +186,7 @@ def main() -> int:
     site, folder, *others = sys.argv[1:]
     ignore_signals()
     try:
-        NagiosFiles(pathlib.Path(site), pathlib.Path(folder), "notifies" in others).work()
+        NagiosFiles(pathlib.Path(site), pathlib.Path(folder), "notifies" in others).run()
     except (MonitorFault, OSError) as fault:
         log(str(fault))
         return 1

@@ -21,15 +21,15 @@ import time
 import urllib.parse
 from typing import Any, Dict, Optional, Sequence, Tuple
 
-from . import drawing
+from . import html_pages
 
 from ..faults import MonitorFault, SiteFault
 from ..program.helper_process import ignore_signals, is_ended
-from ..program.places import place_of
+from ..program.addresses import parse_address
 from ..site.groups_file import GroupsFile
 from ..site.site import read_options
 from . import metrics
-from .status_query import NotShown, read_object, read_picture
+from .status_query import StatusUnavailable, read_object, read_site_status
 from .style import HEADERS
 
 # How long a client may send nothing, and how long a request may take in all, in seconds.
@@ -39,7 +39,7 @@ MOST_CLIENTS = 64
 HTML, JSON, METRICS, PLAIN = "text/html; charset=utf-8", "application/json", "text/plain; version=0.0.4; charset=utf-8", "text/plain; charset=utf-8"
 
 
-def is_known_host(given: Optional[str], names: Sequence[str]) -> bool:
+def is_allowed_host(given: Optional[str], names: Sequence[str]) -> bool:
     """Whether a `Host` is an address, localhost, or one of these names; the port doesn't matter. Older clients send none."""
     if given is None:
         return True
@@ -61,10 +61,10 @@ class Handler(http.server.BaseHTTPRequestHandler):
     def do_GET(self) -> None:
         path, _, query = self.path.partition("?")
         try:
-            if not is_known_host(self.headers.get("Host"), self.server.names):
+            if not is_allowed_host(self.headers.get("Host"), self.server.names):
                 raise MonitorFault
             kind, body = self.server.site.document(path, query)
-        except NotShown as fault:
+        except StatusUnavailable as fault:
             self._send(http.HTTPStatus.SERVICE_UNAVAILABLE, PLAIN, f"{fault}\n")
         except KeyError:
             self.send_error(http.HTTPStatus.NOT_FOUND)
@@ -100,7 +100,7 @@ class Handler(http.server.BaseHTTPRequestHandler):
         """Requests aren't logged."""
 
 
-class Site:
+class SiteFolder:
     """The folder of a site that the page shows."""
 
     def __init__(self, folder: pathlib.Path) -> None:
@@ -118,20 +118,20 @@ class Site:
         return self._zone
 
     def document(self, path: str, query: str) -> Tuple[str, str]:
-        """The kind and the text of the resource at a path. `KeyError` if there is nothing, `NotShown` if the database can't be read."""
+        """The kind and the text of the resource at a path. `KeyError` if there is nothing, `StatusUnavailable` if the database can't be read."""
         groups = self._groups.read()
         if path == "/":
             group = urllib.parse.parse_qs(query).get("group", [""])[0]
-            return HTML, drawing.page(read_picture(self._folder), groups, group, self.name, self.zone())
+            return HTML, html_pages.site_page(read_site_status(self._folder), groups, group, self.name, self.zone())
         if path == "/status.json":
-            return JSON, json.dumps(metrics.status(read_picture(self._folder), groups, self.name), ensure_ascii=False) + "\n"
+            return JSON, json.dumps(metrics.status_document(read_site_status(self._folder), groups, self.name), ensure_ascii=False) + "\n"
         if path == "/metrics":
-            return METRICS, metrics.metrics(read_picture(self._folder), groups, metrics.signs_of(self._folder), self.name)
+            return METRICS, metrics.metrics(read_site_status(self._folder), groups, metrics.read_signs(self._folder), self.name)
         if path == "/object":
             names = urllib.parse.parse_qs(query, keep_blank_values=True).get("name", [])
-            one = read_object(self._folder, names[0]) if len(names) == 1 else None
-            if one is not None:
-                return HTML, drawing.object_page(one, groups.get(one.it.name, {}), self.name, self.zone())
+            status = read_object(self._folder, names[0]) if len(names) == 1 else None
+            if status is not None:
+                return HTML, html_pages.object_page(status, groups.get(status.standing.name, {}), self.name, self.zone())
         raise KeyError(path)
 
 
@@ -141,10 +141,10 @@ class Server(http.server.ThreadingHTTPServer):
     daemon_threads = True
     request_queue_size = MOST_CLIENTS
 
-    def __init__(self, place: Tuple[str, int], site: Site, names: Sequence[str] = ()) -> None:
+    def __init__(self, place: Tuple[str, int], site: SiteFolder, names: Sequence[str] = ()) -> None:
         self.address_family = socket.AF_INET6 if ":" in place[0] else socket.AF_INET
         self.site, self.names = site, [name.lower() for name in names]
-        self._begun: Dict[Any, float] = {}
+        self._started_at: Dict[Any, float] = {}
         self._lock = threading.Lock()
         super().__init__(place, Handler)
 
@@ -159,9 +159,9 @@ class Server(http.server.ThreadingHTTPServer):
 
     def process_request(self, request: Any, client_address: Any) -> None:
         with self._lock:
-            is_room = len(self._begun) < MOST_CLIENTS
+            is_room = len(self._started_at) < MOST_CLIENTS
             if is_room:
-                self._begun[request] = time.monotonic()
+                self._started_at[request] = time.monotonic()
         if is_room:
             super().process_request(request, client_address)
         else:
@@ -169,13 +169,13 @@ class Server(http.server.ThreadingHTTPServer):
 
     def shutdown_request(self, request: Any) -> None:
         with self._lock:
-            self._begun.pop(request, None)
+            self._started_at.pop(request, None)
         super().shutdown_request(request)
 
     def service_actions(self) -> None:
         """Closes connections of clients that take too long."""
         with self._lock:
-            late = [request for request, begun in self._begun.items() if time.monotonic() - begun > LONGEST_REQUEST]
+            late = [request for request, begun in self._started_at.items() if time.monotonic() - begun > LONGEST_REQUEST]
         for request in late:
             try:
                 request.shutdown(socket.SHUT_RDWR)
@@ -199,7 +199,7 @@ def main() -> int:
     place, folder, *names = sys.argv[1:]
     ignore_signals()
     try:
-        server = Server(place_of(place), Site(pathlib.Path(folder)), names)
+        server = Server(parse_address(place), SiteFolder(pathlib.Path(folder)), names)
     except (MonitorFault, OSError) as fault:
         print(f"the page on {place}: {fault}", file=sys.stderr)
         return 1

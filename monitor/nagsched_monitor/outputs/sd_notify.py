@@ -7,7 +7,7 @@ from typing import Callable, MutableMapping, Optional
 MICROSECOND = 1e-6
 
 
-class Service:
+class ServiceManager:
     """The service manager that started the monitor; without a manager nothing is sent."""
 
     def __init__(self, environment: MutableMapping[str, str] = os.environ, clock: Callable[[], float] = time.monotonic) -> None:
@@ -18,19 +18,19 @@ class Service:
         is_mine = watched.isdigit() and of == str(os.getpid())
         # Half of the time after which the monitor counts as stuck, in seconds.
         self._interval: Optional[float] = int(watched) * MICROSECOND / 2 if is_mine else None
-        self._said = clock()
+        self._last_sent = clock()
 
-    def ready(self, words: str) -> None:
+    def notify_ready(self, words: str) -> None:
         """The monitor works; `systemctl status` shows the text."""
         self._send(f"READY=1\nSTATUS={words}")
 
-    def alive(self) -> None:
+    def notify_alive(self) -> None:
         """The loop runs; the message is sent twice within the time that the manager waits."""
-        if self._interval is not None and self._clock() - self._said >= self._interval:
-            self._said = self._clock()
+        if self._interval is not None and self._clock() - self._last_sent >= self._interval:
+            self._last_sent = self._clock()
             self._send("WATCHDOG=1")
 
-    def stopping(self) -> None:
+    def notify_stopping(self) -> None:
         self._send("STOPPING=1")
 
     def _send(self, lines: str) -> None:

@@ -6,7 +6,7 @@ from contextlib import closing, contextmanager
 from dataclasses import dataclass
 from typing import Dict, Iterator, List, Mapping, Optional, Sequence, Tuple
 
-from ..store.rows import KeptChange, KeptStanding
+from ..store.rows import StoredChange, StoredStanding
 
 DAY = 86_400
 # The limit of the wait for a locked database, in seconds.
@@ -17,37 +17,37 @@ MOST_CHANGES = 2_000
 # The time after which a monitor that wrote nothing counts as silent, in seconds.
 SILENCE = 20
 
-MEMBERS = ", ".join(KeptStanding._fields).replace("state,", "coalesce(state, 'PENDING'),", 1)
+MEMBERS = ", ".join(StoredStanding._fields).replace("state,", "coalesce(state, 'PENDING'),", 1)
 CUT = MEMBERS.replace("words", f"CASE WHEN length(words) > {LONGEST_WORDS} THEN substr(words, 1, {LONGEST_WORDS}) || '…' ELSE words END")
 CHANGE = "id, time, name, state, kind, attempt, flapping, words"
 PROBLEMS = "WHERE flapping OR state NOT IN ('PENDING', 'OK', 'UP')"
 
 
-class NotShown(Exception):
+class StatusUnavailable(Exception):
     """The database is missing, is locked, or isn't a monitor's."""
 
 
 @dataclass(frozen=True)
-class Picture:
+class SiteStatus:
     """A site at one moment."""
 
     now: float
-    objects: Sequence[KeptStanding]
+    objects: Sequence[StoredStanding]
     figures: Mapping[str, float]
 
-    def wrong(self) -> List[KeptStanding]:
+    def problems(self) -> List[StoredStanding]:
         """The problems: hard ones before soft ones, each by its age, the oldest first."""
         wrong = [it for it in self.objects if it.is_problem()]
-        return sorted(wrong, key=lambda it: (not it.is_hard_problem(), it.wrong_since() or self.now, it.name))
+        return sorted(wrong, key=lambda it: (not it.is_hard_problem(), it.problem_since() or self.now, it.name))
 
-    def out(self) -> List[KeptStanding]:
+    def running_checks(self) -> List[StoredStanding]:
         """The objects whose checks run, the longest first."""
         return sorted((it for it in self.objects if it.out_since is not None), key=lambda it: (it.out_since or 0, it.name))
 
-    def due(self) -> int:
+    def due_count(self) -> int:
         return sum(it.is_due(self.now) for it in self.objects)
 
-    def counts(self) -> Dict[Tuple[str, str], int]:
+    def state_counts(self) -> Dict[Tuple[str, str], int]:
         """The number of objects of each state and kind."""
         counts: Dict[Tuple[str, str], int] = {}
         for it in self.objects:
@@ -55,27 +55,27 @@ class Picture:
             counts[key] = counts.get(key, 0) + 1
         return counts
 
-    def silence(self) -> Optional[float]:
+    def silent_seconds(self) -> Optional[float]:
         """The seconds for which the monitor has written nothing, if it counts as silent; None while it is at work."""
         silent = self.now - self.figures.get("written_at", 0.0)
         return silent if silent > SILENCE else None
 
 
 @dataclass(frozen=True)
-class OneObject:
+class ObjectStatus:
     """An object with the changes of its last day, the earliest first."""
 
     now: float
-    it: KeptStanding
+    standing: StoredStanding
     # The last change before the day, if one is stored.
-    before: Optional[KeptChange]
-    changes: Sequence[KeptChange]
+    before: Optional[StoredChange]
+    changes: Sequence[StoredChange]
     # Whether there were more changes than the picture shows.
     is_cut: bool
 
 
 @contextmanager
-def opened(folder: pathlib.Path) -> Iterator[sqlite3.Connection]:
+def open_database(folder: pathlib.Path) -> Iterator[sqlite3.Connection]:
     """The database of a site as it is at one moment. It can't be written."""
     address = (folder / "monitor.db").resolve().as_uri() + "?mode=ro"
     try:
@@ -84,31 +84,31 @@ def opened(folder: pathlib.Path) -> Iterator[sqlite3.Connection]:
             database.execute("BEGIN")
             yield database
     except sqlite3.Error as error:
-        raise NotShown(f"monitor.db can't be read: {error}") from None
+        raise StatusUnavailable(f"monitor.db can't be read: {error}") from None
 
 
-def standings_of(database: sqlite3.Connection, members: str, condition: str = "", *cells: str) -> List[KeptStanding]:
+def read_standings(database: sqlite3.Connection, members: str, condition: str = "", *cells: str) -> List[StoredStanding]:
     """Objects with their states, in the order of hosts and of services on them."""
-    found = [KeptStanding(*row) for row in database.execute(f"SELECT {members} FROM standings {condition}", cells)]
+    found = [StoredStanding(*row) for row in database.execute(f"SELECT {members} FROM standings {condition}", cells)]
     return sorted(found, key=lambda it: it.name.partition(";"))
 
 
-def read_picture(folder: pathlib.Path, condition: str = "", *cells: str) -> Picture:
+def read_site_status(folder: pathlib.Path, condition: str = "", *cells: str) -> SiteStatus:
     """The objects of a site that meet a condition, at one moment; their words are cut."""
-    with opened(folder) as database:
+    with open_database(folder) as database:
         figures = dict(database.execute("SELECT name, value FROM figures"))
-        return Picture(time.time(), standings_of(database, CUT, condition, *cells), figures)
+        return SiteStatus(time.time(), read_standings(database, CUT, condition, *cells), figures)
 
 
-def read_object(folder: pathlib.Path, name: str) -> Optional[OneObject]:
+def read_object(folder: pathlib.Path, name: str) -> Optional[ObjectStatus]:
     """An object of a site; None if no object has this name."""
     now = time.time()
-    with opened(folder) as database:
-        found = standings_of(database, MEMBERS, "WHERE name = ?", name)
+    with open_database(folder) as database:
+        found = read_standings(database, MEMBERS, "WHERE name = ?", name)
         rows = [
-            [KeptChange(*row) for row in database.execute(f"SELECT {CHANGE} FROM changes WHERE name = ? AND time {side} ? ORDER BY id DESC LIMIT {most}",
+            [StoredChange(*row) for row in database.execute(f"SELECT {CHANGE} FROM changes WHERE name = ? AND time {side} ? ORDER BY id DESC LIMIT {most}",
                                                           (name, now - DAY))]
             for side, most in ((">=", MOST_CHANGES + 1), ("<", 1))
         ]
     lately, before = rows
-    return OneObject(now, found[0], before[0] if before else None, lately[:MOST_CHANGES][::-1], len(lately) > MOST_CHANGES) if found else None
+    return ObjectStatus(now, found[0], before[0] if before else None, lately[:MOST_CHANGES][::-1], len(lately) > MOST_CHANGES) if found else None

@@ -7,9 +7,9 @@ import sys
 
 from ..program.helper_process import ignore_signals, is_ended
 from ..site.groups_file import GroupsFile
-from .metrics import metrics, signs_of
-from .nagios_files import replaced
-from .status_query import NotShown, read_picture
+from .metrics import metrics, read_signs
+from .nagios_files import replace_file
+from .status_query import StatusUnavailable, read_site_status
 
 # How often the file is written, in seconds.
 EVERY = 15.0
@@ -21,9 +21,9 @@ def main() -> int:
     groups, site, trouble = GroupsFile(folder), folder.resolve().name, ""
     while True:
         try:
-            replaced(file, metrics(read_picture(folder), groups.read(), signs_of(folder), site).encode(errors="replace"))
+            replace_file(file, metrics(read_site_status(folder), groups.read(), read_signs(folder), site).encode(errors="replace"))
             trouble = ""
-        except (NotShown, OSError) as fault:
+        except (StatusUnavailable, OSError) as fault:
             if not trouble:
                 print(f"textfile: {file} isn't written: {fault}", flush=True)
             trouble = str(fault)

@@ -8,7 +8,7 @@ from ..faults import MonitorFault
 LAST_PORT = 65_535
 
 
-def place_of(given: str, of: str = "--page") -> Tuple[str, int]:
+def parse_address(given: str, of: str = "--page") -> Tuple[str, int]:
     """Address and port of `ADDRESS:PORT`; an IPv6 address is in brackets. Raises `MonitorFault` if `given` isn't such an address."""
     address, colon, port = given.rpartition(":")
     is_bracketed = address.startswith("[") and address.endswith("]")
@@ -21,9 +21,9 @@ def place_of(given: str, of: str = "--page") -> Tuple[str, int]:
         raise MonitorFault(f"{of}: no address: {address!r}") from None
 
 
-def is_own(given: str) -> bool:
+def is_loopback(given: str) -> bool:
     """Whether only the machine itself can reach an address."""
-    return ipaddress.ip_address(place_of(given)[0]).is_loopback
+    return ipaddress.ip_address(parse_address(given)[0]).is_loopback
 
 
 def test_url(given: str, of: str) -> None:

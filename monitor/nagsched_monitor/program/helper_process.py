@@ -8,7 +8,7 @@ import sys
 import time
 from typing import Callable, Optional, Sequence
 
-from .reading import process_words
+from .site_reader import module_command
 
 # The least time from one start to the next, and the limit for the end of a process, in seconds. The pause doubles each time, up to the longest. After a
 # process that ran for the longest pause, the pause is the first one again.
@@ -27,14 +27,14 @@ def is_ended(seconds: Optional[float]) -> bool:
     return bool(select.select([sys.stdin], [], [], seconds)[0]) and not os.read(sys.stdin.fileno(), 4_096)
 
 
-class Beside:
+class HelperProcess:
     """One process next to the monitor."""
 
-    def __init__(self, module: str, words: Sequence[str], log: Callable[[str], None], clock: Callable[[], float] = time.monotonic) -> None:
-        self._module, self._words, self._log, self._clock = module, words, log, clock
+    def __init__(self, module: str, arguments: Sequence[str], log: Callable[[str], None], clock: Callable[[], float] = time.monotonic) -> None:
+        self._module, self._arguments, self._log, self._clock = module, arguments, log, clock
         self._name = module.rpartition(".")[2]
         self._process: Optional["subprocess.Popen[bytes]"] = None
-        self._begun = self._not_before = clock()
+        self._started_at = self._not_before = clock()
         self._pause = PAUSE
 
     def work(self) -> None:
@@ -43,20 +43,20 @@ class Beside:
             status = self._process.poll()
             if status is None:
                 return
-            self._pause = PAUSE if self._clock() - self._begun >= LONGEST_PAUSE else self._pause
-            self._not_before = self._begun + self._pause
+            self._pause = PAUSE if self._clock() - self._started_at >= LONGEST_PAUSE else self._pause
+            self._not_before = self._started_at + self._pause
             self._pause = min(LONGEST_PAUSE, 2 * self._pause)
             self._log(f"{self._name} ended with status {status}; it is begun again")
-            self._let_go()
+            self._close_input()
         if self._clock() >= self._not_before:
-            self._begun = self._clock()
+            self._started_at = self._clock()
             try:
-                self._process = subprocess.Popen(process_words(self._module, list(self._words)), stdin=subprocess.PIPE)
+                self._process = subprocess.Popen(module_command(self._module, list(self._arguments)), stdin=subprocess.PIPE)
             except OSError as error:  # there is no room for a process now
-                self._not_before = self._begun + LONGEST_PAUSE
+                self._not_before = self._started_at + LONGEST_PAUSE
                 self._log(f"{self._name} can't be begun: {error}; it is tried again")
 
-    def _let_go(self) -> None:
+    def _close_input(self) -> None:
         if self._process is not None and self._process.stdin is not None:
             self._process.stdin.close()
         self._process = None
@@ -67,7 +67,7 @@ class Beside:
     def close(self) -> None:
         """Ends the process."""
         process = self._process
-        self._let_go()
+        self._close_input()
         if process is None:
             return
         try:

@@ -4,7 +4,7 @@ import queue
 import threading
 from typing import Optional
 
-from ..core.text import plain
+from ..core.text import plain_text
 
 # The greatest number of lines that wait; further lines are dropped, and counted. The longest line, in bytes.
 MOST_LINES = 10_000
@@ -22,7 +22,7 @@ class Log:
 
     def __call__(self, line: str) -> None:
         try:
-            self._lines.put_nowait(plain(line, LONGEST).replace("\n", " "))
+            self._lines.put_nowait(plain_text(line, LONGEST).replace("\n", " "))
         except queue.Full:
             self._dropped += 1
 

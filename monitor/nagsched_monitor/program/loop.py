@@ -4,7 +4,7 @@ from typing import Callable, List, Optional, Sequence
 
 from ..core.clock import Clock
 from ..core.engine import Engine
-from .turn_timer import Pace
+from .turn_timer import TurnTimer
 
 CHORES_EVERY = 1_000
 # The wait after a turn that raised an exception, in milliseconds; the number of such turns in a row after which the process ends, and its status then.
@@ -16,8 +16,8 @@ BROKEN = 70
 class Loop:
     """Turns, and the actions around them."""
 
-    def __init__(self, engine: Engine, pace: Pace, clock: Clock, log: Callable[[str], None]) -> None:
-        self._engine, self._pace, self._clock, self._log = engine, pace, clock, log
+    def __init__(self, engine: Engine, timer: TurnTimer, clock: Clock, log: Callable[[str], None]) -> None:
+        self._engine, self._timer, self._clock, self._log = engine, timer, clock, log
         # Actions before each turn, after it, and every second. Those before and after a turn return the latest moment for the next turn, or None.
         self.before: List[Callable[[], Optional[int]]] = []
         self.after: List[Callable[[], Optional[int]]] = []
@@ -30,13 +30,13 @@ class Loop:
     def stop(self) -> None:
         self.status = 0 if self.status is None else self.status
 
-    def work(self) -> int:
+    def run(self) -> int:
         """Works until it is stopped; returns the exit status."""
         while self.status is None:
-            self.go_round()
+            self.run_turn()
         return self.status
 
-    def go_round(self) -> None:
+    def run_turn(self) -> None:
         """One turn, and the other actions after it."""
         begun = self._clock.moment()
         try:
@@ -44,10 +44,10 @@ class Loop:
             self._faults = 0
         except Exception as error:  # any exception: monitoring continues
             wanted = begun + AFTER_FAULT
-            self._caught(error)
+            self._handle_fault(error)
         if self.status is None:
-            second = self._engine.scheduling.known.second()
-            self._pace.rest(begun, wanted, second)
+            second = self._engine.scheduling.states.second_time()
+            self._timer.wait(begun, wanted, second)
 
     def _turn(self, begun: int) -> int:
         wanted = [each() for each in self.before]
@@ -60,16 +60,16 @@ class Loop:
                 chore()
         return min(moment for moment in wanted if moment is not None)
 
-    def _caught(self, error: Exception) -> None:
+    def _handle_fault(self, error: Exception) -> None:
         self._faults += 1
-        self._engine.counters.fault()
-        for line in said(traceback.format_exception(type(error), error, error.__traceback__)):
+        self._engine.counters.count_fault()
+        for line in traceback_lines(traceback.format_exception(type(error), error, error.__traceback__)):
             self._log(line)
         if self._faults >= MOST_FAULTS:
             self._log(f"{MOST_FAULTS} turns in a row ended like this: the monitor ends with status {BROKEN}")
             self.status = BROKEN
 
 
-def said(traced: Sequence[str]) -> List[str]:
+def traceback_lines(traced: Sequence[str]) -> List[str]:
     """The lines of a traceback."""
     return [f"fault: {line}" for each in traced for line in each.rstrip().split("\n")]

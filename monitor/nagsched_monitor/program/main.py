@@ -12,17 +12,17 @@ from typing import Any, Dict, List, Optional
 from ..core.text import first_line
 from ..faults import MonitorFault, NotStored
 from ..inputs import control
-from ..outputs.status_query import NotShown, read_picture
+from ..outputs.status_query import StatusUnavailable, read_site_status
 from ..site.site import read_site
-from ..store.rows import KeptStanding
-from . import places
+from ..store.rows import StoredStanding
+from . import addresses
 from .log import Log
 from .monitor import Monitor
 
 CODES = {"OK": 0, "UP": 0, "WARNING": 1, "CRITICAL": 2, "DOWN": 2, "UNKNOWN": 3}
 
 
-def time_of(text: str) -> float:
+def parse_time(text: str) -> float:
     """A time from the command line: seconds since 1970, or a date and time in this machine's zone, such as 2026-11-27T18:00."""
     try:
         return float(text)
@@ -34,7 +34,7 @@ def time_of(text: str) -> float:
         raise argparse.ArgumentTypeError(f"it has to be a date and time such as 2026-11-27T18:00 or a number of seconds, not {text!r}") from None
 
 
-def code_of(text: str) -> int:
+def parse_code(text: str) -> int:
     """A plugin's code from the command line: 0 to 3, or the word of a state."""
     code = CODES.get(text.upper(), int(text) if text.isascii() and text.isdigit() else -1)
     if not 0 <= code <= 3:
@@ -51,7 +51,7 @@ def default_program() -> str:
 OBJECT = "a host's name, or host;description of a service"
 
 
-def words_of(given: Optional[List[str]]) -> argparse.Namespace:
+def parse_arguments(given: Optional[List[str]]) -> argparse.Namespace:
     parser = argparse.ArgumentParser(prog="nagsched-monitor", usage="nagsched-monitor [OPTION ..] DIR [COMMAND ..]",
                                      description="Monitors a site: it runs plugins, and nagsched decides which is due.")
     parser.add_argument("folder", metavar="DIR", type=pathlib.Path, help="the folder of the site")
@@ -63,32 +63,32 @@ def words_of(given: Optional[List[str]]) -> argparse.Namespace:
                         help="a name by which browsers reach the page, besides addresses and localhost")
     parser.add_argument("--textfile", metavar="FILE", type=pathlib.Path, help="keep the figures in this file, for node_exporter's textfile collector")
     parser.add_argument("--nagios-files", metavar="DIRECTORY", type=pathlib.Path, help="keep Nagios's status.dat and its pipe nagios.cmd there")
-    words = parser.add_subparsers(dest="word", metavar="COMMAND", prog="nagsched-monitor DIR",
+    commands = parser.add_subparsers(dest="command", metavar="COMMAND", prog="nagsched-monitor DIR",
                                   help="without a command it runs the monitor; test and status need no running monitor, the others ask it")
-    status = words.add_parser("status", help="prints the states of objects")
+    status = commands.add_parser("status", help="prints the states of objects")
     status.add_argument("pattern", nargs="?", default="*", help="names of objects, with * and ? as in a shell; all without it")
     status.add_argument("--long", action="store_true", help="with the time of each next check")
-    reschedule = words.add_parser("reschedule", help="sets the next check of an object")
+    reschedule = commands.add_parser("reschedule", help="sets the next check of an object")
     reschedule.add_argument("name", help=OBJECT)
-    reschedule.add_argument("--at", type=time_of, metavar="T", help="a date and time such as 2026-11-27T18:00, or seconds since 1970; now without it")
+    reschedule.add_argument("--at", type=parse_time, metavar="T", help="a date and time such as 2026-11-27T18:00, or seconds since 1970; now without it")
     reschedule.add_argument("--force", action="store_true", help="also if it is switched off or held back")
     for word, what in (("enable", "on"), ("disable", "off"), ("default", "as the setup has them")):
-        words.add_parser(word, help=f"switches an object's checks {what}").add_argument("name", help=OBJECT)
-    result = words.add_parser("result", help="gives a passive result")
+        commands.add_parser(word, help=f"switches an object's checks {what}").add_argument("name", help=OBJECT)
+    result = commands.add_parser("result", help="gives a passive result")
     result.add_argument("name", help=OBJECT)
-    result.add_argument("code", type=code_of, help="0 to 3, or OK, WARNING, CRITICAL or UNKNOWN; UP or DOWN of a host")
+    result.add_argument("code", type=parse_code, help="0 to 3, or OK, WARNING, CRITICAL or UNKNOWN; UP or DOWN of a host")
     result.add_argument("output", nargs="?", default="", help="what the plugin printed")
     for word, what in (("test", "reads the site and tests it"), ("reload", "reads the site again"), ("save", "saves the state"), ("stop", "ends the monitor")):
-        words.add_parser(word, help=what)
+        commands.add_parser(word, help=what)
     return parser.parse_args(given)
 
 
-def request_of(words: argparse.Namespace) -> Dict[str, Any]:
+def request_members(arguments: argparse.Namespace) -> Dict[str, Any]:
     """The request that the arguments describe."""
     members = {"name": ("reschedule", "enable", "disable", "default", "result"), "at": ("reschedule",), "force": ("reschedule",)}
     members |= {"code": ("result",), "output": ("result",)}
-    asked = {member: getattr(words, member) for member, of in members.items() if words.word in of}
-    return {"do": words.word, **{member: value for member, value in asked.items() if value is not None}}
+    asked = {member: getattr(arguments, member) for member, of in members.items() if arguments.command in of}
+    return {"do": arguments.command, **{member: value for member, value in asked.items() if value is not None}}
 
 
 def clock_time(seconds: float) -> str:
@@ -96,7 +96,7 @@ def clock_time(seconds: float) -> str:
     return datetime.datetime.fromtimestamp(round(seconds)).astimezone().isoformat(sep=" ", timespec="seconds")
 
 
-def printed(answer: Dict[str, Any]) -> str:
+def answer_text(answer: Dict[str, Any]) -> str:
     """An answer as lines of text."""
     if "at" in answer:
         return f"reschedule: {answer['name']} at {clock_time(answer['at'])}{'' if answer['on'] else ', but its checks are off'}"
@@ -104,57 +104,57 @@ def printed(answer: Dict[str, Any]) -> str:
     return "\n".join([f"{answer['done']}: {answer.get('name', 'done')}", *others, *answer.get("changed", ())])
 
 
-def standing_line(it: KeptStanding, is_long: bool) -> str:
+def standing_line(it: StoredStanding, is_long: bool) -> str:
     marks = "".join(word for word, there in ((" FLAPPING", it.flapping), (" out", it.out_since is not None), (" off", not it.is_on)) if there)
     next_check = f"; next check {'none' if it.next_check is None else clock_time(it.next_check)}" if is_long else ""
     return f"{it.state} {it.kind} {it.attempt}{marks} {it.name}: {first_line(it.words)}{next_check}"
 
 
-def status(words: argparse.Namespace) -> int:
+def print_status(arguments: argparse.Namespace) -> int:
     """Prints the states of objects from the database of a site. The exit status is 1 if no monitor is at work."""
-    exact = read_picture(words.folder, "WHERE name = ?", words.pattern)
-    picture = exact if exact.objects else read_picture(words.folder, "WHERE name GLOB ?", words.pattern)
-    print("\n".join(standing_line(it, words.long) for it in picture.objects) or "no object has such a name")
-    silent = picture.silence()
+    exact = read_site_status(arguments.folder, "WHERE name = ?", arguments.pattern)
+    status = exact if exact.objects else read_site_status(arguments.folder, "WHERE name GLOB ?", arguments.pattern)
+    print("\n".join(standing_line(it, arguments.long) for it in status.objects) or "no object has such a name")
+    silent = status.silent_seconds()
     if silent is not None:
         print(f"nagsched-monitor: the monitor has written nothing for {silent:.0f} seconds: this is how objects were then", file=sys.stderr)
     return int(silent is not None)
 
 
-def asked(words: argparse.Namespace) -> int:
+def send_request(arguments: argparse.Namespace) -> int:
     """Sends a request to the running monitor, and prints its answer."""
-    answer = json.loads(control.ask(words.folder, json.dumps(request_of(words)).encode()) or b'{"error": "the monitor ended"}')
+    answer = json.loads(control.send_request(arguments.folder, json.dumps(request_members(arguments)).encode()) or b'{"error": "the monitor ended"}')
     if "error" in answer:
         raise MonitorFault(answer["error"])
-    print(printed(answer))
+    print(answer_text(answer))
     return 0
 
 
-def tested(words: argparse.Namespace) -> int:
-    site = read_site(words.folder, words.program)
+def test_site(arguments: argparse.Namespace) -> int:
+    site = read_site(arguments.folder, arguments.program)
     print(f"{len(site.objects)} objects, {len(site.setups)} parts")
     return 0
 
 
 def main(given: Optional[List[str]] = None) -> int:
-    words = words_of(given)
+    arguments = parse_arguments(given)
     log: Optional[Log] = None
     try:
-        if words.word is not None:
-            return {"test": tested, "status": status}.get(words.word, asked)(words)
-        if words.page is not None:
-            places.place_of(words.page)
-        for url in words.alertmanager:
-            places.test_url(url, "--alertmanager")
+        if arguments.command is not None:
+            return {"test": test_site, "status": print_status}.get(arguments.command, send_request)(arguments)
+        if arguments.page is not None:
+            addresses.parse_address(arguments.page)
+        for url in arguments.alertmanager:
+            addresses.test_url(url, "--alertmanager")
         log = Log()
-        monitor = Monitor(words, log)
-    except (MonitorFault, NotShown, NotStored, OSError, sqlite3.Error) as fault:
+        monitor = Monitor(arguments, log)
+    except (MonitorFault, StatusUnavailable, NotStored, OSError, sqlite3.Error) as fault:
         if log is not None:
             log.close()
         print(f"nagsched-monitor: {fault}", file=sys.stderr)
         return 1
     try:
-        return monitor.work()
+        return monitor.run()
     finally:
         monitor.close()
         log.close()

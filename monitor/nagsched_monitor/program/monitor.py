@@ -10,21 +10,21 @@ from ..core.clock import Clock, SystemClock
 from ..core.engine import Engine
 from ..faults import ConversationEnded, MonitorFault, NotStored
 from ..inputs import control
-from ..inputs.requests import encoded
+from ..inputs.requests import encode_answer
 from ..outputs import changes
 from ..outputs.changes import Notifier
-from ..outputs.sd_notify import Service
-from ..run.runners import RunnerProcesses, raise_file_limit
+from ..outputs.sd_notify import ServiceManager
+from ..run.runners import RunnerPools, raise_file_limit
 from ..scheduler.scheduling import Scheduling
 from ..site.site import Site, read_site
 from ..store.store import Store
 from ..store.writes import drop_changes_before
-from . import places
-from .helper_process import Beside
+from . import addresses
+from .helper_process import HelperProcess
 from .log import Log
 from .loop import Loop
-from .reading import Reading
-from .turn_timer import FilePoller, Pace
+from .site_reader import SiteReader
+from .turn_timer import FilePoller, TurnTimer
 
 DAY = 86_400
 # How soon the next turn comes while a command for changes runs or a client reads, in milliseconds.
@@ -38,55 +38,55 @@ FILES_OF_PLUGIN, OTHER_FILES = 4, 100
 class Monitor:
     """A monitor of one site, while it runs."""
 
-    def __init__(self, words: argparse.Namespace, log: Optional[Log] = None) -> None:
-        self._folder, self._program = words.folder, words.program
+    def __init__(self, arguments: argparse.Namespace, log: Optional[Log] = None) -> None:
+        self._folder, self._program = arguments.folder, arguments.program
         self.log = Log() if log is None else log
-        self._service = Service()
-        self._files = raise_file_limit()
+        self._service_manager = ServiceManager()
+        self._file_limit = raise_file_limit()
         self._poller = FilePoller()
         watch, unwatch = self._poller.watch, self._poller.unwatch
         site = read_site(self._folder, self._program)
         self._test_slots(site)
         self.store = Store(self._folder, self.log)
         self.clock: Clock = SystemClock(self.store.last_moment())
-        self._notifier = Notifier(words.on_change, self.store, self.log)
-        self.scheduling = self._opened(site)
-        self.runners = RunnerProcesses(processors(), self.log, watch, unwatch)
-        self.runners.serve(site.runners)
+        self._notifier = Notifier(arguments.on_change, self.store, self.log)
+        self.scheduling = self._open_scheduling(site)
+        self.runners = RunnerPools(processor_count(), self.log, watch, unwatch)
+        self.runners.set_remotes(site.runners)
         self.engine = Engine(self.scheduling, self.runners, self.store, self.clock, self.log)
-        self.control = control.Control(self._folder, self.engine.ask, watch, unwatch)
-        self._reading = Reading(self._folder, self._program)
-        self.loop = Loop(self.engine, Pace(self.clock, self._poller), self.clock, self.log)
-        self._beside = self._besides(words)
+        self.control = control.ControlSocket(self._folder, self.engine.add_request, watch, unwatch)
+        self._site_reader = SiteReader(self._folder, self._program)
+        self.loop = Loop(self.engine, TurnTimer(self.clock, self._poller), self.clock, self.log)
+        self._helpers = self._make_helpers(arguments)
         self._dropped_at = self.clock.wall()
-        self._wire()
+        self._connect_parts()
 
     @property
     def site(self) -> Site:
         return self.engine.site
 
-    def _wire(self) -> None:
+    def _connect_parts(self) -> None:
         requests = self.engine.requests
-        requests.log, requests.stop, requests.reload = self.log, self.loop.stop, self._reading.ask
-        self.loop.before = [self._hear]
-        self.loop.after = [self._tell, self._take_over, self._answer]
-        self.loop.chores = [self._drop_old_changes, self._service.alive, *(process.work for process in self._beside)]
+        requests.log, requests.stop, requests.reload = self.log, self.loop.stop, self._site_reader.add_request
+        self.loop.before = [self._read_requests]
+        self.loop.after = [self._log_changes, self._apply_reload, self._send_answers]
+        self.loop.chores = [self._drop_old_changes, self._service_manager.notify_alive, *(process.work for process in self._helpers)]
 
-    def _besides(self, words: argparse.Namespace) -> List[Beside]:
+    def _make_helpers(self, arguments: argparse.Namespace) -> List[HelperProcess]:
         """The processes next to the monitor that its options ask for."""
-        folder, asked = str(words.folder), []
-        if words.nagios_files is not None:
-            asked.append(["outputs.nagios_files", folder, str(words.nagios_files), *(["notifies"] if words.on_change is not None else [])])
-        if words.page is not None:
-            if not places.is_own(words.page):
-                self.log(f"the page on {words.page} is shown to everybody who reaches this address")
-            asked.append(["outputs.page", words.page, folder, *words.page_name])
-        if words.textfile is not None:
-            asked.append(["outputs.textfile", folder, str(words.textfile)])
-        asked += [["outputs.alertmanager", url, folder] for url in words.alertmanager]
-        return [Beside(module, given, self.log) for module, *given in asked]
+        folder, asked = str(arguments.folder), []
+        if arguments.nagios_files is not None:
+            asked.append(["outputs.nagios_files", folder, str(arguments.nagios_files), *(["notifies"] if arguments.on_change is not None else [])])
+        if arguments.page is not None:
+            if not addresses.is_loopback(arguments.page):
+                self.log(f"the page on {arguments.page} is shown to everybody who reaches this address")
+            asked.append(["outputs.page", arguments.page, folder, *arguments.page_name])
+        if arguments.textfile is not None:
+            asked.append(["outputs.textfile", folder, str(arguments.textfile)])
+        asked += [["outputs.alertmanager", url, folder] for url in arguments.alertmanager]
+        return [HelperProcess(module, given, self.log) for module, *given in asked]
 
-    def _opened(self, site: Site) -> Scheduling:
+    def _open_scheduling(self, site: Site) -> Scheduling:
         """The site with its schedulers. If the disk is full or a scheduler can't be started, a few more tries follow."""
         why = ""
         for tried in range(START_TRIES):
@@ -104,51 +104,51 @@ class Monitor:
     def _test_slots(self, site: Site) -> None:
         """Refuses more slots than the limit of open files allows."""
         wanted = site.options.slots * FILES_OF_PLUGIN + OTHER_FILES
-        if wanted > self._files:
+        if wanted > self._file_limit:
             slots = f"monitor.json: slots: {site.options.slots} plugins may take {wanted} open files"
-            raise MonitorFault(f"{slots}, and the limit is {self._files}: raise it, or have fewer slots")
+            raise MonitorFault(f"{slots}, and the limit is {self._file_limit}: raise it, or have fewer slots")
 
     # ---- the loop
 
-    def work(self) -> int:
+    def run(self) -> int:
         """Works until it is asked to stop; returns the exit status."""
-        self._take_signals()
+        self._install_signal_handlers()
         self.log(f"begins: {len(self.site.objects)} objects, {len(self.site.setups)} parts")
-        for line in changes.standing_problems([(known.name, known.standing) for known in self.engine.objects.values() if known.standing]):
+        for line in changes.problem_lines([(obj.name, obj.standing) for obj in self.engine.objects.values() if obj.standing]):
             self.log(f"at the start {line}")
-        self._service.ready(f"{len(self.site.objects)} objects")
-        return self.loop.work()
+        self._service_manager.notify_ready(f"{len(self.site.objects)} objects")
+        return self.loop.run()
 
-    def _hear(self) -> Optional[int]:
+    def _read_requests(self) -> Optional[int]:
         """Takes in the requests that have come."""
         return 0 if self.control.work() else None
 
-    def _answer(self) -> Optional[int]:
+    def _send_answers(self) -> Optional[int]:
         """Sends the answers of the turn."""
         has_more = self.control.work()
         return 0 if has_more else self.clock.moment() + BUSY_WAIT if self.control.is_sending() else None
 
-    def _tell(self) -> Optional[int]:
+    def _log_changes(self) -> Optional[int]:
         """Logs the changes of the turn, and has the command run for them."""
-        for change in self.scheduling.changed():
-            self.log(changes.line_of(change, self.site.zone))
+        for change in self.scheduling.pop_changes():
+            self.log(changes.change_line(change, self.site.zone))
         self._notifier.work()
         return self.clock.moment() + BUSY_WAIT if self._notifier.is_busy() else None
 
-    def _wake(self, file: int) -> None:
+    def _clear_signal(self, file: int) -> None:
         """Handles a signal."""
         self._signals[0].recv(4_096)
 
-    def _take_signals(self) -> None:
+    def _install_signal_handlers(self) -> None:
         there, back = socket.socketpair()
         there.setblocking(False)
         back.setblocking(False)
         signal.set_wakeup_fd(back.fileno(), warn_on_full_buffer=False)
         self._signals = (there, back)
-        self._poller.watch(there.fileno(), self._wake)
+        self._poller.watch(there.fileno(), self._clear_signal)
         for number in (signal.SIGINT, signal.SIGTERM):
             signal.signal(number, lambda *_: self.loop.stop())
-        signal.signal(signal.SIGHUP, lambda *_: self._reading.ask(None))
+        signal.signal(signal.SIGHUP, lambda *_: self._site_reader.add_request(None))
 
     def _drop_old_changes(self) -> None:
         """Drops old changes, each hour but the first. A clock that jumped by more than a day drops nothing."""
@@ -164,29 +164,29 @@ class Monitor:
 
     # ---- another site
 
-    def _take_over(self) -> Optional[int]:
+    def _apply_reload(self) -> Optional[int]:
         """Takes over the site that was read; if it is faulty, the old one stays."""
-        read = self._reading.work()
+        read = self._site_reader.work()
         if read is None:
-            return self.clock.moment() + BUSY_WAIT if self._reading.is_busy() else None
+            return self.clock.moment() + BUSY_WAIT if self._site_reader.is_busy() else None
         site, asked = read
         try:
             if isinstance(site, str):
                 raise MonitorFault(site)
-            answer = self._become(site)
+            answer = self._change_site(site)
         except (MonitorFault, NotStored) as fault:
             answer = {"error": str(fault)}
             self.log(f"the site isn't taken over: {fault}")
         for request in asked:
             if request is not None:
-                request.reply(encoded(answer))
+                request.reply(encode_answer(answer))
         return 0
 
-    def _become(self, site: Site) -> Dict[str, Any]:
+    def _change_site(self, site: Site) -> Dict[str, Any]:
         self._test_slots(site)
         before = set(self.engine.objects)
         changed = self.engine.reload(site)
-        self.runners.serve(site.runners)
+        self.runners.set_remotes(site.runners)
         new, dropped = sorted(set(site.objects) - before), sorted(before - set(site.objects))
         for word, names in (("new", new), ("dropped", dropped)):
             for name in names:
@@ -197,10 +197,10 @@ class Monitor:
 
     def close(self) -> None:
         """Ends: running plugins are killed, and their checks are abandoned at the next start."""
-        self._service.stopping()
+        self._service_manager.notify_stopping()
         self.control.close()
-        self._reading.close()
-        for process in self._beside:
+        self._site_reader.close()
+        for process in self._helpers:
             process.close()
         self.runners.close()
         self._notifier.close()
@@ -213,6 +213,6 @@ class Monitor:
         self.store.close()
 
 
-def processors() -> int:
+def processor_count() -> int:
     """The number of processors that this process may use."""
     return max(1, len(os.sched_getaffinity(0)))

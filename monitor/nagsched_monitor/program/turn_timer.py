@@ -50,13 +50,13 @@ class FilePoller:
             time.sleep(milliseconds / SECOND)
 
 
-class Pace:
+class TurnTimer:
     """The waiting between turns."""
 
     def __init__(self, clock: Clock, poller: Poller) -> None:
         self._clock, self._poller = clock, poller
 
-    def rest(self, begun: int, wanted: int, second: Optional[int]) -> None:
+    def wait(self, begun: int, wanted: int, second: Optional[int]) -> None:
         """Waits for the next turn, and has files read until then.
 
         `begun` is when the last turn began. `wanted` is the latest moment for the next one, 0 for at once. `second` is when the check after that one is
@@ -64,7 +64,7 @@ class Pace:
         if wanted == 0:
             self._poller.wait(0)
             return
-        next_turn = turn_at(begun / SECOND, wanted / SECOND, None if second is None else second / SECOND)
+        next_turn = next_turn_time(begun / SECOND, wanted / SECOND, None if second is None else second / SECOND)
         self._sleep_until(begun / SECOND + BETWEEN_TURNS if next_turn is None else next_turn)
         if self._poller.wait(0) or next_turn is not None or not self._poller.wait(wanted - self._clock.moment()):
             return
@@ -76,7 +76,7 @@ class Pace:
         self._poller.sleep(at * SECOND - self._clock.moment())
 
 
-def turn_at(begun: float, wanted: float, second: Optional[float]) -> Optional[float]:
+def next_turn_time(begun: float, wanted: float, second: Optional[float]) -> Optional[float]:
     """The time of the next turn, even if something comes before it; None if `wanted` is so far off that a result has a turn of its own.
 
     A check that is due waits for the next one if that is due soon. The two are due together from then on, as far as their phases allow it."""

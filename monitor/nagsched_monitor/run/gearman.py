@@ -106,7 +106,7 @@ class Connection:
         self._socket.close()
 
 
-class Kind(enum.Enum):
+class JobEventKind(enum.Enum):
     """An event of a job."""
 
     KNOWN = "the server has it"
@@ -116,8 +116,8 @@ class Kind(enum.Enum):
 
 
 @dataclass(frozen=True)
-class Happening:
-    kind: Kind
+class JobEvent:
+    kind: JobEventKind
     number: int
     data: bytes = b""
 
@@ -126,14 +126,14 @@ class Client(Protocol):
     """One connection that submits jobs to a server. Jobs that no worker has taken end with it. It never waits."""
 
     def submit(self, number: int, queue: str, workload: bytes) -> None: ...
-    def work(self) -> List[Happening]: ...
+    def work(self) -> List[JobEvent]: ...
     def close(self) -> None: ...
 
 
 class ServerClient:
     """A client of a real server."""
 
-    KINDS = {Code.WORK_STATUS: Kind.TAKEN, Code.WORK_COMPLETE: Kind.COMPLETE, Code.WORK_FAIL: Kind.FAILED}
+    KINDS = {Code.WORK_STATUS: JobEventKind.TAKEN, Code.WORK_COMPLETE: JobEventKind.COMPLETE, Code.WORK_FAIL: JobEventKind.FAILED}
 
     def __init__(self, place: Tuple[str, int]) -> None:
         self._connection = Connection(place)
@@ -145,17 +145,17 @@ class ServerClient:
         self._submitted.append(number)
         self._connection.send(Code.SUBMIT_JOB, queue.encode(), b"", workload)
 
-    def work(self) -> List[Happening]:
-        came: List[Happening] = []
+    def work(self) -> List[JobEvent]:
+        came: List[JobEvent] = []
         self._connection.flush()
         for code, parts in self._connection.read():
             if code == Code.JOB_CREATED and self._submitted:
                 number = self._numbers[parts[0]] = self._submitted.popleft()
-                came.append(Happening(Kind.KNOWN, number))
+                came.append(JobEvent(JobEventKind.KNOWN, number))
             elif code in self.KINDS and parts[0] in self._numbers:
                 kind = self.KINDS[Code(code)]
-                number = self._numbers[parts[0]] if kind is Kind.TAKEN else self._numbers.pop(parts[0])
-                came.append(Happening(kind, number, parts[1] if kind is Kind.COMPLETE else b""))
+                number = self._numbers[parts[0]] if kind is JobEventKind.TAKEN else self._numbers.pop(parts[0])
+                came.append(JobEvent(kind, number, parts[1] if kind is JobEventKind.COMPLETE else b""))
         return came
 
     def close(self) -> None:

@@ -6,8 +6,8 @@ import time
 from dataclasses import dataclass
 from typing import Any, Callable, Dict, List, Optional
 
-from .gearman import Client, Happening, Kind, ServerFault
-from .gearman_seal import JOB, RESULT, Seal
+from .gearman import Client, JobEvent, JobEventKind, ServerFault
+from .gearman_signing import JOB, RESULT, Signer
 from .jobs import ENDS
 
 # In seconds: the limit for the server to confirm a job, the pause before a lost server is tried again, and the delay of a result after its limit.
@@ -17,128 +17,128 @@ Answer = Callable[[Dict[str, Any]], None]
 
 
 @dataclass
-class Out:
+class PendingJob:
     """A job from the monitor, and its progress."""
 
     number: int
-    words: List[str]
+    arguments: List[str]
     limit: float
-    came: float
+    received_at: float
     # When it was sent to the server, and when a worker took it, over the current connection.
-    handed: Optional[float] = None
-    is_known: bool = False
-    taken: Optional[float] = None
+    submitted_at: Optional[float] = None
+    is_acknowledged: bool = False
+    taken_at: Optional[float] = None
 
 
 class Queue:
     """One queue, over a connection of its own. Its `mark` distinguishes its jobs from those of every other runner."""
 
-    def __init__(self, name: str, mark: str, wait: float, connect: Callable[[], Client], answer: Answer, log: Callable[[str], None], seal: Seal) -> None:
-        self.name, self._mark, self._wait, self._seal = name, mark, wait, seal
+    def __init__(self, name: str, mark: str, wait: float, connect: Callable[[], Client], answer: Answer, log: Callable[[str], None], signer: Signer) -> None:
+        self.name, self._mark, self._wait, self._signer = name, mark, wait, signer
         self._connect, self._answer, self._log = connect, answer, log
         self._client: Optional[Client] = None
         self._not_before = 0.0
         # The jobs without an answer, by the numbers under which they were submitted last.
-        self._out: Dict[int, Out] = {}
+        self._pending: Dict[int, PendingJob] = {}
         self._last = 0
         # Why the server can't be reached.
         self._trouble: Optional[str] = None
 
     def is_busy(self) -> bool:
         """Whether a job waits for its answer."""
-        return bool(self._out)
+        return bool(self._pending)
 
-    def add(self, number: int, words: List[str], limit: float, now: float) -> None:
+    def add(self, number: int, arguments: List[str], limit: float, now: float) -> None:
         """Takes a job."""
-        self._keep(Out(number, words, limit, now))
+        self._enqueue(PendingJob(number, arguments, limit, now))
 
-    def _keep(self, out: Out) -> None:
+    def _enqueue(self, job: PendingJob) -> None:
         self._last += 1
-        self._out[self._last] = out
+        self._pending[self._last] = job
 
     def work(self, now: float) -> None:
         """Handles answers, abandons late jobs, and submits new ones."""
-        for step in (self._read, self._give_up, self._hand_in):
+        for step in (self._read, self._abandon_late, self._submit_jobs):
             try:
                 step(now)
             except (ServerFault, OSError) as fault:  # there may be no room for a socket
-                self._lose(str(fault), now)
+                self._handle_connection_loss(str(fault), now)
 
     def _read(self, now: float) -> None:
         for happening in [] if self._client is None else self._client.work():
-            self._follow(happening, now)
-        if any(out.handed is not None and not out.is_known and now - out.handed >= SILENCE for out in self._out.values()):
+            self._handle_event(happening, now)
+        if any(job.submitted_at is not None and not job.is_acknowledged and now - job.submitted_at >= SILENCE for job in self._pending.values()):
             raise ServerFault("it gives no answer")
 
-    def _hand_in(self, now: float) -> None:
-        new = [number for number, out in self._out.items() if out.handed is None]
+    def _submit_jobs(self, now: float) -> None:
+        new = [number for number, job in self._pending.items() if job.submitted_at is None]
         if not new or self._client is None and now < self._not_before:
             return
         if self._client is None:
             self._client = self._connect()
         for number in new:
-            self._out[number].handed = now
-            self._client.submit(number, self.name, self._seal.sign(JOB, self._workload(number, self._out[number])))
+            self._pending[number].submitted_at = now
+            self._client.submit(number, self.name, self._signer.sign(JOB, self._workload(number, self._pending[number])))
 
-    def _workload(self, number: int, out: Out) -> Dict[str, Any]:
+    def _workload(self, number: int, job: PendingJob) -> Dict[str, Any]:
         """The message to a worker: the job, its queue, and the time for which it is valid, by the wall clock."""
         begin = time.time()
-        return {"job": f"{self._mark}-{number}", "words": out.words, "limit": out.limit, "queue": self.name, "time": begin, "until": begin + self._wait}
+        return {"job": f"{self._mark}-{number}", "words": job.arguments, "limit": job.limit, "queue": self.name, "time": begin, "until": begin + self._wait}
 
-    def _lose(self, why: str, now: float) -> None:
+    def _handle_connection_loss(self, why: str, now: float) -> None:
         """Handles the loss of the connection."""
         if self._trouble is None:
             self._log(f"queue {self.name}: the server isn't reached: {why}")
         self._trouble = why
         self._not_before = now + RETRY
-        self._hand_in_again()
+        self._disconnect()
 
-    def _hand_in_again(self) -> None:
+    def _disconnect(self) -> None:
         """Ends the connection: the server forgets the jobs that no worker has taken, and they are submitted over the next one."""
         self.close()
-        again, self._out = self._out, {}
-        for out in again.values():
-            self._keep(Out(out.number, out.words, out.limit, out.came))
+        again, self._pending = self._pending, {}
+        for job in again.values():
+            self._enqueue(PendingJob(job.number, job.arguments, job.limit, job.received_at))
 
-    def _follow(self, happening: Happening, now: float) -> None:
-        out = self._out.get(happening.number)
-        if out is None:
+    def _handle_event(self, happening: JobEvent, now: float) -> None:
+        job = self._pending.get(happening.number)
+        if job is None:
             return  # it was answered
         if self._trouble is not None:
             self._log(f"queue {self.name}: the server is reached again")
             self._trouble = None
-        out.is_known = True
-        if happening.kind is Kind.TAKEN:
-            out.taken = now if out.taken is None else out.taken
-        elif happening.kind is not Kind.KNOWN:
-            del self._out[happening.number]
-            self._end(out, happening)
+        job.is_acknowledged = True
+        if happening.kind is JobEventKind.TAKEN:
+            job.taken_at = now if job.taken_at is None else job.taken_at
+        elif happening.kind is not JobEventKind.KNOWN:
+            del self._pending[happening.number]
+            self._answer_job(job, happening)
 
-    def _end(self, out: Out, happening: Happening) -> None:
+    def _answer_job(self, job: PendingJob, happening: JobEvent) -> None:
         """Answers a job that a worker has answered or that failed."""
-        document = self._seal.open(RESULT, happening.data) if happening.kind is Kind.COMPLETE else None
-        result = None if document is None else result_of(document, f"{self._mark}-{happening.number}")
+        document = self._signer.verified_document(RESULT, happening.data) if happening.kind is JobEventKind.COMPLETE else None
+        result = None if document is None else read_result(document, f"{self._mark}-{happening.number}")
         if result is not None:
-            self._answer({**result, "job": out.number})
-        elif happening.kind is Kind.FAILED:
-            self._lost(out, "its worker failed")
+            self._answer({**result, "job": job.number})
+        elif happening.kind is JobEventKind.FAILED:
+            self._answer_lost(job, "its worker failed")
         else:
-            is_unsigned = document is None and self._seal.is_signing()
-            self._lost(out, "its worker's answer isn't signed with this site's key" if is_unsigned else "its worker's answer was no result")
+            is_unsigned = document is None and self._signer.is_signing()
+            self._answer_lost(job, "its worker's answer isn't signed with this site's key" if is_unsigned else "its worker's answer was no result")
 
-    def _give_up(self, now: float) -> None:
+    def _abandon_late(self, now: float) -> None:
         """Abandons the jobs whose results are late, and those that no worker took in time."""
-        late = [number for number, out in self._out.items() if (
-            now - out.came >= self._wait if out.taken is None else now - out.taken >= out.limit + GRACE)]
+        late = [number for number, job in self._pending.items() if (
+            now - job.received_at >= self._wait if job.taken_at is None else now - job.taken_at >= job.limit + GRACE)]
         for number in late:
-            out = self._out.pop(number)
+            job = self._pending.pop(number)
             nobody = f"no worker took it from the queue {self.name}" if self._trouble is None else f"the server of the queue {self.name} wasn't reached"
-            self._lost(out, nobody if out.taken is None else "its worker gave no result")
-        if late and not any(out.taken is not None for out in self._out.values()):
-            self._hand_in_again()
+            self._answer_lost(job, nobody if job.taken_at is None else "its worker gave no result")
+        if late and not any(job.taken_at is not None for job in self._pending.values()):
+            self._disconnect()
 
-    def _lost(self, out: Out, why: str) -> None:
-        self._answer({"job": out.number, "lost": why})
+    def _answer_lost(self, job: PendingJob, why: str) -> None:
+        self._answer({"job": job.number, "lost": why})
 
     def close(self) -> None:
         if self._client is not None:
@@ -146,7 +146,7 @@ class Queue:
         self._client = None
 
 
-def result_of(document: Dict[str, Any], mark: str) -> Optional[Dict[str, Any]]:
+def read_result(document: Dict[str, Any], mark: str) -> Optional[Dict[str, Any]]:
     """A worker's answer to the job of this mark, or None if it is no result of that job."""
     if document.get("job") != mark:
         return None

@@ -14,10 +14,10 @@ import time
 from typing import Any, Dict
 
 from ..faults import MonitorFault
-from ..program.places import place_of
+from ..program.addresses import parse_address
 from .gearman import ServerClient
 from .gearman_queue import Queue
-from .gearman_seal import seal_of
+from .gearman_signing import read_signer
 
 READ_BYTES = 65_536
 # In seconds: a job's longest wait for a worker, and the time from one round to the next, with jobs and without.
@@ -29,15 +29,15 @@ STUCK = 30
 class GearmanRunner:
     """One queue, and the lines in both directions."""
 
-    def __init__(self, words: argparse.Namespace, jobs: int, results: int) -> None:
-        place, seal = place_of(words.server, "server"), seal_of(words.key, words.unsigned)
+    def __init__(self, arguments: argparse.Namespace, jobs: int, results: int) -> None:
+        place, signer = parse_address(arguments.server, "server"), read_signer(arguments.key, arguments.unsigned)
         self._jobs, self._results = jobs, results
-        self._queue = Queue(words.queue, secrets.token_hex(16), words.wait, lambda: ServerClient(place), self._answer, log, seal)
+        self._queue = Queue(arguments.queue, secrets.token_hex(16), arguments.wait, lambda: ServerClient(place), self._answer, log, signer)
         self._unread = b""
         self._unsent = bytearray()
         self._is_ended = False
 
-    def work(self) -> None:
+    def run(self) -> None:
         """Works until no more jobs come."""
         os.set_blocking(self._jobs, False)
         os.set_blocking(self._results, False)
@@ -56,11 +56,11 @@ class GearmanRunner:
         for line in lines:
             try:
                 job = json.loads(line)
-                number, words, limit = int(job["job"]), list(map(str, job["words"])), float(job["limit"])
+                number, arguments, limit = int(job["job"]), list(map(str, job["words"])), float(job["limit"])
             except (ValueError, KeyError, TypeError, OverflowError, RecursionError):
                 self._answer({"error": "the line is no job"})
             else:
-                self._queue.add(number, words, limit, time.monotonic())
+                self._queue.add(number, arguments, limit, time.monotonic())
 
     def _answer(self, result: Dict[str, Any]) -> None:
         self._unsent += json.dumps(result).encode() + b"\n"
@@ -85,11 +85,11 @@ def main() -> int:
     parser.add_argument("--wait", metavar="SECONDS", type=float, default=WAIT, help=f"how long a job may wait for a worker; {WAIT:g} without it")
     parser.add_argument("--key", type=pathlib.Path, metavar="FILE", help="sign jobs with the key of this file, and take only results that are signed with it")
     parser.add_argument("--unsigned", action="store_true", help="neither sign jobs nor want signed results")
-    words = parser.parse_args()
+    arguments = parser.parse_args()
     signal.signal(signal.SIGINT, signal.SIG_IGN)
     signal.signal(signal.SIGTERM, signal.SIG_IGN)
     try:
-        GearmanRunner(words, sys.stdin.fileno(), sys.stdout.fileno()).work()
+        GearmanRunner(arguments, sys.stdin.fileno(), sys.stdout.fileno()).run()
     except MonitorFault as fault:
         log(f"nagsched-gearman-runner: {fault}")
         return 1

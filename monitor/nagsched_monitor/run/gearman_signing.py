@@ -30,7 +30,7 @@ def read_key(path: pathlib.Path) -> bytes:
     return key
 
 
-class Seal:
+class Signer:
     """Signs documents and opens signed ones, with a key; without a key they stay unchanged."""
 
     def __init__(self, key: Optional[bytes]) -> None:
@@ -43,7 +43,7 @@ class Seal:
         body = json.dumps(document).encode()
         return body if self._key is None else self._signature(self._key, purpose, body) + b" " + body
 
-    def open(self, purpose: bytes, data: bytes) -> Optional[Dict[str, Any]]:
+    def verified_document(self, purpose: bytes, data: bytes) -> Optional[Dict[str, Any]]:
         """The document of a message; None if it isn't signed for this purpose with this key, or isn't a document. Nothing in it is used before that."""
         if len(data) > MOST_BYTES:
             return None
@@ -62,9 +62,9 @@ class Seal:
         return hmac.new(key, purpose + body, hashlib.sha256).hexdigest().encode()
 
 
-def seal_of(key: Optional[pathlib.Path], unsigned: bool) -> Seal:
-    """The seal of a key file, or no signatures if the site says so. Raises `MonitorFault` unless it says one of the two."""
+def read_signer(key: Optional[pathlib.Path], unsigned: bool) -> Signer:
+    """The signer of a key file, or no signatures if the site says so. Raises `MonitorFault` unless it says one of the two."""
     if (key is not None) == unsigned:
         raise MonitorFault("say --key FILE, or --unsigned: one of the two")
-    return Seal(None if key is None else read_key(key))
+    return Signer(None if key is None else read_key(key))
 

@@ -9,26 +9,26 @@ import time
 from typing import Any, Callable, Dict, List, NamedTuple, Optional, Sequence
 
 from ..faults import MonitorFault
-from ..program.places import place_of
+from ..program.addresses import parse_address
 from ..program.turn_timer import FilePoller
 from .gearman import Code, Connection, Packet, ServerFault
-from .gearman_door import Door, Refusal
-from .gearman_seal import JOB, RESULT, Seal, seal_of
-from .jobs import Event, Finished, Gone, Job
-from .pool import Pool
-from .runner_program import runner_words
+from .gearman_policy import JobPolicy, Refusal
+from .gearman_signing import JOB, RESULT, Signer, read_signer
+from .jobs import Event, Job, JobFinished, StuckJobEnded
+from .pool import RunnerPool
+from .runner_program import runner_command
 from .runners import raise_file_limit
 
 # In seconds: the pause before a lost server is tried again, and the time between two signs of life of it. Then the delay after its limit at which a result is
 # late, and the time that running plugins have to end when the worker stops.
-RETRY, SIGN, GRACE, STOPPING = 1.0, 10.0, 10.0, 10.0
+RETRY, ECHO_EVERY, GRACE, STOPPING = 1.0, 10.0, 10.0, 10.0
 # The time between two log lines about refused jobs, in seconds, and the longest time from one turn to the next, in milliseconds.
-SAYING, TURN = 60.0, 500
+LOG_REFUSALS_EVERY, TURN = 60.0, 500
 SLOTS, MOST_SLOTS = 32, 1_000
 NOT_SIGNED = b"it isn't signed with this worker's key, or is no job"
 
 
-class Running(NamedTuple):
+class RunningJob(NamedTuple):
     """A job whose plugin runs, with the receiver of its answer and the time at which it is late."""
 
     job: Job
@@ -41,19 +41,19 @@ class Running(NamedTuple):
 class Worker:
     """One connection, which has at most one job for each slot. Its runner is a parameter."""
 
-    def __init__(self, connect: Callable[[], Connection], queues: Sequence[str], slots: int, seal: Seal, door: Door, runner: Pool, log: Callable[[str], None],
-                 clock: Callable[[], float] = time.monotonic) -> None:
-        self._connect, self._queues, self._slots, self._seal, self._door, self._runner = connect, queues, slots, seal, door, runner
+    def __init__(self, connect: Callable[[], Connection], queues: Sequence[str], slots: int, signer: Signer, policy: JobPolicy, runner: RunnerPool,
+                 log: Callable[[str], None], clock: Callable[[], float] = time.monotonic) -> None:
+        self._connect, self._queues, self._slots, self._signer, self._policy, self._runner = connect, queues, slots, signer, policy, runner
         self._log, self._clock = log, clock
         self.connection: Optional[Connection] = None
         self._not_before = 0.0
         self._trouble: Optional[str] = None
         # When the server was asked for a sign of life, whether it has answered, the number of jobs requested from it, and the number still to request.
-        self._asked, self._is_alive, self._grabbing, self._wanted = 0.0, True, 0, 0
-        self._running: Dict[int, Running] = {}
+        self._last_echo, self._is_alive, self._grabbing, self._wanted = 0.0, True, 0, 0
+        self._running: Dict[int, RunningJob] = {}
         # The command lines whose plugins were killed but haven't ended, by the identities of their jobs.
         self._stuck: Dict[int, Sequence[str]] = {}
-        self._refused, self._said = 0, -SAYING
+        self._refused, self._last_logged = 0, -LOG_REFUSALS_EVERY
         self.is_stopping = False
 
     def is_idle(self) -> bool:
@@ -62,30 +62,30 @@ class Worker:
     def turn(self) -> None:
         """Does all the work that is due now."""
         now = self._clock()
-        for step in (self._listen, self._end_jobs, self._ask_for_jobs):
+        for step in (self._receive, self._end_jobs, self._ask_for_jobs):
             try:
                 step(now)
             except (ServerFault, OSError) as fault:  # there may be no room for a socket
-                self._lose(str(fault), now)
+                self._handle_connection_loss(str(fault), now)
         self._runner.flush()
 
     # ---- the server
 
-    def _listen(self, now: float) -> None:
+    def _receive(self, now: float) -> None:
         if self.connection is None:
             if now < self._not_before:
                 return
             self.connection = self._connect()
             for queue in self._queues:
                 self.connection.send(Code.CAN_DO, queue.encode())
-            self._is_alive, self._asked, self._grabbing, self._wanted = True, now - SIGN, 0, 1
-        if now - self._asked >= SIGN:
+            self._is_alive, self._last_echo, self._grabbing, self._wanted = True, now - ECHO_EVERY, 0, 1
+        if now - self._last_echo >= ECHO_EVERY:
             if not self._is_alive:
                 raise ServerFault("it gives no answer")
             self.connection.send(Code.ECHO_REQ, b"?")
-            self._is_alive, self._asked = False, now
+            self._is_alive, self._last_echo = False, now
         for packet in self.connection.read():
-            self._hear(self.connection, packet)
+            self._handle_packet(self.connection, packet)
 
     def _ask_for_jobs(self, now: float) -> None:
         if self.connection is None:
@@ -96,7 +96,7 @@ class Worker:
             self.connection.send(Code.GRAB_JOB)
         self.connection.flush()
 
-    def _hear(self, connection: Connection, packet: Packet) -> None:
+    def _handle_packet(self, connection: Connection, packet: Packet) -> None:
         if packet.code == Code.ECHO_RES:
             self._is_alive = True
             if self._trouble is not None:
@@ -114,11 +114,11 @@ class Worker:
             self._wanted += 2  # there may be more
             handle, _, workload = packet.parts
             connection.send(Code.WORK_STATUS, handle, b"0", b"1")
-            answer = self.begin(connection, handle, workload)
+            answer = self.start_job(connection, handle, workload)
             if answer is not None:
                 connection.send(Code.WORK_COMPLETE, handle, answer)
 
-    def _lose(self, why: str, now: float) -> None:
+    def _handle_connection_loss(self, why: str, now: float) -> None:
         """The server gives this worker's jobs to another one; what runs here ends without an answer."""
         if self._trouble is None:
             self._log(f"the server isn't reached: {why}")
@@ -129,31 +129,31 @@ class Worker:
 
     # ---- jobs
 
-    def begin(self, connection: Connection, handle: bytes, workload: bytes) -> Optional[bytes]:
+    def start_job(self, connection: Connection, handle: bytes, workload: bytes) -> Optional[bytes]:
         """Has a job run. Returns the answer if the job isn't run."""
         try:
-            document = self._seal.open(JOB, workload)
+            document = self._signer.verified_document(JOB, workload)
             if document is None:
-                self._refuse(NOT_SIGNED.decode())
+                self._log_refusal(NOT_SIGNED.decode())
                 return NOT_SIGNED
             number = document.get("job")
             try:
-                words, limit = self._door.job_of(document)
+                arguments, limit = self._policy.job_of(document)
             except Refusal as refusal:
-                self._refuse(str(refusal))
-                return self._answer(number, {"lost": f"its worker refused it: {refusal}"})
-            if words in self._stuck.values():
-                return self._answer(number, {"end": "limit", "code": 9, "output": "the plugin before it can't be killed"})
-            job = Job("a job", 0, words, limit)
+                self._log_refusal(str(refusal))
+                return self._signed_answer(number, {"lost": f"its worker refused it: {refusal}"})
+            if arguments in self._stuck.values():
+                return self._signed_answer(number, {"end": "limit", "code": 9, "output": "the plugin before it can't be killed"})
+            job = Job("a job", 0, arguments, limit)
             self._runner.start(job)
-            self._running[id(job)] = Running(job, number, connection, handle, self._clock() + limit + GRACE)
+            self._running[id(job)] = RunningJob(job, number, connection, handle, self._clock() + limit + GRACE)
             return None
         except Exception as error:  # the worker continues, and the job is made again elsewhere
-            self._refuse(f"{type(error).__name__}: {error}")
+            self._log_refusal(f"{type(error).__name__}: {error}")
             return NOT_SIGNED
 
-    def _answer(self, number: Any, result: Dict[str, Any]) -> bytes:
-        return self._seal.sign(RESULT, {**result, "job": number})
+    def _signed_answer(self, number: Any, result: Dict[str, Any]) -> bytes:
+        return self._signer.sign(RESULT, {**result, "job": number})
 
     def _end_jobs(self, now: float) -> None:
         """Answers the jobs that have ended. A runner that gives no result in time is killed."""
@@ -161,32 +161,32 @@ class Worker:
             if now > running.late:
                 self._runner.kill(running.job)
         for event in self._runner.events():
-            self._end(event)
+            self._handle_event(event)
 
-    def _end(self, event: Event) -> None:
-        if isinstance(event, Gone):
+    def _handle_event(self, event: Event) -> None:
+        if isinstance(event, StuckJobEnded):
             self._stuck.pop(id(event.job), None)
             return
         running = self._running.pop(id(event.job))
-        if isinstance(event, Finished):
+        if isinstance(event, JobFinished):
             result: Dict[str, Any] = {"end": event.end, "code": event.code, "output": event.output, "stderr": event.stderr}
             if event.is_stuck:
-                self._stuck[id(event.job)] = event.job.words
+                self._stuck[id(event.job)] = event.job.arguments
         else:
             result = {"lost": event.why}
         self._wanted = max(1, self._wanted)
         if running.connection is self.connection:
-            self.connection.send(Code.WORK_COMPLETE, running.handle, self._answer(running.number, result))
+            self.connection.send(Code.WORK_COMPLETE, running.handle, self._signed_answer(running.number, result))
 
-    def _refuse(self, why: str) -> None:
+    def _log_refusal(self, why: str) -> None:
         """Logs once a minute the number of refused jobs."""
         self._refused += 1
-        if self._clock() - self._said >= SAYING:
+        if self._clock() - self._last_logged >= LOG_REFUSALS_EVERY:
             self._log(f"{self._refused} jobs were refused; the last one: {why}")
-            self._refused, self._said = 0, self._clock()
+            self._refused, self._last_logged = 0, self._clock()
 
 
-def words_of(given: Optional[List[str]]) -> argparse.Namespace:
+def parse_arguments(given: Optional[List[str]]) -> argparse.Namespace:
     parser = argparse.ArgumentParser(prog="nagsched-gearman-worker", description="Runs the plugins of a monitor's jobs from queues of a Gearman server.")
     parser.add_argument("server", metavar="ADDRESS:PORT", help="where gearmand listens")
     parser.add_argument("queues", metavar="QUEUE", nargs="+", help="a queue from which it takes jobs; those of the first one first")
@@ -197,16 +197,16 @@ def words_of(given: Optional[List[str]]) -> argparse.Namespace:
     return parser.parse_args(given)
 
 
-def runner_of(only: Optional[pathlib.Path]) -> List[str]:
+def find_runner(only: Optional[pathlib.Path]) -> List[str]:
     """The command of the worker's runner. Raises `MonitorFault` if it doesn't start."""
-    words = [*runner_words(), *([] if only is None else ["--only", str(only)])]
+    arguments = [*runner_command(), *([] if only is None else ["--only", str(only)])]
     try:
-        tried = subprocess.run(words, input=b"", stderr=subprocess.PIPE, timeout=10, check=False)
+        tried = subprocess.run(arguments, input=b"", stderr=subprocess.PIPE, timeout=10, check=False)
     except (OSError, subprocess.TimeoutExpired) as error:
         raise MonitorFault(f"its runner can't be started: {error}") from None
     if tried.returncode != 0:
         raise MonitorFault(tried.stderr.decode(errors="replace").strip() or f"its runner ended with status {tried.returncode}")
-    return words
+    return arguments
 
 
 def log(line: str) -> None:
@@ -218,29 +218,29 @@ def log(line: str) -> None:
 
 
 def main(given: Optional[List[str]] = None) -> int:
-    words = words_of(given)
+    arguments = parse_arguments(given)
     os.set_blocking(sys.stdout.fileno(), False)
     poller = FilePoller()
     try:
-        place, seal = place_of(words.server, "server"), seal_of(words.key, words.unsigned)
-        if not 1 <= words.slots <= MOST_SLOTS:
+        place, signer = parse_address(arguments.server, "server"), read_signer(arguments.key, arguments.unsigned)
+        if not 1 <= arguments.slots <= MOST_SLOTS:
             raise MonitorFault(f"--slots: it has to be a number from 1 to {MOST_SLOTS}")
         raise_file_limit()
-        runner = Pool("worker", runner_of(words.only), 1, None, 0.0, log, poller.watch, poller.unwatch, time.monotonic)
+        runner = RunnerPool("worker", find_runner(arguments.only), 1, None, 0.0, log, poller.watch, poller.unwatch, time.monotonic)
     except MonitorFault as fault:
         print(f"nagsched-gearman-worker: {fault}", file=sys.stderr)
         return 1
-    worker = Worker(lambda: Connection(place), words.queues, words.slots, seal, Door(seal, words.queues), runner, log)
+    worker = Worker(lambda: Connection(place), arguments.queues, arguments.slots, signer, JobPolicy(signer, arguments.queues), runner, log)
     for number in (signal.SIGINT, signal.SIGTERM):
         signal.signal(number, lambda *_: setattr(worker, "is_stopping", True))
-    log(f"begins: {words.slots} slots, queues {', '.join(words.queues)}")
-    work(worker, poller)
-    runner.end()
+    log(f"begins: {arguments.slots} slots, queues {', '.join(arguments.queues)}")
+    run_worker(worker, poller)
+    runner.close()
     log("ends")
     return 0
 
 
-def work(worker: Worker, poller: FilePoller) -> None:
+def run_worker(worker: Worker, poller: FilePoller) -> None:
     """Works until it is asked to stop; running plugins may then end."""
     stop_at: Optional[float] = None
     watched: Optional[Connection] = None

@@ -3,7 +3,7 @@ import functools
 import json
 from typing import Any, Dict, List, NamedTuple, Optional, Protocol, Sequence, Set, Tuple, Union
 
-from ..core.text import plain
+from ..core.text import plain_text
 
 READER = json.JSONDecoder()
 ENDS = ("exited", "signal", "limit", "failed")
@@ -14,13 +14,13 @@ class Job(NamedTuple):
 
     name: str
     run: int
-    words: Sequence[str]
+    arguments: Sequence[str]
     limit: float
     # The runner elsewhere that runs it; None for a runner of this machine.
     runner: Optional[str] = None
 
 
-class Finished(NamedTuple):
+class JobFinished(NamedTuple):
     """A plugin's end: how it ended, with which exit code or signal, and its output."""
 
     job: Job
@@ -28,11 +28,11 @@ class Finished(NamedTuple):
     code: int
     output: str
     stderr: str = ""
-    # Whether it was killed and hasn't ended: a `Gone` comes when it has.
+    # Whether it was killed and hasn't ended: a `StuckJobEnded` comes when it has.
     is_stuck: bool = False
 
 
-class Lost(NamedTuple):
+class JobLost(NamedTuple):
     """A job whose runner ended or didn't accept it, that no worker answered, or that this machine couldn't start."""
 
     job: Job
@@ -41,13 +41,13 @@ class Lost(NamedTuple):
     is_local: bool = False
 
 
-class Gone(NamedTuple):
+class StuckJobEnded(NamedTuple):
     """A plugin that couldn't be killed has ended, or its runner has."""
 
     job: Job
 
 
-Event = Union[Finished, Lost, Gone]
+Event = Union[JobFinished, JobLost, StuckJobEnded]
 
 
 class Runners(Protocol):
@@ -56,37 +56,37 @@ class Runners(Protocol):
     def start(self, job: Job) -> None: ...  # from the next `flush` on
     def flush(self) -> None: ...
     def events(self) -> List[Event]: ...  # the events since the last call
-    def jobs(self) -> Set[int]: ...  # the identities of the jobs that runners have, or will get
+    def job_ids(self) -> Set[int]: ...  # the identities of the jobs that runners have, or will get
     def kill(self, job: Job) -> bool: ...  # the runner that has this job; its running jobs are lost
-    def signs(self) -> Dict[str, Dict[str, int]]: ...  # for the runners of each name: how many run, are wanted, are stopped, and how many checks wait
+    def process_counts(self) -> Dict[str, Dict[str, int]]: ...  # for the runners of each name: how many run, are wanted, are stopped, and how many checks wait
 
 
 @functools.lru_cache(maxsize=50_000)
-def command_line(words: Tuple[str, ...], limit: float) -> bytes:
+def job_members(arguments: Tuple[str, ...], limit: float) -> bytes:
     """The members of a job after its number."""
-    return json.dumps({"words": words, "limit": limit})[1:].encode()
+    return json.dumps({"words": arguments, "limit": limit})[1:].encode()
 
 
-def result_of(job: Job, members: Dict[str, Any]) -> Event:
+def read_event(job: Job, members: Dict[str, Any]) -> Event:
     """The event in a runner's line. `ValueError` says why it isn't one."""
     if "lost" in members:
-        return Lost(job, plain(text_of(members, "lost")), job.runner is None)
+        return JobLost(job, plain_text(read_text(members, "lost")), job.runner is None)
     end, code, is_stuck = members.get("end"), members.get("code"), members.get("stuck", False)
     if end not in ENDS:
         raise ValueError(f"end is none of {', '.join(ENDS)}")
     if isinstance(code, bool) or not isinstance(code, int) or not 0 <= code <= 255:
         raise ValueError("code is no number from 0 to 255")
-    return Finished(job, str(end), code, text_of(members, "output"), text_of(members, "stderr"), is_stuck is True)
+    return JobFinished(job, str(end), code, read_text(members, "output"), read_text(members, "stderr"), is_stuck is True)
 
 
-def text_of(members: Dict[str, Any], name: str) -> str:
+def read_text(members: Dict[str, Any], name: str) -> str:
     value = members.get(name, "")
     if not isinstance(value, str):
         raise ValueError(f"{name} is no text")
     return value.encode(errors="replace").decode()  # half a character, which a worker may have sent, can't be stored
 
 
-def number_of(members: Dict[str, Any]) -> int:
+def read_number(members: Dict[str, Any]) -> int:
     number = members.get("job")
     if isinstance(number, bool) or not isinstance(number, int):
         raise ValueError("it has no number of a job")

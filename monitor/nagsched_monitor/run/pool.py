@@ -5,9 +5,9 @@ import subprocess
 from dataclasses import dataclass, field
 from typing import Callable, Deque, Dict, List, Optional, Sequence, Tuple
 
-from ..core.text import plain
+from ..core.text import plain_text
 from ..program.turn_timer import Watch
-from .jobs import Event, Finished, Gone, Job, Lost, command_line, number_of, read_line, result_of
+from .jobs import Event, Job, JobFinished, JobLost, StuckJobEnded, job_members, read_event, read_line, read_number
 
 READ_BYTES = 65_536
 # The longest line of a runner, in bytes. A longer line ends its runner.
@@ -19,11 +19,11 @@ GRACE, LATE = 5.0, 10.0
 
 
 @dataclass
-class Process:
+class RunnerProcess:
     """One runner process, and its jobs, each with the time at which its result is late."""
 
     process: "subprocess.Popen[bytes]"
-    begun: float
+    started_at: float
     jobs: Dict[int, Tuple[Job, float]] = field(default_factory=dict)
     stuck: Dict[int, Job] = field(default_factory=dict)
     unread: bytes = b""
@@ -49,31 +49,32 @@ class Process:
         return "unknown"
 
 
-class Pool:
+class RunnerPool:
     """Processes of one command. Without `slots` they have any number of jobs at once, and a job waits for them without a limit."""
 
-    def __init__(self, name: str, words: Sequence[str], count: int, slots: Optional[int], wait: float, log: Callable[[str], None],
+    def __init__(self, name: str, arguments: Sequence[str], count: int, slots: Optional[int], wait: float, log: Callable[[str], None],
                  watch: Watch, unwatch: Callable[[int], None], clock: Callable[[], float]) -> None:
-        self.name, self.words, self._count, self.slots, self.wait = name, tuple(words), count, slots, wait
+        self.name, self.arguments, self._count, self.slots, self.wait = name, tuple(arguments), count, slots, wait
         self._log, self._watch, self._unwatch, self._clock = log, watch, unwatch, clock
-        self._called = "a runner" if slots is None else f"the runner {name}"
+        self._title = "a runner" if slots is None else f"the runner {name}"
         self._events: List[Event] = []
         self._number = 0
         # By the files to which they write.
-        self.processes: Dict[int, Process] = {}
+        self.processes: Dict[int, RunnerProcess] = {}
         # The jobs that no process has got yet, each with the time at which it came.
         self._waiting: Deque[Tuple[Job, float]] = collections.deque()
         self._trouble = ""
         self._pause, self._not_before = PAUSE, 0.0
-        self._begin_missing()
+        self._start_missing()
 
-    def _begin_missing(self) -> None:
+    def _start_missing(self) -> None:
         """Starts the processes that are missing. If there is no room for one now, a later flush tries again."""
         if len(self.processes) >= self._count or self._clock() < self._not_before:
             return
         try:
             while len(self.processes) < self._count:
-                process = Process(subprocess.Popen(self.words, stdin=subprocess.PIPE, stdout=subprocess.PIPE, bufsize=0, start_new_session=True), self._clock())
+                started = subprocess.Popen(self.arguments, stdin=subprocess.PIPE, stdout=subprocess.PIPE, bufsize=0, start_new_session=True)
+                process = RunnerProcess(started, self._clock())
                 os.set_blocking(process.writes_to, False)
                 os.set_blocking(process.reads_from, False)  # bytes that it doesn't read at once don't hold up the monitor
                 self.processes[process.writes_to] = process
@@ -81,7 +82,7 @@ class Pool:
             self._trouble = ""
         except OSError as error:
             if not self._trouble:
-                self._log(f"{self._called} can't be started: {error}; it is tried again")
+                self._log(f"{self._title} can't be started: {error}; it is tried again")
             self._trouble = str(error)
             self._not_before = self._clock() + PAUSE
 
@@ -92,17 +93,17 @@ class Pool:
 
     def flush(self) -> None:
         """Passes on the jobs for which there is room, with one write for each process."""
-        self._begin_missing()
+        self._start_missing()
         now = self._clock()
         process = self._least_busy()
         while self._waiting and process is not None:
             job, _ = self._waiting.popleft()
             self._number += 1
             process.jobs[self._number] = job, now + job.limit + LATE + (0.0 if self.slots is None else self.wait)
-            process.unsent += b'{"job":%d,%s\n' % (self._number, command_line(tuple(job.words), job.limit))
+            process.unsent += b'{"job":%d,%s\n' % (self._number, job_members(tuple(job.arguments), job.limit))
             process = self._least_busy()
         while self.slots is not None and self._waiting and now - self._waiting[0][1] >= self.wait:
-            self._lose(Lost(self._waiting.popleft()[0], f"the runner {self.name} didn't take it"))
+            self._add_lost(JobLost(self._waiting.popleft()[0], f"the runner {self.name} didn't take it"))
         for process in list(self.processes.values()):
             try:
                 while process.unsent:
@@ -112,12 +113,12 @@ class Pool:
             except OSError:
                 self._restart(process)
 
-    def _least_busy(self) -> Optional[Process]:
+    def _least_busy(self) -> Optional[RunnerProcess]:
         """The process that has the fewest jobs, if it has room for one more."""
         least = min(self.processes.values(), key=lambda process: len(process.jobs), default=None)
         return least if least is None or self.slots is None or len(least.jobs) < self.slots else None
 
-    def _lose(self, event: Lost) -> None:
+    def _add_lost(self, event: JobLost) -> None:
         if not event.is_local:
             self._log(f"{event.job.name}: run {event.job.run} is given up: {event.why}")
         self._events.append(event)
@@ -136,67 +137,67 @@ class Pool:
             return
         *lines, process.unread = (process.unread + data).split(b"\n")
         for line in lines:
-            self._hear(process, line)
+            self._handle_line(process, line)
         if len(process.unread) > LONGEST_LINE:
-            self._log(f"{self._called} wrote a line of more than {LONGEST_LINE} bytes; it is killed")
+            self._log(f"{self._title} wrote a line of more than {LONGEST_LINE} bytes; it is killed")
             self._restart(process)
 
-    def _hear(self, process: Process, line: bytes) -> None:
+    def _handle_line(self, process: RunnerProcess, line: bytes) -> None:
         """One line of a runner. A faulty line is logged, and the run that it is about is lost, if that can be read."""
         number = -1
         try:
             members = read_line(line)
             if "error" in members:
-                self._log(f"{self._called}: {plain(str(members['error']))}")
+                self._log(f"{self._title}: {plain_text(str(members['error']))}")
                 return
-            number = number_of(members)
-            self._take(process, number, members)
+            number = read_number(members)
+            self._apply_result(process, number, members)
         except (ValueError, RecursionError) as error:
-            self._log(f"a line of {self._called} is no result: {error}: {plain(line[:200].decode(errors='replace'))!r}")
+            self._log(f"a line of {self._title} is no result: {error}: {plain_text(line[:200].decode(errors='replace'))!r}")
             job, _ = process.jobs.pop(number, (None, 0.0))
             if job is not None:
-                self._events.append(Lost(job, "its runner gave no result"))
+                self._events.append(JobLost(job, "its runner gave no result"))
 
-    def _take(self, process: Process, number: int, members: Dict[str, object]) -> None:
+    def _apply_result(self, process: RunnerProcess, number: int, members: Dict[str, object]) -> None:
         if members.get("gone") is True:
             gone = process.stuck.pop(number, None)
             if gone is not None:
-                self._events.append(Gone(gone))
+                self._events.append(StuckJobEnded(gone))
             return
         job, _ = process.jobs.get(number, (None, 0.0))
         if job is None:
             return
-        event = result_of(job, members)
+        event = read_event(job, members)
         del process.jobs[number]
-        if isinstance(event, Finished) and event.is_stuck:
+        if isinstance(event, JobFinished) and event.is_stuck:
             process.stuck[number] = job
-        if isinstance(event, Lost):
-            self._lose(event)
+        if isinstance(event, JobLost):
+            self._add_lost(event)
         else:
             self._events.append(event)
 
     # ---- ends
 
-    def _restart(self, process: Process) -> None:
+    def _restart(self, process: RunnerProcess) -> None:
         """Starts another process in place of one that has ended, after a pause."""
         if process.writes_to not in self.processes:
             return  # it was seen before
-        status, now = self._end(process), self._clock()
+        status, now = self._close_process(process), self._clock()
         again = "another is started"
-        if now >= self._not_before and now - process.begun < self._pause:
+        if now >= self._not_before and now - process.started_at < self._pause:
             again += f" in {self._pause:g} seconds"
             self._not_before, self._pause = now + self._pause, min(LONGEST_PAUSE, 2 * self._pause)
         elif now >= self._not_before:
             self._pause = PAUSE
-        self._log(f"{self._called} ended with status {status}, and {len(process.jobs)} checks with it; {again}")
-        self._begin_missing()
+        self._log(f"{self._title} ended with status {status}, and {len(process.jobs)} checks with it; {again}")
+        self._start_missing()
 
-    def _end(self, process: Process) -> object:
+    def _close_process(self, process: RunnerProcess) -> object:
         """Ends a process, and returns its status; its jobs are lost."""
         del self.processes[process.writes_to]
         self._unwatch(process.writes_to)
-        self._events.extend(Lost(job) for job, _ in process.jobs.values())
-        self._events.extend(Gone(job) for job in process.stuck.values())
+        self._events.extend(JobLost(job) for job, _ in process.jobs.values())
+        self._events.extend(StuckJobEnded(job) for job in process.stuck.values())
         process.process.kill()
         return process.end()
 
@@ -204,22 +205,22 @@ class Pool:
         """Kills the process that has this job, since it gives no answer. A job that no process has yet is lost. Returns False if it isn't here."""
         for process in list(self.processes.values()):
             if any(job is each for each, _ in process.jobs.values()):
-                self._log(f"{self._called} gave no result in time: it is killed, and {len(process.jobs)} checks with it")
-                self._end(process)
-                self._begin_missing()
+                self._log(f"{self._title} gave no result in time: it is killed, and {len(process.jobs)} checks with it")
+                self._close_process(process)
+                self._start_missing()
                 return True
         waiting = [each for each in self._waiting if each[0] is job]
         for each in waiting:
             self._waiting.remove(each)
-            self._events.append(Lost(job, "its runner can't be started"))
+            self._events.append(JobLost(job, "its runner can't be started"))
         return bool(waiting)
 
-    def end(self) -> None:
+    def close(self) -> None:
         """Ends all processes; their jobs, and the jobs that wait, are lost."""
         for process in list(self.processes.values()):
-            self._end(process)
+            self._close_process(process)
         while self._waiting:
-            self._events.append(Lost(self._waiting.popleft()[0]))
+            self._events.append(JobLost(self._waiting.popleft()[0]))
 
     # ---- questions
 
@@ -230,7 +231,7 @@ class Pool:
     def jobs(self) -> List[Job]:
         return [job for process in self.processes.values() for job, _ in process.jobs.values()] + [job for job, _ in self._waiting]
 
-    def signs(self) -> Dict[str, int]:
+    def process_counts(self) -> Dict[str, int]:
         now = self._clock()
         stuck = sum(any(late < now for _, late in process.jobs.values()) for process in self.processes.values())
         return {"running": len(self.processes), "wanted": self._count, "stuck": stuck, "waiting": len(self._waiting)}

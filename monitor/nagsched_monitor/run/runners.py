@@ -6,9 +6,9 @@ from typing import Callable, Dict, List, Mapping, Set
 
 from ..program.turn_timer import Watch
 from ..site.runner_file import LOCAL, Remote
-from .jobs import Event, Job, Lost
-from .pool import Pool
-from .runner_program import runner_words
+from .jobs import Event, Job, JobLost
+from .pool import RunnerPool
+from .runner_program import runner_command
 
 
 def raise_file_limit() -> int:
@@ -18,32 +18,32 @@ def raise_file_limit() -> int:
     return most
 
 
-class RunnerProcesses:
+class RunnerPools:
     """All of them. `watch` calls a reader when a file can be read."""
 
     def __init__(self, count: int, log: Callable[[str], None], watch: Watch, unwatch: Callable[[int], None],
                  clock: Callable[[], float] = time.monotonic) -> None:
-        self._pool = partial(Pool, log=log, watch=watch, unwatch=unwatch, clock=clock)
-        self._pools: Dict[str, Pool] = {LOCAL: self._pool(LOCAL, runner_words(), count, None, 0.0)}
+        self._pool = partial(RunnerPool, log=log, watch=watch, unwatch=unwatch, clock=clock)
+        self._pools: Dict[str, RunnerPool] = {LOCAL: self._pool(LOCAL, runner_command(), count, None, 0.0)}
         # The last events of pools that were removed.
         self._events: List[Event] = []
 
-    def serve(self, remotes: Mapping[str, Remote]) -> None:
+    def set_remotes(self, remotes: Mapping[str, Remote]) -> None:
         """Has these runners elsewhere from now on; jobs at others are lost."""
         for name, pool in list(self._pools.items()):
             remote = remotes.get(name)
-            if name != LOCAL and (remote is None or (pool.words, pool.slots, pool.wait) != (remote.words, remote.slots, remote.wait)):
-                pool.end()
+            if name != LOCAL and (remote is None or (pool.arguments, pool.slots, pool.wait) != (remote.arguments, remote.slots, remote.wait)):
+                pool.close()
                 self._events += pool.events()
                 del self._pools[name]
         for name, remote in remotes.items():
             if name not in self._pools:
-                self._pools[name] = self._pool(name, remote.words, 1, remote.slots, remote.wait)
+                self._pools[name] = self._pool(name, remote.arguments, 1, remote.slots, remote.wait)
 
     def start(self, job: Job) -> None:
         pool = self._pools.get(job.runner or LOCAL)
         if pool is None:
-            self._events.append(Lost(job, f"there is no runner {job.runner}"))
+            self._events.append(JobLost(job, f"there is no runner {job.runner}"))
         else:
             pool.start(job)
 
@@ -52,7 +52,7 @@ class RunnerProcesses:
         for pool in self._pools.values():
             pool.flush()
 
-    def jobs(self) -> Set[int]:
+    def job_ids(self) -> Set[int]:
         return {id(job) for pool in self._pools.values() for job in pool.jobs()} | {id(event.job) for event in self._events}
 
     def kill(self, job: Job) -> bool:
@@ -62,8 +62,8 @@ class RunnerProcesses:
         events, self._events = self._events, []
         return events + [event for pool in self._pools.values() for event in pool.events()]
 
-    def signs(self) -> Dict[str, Dict[str, int]]:
-        return {name: pool.signs() for name, pool in self._pools.items()}
+    def process_counts(self) -> Dict[str, Dict[str, int]]:
+        return {name: pool.process_counts() for name, pool in self._pools.items()}
 
     def process_ids(self) -> List[int]:
         return [process.process.pid for pool in self._pools.values() for process in pool.processes.values()]

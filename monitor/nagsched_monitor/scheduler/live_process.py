@@ -26,11 +26,11 @@ class Conversation:
         except OSError as error:
             raise ConversationEnded(f"{program} can't be started: {error.strerror}") from None
         assert self._process.stdin is not None and self._process.stdout is not None
-        self._there, self._back = self._process.stdin.fileno(), self._process.stdout.fileno()
-        os.set_blocking(self._there, False)
-        os.set_blocking(self._back, False)
+        self._input, self._output = self._process.stdin.fileno(), self._process.stdout.fileno()
+        os.set_blocking(self._input, False)
+        os.set_blocking(self._output, False)
         self._unsent = setup + b"\n" + (b"" if saved is None else saved + b"\n")
-        self._missing = 0
+        self._unanswered = 0
         self._patience = OPENING
 
     def ask_lines(self, lines: Sequence[str]) -> List[str]:
@@ -42,29 +42,29 @@ class Conversation:
         """Sends as much of these lines as there is room for now."""
         if lines:
             self._unsent += "\n".join(lines).encode() + b"\n"
-            self._missing += len(lines)
+            self._unanswered += len(lines)
             self._write()
 
     def finish(self) -> List[str]:
         """The answers to all lines whose sending has begun. There can't be more answers, since each answers a line that was sent."""
         parts: List[bytes] = []
         deadline = time.monotonic() + self._patience
-        while self._missing > 0:
+        while self._unanswered > 0:
             waited = select.poll()
-            waited.register(self._back, select.POLLIN)
+            waited.register(self._output, select.POLLIN)
             if self._unsent:
-                waited.register(self._there, select.POLLOUT)
+                waited.register(self._input, select.POLLOUT)
             ready = dict(waited.poll(max(0.0, deadline - time.monotonic()) * 1000))
             if not ready:
                 raise ConversationEnded(f"the scheduler gave no answer for {self._patience:g} seconds")
-            if self._there in ready:
+            if self._input in ready:
                 self._write()
-            if self._back in ready:
+            if self._output in ready:
                 parts.append(self._read(parts))
                 self._patience = SILENCE
                 deadline = time.monotonic() + SILENCE
         lines = b"".join(parts)
-        if self._missing < 0 or lines and not lines.endswith(b"\n"):
+        if self._unanswered < 0 or lines and not lines.endswith(b"\n"):
             raise ConversationEnded(f"the scheduler answered more than it was asked: {lines[-READ_BYTES:].decode(errors='replace')!r}")
         return lines.decode(errors="replace").split("\n")[:-1]
 
@@ -91,14 +91,14 @@ class Conversation:
     def _write(self) -> None:
         try:
             while self._unsent:
-                self._unsent = self._unsent[os.write(self._there, self._unsent) :]
+                self._unsent = self._unsent[os.write(self._input, self._unsent) :]
         except BlockingIOError:
             pass  # the rest follows when there is room
         except BrokenPipeError:
             self._unsent = b""  # it has ended, and its last lines say why
 
     def _read(self, before: Sequence[bytes]) -> bytes:
-        part = os.read(self._back, READ_BYTES)
+        part = os.read(self._output, READ_BYTES)
         if not part:
             words = b"".join(before).decode(errors="replace").rstrip("\n")
             try:
@@ -106,5 +106,5 @@ class Conversation:
             except subprocess.TimeoutExpired:
                 status = "unknown"
             raise ConversationEnded(f"the scheduler ended with status {status}: {words}")
-        self._missing -= part.count(b"\n")
+        self._unanswered -= part.count(b"\n")
         return part

@@ -13,7 +13,7 @@ States = Mapping[int, bytes]
 LIMIT = 60.0
 
 
-def put_together(states: States, mirrored: Mapping[int, AbstractSet[str]], site: Site, moment: int) -> Dict[int, bytes]:
+def merge_states(states: States, mirrored: Mapping[int, AbstractSet[str]], site: Site, moment: int) -> Dict[int, bytes]:
     """The state from which each part of a site begins, from the states of the current parts, and the names of their mirrors.
 
     A mirror has the state of its original. Run numbers continue from the greatest number of all parts, so that no late result fits a run of another part."""
@@ -24,16 +24,16 @@ def put_together(states: States, mirrored: Mapping[int, AbstractSet[str]], site:
         runs = max(runs, document["runs"])
         found.update((it["name"], (part, it)) for it in document["objects"] if it["name"] not in mirrored.get(part, ()))
     members: Dict[int, List[Member]] = {part: [] for part in range(len(site.setups))}
-    for name, watched in site.objects.items():
+    for name, definition in site.objects.items():
         if name in found:
             part, member = found[name]
-            members[watched.part].append(member if part == watched.part else ended(member, moment))
+            members[definition.part].append(member if part == definition.part else without_run(member, moment))
     for part, names in site.mirrors.items():
         members[part].extend(as_mirror(found[name][1]) for name in sorted(names) if name in found)
-    return {part: saved(of_part, runs, moment) for part, of_part in members.items()}
+    return {part: state_text(of_part, runs, moment) for part, of_part in members.items()}
 
 
-def ended(member: Member, moment: int) -> Member:
+def without_run(member: Member, moment: int) -> Member:
     """An object whose run, if there is one, is abandoned at a moment."""
     if member["run"] is None:
         return member
@@ -45,12 +45,12 @@ def as_mirror(member: Member) -> Member:
     return {**member, "run": None, "forced": False, "next_check": None, "enabled": False, "enabled_in_setup": False, "check_interval": 0}
 
 
-def saved(members: List[Member], runs: int, start: int) -> bytes:
+def state_text(members: List[Member], runs: int, start: int) -> bytes:
     """The state of a scheduler with these objects."""
     return json.dumps({"format": 1, "objects": members, "runs": runs, "start": start}, ensure_ascii=False, separators=(",", ":")).encode()
 
 
-def carried(program: str, site: Site, part: int, state: bytes) -> List[str]:
+def carry_over(program: str, site: Site, part: int, state: bytes) -> List[str]:
     """The changes that the setup of a part makes to saved objects, a line each; mirrors change as their originals do.
 
     If the setup or the state is refused, it is a fault, and nothing has changed."""

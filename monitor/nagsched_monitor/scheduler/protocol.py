@@ -44,7 +44,7 @@ WORDS = {kind: word for word, kind in KINDS.items()}
 ENCODER = json.JSONEncoder(ensure_ascii=False, separators=(",", ":"))
 
 
-def line_of(call: Call) -> str:
+def call_line(call: Call) -> str:
     return ENCODER.encode((WORDS[type(call)], *call))
 
 
@@ -55,7 +55,7 @@ def read_call(line: str) -> Call:
     return call
 
 
-def is_sound(call: Call) -> bool:
+def is_readable(call: Call) -> bool:
     """Whether a scheduler can read a call: its code is a plugin's, and its numbers are within their limits."""
     if isinstance(call, Report) and not 0 <= call.code <= GREATEST_CODE:
         return False
@@ -117,7 +117,7 @@ class Refused(NamedTuple):
 Answer = Union[Taken, PutOff, Idle, AtLimit, Standing, Freed, Done, Refused]
 
 
-def time_of(word: str) -> Optional[int]:
+def read_time(word: str) -> Optional[int]:
     return None if word == "none" else int(word)
 
 
@@ -131,9 +131,9 @@ def read_answer(line: str) -> Optional[Answer]:
     if word == "taken":
         return Taken(int(first), name)
     if word == "putoff":
-        return PutOff(time_of(first), name)
+        return PutOff(read_time(first), name)
     if word == "idle":
-        return Idle(time_of(rest))
+        return Idle(read_time(rest))
     if word == "atlimit":
         return AtLimit()
     if word == "freed":

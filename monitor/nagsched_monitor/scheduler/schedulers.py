@@ -12,38 +12,38 @@ from ..store.rows import Generation
 from ..store.store import Store
 from ..store.writes import set_aside
 from .live_process import GRACE, Conversation
-from .protocol import Answer, Call, Refused, line_of, read_answer, read_call
+from .protocol import Answer, Call, Refused, call_line, read_answer, read_call
 
 # The most calls that are made together; how often a scheduler is restarted in one exchange, and the pause before the next exchange does so, in milliseconds.
 AT_ONCE = 4_096
 TRIES = 3
 PAUSE = 1_000
 # The time between two messages that a scheduler can't be started, in milliseconds, and how often one may end after a call.
-SAY_AGAIN = 60_000
+LOG_AGAIN = 60_000
 MOST_ENDS = 2
 # A line that a scheduler refuses, and that changes nothing: its answer shows that the scheduler works.
 PING = '["ping"]'
 
-Converse = Callable[[str, bytes, int, Optional[bytes]], Conversation]
-Got = TypeVar("Got")
+ConversationFactory = Callable[[str, bytes, int, Optional[bytes]], Conversation]
+Value = TypeVar("Value")
 
 
-class Kept(NamedTuple):
+class PendingCall(NamedTuple):
     """A stored call: its number and part, and the plugin's output if it reports one."""
 
     number: int
     part: int
     call: Call
-    words: Optional[str]
+    output: Optional[str]
 
 
-Made = Tuple[Kept, Answer]
+AnsweredCall = Tuple[PendingCall, Answer]
 
 
-def read_answers(said: Sequence[str], lines: Sequence[str]) -> List[Answer]:
+def read_answers(replies: Sequence[str], lines: Sequence[str]) -> List[Answer]:
     """The answers of a scheduler to these lines."""
     answers: List[Answer] = []
-    for each, line in zip(said, lines):
+    for each, line in zip(replies, lines):
         answer = read_answer(each)
         if answer is None:
             raise ConversationEnded(f"the scheduler answered {each!r} to {line}")
@@ -51,22 +51,22 @@ def read_answers(said: Sequence[str], lines: Sequence[str]) -> List[Answer]:
     return answers
 
 
-class Part:
+class PartScheduler:
     """The scheduler of a part: its process, and the calls that it hasn't answered."""
 
-    def __init__(self, generation: Generation, program: str, store: Store, clock: Clock, log: Callable[[str], None], converse: Converse) -> None:
+    def __init__(self, generation: Generation, program: str, store: Store, clock: Clock, log: Callable[[str], None], converse: ConversationFactory) -> None:
         self.generation, self._program, self._store, self._clock, self._log, self._converse = generation, program, store, clock, log, converse
         # The number of the last call that was answered.
-        self.answered = generation.last_call
-        self.pending: Deque[Kept] = collections.deque()
+        self.last_answered = generation.last_call
+        self.pending: Deque[PendingCall] = collections.deque()
         self.conversation: Optional[Conversation] = None
         # Its fault, when the fault was last logged, and the moment before which it isn't started again.
         self.trouble: Optional[str] = None
-        self._said_at = self._not_before = 0
+        self._logged_at = self._not_before = 0
         # The lines of the pending calls that were sent.
         self._sent: List[str] = []
         # The last of the calls that were sent when the scheduler ended: up to this one each is sent alone. How often it ended after which call alone.
-        self._alone_until = self._suspect = self._ends = 0
+        self._alone_until = self._suspect = self._end_count = 0
 
     def begin(self) -> None:
         """Sends pending calls, if the scheduler runs and may get several of them together."""
@@ -77,89 +77,89 @@ class Part:
         is_alone = self.pending[0].number <= self._alone_until
         if is_alone:
             conversation.ask_lines([PING])
-        self._sent = [line_of(self.pending[place].call) for place in range(1 if is_alone else min(len(self.pending), AT_ONCE))]
+        self._sent = [call_line(self.pending[place].call) for place in range(1 if is_alone else min(len(self.pending), AT_ONCE))]
         conversation.begin(self._sent)
 
-    def finish(self) -> List[Made]:
+    def finish(self) -> List[AnsweredCall]:
         """The answers to pending calls."""
-        made: List[Made] = []
+        answered: List[AnsweredCall] = []
         if self.conversation is None and self._clock.moment() < self._not_before:
-            return made
+            return answered
         for _ in range(TRIES):
             try:
                 while self.pending:
-                    made += self._answers(self._revived())
+                    answered += self._read_answers(self._open_conversation())
                 if self.trouble is not None:
                     self._log(f"the scheduler of part {self.generation.part + 1} answers again")
                 self.trouble = None
-                return made
+                return answered
             except ConversationEnded as error:
-                made += self._ended(str(error))
+                answered += self._handle_end(str(error))
             except NotStored as error:
-                self._ended(str(error))
+                self._handle_end(str(error))
                 break
         self._not_before = self._clock.moment() + PAUSE
-        return made
+        return answered
 
-    def _answers(self, conversation: Conversation) -> List[Made]:
+    def _read_answers(self, conversation: Conversation) -> List[AnsweredCall]:
         if not self._sent:
             self._send(conversation)
         answers = read_answers(conversation.finish(), self._sent)
-        made = [(self.pending.popleft(), answer) for answer in answers]
-        self.answered, self._sent = made[-1][0].number, []
-        return made
+        answered = [(self.pending.popleft(), answer) for answer in answers]
+        self.last_answered, self._sent = answered[-1][0].number, []
+        return answered
 
-    def _revived(self) -> Conversation:
+    def _open_conversation(self) -> Conversation:
         """The scheduler. If it doesn't run, it is started, and makes the answered calls again."""
         if self.conversation is None:
-            made = self.generation
-            self.conversation, self._sent = self._converse(self._program, made.setup, made.start, made.saved), []
-            lines = [each.line for each in self._store.calls_between(made.part, made.last_call, self.answered)]
+            generation = self.generation
+            self.conversation, self._sent = self._converse(self._program, generation.setup, generation.start, generation.saved), []
+            lines = [each.line for each in self._store.calls_between(generation.part, generation.last_call, self.last_answered)]
             for first in range(0, len(lines), AT_ONCE):
                 self.conversation.ask_lines(lines[first : first + AT_ONCE])
         return self.conversation
 
-    def _ended(self, why: str) -> List[Made]:
+    def _handle_end(self, why: str) -> List[AnsweredCall]:
         """Removes a scheduler that ended. Returns the call that is set aside, if the scheduler ended after that call too often."""
         now, sent = self._clock.moment(), len(self._sent)
-        if self.trouble is None or now - self._said_at >= SAY_AGAIN:
+        if self.trouble is None or now - self._logged_at >= LOG_AGAIN:
             self._log(f"{why}; it is started again")
-            self._said_at = now
+            self._logged_at = now
         self.trouble = why
-        self.let_go()
+        self.close_conversation()
         if not sent or not self.pending:
             return []
         first = self.pending[0]
         if sent > 1 or first.number > self._alone_until:
             self._alone_until = self.pending[sent - 1].number
             return []
-        self._suspect, self._ends = first.number, 1 + (self._ends if first.number == self._suspect else 0)
-        return self._set_aside(first) if self._ends >= MOST_ENDS else []
+        self._suspect, self._end_count = first.number, 1 + (self._end_count if first.number == self._suspect else 0)
+        return self._set_aside(first) if self._end_count >= MOST_ENDS else []
 
-    def _set_aside(self, kept: Kept) -> List[Made]:
-        line = line_of(kept.call)
+    def _set_aside(self, pending_call: PendingCall) -> List[AnsweredCall]:
+        line = call_line(pending_call.call)
         try:
-            self._store.write(set_aside(kept.number, kept.part, line))
+            self._store.write(set_aside(pending_call.number, pending_call.part, line))
         except NotStored:
             return []
         self.pending.popleft()
-        self.answered = kept.number
-        self._log(f"call {kept.number} is set aside, since the scheduler of part {kept.part + 1} ends after it: {line}")
-        return [(kept, Refused("it was set aside"))]
+        self.last_answered = pending_call.number
+        self._log(f"call {pending_call.number} is set aside, since the scheduler of part {pending_call.part + 1} ends after it: {line}")
+        return [(pending_call, Refused("it was set aside"))]
 
-    def tried(self, what: Callable[[Conversation], Got]) -> Got:
+    def run_query(self, what: Callable[[Conversation], Value]) -> Value:
         """Carries out an action that changes nothing and isn't stored. Raises `ConversationEnded` if no scheduler can be started for it."""
         for left in reversed(range(TRIES)):
             try:
-                return what(self._revived())
+                return what(self._open_conversation())
             except ConversationEnded as error:
-                self.let_go()
+                self.close_conversation()
                 if not left:
                     raise
                 self._log(f"{error}; it is started again")
         raise AssertionError
 
-    def let_go(self, grace: float = 0.0) -> None:
+    def close_conversation(self, grace: float = 0.0) -> None:
         if self.conversation is not None:
             self.conversation.close(grace)
         self.conversation, self._sent = None, []
@@ -168,11 +168,13 @@ class Part:
 class Schedulers:
     """One scheduler for each part of a site."""
 
-    def __init__(self, program: str, store: Store, clock: Clock, log: Callable[[str], None], converse: Converse = Conversation) -> None:
+    def __init__(self, program: str, store: Store, clock: Clock, log: Callable[[str], None], converse: ConversationFactory = Conversation) -> None:
         self._converse = converse
-        self._part: Callable[[Generation], Part] = lambda generation: Part(generation, program, store, clock, log, lambda *words: self._converse(*words))
+        self._make_part: Callable[[Generation], PartScheduler] = lambda generation: PartScheduler(
+            generation, program, store, clock, log, lambda *arguments: self._converse(*arguments)
+        )
         self._store = store
-        self.parts: Dict[int, Part] = {}
+        self.parts: Dict[int, PartScheduler] = {}
 
     def open(self, generations: Mapping[int, Generation]) -> None:
         """Continues with these generations. A part with the same setup stays open."""
@@ -183,14 +185,14 @@ class Schedulers:
                 part.generation = generation
                 self.parts[number] = before.pop(number)
             else:
-                self.parts[number] = self._part(generation)
+                self.parts[number] = self._make_part(generation)
         for part in before.values():
-            part.let_go()
+            part.close_conversation()
 
-    def read_pending(self, number: int) -> None:
+    def load_pending(self, number: int) -> None:
         """Takes in the stored calls of a part that were made before this monitor started, which are answered again."""
-        kept = self._store.calls_since(number, self.parts[number].answered)
-        self.parts[number].pending.extend(Kept(each.id, each.part, read_call(each.line), each.words) for each in kept)
+        stored = self._store.calls_since(number, self.parts[number].last_answered)
+        self.parts[number].pending.extend(PendingCall(each.id, each.part, read_call(each.line), each.words) for each in stored)
 
     def is_down(self, number: int) -> bool:
         """Whether a part has calls that its scheduler couldn't answer."""
@@ -199,27 +201,27 @@ class Schedulers:
     def are_all_up(self) -> bool:
         return not any(part.pending for part in self.parts.values())
 
-    def make(self, calls: Sequence[Kept]) -> None:
+    def add_calls(self, calls: Sequence[PendingCall]) -> None:
         """These calls were stored. The next exchange makes them."""
-        for kept in calls:
-            self.parts[kept.part].pending.append(kept)
+        for call in calls:
+            self.parts[call.part].pending.append(call)
 
-    def exchange(self) -> List[Made]:
+    def exchange(self) -> List[AnsweredCall]:
         """Makes the waiting calls, and returns their answers. Calls of a scheduler that can't be started now continue to wait."""
         waiting = [part for part in self.parts.values() if part.pending]
         for part in waiting:
             part.begin()
-        return [made for part in waiting for made in part.finish()]
+        return [answered for part in waiting for answered in part.finish()]
 
-    def ask(self, number: int, calls: Sequence[Call]) -> List[Answer]:
+    def query(self, number: int, calls: Sequence[Call]) -> List[Answer]:
         """The answers to calls that change nothing, and aren't stored."""
-        lines = [line_of(call) for call in calls]
+        lines = [call_line(call) for call in calls]
 
         def asked(conversation: Conversation) -> List[Answer]:
             several = [lines[first : first + AT_ONCE] for first in range(0, len(lines), AT_ONCE)]
             return [answer for some in several for answer in read_answers(conversation.ask_lines(some), some)]
 
-        return self.parts[number].tried(asked)
+        return self.parts[number].run_query(asked)
 
     def states(self) -> Optional[Dict[int, bytes]]:
         """The state of each scheduler; None if the program has no saved states. Raises `ConversationEnded` if a scheduler can't be started."""
@@ -227,7 +229,7 @@ class Schedulers:
         for number, part in self.parts.items():
             if part.pending:
                 raise ConversationEnded(part.trouble or f"the scheduler of part {number + 1} hasn't answered all calls")
-            state = part.tried(lambda conversation: conversation.save())
+            state = part.run_query(lambda conversation: conversation.save())
             if state is None:
                 return None
             states[number] = state
@@ -238,4 +240,4 @@ class Schedulers:
 
     def close(self) -> None:
         for part in self.parts.values():
-            part.let_go(GRACE)
+            part.close_conversation(GRACE)

@@ -9,7 +9,7 @@ from dataclasses import dataclass
 from typing import Container, Dict, List, Sequence, Tuple
 
 from ..faults import SiteFault
-from .json_files import only_known, read_object, seconds
+from .json_files import known_members, read_object, read_seconds
 
 # A line without quotes, escapes and shell characters.
 PLAIN = re.compile(r"[\w ./:,=%@+!#*?$~^{}\[\]-]*", re.ASCII)
@@ -23,7 +23,7 @@ LIMIT = 30.0
 class Command:
     """A command line, split unless a shell runs it."""
 
-    words: Sequence[str]
+    arguments: Sequence[str]
     # The limit of the plugin, in seconds.
     limit: float
 
@@ -36,7 +36,7 @@ def read_commands(folder: pathlib.Path, objects: Container[str], runner_of: Cont
         place = f"commands.json: {name}"
         if name not in objects:
             raise SiteFault(f"{place}: there is no such object")
-        members = only_known(members, ("line", "shell", "limit"), place)
+        members = known_members(members, ("line", "shell", "limit"), place)
         line, shell = members.get("line"), members.get("shell", False)
         if not isinstance(line, str) or not isinstance(shell, bool):
             raise SiteFault(f"{place}: a line is a text, and shell is true or false")
@@ -44,8 +44,8 @@ def read_commands(folder: pathlib.Path, objects: Container[str], runner_of: Cont
             raise SiteFault(f"{place}: its line has a zero byte")
         if not is_whole(line):
             raise SiteFault(f"{place}: its line has half a character")
-        limit = seconds(members.get("limit", 60), f"{place}: limit")
-        commands[name] = Command(shell_words(line, place) if shell else plain_words(line, place, name not in runner_of), limit)
+        limit = read_seconds(members.get("limit", 60), f"{place}: limit")
+        commands[name] = Command(shell_arguments(line, place) if shell else plain_arguments(line, place, name not in runner_of), limit)
     return commands
 
 
@@ -58,16 +58,16 @@ def is_whole(line: str) -> bool:
     return True
 
 
-def plain_words(line: str, place: str, is_here: bool) -> List[str]:
+def plain_arguments(line: str, place: str, is_here: bool) -> List[str]:
     """The words of a line that no shell runs; the first is a program that exists, if it is run here."""
-    words, signs = (line.split(), []) if PLAIN.fullmatch(line) else split_words(line, place)
-    if not words:
+    arguments, signs = (line.split(), []) if PLAIN.fullmatch(line) else split_arguments(line, place)
+    if not arguments:
         raise SiteFault(f"{place}: its line is empty")
     if signs:
         raise SiteFault(f'{place}: only a shell gives {signs[0]} a meaning: add "shell": true, or put it in quotes')
-    if is_here and not is_program(words[0]):
-        raise SiteFault(f"{place}: there is no program {words[0]}")
-    return words
+    if is_here and not is_program(arguments[0]):
+        raise SiteFault(f"{place}: there is no program {arguments[0]}")
+    return arguments
 
 
 @functools.lru_cache(maxsize=None)
@@ -76,15 +76,15 @@ def is_program(name: str) -> bool:
     return shutil.which(name) is not None
 
 
-def split_words(line: str, place: str) -> Tuple[List[str], List[str]]:
+def split_arguments(line: str, place: str) -> Tuple[List[str], List[str]]:
     """The words of a line that has quotes or other characters, and the parts that only a shell understands."""
     try:
-        return shlex.split(line), shell_signs(line)
+        return shlex.split(line), shell_characters(line)
     except ValueError as error:
         raise SiteFault(f"{place}: its line can't be split into words: {error}") from None
 
 
-def shell_signs(line: str) -> List[str]:
+def shell_characters(line: str) -> List[str]:
     """The characters in a line, outside of quotes, that only a shell gives a meaning."""
     signs = ";|&<>()"
     lexer = shlex.shlex(line, posix=True, punctuation_chars=signs)
@@ -92,7 +92,7 @@ def shell_signs(line: str) -> List[str]:
     return [word for word in lexer if word and not word.strip(signs)]
 
 
-def shell_words(line: str, place: str) -> List[str]:
+def shell_arguments(line: str, place: str) -> List[str]:
     """The arguments that have a shell run a line that it can read."""
     try:
         read = subprocess.run(["/bin/sh", "-n", "-c", line], stdin=subprocess.DEVNULL, stderr=subprocess.PIPE, check=False, timeout=LIMIT)

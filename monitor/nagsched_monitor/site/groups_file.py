@@ -6,7 +6,7 @@ import pathlib
 from typing import Any, Container, Dict, List, Mapping, Optional, Tuple
 
 from ..faults import SiteFault
-from .json_files import only_known, read_object
+from .json_files import known_members, read_object
 
 FILE = "groups.json"
 KINDS = ("host_groups", "service_groups", "contact_groups", "contacts")
@@ -22,7 +22,7 @@ def read_groups(folder: pathlib.Path, objects: Optional[Container[str]] = None) 
         place = f"{FILE}: {name}"
         if objects is not None and name not in objects:
             raise SiteFault(f"{place}: there is no such object")
-        for kind, names in only_known(members, KINDS, place).items():
+        for kind, names in known_members(members, KINDS, place).items():
             if not isinstance(names, list) or not all(isinstance(each, str) and each and "," not in each for each in names):
                 raise SiteFault(f"{place}: {kind} has to be a list of names without commas")
     return document
@@ -41,7 +41,7 @@ class GroupsFile:
 
     def __init__(self, folder: pathlib.Path) -> None:
         self._folder = folder
-        self._seen: Tuple[Any, ...] = ()
+        self._file_state: Tuple[Any, ...] = ()
         self._groups: Dict[str, Groups] = {}
 
     def read(self) -> Dict[str, Groups]:
@@ -50,9 +50,9 @@ class GroupsFile:
             seen: Tuple[Any, ...] = (stat.st_mtime_ns, stat.st_size, stat.st_ino)
         except OSError:
             seen = (None,)
-        if seen != self._seen:
+        if seen != self._file_state:
             try:
-                self._groups, self._seen = read_groups(self._folder), seen
+                self._groups, self._file_state = read_groups(self._folder), seen
             except SiteFault:
                 pass
         return self._groups

@@ -26,7 +26,7 @@ def read_object(folder: pathlib.Path, name: str, required: bool) -> Dict[str, An
     return document
 
 
-def only_known(members: object, known: Sequence[str], place: str) -> Dict[str, Any]:
+def known_members(members: object, known: Sequence[str], place: str) -> Dict[str, Any]:
     """An object that has no other members than these."""
     if not isinstance(members, dict):
         raise SiteFault(f"{place}: it has to be an object")
@@ -36,13 +36,13 @@ def only_known(members: object, known: Sequence[str], place: str) -> Dict[str, A
     return members
 
 
-def seconds(value: object, place: str, most: int = MOST_SECONDS) -> float:
+def read_seconds(value: object, place: str, most: int = MOST_SECONDS) -> float:
     if isinstance(value, bool) or not isinstance(value, (int, float)) or not 0 < value <= most:
         raise SiteFault(f"{place}: no number of seconds up to {most}: {value!r}")
     return value
 
 
-def only_object(value: object, place: str) -> Dict[str, Any]:
+def members_of(value: object, place: str) -> Dict[str, Any]:
     if not isinstance(value, dict):
         raise SiteFault(f"{place}: it has to be an object")
     return value

@@ -10,7 +10,7 @@ from dataclasses import dataclass
 from typing import AbstractSet, Any, Dict, FrozenSet, Mapping, Sequence, Tuple
 
 from ..faults import SiteFault
-from .json_files import only_object, read_object
+from .json_files import members_of, read_object
 
 FILE = "mirrors.json"
 NEVER = {"enabled": False, "check_interval": 0, "retry_interval": 0}
@@ -33,16 +33,16 @@ class Part:
     objects: Mapping[str, Mapping[str, Any]]
     dependencies: Mapping[str, FrozenSet[Dependency]]
     # The masters whose own dependencies count too.
-    handing_on: FrozenSet[str]
+    inherited_masters: FrozenSet[str]
 
-    def differs(self, name: str, other: "Part") -> str:
+    def difference(self, name: str, other: "Part") -> str:
         """The first difference of an object between two parts; nothing if results are judged in the same way."""
         here, there = self.objects[name], other.objects[name]
         if here["max_check_attempts"] != there["max_check_attempts"]:
             return "max_check_attempts"
         if set(here.get("parents", ())) != set(there.get("parents", ())):
             return "parents"
-        if name in self.handing_on and self.dependencies.get(name) != other.dependencies.get(name):
+        if name in self.inherited_masters and self.dependencies.get(name) != other.dependencies.get(name):
             return "dependencies, which count here for those that depend on it,"
         return ""
 
@@ -67,7 +67,7 @@ def read_mirrors(folder: pathlib.Path, setups: Mapping[str, Mapping[str, Any]]) 
     for stem, homes in document.items():
         if stem not in setups:
             raise SiteFault(f"{FILE}: {stem}: there is no {stem}.json")
-        only_object(homes, f"{FILE}: {stem}")
+        members_of(homes, f"{FILE}: {stem}")
     parts = {stem: part_of(stem, setup) for stem, setup in setups.items()} if document else {}
     for stem, homes in document.items():
         for name, home in homes.items():
@@ -91,7 +91,7 @@ def test_mirror(name: str, part: Part, home: object, parts: Mapping[str, Part], 
         raise SiteFault(f"{place}: {home} has a mirror of it too, and not the original")
     if any(part.objects[name].get(member) != value for member, value in NEVER.items()):
         raise SiteFault(f'{place}: a mirror has "enabled":false, "check_interval":0 and "retry_interval":0')
-    differs = part.differs(name, parts[home])
+    differs = part.difference(name, parts[home])
     if differs:
         raise SiteFault(f"{place}: {differs} aren't those of its original in {home}.json")
 

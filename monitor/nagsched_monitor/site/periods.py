@@ -38,7 +38,7 @@ class Dates:
             return 1 if self.month is not None else 2
         return 3 if self.month is not None else 4
 
-    def fit(self, day: datetime.date) -> bool:
+    def includes(self, day: datetime.date) -> bool:
         if self.first is not None and self.last is not None:
             return self.first <= day <= self.last
         if self.month is not None and day.month != self.month:
@@ -60,10 +60,10 @@ class Period:
     dates: Sequence[Dates]
     excluded: Sequence[str]
 
-    def times_of(self, day: datetime.date) -> Sequence[Minutes]:
+    def day_times(self, day: datetime.date) -> Sequence[Minutes]:
         """The times of a day, before other periods are excluded."""
         for dates in self.dates:
-            if dates.fit(day):
+            if dates.includes(day):
                 return dates.times
         return self.weekdays.get(day.weekday(), ())
 
@@ -82,11 +82,11 @@ class Periods:
 
     def _includes(self, name: str, day: datetime.date, minute: int) -> bool:
         period = self._periods[name]
-        if not any(first <= minute < last for first, last in period.times_of(day)):
+        if not any(first <= minute < last for first, last in period.day_times(day)):
             return False
         return not any(self._includes(other, day, minute) for other in period.excluded)
 
-    def active(self, wall: float) -> Dict[str, bool]:
+    def active_by_name(self, wall: float) -> Dict[str, bool]:
         """Each period with whether it includes this time."""
         return {name: self.includes(name, wall) for name in self._periods}
 
@@ -158,10 +158,10 @@ def read_dates(members: object, place: str) -> Dates:
     if kind == {"first", "last"}:
         return Dates(read_day(members["first"], place), read_day(members["last"], place), None, None, None, None, times)
     if kind <= {"month", "day"} and "day" in kind:
-        return Dates(None, None, limited(members.get("month"), 1, 12, place), limited(members["day"], -31, 31, place), None, None, times)
+        return Dates(None, None, read_number(members.get("month"), 1, 12, place), read_number(members["day"], -31, 31, place), None, None, times)
     if kind <= {"month", "weekday", "nth"} and {"weekday", "nth"} <= kind and members["weekday"] in WEEKDAYS:
         weekday = WEEKDAYS.index(members["weekday"])
-        return Dates(None, None, limited(members.get("month"), 1, 12, place), None, weekday, limited(members["nth"], -5, 5, place), times)
+        return Dates(None, None, read_number(members.get("month"), 1, 12, place), None, weekday, read_number(members["nth"], -5, 5, place), times)
     raise SiteFault(f"{place}: a date has first and last, or day and perhaps month, or weekday, nth and perhaps month")
 
 
@@ -172,7 +172,7 @@ def read_day(text: object, place: str) -> datetime.date:
         raise SiteFault(f"{place}: no date: {text!r}") from None
 
 
-def limited(value: object, least: int, most: int, place: str) -> Optional[int]:
+def read_number(value: object, least: int, most: int, place: str) -> Optional[int]:
     """A number within its limits that isn't 0; None without one."""
     if value is None:
         return None

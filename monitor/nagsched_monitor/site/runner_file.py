@@ -9,9 +9,9 @@ from dataclasses import dataclass
 from typing import Any, Dict, Iterable, List, Mapping, Set, Tuple
 
 from ..faults import SiteFault
-from ..run.runner_program import program_of
+from ..run.runner_program import find_program
 from .groups_file import Groups
-from .json_files import only_known, only_object, read_object, seconds
+from .json_files import known_members, members_of, read_object, read_seconds
 
 FILE = "runners.json"
 NAME = re.compile(r"[A-Za-z0-9_.-]{1,64}")
@@ -27,64 +27,64 @@ class Remote:
     """A runner elsewhere: the command that reaches it, the number of checks that it has at once, and the wait for it, in seconds."""
 
     name: str
-    words: Tuple[str, ...]
+    arguments: Tuple[str, ...]
     slots: int = SLOTS
     wait: float = WAIT
 
 
 def read_runners(folder: pathlib.Path, names: Iterable[str], groups: Mapping[str, Groups]) -> Tuple[Dict[str, Remote], Dict[str, str]]:
     """The runners of a site, and the runner of each object that has one: the first with a pattern that fits it."""
-    members = only_known(read_object(folder, FILE, required=False), ("runners", "objects", "slots", "wait"), FILE)
-    commands, objects, slots = (only_object(members.get(member, {}), f"{FILE}: {member}") for member in ("runners", "objects", "slots"))
-    wait = seconds(members.get("wait", WAIT), f"{FILE}: wait")
+    members = known_members(read_object(folder, FILE, required=False), ("runners", "objects", "slots", "wait"), FILE)
+    commands, objects, slots = (members_of(members.get(member, {}), f"{FILE}: {member}") for member in ("runners", "objects", "slots"))
+    wait = read_seconds(members.get("wait", WAIT), f"{FILE}: wait")
     for member, of in (("objects", objects), ("slots", slots)):
         for name in of:
             if name not in commands:
                 raise SiteFault(f"{FILE}: {member}: {name}: there is no such runner")
-    remotes = {name: Remote(name, words_of(name, words), slots_of(name, slots.get(name, SLOTS)), wait) for name, words in commands.items()}
+    remotes = {name: Remote(name, read_arguments(name, arguments), read_slots(name, slots.get(name, SLOTS)), wait) for name, arguments in commands.items()}
     by_host: Dict[str, List[str]] = {}
     for name in names:
         by_host.setdefault(name.partition(";")[0], []).append(name)
     runner_of: Dict[str, str] = {}
     for name, patterns in objects.items():
-        for fitting in names_of(name, patterns, by_host, groups):
+        for fitting in matching_objects(name, patterns, by_host, groups):
             runner_of.setdefault(fitting, name)
     return remotes, runner_of
 
 
-def words_of(name: str, words: Any) -> Tuple[str, ...]:
+def read_arguments(name: str, arguments: Any) -> Tuple[str, ...]:
     place = f"{FILE}: runners: {name}"
     if not NAME.fullmatch(name) or name == LOCAL:
         raise SiteFault(f"{place}: the name of a runner has 1 to 64 letters, digits, dots, underscores and hyphens, and isn't {LOCAL}")
-    if not isinstance(words, list) or not words or not all(isinstance(word, str) and word and "\0" not in word for word in words):
+    if not isinstance(arguments, list) or not arguments or not all(isinstance(word, str) and word and "\0" not in word for word in arguments):
         raise SiteFault(f"{place}: it has to be a command, as a list of arguments")
-    program = program_of(words[0])
+    program = find_program(arguments[0])
     if program is None:
-        raise SiteFault(f"{place}: there is no program {words[0]}")
-    return (program, *words[1:])
+        raise SiteFault(f"{place}: there is no program {arguments[0]}")
+    return (program, *arguments[1:])
 
 
-def slots_of(name: str, slots: Any) -> int:
+def read_slots(name: str, slots: Any) -> int:
     if isinstance(slots, bool) or not isinstance(slots, int) or not 1 <= slots <= MOST_SLOTS:
         raise SiteFault(f"{FILE}: slots: {name}: it has to be a number from 1 to {MOST_SLOTS}")
     return slots
 
 
-def names_of(runner: str, patterns: Any, by_host: Mapping[str, List[str]], groups: Mapping[str, Groups]) -> List[str]:
+def matching_objects(runner: str, patterns: Any, by_host: Mapping[str, List[str]], groups: Mapping[str, Groups]) -> List[str]:
     """The objects that one of these patterns fits. A pattern that fits none is a fault."""
     place = f"{FILE}: objects: {runner}"
     if not isinstance(patterns, list) or not patterns or not all(isinstance(each, str) and each for each in patterns):
         raise SiteFault(f"{place}: it has to be a list of patterns")
     found: List[str] = []
     for pattern in patterns:
-        fitting = fits(pattern, by_host, groups)
+        fitting = pattern_matches(pattern, by_host, groups)
         if not fitting:
             raise SiteFault(f"{place}: no object fits {pattern}")
         found += fitting
     return found
 
 
-def fits(pattern: str, by_host: Mapping[str, List[str]], groups: Mapping[str, Groups]) -> List[str]:
+def pattern_matches(pattern: str, by_host: Mapping[str, List[str]], groups: Mapping[str, Groups]) -> List[str]:
     """The objects that a pattern fits: by full names, by a group, or hosts with everything on them."""
     kind, _, rest = pattern.partition(":")
     if kind in GROUP_KINDS and rest:

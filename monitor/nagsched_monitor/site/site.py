@@ -20,11 +20,11 @@ from typing import AbstractSet, Any, Dict, List, Mapping, Optional, Sequence, Tu
 from ..faults import SiteFault
 from .command_lines import Command, read_commands
 from .groups_file import read_groups
-from .json_files import MOST_FRESH, MOST_SECONDS, only_known, only_object, read_object, seconds
+from .json_files import MOST_FRESH, MOST_SECONDS, known_members, members_of, read_object, read_seconds
 from .mirror_file import read_mirrors
 from .periods import Periods, read_periods
 from .runner_file import Remote, read_runners
-from .whole_site import reading
+from .site_lock import lock_for_reading
 
 # The limit for the test of a setup, in seconds.
 LIMIT = 300.0
@@ -32,7 +32,7 @@ CODES_BY_LETTER = {"w": 1, "c": 2, "u": 3}
 
 
 @dataclass(frozen=True)
-class Watched:
+class ObjectDefinition:
     """A host or a service, as the site has it."""
 
     name: str
@@ -72,7 +72,7 @@ class Site:
     folder: pathlib.Path
     # The setup of each part, on one line.
     setups: Sequence[bytes]
-    objects: Mapping[str, Watched]
+    objects: Mapping[str, ObjectDefinition]
     periods: Periods
     options: Options
     # The hosts that have a host as their parent, by its name.
@@ -87,7 +87,7 @@ class Site:
 
 def read_site(folder: pathlib.Path, program: str) -> Site:
     """The site of a folder. Raises a `SiteFault` that names the file and the error."""
-    with reading(folder):
+    with lock_for_reading(folder):
         return read_files(folder, program)
 
 
@@ -102,12 +102,12 @@ def read_files(folder: pathlib.Path, program: str) -> Site:
     commands = read_commands(folder, objects, runner_of)
     periods, period_of = read_period_file(folder, objects, zone)
     passive = read_passive(folder, objects)
-    for name, watched in objects.items():
+    for name, definition in objects.items():
         only, freshness = passive.get(name, (False, None))
         command, period, runner = commands.get(name), period_of.get(name), runner_of.get(name)
-        objects[name] = replace(watched, command=command, period=period, runner=runner, passive_only=only, freshness=freshness)
+        objects[name] = replace(definition, command=command, period=period, runner=runner, passive_only=only, freshness=freshness)
         test_command(objects[name])
-    with_freshness = [name for name, watched in objects.items() if watched.freshness is not None]
+    with_freshness = [name for name, definition in objects.items() if definition.freshness is not None]
     return Site(folder, setups, objects, periods, options, children_of(objects), zone, with_freshness, mirrors, runners)
 
 
@@ -131,9 +131,9 @@ def setup_line(path: pathlib.Path, program: str) -> bytes:
     except OSError as error:
         raise SiteFault(f"{path.name}: {error.strerror}") from None
     line = b""
-    for words in ((), ("--line",)):
+    for arguments in ((), ("--line",)):
         try:
-            checked = subprocess.run([program, "check", *words], input=setup, stdout=subprocess.PIPE, check=False, timeout=LIMIT)
+            checked = subprocess.run([program, "check", *arguments], input=setup, stdout=subprocess.PIPE, check=False, timeout=LIMIT)
         except (FileNotFoundError, PermissionError):
             raise SiteFault(f"there is no program {program}: put it on the path, or name it with --program") from None
         except OSError as error:
@@ -146,57 +146,57 @@ def setup_line(path: pathlib.Path, program: str) -> bytes:
     return line
 
 
-def originals_of(documents: Mapping[str, Mapping[str, Any]], mirrors: Mapping[int, AbstractSet[str]]) -> Dict[str, Watched]:
+def originals_of(documents: Mapping[str, Mapping[str, Any]], mirrors: Mapping[int, AbstractSet[str]]) -> Dict[str, ObjectDefinition]:
     """The objects of all parts, each once: mirrors aren't among them."""
-    objects: Dict[str, Watched] = {}
+    objects: Dict[str, ObjectDefinition] = {}
     for part, (stem, setup) in enumerate(documents.items()):
-        for watched in objects_of(setup, part):
-            if watched.name in mirrors.get(part, ()):
+        for definition in objects_of(setup, part):
+            if definition.name in mirrors.get(part, ()):
                 continue
-            if watched.name in objects:
-                raise SiteFault(f"{stem}.json: {watched.name} is in another part already, and mirrors.json doesn't name it")
-            objects[watched.name] = watched
+            if definition.name in objects:
+                raise SiteFault(f"{stem}.json: {definition.name} is in another part already, and mirrors.json doesn't name it")
+            objects[definition.name] = definition
     return objects
 
 
-def objects_of(setup: Mapping[str, Any], part: int) -> List[Watched]:
+def objects_of(setup: Mapping[str, Any], part: int) -> List[ObjectDefinition]:
     """The hosts and services of a good setup. Intervals become milliseconds."""
     unit = setup.get("options", {}).get("interval_length", 60) * 1000
     hosts = [
-        Watched(host["name"], part, None, tuple(host.get("parents", ())), host.get("check_interval", 5) * unit, host.get("enabled", True))
+        ObjectDefinition(host["name"], part, None, tuple(host.get("parents", ())), host.get("check_interval", 5) * unit, host.get("enabled", True))
         for host in setup.get("hosts", ())
     ]
     services = [
-        Watched(f"{it['host']};{it['description']}", part, it["host"], (), it.get("check_interval", 5) * unit, it.get("enabled", True))
+        ObjectDefinition(f"{it['host']};{it['description']}", part, it["host"], (), it.get("check_interval", 5) * unit, it.get("enabled", True))
         for it in setup.get("services", ())
     ]
     return hosts + services
 
 
-def children_of(objects: Mapping[str, Watched]) -> Dict[str, List[str]]:
+def children_of(objects: Mapping[str, ObjectDefinition]) -> Dict[str, List[str]]:
     children: Dict[str, List[str]] = {}
-    for watched in objects.values():
-        for parent in watched.parents:
-            children.setdefault(parent, []).append(watched.name)
+    for definition in objects.values():
+        for parent in definition.parents:
+            children.setdefault(parent, []).append(definition.name)
     return children
 
 
 # ---- the other files
 
 
-def test_command(watched: Watched) -> None:
+def test_command(definition: ObjectDefinition) -> None:
     """Each object that is checked at any time has a command."""
-    if watched.command is None and not (watched.passive_only and watched.freshness is None) and watched.enabled:
-        raise SiteFault(f"commands.json: {watched.name} has no command")
-    if watched.command is None and watched.freshness is not None:
-        raise SiteFault(f"commands.json: {watched.name} has no command, which is run where no result came within its freshness")
+    if definition.command is None and not (definition.passive_only and definition.freshness is None) and definition.enabled:
+        raise SiteFault(f"commands.json: {definition.name} has no command")
+    if definition.command is None and definition.freshness is not None:
+        raise SiteFault(f"commands.json: {definition.name} has no command, which is run where no result came within its freshness")
 
 
-def read_period_file(folder: pathlib.Path, objects: Mapping[str, Watched], zone: Optional[zoneinfo.ZoneInfo]) -> Tuple[Periods, Dict[str, str]]:
+def read_period_file(folder: pathlib.Path, objects: Mapping[str, ObjectDefinition], zone: Optional[zoneinfo.ZoneInfo]) -> Tuple[Periods, Dict[str, str]]:
     """The periods of a site, and the period of each object that has one."""
-    document = only_known(read_object(folder, "periods.json", required=False), ("periods", "objects"), "periods.json")
-    periods = read_periods(only_object(document.get("periods", {}), "periods.json: periods"), "periods.json")
-    period_of = only_object(document.get("objects", {}), "periods.json: objects")
+    document = known_members(read_object(folder, "periods.json", required=False), ("periods", "objects"), "periods.json")
+    periods = read_periods(members_of(document.get("periods", {}), "periods.json: periods"), "periods.json")
+    period_of = members_of(document.get("objects", {}), "periods.json: objects")
     for name, period in period_of.items():
         if name not in objects:
             raise SiteFault(f"periods.json: {name}: there is no such object")
@@ -205,24 +205,24 @@ def read_period_file(folder: pathlib.Path, objects: Mapping[str, Watched], zone:
     return Periods(periods, zone), period_of
 
 
-def read_passive(folder: pathlib.Path, objects: Mapping[str, Watched]) -> Dict[str, Tuple[bool, Optional[int]]]:
+def read_passive(folder: pathlib.Path, objects: Mapping[str, ObjectDefinition]) -> Dict[str, Tuple[bool, Optional[int]]]:
     """For each object in the file, whether it is passive only, and its freshness in milliseconds."""
     passive = {}
     for name, members in read_object(folder, "passive.json", required=False).items():
         place = f"passive.json: {name}"
         if name not in objects:
             raise SiteFault(f"{place}: there is no such object")
-        members = only_known(members, ("only", "freshness"), place)
+        members = known_members(members, ("only", "freshness"), place)
         only, freshness = members.get("only", False), members.get("freshness")
         if not isinstance(only, bool):
             raise SiteFault(f"{place}: only is true or false")
-        passive[name] = only, None if freshness is None else round(seconds(freshness, f"{place}: freshness", MOST_FRESH) * 1000)
+        passive[name] = only, None if freshness is None else round(read_seconds(freshness, f"{place}: freshness", MOST_FRESH) * 1000)
     return passive
 
 
 def read_options(folder: pathlib.Path) -> Tuple[Options, Optional[zoneinfo.ZoneInfo]]:
     """The options, and the zone of the site: the machine's if none is named."""
-    members = only_known(
+    members = known_members(
         read_object(folder, "monitor.json", required=False),
         ("slots", "cached_host_check_horizon", "service_check_timeout_state", "keep_days", "zone"),
         "monitor.json",

@@ -13,7 +13,7 @@ PATIENCE = 10.0
 
 
 @contextlib.contextmanager
-def reading(folder: pathlib.Path) -> Iterator[None]:
+def lock_for_reading(folder: pathlib.Path) -> Iterator[None]:
     """While no file of the site is replaced. Raises `SiteFault` if the wait is too long."""
     try:
         lock = os.open(folder, os.O_RDONLY)

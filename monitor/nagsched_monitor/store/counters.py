@@ -30,42 +30,42 @@ MINUTE = 60_000
 BOUNDS = (0.05, 0.1, 0.25, 0.5, 1.0, 2.5, 5.0, 10.0, 30.0, 60.0)
 BUCKETS = tuple(f"late.{bound:g}" for bound in BOUNDS) + ("late.more",)
 RESULTS = ("OK", "WARNING", "CRITICAL", "UNKNOWN", "UP", "DOWN", "UNREACHABLE", "given_up", "refused", "not_started")
-GONE_ON_WITH = tuple(f"checks.{result}" for result in RESULTS) + BUCKETS + ("late.sum", "saves", "saved_at", "faults")
+RESTORED = tuple(f"checks.{result}" for result in RESULTS) + BUCKETS + ("late.sum", "saves", "saved_at", "faults")
 
 
 class Counters:
     """The figures of a running monitor, in memory."""
 
-    def __init__(self, kept: Mapping[str, float], clock: Clock) -> None:
+    def __init__(self, stored: Mapping[str, float], clock: Clock) -> None:
         self._clock = clock
-        self._values: DefaultDict[str, float] = collections.defaultdict(float, {name: kept[name] for name in GONE_ON_WITH if name in kept})
-        self._begun = clock.wall()
-        self._made = 0
+        self._values: DefaultDict[str, float] = collections.defaultdict(float, {name: stored[name] for name in RESTORED if name in stored})
+        self._started_at = clock.wall()
+        self._result_count = 0
         self._latest = 0
         self._written: Dict[str, float] = {}
         self._written_at: Optional[int] = None
         # The number of results at moments of the last minute; the latest start of the current minute, and of the one before.
         self._moments: Deque[Tuple[int, int]] = collections.deque([(clock.moment(), 0)])
-        self._minute, self._lately, self._before = clock.moment(), 0, 0
+        self._minute, self._latest_this_minute, self._latest_last_minute = clock.moment(), 0, 0
 
-    def result(self, result: str) -> None:
+    def count_result(self, result: str) -> None:
         """A result was reported: the state in which it left its object, `given_up` or `refused`."""
         self._values[f"checks.{result}"] += 1
         if result not in ("given_up", "refused", "not_started"):
-            self._made += 1
+            self._result_count += 1
 
-    def fault(self) -> None:
+    def count_fault(self) -> None:
         """A turn ended with a fault of the monitor's own."""
         self._values["faults"] += 1
 
-    def started(self, late: int) -> None:
+    def count_start(self, late: int) -> None:
         """A check began late, by a number of milliseconds."""
         seconds = max(0, late) / 1000
         self._values[BUCKETS[bisect.bisect_left(BOUNDS, seconds)]] += 1
         self._values["late.sum"] += seconds
-        self._latest, self._lately = max(self._latest, late), max(self._lately, late)
+        self._latest, self._latest_this_minute = max(self._latest, late), max(self._latest_this_minute, late)
 
-    def saved(self) -> None:
+    def count_save(self) -> None:
         """The state was saved."""
         self._values["saves"] += 1
         self._values["saved_at"] = self._clock.wall()
@@ -76,31 +76,31 @@ class Counters:
         """Whether it is time to write the figures: every five seconds."""
         return self._written_at is None or now - self._written_at >= EVERY
 
-    def changed(self, calls: int) -> Dict[str, float]:
+    def changed_figures(self, calls: int) -> Dict[str, float]:
         """The figures that have changed since they were written last. `calls` is the number of calls so far."""
-        values = self._all(self._clock.moment(), calls)
+        values = self._all_figures(self._clock.moment(), calls)
         return {name: value for name, value in values.items() if self._written.get(name) != value}
 
-    def written(self, figures: Mapping[str, float]) -> None:
+    def set_written(self, figures: Mapping[str, float]) -> None:
         """These figures were written."""
         self._written_at = self._clock.moment()
         self._written.update(figures)
 
-    def _all(self, now: int, calls: int) -> Dict[str, float]:
+    def _all_figures(self, now: int, calls: int) -> Dict[str, float]:
         lately = self._latest_lately(now)
-        of_this_run = {"calls": calls, "begun_at": self._begun, "written_at": self._clock.wall(), "checks_a_second": self._rate(now), "moment": now}
+        of_this_run = {"calls": calls, "begun_at": self._started_at, "written_at": self._clock.wall(), "checks_a_second": self._rate(now), "moment": now}
         return {**self._values, **of_this_run, "latest_start": self._latest / 1000, "latest_start_lately": lately / 1000}
 
     def _rate(self, now: int) -> float:
         """Results per second, over the last minute or since the monitor began."""
-        self._moments.append((now, self._made))
+        self._moments.append((now, self._result_count))
         while len(self._moments) > 2 and self._moments[1][0] <= now - MINUTE:
             self._moments.popleft()
-        first, made = self._moments[0]
-        return round((self._made - made) * 1000 / (now - first), 3) if now > first else 0.0
+        first, count = self._moments[0]
+        return round((self._result_count - count) * 1000 / (now - first), 3) if now > first else 0.0
 
     def _latest_lately(self, now: int) -> int:
         if now - self._minute >= MINUTE:
-            self._before = self._lately if now - self._minute < 2 * MINUTE else 0
-            self._minute, self._lately = now, 0
-        return max(self._lately, self._before)
+            self._latest_last_minute = self._latest_this_minute if now - self._minute < 2 * MINUTE else 0
+            self._minute, self._latest_this_minute = now, 0
+        return max(self._latest_this_minute, self._latest_last_minute)

@@ -48,7 +48,7 @@ class Generation:
 
 
 @dataclass(frozen=True)
-class KeptCall:
+class StoredCall:
     """A stored call: its number, part and line, and the output of the plugin that it reports."""
 
     id: int
@@ -58,7 +58,7 @@ class KeptCall:
 
 
 @dataclass(frozen=True)
-class KeptResult:
+class StoredResult:
     """A passive result that waits."""
 
     id: int
@@ -68,7 +68,7 @@ class KeptResult:
 
 
 @dataclass(frozen=True)
-class KeptChange:
+class StoredChange:
     """A change of state: the number of its call, and the object's state since then."""
 
     id: int
@@ -81,7 +81,7 @@ class KeptChange:
     words: str
 
 
-class KeptStanding(NamedTuple):
+class StoredStanding(NamedTuple):
     """The state of an object. Times are seconds since 1970 of the wall clock; a missing time is None."""
 
     name: str
@@ -102,7 +102,7 @@ class KeptStanding(NamedTuple):
     took: Optional[float]
     late: Optional[float]
     words: str
-    # A moment of its own rhythm.
+    # A moment of its own phase.
     phase: Optional[int] = None
 
     def is_host(self) -> bool:
@@ -117,7 +117,7 @@ class KeptStanding(NamedTuple):
     def is_hard_problem(self) -> bool:
         return self.is_problem() and self.kind == "HARD"
 
-    def wrong_since(self) -> Optional[float]:
+    def problem_since(self) -> Optional[float]:
         """When a problem got its current kind, soft or hard."""
         return self.hard_since if self.is_hard_problem() and self.hard_since is not None else self.since
 
@@ -140,16 +140,16 @@ def checksum_of(table: str, number: int, cells: Sequence[Cell]) -> str:
     return hashlib.blake2b(ascii((table, number, *cells)).encode(), digest_size=8).hexdigest()
 
 
-def number_of(name: str) -> int:
+def row_number(name: str) -> int:
     """The number of an object's row, computed from its name, so that it is always the same."""
     return int.from_bytes(hashlib.blake2b(name.encode(errors="replace"), digest_size=7).digest(), "big")
 
 
-def text_of(names: AbstractSet[str]) -> str:
+def names_text(names: AbstractSet[str]) -> str:
     """Names as one cell."""
     return json.dumps(sorted(names), ensure_ascii=False)
 
 
-def names_of(text: Optional[str]) -> AbstractSet[str]:
+def names_in(text: Optional[str]) -> AbstractSet[str]:
     """The names in a cell; an empty set if the cell is empty."""
     return frozenset() if text is None else frozenset(json.loads(text))

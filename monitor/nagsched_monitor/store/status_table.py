@@ -6,83 +6,83 @@ more than a second is written alone. Times in the table are seconds since 1970 o
 from typing import Dict, List, Mapping, Optional, Sequence
 
 from ..core.clock import Clock
-from ..core.object_state import Known, Past
-from ..core.rhythm import FIRST_TIME
-from ..core.running import Run
+from ..core.object_state import ObjectState, StateHistory
+from ..core.phases import FIRST_TIME
+from ..core.run_table import Run
 from ..scheduler.protocol import Answer, Call, Report, Standing, Taken
-from .rows import KeptStanding
+from .rows import StoredStanding
 from .store import Store, Write
-from .writes import drop_standings, keep_standings
+from .writes import drop_standings, store_standings
 
 # In milliseconds: how long a marked object waits for others, and the time after which it is written alone.
 TOGETHER = 500
 LONGEST = 1_000
 
 
-class Standings:
+class StandingTable:
     """The standings of a site, as its database has them."""
 
     def __init__(self, store: Store, clock: Clock) -> None:
         self._store, self._clock = store, clock
-        self._marked: Dict[str, Known] = {}
+        self._marked: Dict[str, ObjectState] = {}
         self._marked_at: Optional[int] = None
         self._dropped: List[str] = []
         self._is_settled = False
 
     # ---- at a start and after a reload
 
-    def read(self, objects: Mapping[str, Known]) -> None:
+    def read(self, objects: Mapping[str, ObjectState]) -> None:
         """Takes in the stored states of these objects; the states of others are dropped. Nothing is written before `settle`."""
         self._is_settled = False
         self._marked.clear()
-        kept_of_all = self._store.standings()
-        for kept in kept_of_all:
-            if kept.name in objects:
-                known = objects[kept.name]
-                known.words, known.phase, known.past = kept.words, kept.phase, past_of(kept)
-        self._dropped = [kept.name for kept in kept_of_all if kept.name not in objects]
+        rows = self._store.standings()
+        for row in rows:
+            if row.name in objects:
+                obj = objects[row.name]
+                obj.output, obj.phase, obj.history = row.words, row.phase, history_of(row)
+        self._dropped = [row.name for row in rows if row.name not in objects]
 
-    def settle(self, objects: Mapping[str, Known]) -> None:
+    def settle(self, objects: Mapping[str, ObjectState]) -> None:
         """The states of the objects are known now. If the table had another state, the stored changes show when the new one began."""
-        for known in [known for known in objects.values() if not is_settled(known)]:
-            since = self._store.last_changes(known.name)
-            assert known.standing is not None
+        for obj in [obj for obj in objects.values() if not is_settled(obj)]:
+            since = self._store.last_changes(obj.name)
+            assert obj.standing is not None
             now = self._clock.wall()
-            note(known.past, known.standing, since.since if since and since.state == known.standing.state else now)
-            if since and since.hard_state == known.past.hard_state and since.hard_since is not None:
-                known.past.hard_since = since.hard_since
+            note_state(obj.history, obj.standing, since.since if since and since.state == obj.standing.state else now)
+            if since and since.hard_state == obj.history.hard_state and since.hard_since is not None:
+                obj.history.hard_since = since.hard_since
         self._is_settled = True
-        for known in objects.values():
-            self._marked[known.name] = known
-        self.hurry()
+        for obj in objects.values():
+            self._marked[obj.name] = obj
+        self.write_soon()
 
-    def become(self, objects: Mapping[str, Known]) -> None:
+    def change_site(self, objects: Mapping[str, ObjectState]) -> None:
         """Another site is monitored: the rows of removed objects are deleted."""
         self._marked.clear()
-        self._dropped += [kept.name for kept in self._store.standings() if kept.name not in objects]
+        self._dropped += [row.name for row in self._store.standings() if row.name not in objects]
         self.settle(objects)
 
     # ---- while it works
 
-    def hear(self, known: Known, call: Call, answer: Answer, ended: Optional[Run]) -> None:
+    def apply_answer(self, obj: ObjectState, call: Call, answer: Answer, ended: Optional[Run]) -> None:
         """Takes in the changes of an object from an answer, and marks the object. `ended` is its run before."""
-        past = known.past
-        if isinstance(answer, Taken) and known.run is not None:
-            known.run.began = self._clock.wall()
+        past = obj.history
+        if isinstance(answer, Taken) and obj.run is not None:
+            obj.run.began_at = self._clock.wall()
         elif isinstance(call, Report) and isinstance(answer, Standing):
             now = self._clock.wall()
-            begun = now if ended is None or ended.began is None else ended.began
+            begun = now if ended is None or ended.began_at is None else ended.began_at
             past.last_check, past.took = begun, max(0.0, now - begun)
-            note(past, answer, now)
-        self.mark(known)
+            note_state(past, answer, now)
+        self.mark(obj)
 
-    def mark(self, known: Known) -> None:
+    def mark(self, obj: ObjectState) -> None:
         """Has an object written with the next calls."""
-        self._marked[known.name] = known
+        self._marked[obj.name] = obj
         if self._marked_at is None:
             self._marked_at = self._clock.moment()
 
-    def hurry(self) -> None:
+    def write_soon(self) -> None:
         """Has marked objects written with the next flush."""
         if self._marked or self._dropped:
             self._marked_at = self._clock.moment() - LONGEST - 1
@@ -98,24 +98,24 @@ class Standings:
         wall = self._clock.wall()
         ahead = self._clock.moment() / 1000 - wall
         dropped = [drop_standings(self._dropped)] if self._dropped else []
-        return [*dropped, keep_standings([kept_of(known, wall, ahead) for known in self._marked.values()])]
+        return [*dropped, store_standings([row_of(obj, wall, ahead) for obj in self._marked.values()])]
 
-    def written(self) -> None:
+    def clear_marks(self) -> None:
         """The marked objects were written."""
         self._marked.clear()
         self._dropped = []
         self._marked_at = None
 
 
-def is_settled(known: Known) -> bool:
+def is_settled(obj: ObjectState) -> bool:
     """Whether the known past of an object agrees with its state."""
-    standing, past = known.standing, known.past
+    standing, past = obj.standing, obj.history
     if standing is None or standing.state == "PENDING":
         return True
     return standing.state == past.state and (standing.kind == "SOFT" or standing.state == past.hard_state)
 
 
-def note(past: Past, standing: Standing, time: float) -> None:
+def note_state(past: StateHistory, standing: Standing, time: float) -> None:
     """Notes a state, and a hard one, that began at a time."""
     if standing.state != past.state:
         past.state, past.since = standing.state, time
@@ -123,22 +123,22 @@ def note(past: Past, standing: Standing, time: float) -> None:
         past.hard_state, past.hard_since = standing.state, time
 
 
-def past_of(kept: KeptStanding) -> Past:
+def history_of(row: StoredStanding) -> StateHistory:
     """The past of an object from its row. A soft problem has a hard recovery, or nothing, before it."""
-    well = "OK" if ";" in kept.name else "UP"
-    hard = None if kept.hard_since is None else kept.state if kept.kind == "HARD" else well
-    state = None if kept.since is None else kept.state
-    return Past(state, kept.since, hard, kept.hard_since, kept.last_check, kept.took, kept.late)
+    well = "OK" if ";" in row.name else "UP"
+    hard = None if row.hard_since is None else row.state if row.kind == "HARD" else well
+    state = None if row.since is None else row.state
+    return StateHistory(state, row.since, hard, row.hard_since, row.last_check, row.took, row.late)
 
 
-def kept_of(known: Known, wall: float, ahead: float) -> KeptStanding:
+def row_of(obj: ObjectState, wall: float, ahead: float) -> StoredStanding:
     """The row of an object. Moments are `ahead` seconds ahead of the wall clock."""
-    standing, past = known.standing, known.past
+    standing, past = obj.standing, obj.history
     state, kind, attempt, flapping = (None, None, None, False)
     if standing is not None:
         state, kind, attempt, flapping = standing.state, standing.kind, standing.attempt, standing.flapping
-    next_check = None if known.next is None else wall if known.next < FIRST_TIME else known.next / 1000 - ahead
-    return KeptStanding(
-        known.name, state, kind, attempt, flapping, past.since, past.hard_since, past.last_check, next_check, known.on,
-        None if known.run is None else known.run.began, past.took, past.late, known.words, known.phase,
+    next_check = None if obj.next is None else wall if obj.next < FIRST_TIME else obj.next / 1000 - ahead
+    return StoredStanding(
+        obj.name, state, kind, attempt, flapping, past.since, past.hard_since, past.last_check, next_check, obj.on,
+        None if obj.run is None else obj.run.began_at, past.took, past.late, obj.output, obj.phase,
     )

@@ -26,7 +26,7 @@ from typing import Callable, Dict, Iterator, List, Optional, Sequence, Set, Tupl
 from ..faults import DamagedRow, MonitorFault, NotStored
 from ..scheduler.protocol import Abandon, Take, read_call
 from .rows import (
-    FOR_PEOPLE, GENERATIONS, INDEXES, INSERTS, TABLES, VERSION, Cell, Generation, KeptCall, KeptResult, KeptStanding, LastChanges, checksum_of, names_of,
+    FOR_PEOPLE, GENERATIONS, INDEXES, INSERTS, TABLES, VERSION, Cell, Generation, StoredCall, StoredResult, StoredStanding, LastChanges, checksum_of, names_in,
 )
 
 # A write that is carried out together with others, or not at all.
@@ -38,9 +38,9 @@ class Store:
 
     def __init__(self, folder: pathlib.Path, log: Callable[[str], None] = lambda line: None) -> None:
         self.path, self._log = folder / "monitor.db", log
-        self._lock: Optional[int] = locked(folder)
+        self._lock: Optional[int] = lock_site(folder)
         try:
-            self._database = self._opened()
+            self._database = self._open_database()
             self._verify()
         except sqlite3.Error as error:
             self.close()
@@ -51,7 +51,7 @@ class Store:
         self.last_call = max(self._greatest("calls"), self._greatest("generations", "last_call"))
         self.last_result = self._greatest("passive")
 
-    def _opened(self) -> sqlite3.Connection:
+    def _open_database(self) -> sqlite3.Connection:
         """The database, for its owner only, with a table for everything."""
         os.close(os.open(self.path, os.O_RDWR | os.O_CREAT | os.O_CLOEXEC, 0o600))
         database = sqlite3.connect(self.path, isolation_level=None, timeout=5)
@@ -59,7 +59,7 @@ class Store:
             for setting in ("journal_mode=WAL", "synchronous=FULL", "wal_autocheckpoint=1000"):
                 database.execute(f"PRAGMA {setting}")
             database.execute("BEGIN IMMEDIATE")
-            self._take_over(database)
+            self._migrate(database)
             for table, members in TABLES.items():
                 database.execute(f"CREATE TABLE IF NOT EXISTS {table} (id INTEGER PRIMARY KEY, {members}, checksum TEXT)")
             for index in INDEXES:
@@ -70,7 +70,7 @@ class Store:
             raise
         return database
 
-    def _take_over(self, database: sqlite3.Connection) -> None:
+    def _migrate(self, database: sqlite3.Connection) -> None:
         """Takes over a database of the version before: its standings had no phases."""
         (version,) = database.execute("PRAGMA user_version").fetchone()
         if version > VERSION:
@@ -99,12 +99,12 @@ class Store:
         """Tests each row's checksum, except those of the history, and that no call is missing between two."""
         for table in TABLES:
             if table not in ("changes", "damaged"):
-                self._sound(table, self._database.execute(f"SELECT * FROM {table} ORDER BY id").fetchall())
+                self._sound_rows(table, self._database.execute(f"SELECT * FROM {table} ORDER BY id").fetchall())
         first, last, count = self._database.execute("SELECT min(id), max(id), count(*) FROM calls").fetchone()
         if count and last - first + 1 != count:
             raise DamagedRow(f"{self.path}: {last - first + 1 - count} rows of calls are missing")
 
-    def _sound(self, table: str, rows: Sequence[Sequence[Cell]]) -> List[Sequence[Cell]]:
+    def _sound_rows(self, table: str, rows: Sequence[Sequence[Cell]]) -> List[Sequence[Cell]]:
         """Those of these rows that are as they were written, without their checksums. Other rows are a fault, or are set aside if only people read them."""
         sound = []
         for row in rows:
@@ -121,7 +121,7 @@ class Store:
         return sound
 
     @contextlib.contextmanager
-    def _reading(self) -> Iterator[None]:
+    def _read_errors(self) -> Iterator[None]:
         """A failed read raises `NotStored`, as a failed write does."""
         try:
             yield
@@ -134,17 +134,17 @@ class Store:
 
     def generations(self) -> Dict[int, Generation]:
         """The last generation of each part."""
-        return {row[0]: Generation(*(*row[:-1], names_of(row[-1]))) for row in self._database.execute(GENERATIONS)}
+        return {row[0]: Generation(*(*row[:-1], names_in(row[-1]))) for row in self._database.execute(GENERATIONS)}
 
-    def calls_since(self, part: int, number: int) -> List[KeptCall]:
+    def calls_since(self, part: int, number: int) -> List[StoredCall]:
         """The calls of a part after the call with this number, except those that were set aside."""
         return self.calls_between(part, number, self.last_call)
 
-    def calls_between(self, part: int, number: int, last: int) -> List[KeptCall]:
+    def calls_between(self, part: int, number: int, last: int) -> List[StoredCall]:
         """Those of these calls up to the call with the number `last`."""
         rows = "SELECT id, part, line, words FROM calls WHERE part = ? AND id > ? AND id <= ? AND id NOT IN (SELECT id FROM aside) ORDER BY id"
-        with self._reading():
-            return [KeptCall(*row) for row in self._database.execute(rows, (part, number, last))]
+        with self._read_errors():
+            return [StoredCall(*row) for row in self._database.execute(rows, (part, number, last))]
 
     def last_moment(self) -> int:
         """The greatest stored moment. After a save there may be no calls, so the figures have a moment too."""
@@ -159,8 +159,8 @@ class Store:
     def switches(self) -> Dict[str, bool]:
         return {name: bool(on) for name, on in self._database.execute("SELECT name, is_on FROM switches")}
 
-    def waiting(self) -> List[KeptResult]:
-        return [KeptResult(*row) for row in self._database.execute("SELECT id, name, code, words FROM passive ORDER BY id")]
+    def waiting_results(self) -> List[StoredResult]:
+        return [StoredResult(*row) for row in self._database.execute("SELECT id, name, code, words FROM passive ORDER BY id")]
 
     def requests(self) -> Dict[str, str]:
         """The answers to requests that had numbers."""
@@ -168,12 +168,12 @@ class Store:
 
     def outbox(self) -> List[Tuple[int, str]]:
         """The documents that the command for changes hasn't accepted, the oldest first."""
-        with self._reading():
+        with self._read_errors():
             return list(self._database.execute("SELECT id, document FROM outbox ORDER BY id"))
 
     def waiting_changes(self) -> Tuple[int, Optional[float]]:
         """The number of documents that the command for changes hasn't accepted, and the time of the first."""
-        with self._reading():
+        with self._read_errors():
             count, first = self._database.execute("SELECT count(*), (SELECT document FROM outbox ORDER BY id LIMIT 1) FROM outbox").fetchone()
         return count, None if first is None else float(json.loads(first)["time"])
 
@@ -184,17 +184,17 @@ class Store:
     def figures(self) -> Dict[str, float]:
         return {name: float(value) for name, value in self._database.execute("SELECT name, value FROM figures")}
 
-    def standings(self) -> List[KeptStanding]:
+    def standings(self) -> List[StoredStanding]:
         """The stored standings."""
-        with self._reading():
-            return [KeptStanding(*cells) for cells in self._database.execute(f"SELECT {', '.join(KeptStanding._fields)} FROM standings")]
+        with self._read_errors():
+            return [StoredStanding(*cells) for cells in self._database.execute(f"SELECT {', '.join(StoredStanding._fields)} FROM standings")]
 
     def last_changes(self, name: str) -> Optional[LastChanges]:
         """When an object's last state began, and its last hard one, from the stored changes; None if it has none."""
         last: Optional[LastChanges] = None
-        with self._reading():
+        with self._read_errors():
             rows = self._database.execute("SELECT * FROM changes WHERE name = ? ORDER BY id", (name,)).fetchall()
-        for _, time, _, state, kind, *_ in self._sound("changes", rows):
+        for _, time, _, state, kind, *_ in self._sound_rows("changes", rows):
             if last is None or last.state != state:
                 last = LastChanges(str(state), float(str(time)), *((None, None) if last is None else (last.hard_state, last.hard_since)))
             if kind == "HARD" and last.hard_state != state:
@@ -237,7 +237,7 @@ class Store:
         self._database.execute(f"DELETE FROM {table} WHERE {condition}", cells)
 
 
-def locked(folder: pathlib.Path) -> int:
+def lock_site(folder: pathlib.Path) -> int:
     """The lock of a site, which one monitor holds."""
     lock = os.open(folder / "monitor.lock", os.O_RDWR | os.O_CREAT | os.O_CLOEXEC, 0o600)
     try:

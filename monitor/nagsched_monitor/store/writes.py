@@ -1,7 +1,7 @@
 """Writes to the database of a site. Each function returns a write that is carried out together with others, or not at all."""
 from typing import Iterable, Mapping, Optional, Sequence, Tuple
 
-from .rows import Cell, Generation, KeptChange, KeptStanding, number_of, text_of
+from .rows import Cell, Generation, StoredChange, StoredStanding, names_text, row_number
 from .store import Store, Write
 
 # The number of stored answers to numbered requests.
@@ -31,7 +31,7 @@ def replace(table: str, name: str, value: Cell) -> Write:
     return all_of([delete(table, "name = ?", name), insert(table, None, name, value)])
 
 
-def keep_calls(calls: Sequence[Tuple[int, str, Optional[str]]]) -> Write:
+def store_calls(calls: Sequence[Tuple[int, str, Optional[str]]]) -> Write:
     """Calls before they are made: the part, the line and the plugin's output of each."""
     return lambda store: store.insert_calls(calls)
 
@@ -41,17 +41,18 @@ def set_aside(number: int, part: int, line: str) -> Write:
     return insert("aside", number, part, line)
 
 
-def keep_request(number: str, answer: str) -> Write:
+def store_request(number: str, answer: str) -> Write:
     """The answer to a request with a number, which isn't obeyed twice."""
     return all_of([insert("requests", None, number, answer), delete("requests", f"id <= (SELECT max(id) FROM requests) - {MOST_REQUESTS}")])
 
 
-def begin_generation(made: Generation) -> Write:
+def begin_generation(generation: Generation) -> Write:
     """A scheduler that is opened: earlier rows of its part aren't needed any more."""
-    gone = [delete(table, "part = ? AND id <= ?", made.part, made.last_call) for table in ("calls", "aside")]
-    old = [delete(table, "part = ?", made.part) for table in ("generations", "mirrors")]
-    mirrors = [insert("mirrors", None, made.part, text_of(made.mirrors))] if made.mirrors else []
-    return all_of([*gone, *old, insert("generations", None, made.part, made.setup, made.start, made.saved, made.last_call), *mirrors])
+    gone = [delete(table, "part = ? AND id <= ?", generation.part, generation.last_call) for table in ("calls", "aside")]
+    old = [delete(table, "part = ?", generation.part) for table in ("generations", "mirrors")]
+    mirrors = [insert("mirrors", None, generation.part, names_text(generation.mirrors))] if generation.mirrors else []
+    cells = (generation.part, generation.setup, generation.start, generation.saved, generation.last_call)
+    return all_of([*gone, *old, insert("generations", None, *cells), *mirrors])
 
 
 def end_generation(part: int) -> Write:
@@ -64,7 +65,7 @@ def set_switch(name: str, on: Optional[bool]) -> Write:
     return delete("switches", "name = ?", name) if on is None else replace("switches", name, int(on))
 
 
-def keep_result(name: str, code: int, words: str, number: Optional[int] = None) -> Write:
+def store_result(name: str, code: int, words: str, number: Optional[int] = None) -> Write:
     """A passive result that came; without a number it gets the next one."""
     return insert("passive", number, name, code, words)
 
@@ -74,9 +75,9 @@ def drop_result(number: int) -> Write:
     return delete("passive", "id = ?", number)
 
 
-def keep_change(made: KeptChange, document: Optional[str]) -> Write:
+def store_change(stored: StoredChange, document: Optional[str]) -> Write:
     """A change of state, and the document for the command for changes, if the command is run for it."""
-    change = insert("changes", made.id, made.time, made.name, made.state, made.kind, made.attempt, int(made.flapping), made.words)
+    change = insert("changes", stored.id, stored.time, stored.name, stored.state, stored.kind, stored.attempt, int(stored.flapping), stored.words)
     return change if document is None else all_of([change, insert("outbox", None, document)])
 
 
@@ -90,9 +91,9 @@ def drop_changes_before(time: float) -> Write:
     return delete("changes", "time < ? AND id < (SELECT max(id) FROM changes)", time)
 
 
-def keep_standings(standings: Sequence[KeptStanding]) -> Write:
+def store_standings(standings: Sequence[StoredStanding]) -> Write:
     """The states of objects."""
-    rows = [(number_of(kept.name), (*kept[:4], int(kept.flapping), *kept[5:9], int(kept.is_on), *kept[10:])) for kept in standings]
+    rows = [(row_number(standing.name), (*standing[:4], int(standing.flapping), *standing[5:9], int(standing.is_on), *standing[10:])) for standing in standings]
     return lambda store: store.insert_all("standings", rows)
 
 
@@ -101,6 +102,6 @@ def drop_standings(names: Sequence[str]) -> Write:
     return all_of(delete("standings", "name = ?", name) for name in names)
 
 
-def keep_figures(values: Mapping[str, float]) -> Write:
+def store_figures(values: Mapping[str, float]) -> Write:
     """The figures of the monitor itself."""
     return all_of(replace("figures", name, float(value)) for name, value in values.items())

@@ -2,10 +2,10 @@
 
 ghost use Rattle.std.specs.Prelude.{◌≡◌};
 ghost use Rattle.check_sched.specs.Step.{step};
-ghost use Rattle.check_sched.specs.Reply.{TellsTimesUpTo, reply_of};
+ghost use Rattle.check_sched.specs.Reply.{HasTimesUpTo, reply_of};
 
 use super::Sched;
-use super::checks::test_moment;
+use super::worker_calls::test_moment;
 use crate::call::{Call, Refusal, Reply};
 use crate::object_state::Change;
 use check_rules::Standing;
@@ -47,7 +47,7 @@ impl Sched {
     pub(super) fn status(&self, object: u32) -> Result<Reply, Refusal>
         ensures state { self.now ≡ (step self.now (Call.Status object)).0 }
         ensures reply { reply_of result ≡ (step self.now (Call.Status object)).1 }
-        ensures times { TellsTimesUpTo LAST_TIME (reply_of result) }
+        ensures times { HasTimesUpTo LAST_TIME (reply_of result) }
     {
         let state = self.object(object)?;
         Ok(Reply::Standing {

@@ -2,23 +2,24 @@
 
 ghost use Rattle.std.specs.Prelude.{◌≡◌, ◌≤◌, ◌++◌, IfErr, IfOk, IfSome, OnOk, drop, false, length, map, option_map, replicate, take};
 ghost use Rattle.check_objects.specs.Configuration.{IsSetup, host_count, object_count};
-ghost use Rattle.check_saved.specs.Saved.{IsSaved};
+ghost use Rattle.check_saved_state.specs.Saved.{IsSaved};
 ghost use Rattle.check_spread.specs.Spread.{initial_times};
-ghost use Rattle.check_sched.specs.Places.{ArePlaces};
+ghost use Rattle.check_sched.specs.SavedIndexes.{AreSavedIndexes};
 ghost use Rattle.check_sched.specs.Sched.{AreParts, state_with};
 ghost use Rattle.check_sched.specs.State.{IsState};
-ghost use Rattle.check_sched.specs.Saved.{given_up, objects_kept, objects_resumed, results_of, results_resumed, resumed, standings_resumed, within_limit};
+ghost use Rattle.check_sched.specs.Saved.{object_after_abandon, objects_kept, objects_after_resume, results_after_resume, result_lists_after_resume};
+ghost use Rattle.check_sched.specs.Saved.{state_after_resume, standings_after_resume, within_limit};
 
 use super::{Parts, Sched};
 use crate::intervals::intervals_by_number;
 use crate::object_state::ObjectState;
-use crate::places::{kept, places};
 use crate::results::Results;
-use crate::resumed::{scheduling, standing};
+use crate::resumed_object::{scheduling, standing};
 use crate::roster::{Roster, running_from};
+use crate::saved_indexes::{saved_indexes, saved_match};
 use check_objects::Setup;
-use check_rules::{KEPT_RESULTS, LastResults, Standing};
-use check_saved::{Saved, SavedObject};
+use check_rules::{LastResults, STORED_RESULTS, Standing};
+use check_saved_state::{Saved, SavedObject};
 use check_spread::{LAST_MOMENT, initial_times};
 use std::alloc::{AllocError, Global};
 
@@ -50,7 +51,7 @@ impl Sched {
     /// An Err means out of memory, and returns the setup as it was.
     pub fn resume(alloc: Global, setup: Setup, saved: &Saved, start: u64) -> Result<Sched, Setup>
         requires { start ≤ LAST_MOMENT }
-        ensures ok { IfOk result (λ scheduler. scheduler ≡ resumed setup saved.now start) }
+        ensures ok { IfOk result (λ scheduler. scheduler ≡ state_after_resume setup saved.now start) }
         ensures state { IfOk result IsState }
         ensures valid_setup { OnOk result (IsSetup setup) }
         ensures err { IfErr result (λ handed_back. handed_back ≡ setup) }
@@ -73,17 +74,17 @@ fn resumed_parts(
     ensures valid_setup { OnOk result (IsSetup setup.now) }
     ensures saved { OnOk result (IsSaved saved.now) }
     ensures parts { IfOk result (AreParts setup.now) }
-    ensures resumed { IfOk result (λ parts.
-        state_with setup.now start saved.now.runs parts ≡ resumed setup.now saved.now start) }
+    ensures state_after_resume { IfOk result (λ parts.
+        state_with setup.now start saved.now.runs parts ≡ state_after_resume setup.now saved.now start) }
 {
-    let places = places(alloc, setup, saved)?;
-    let objects = resumed_objects(alloc, setup, saved, &places, start)?;
+    let saved_indexes = saved_indexes(alloc, setup, saved)?;
+    let objects = resumed_objects(alloc, setup, saved, &saved_indexes, start)?;
     Ok(Parts {
         marks: vec![in alloc; false; setup.len()]?,
         steady: vec![in alloc; false; setup.len()]?,
         intervals: intervals_by_number(alloc, setup)?,
-        results: resumed_results(alloc, setup, saved, &places)?,
-        standings: resumed_standings(alloc, setup, saved, &places)?,
+        results: resumed_results(alloc, setup, saved, &saved_indexes)?,
+        standings: resumed_standings(alloc, setup, saved, &saved_indexes)?,
         roster: Roster::new(alloc, setup.hosts(), objects)?,
     })
 }
@@ -93,16 +94,16 @@ fn resumed_objects(
     alloc: Global,
     setup: &Setup,
     saved: &Saved,
-    places: &[Option<usize>],
+    saved_indexes: &[Option<usize>],
     start: u64,
 ) -> Result<Vec<ObjectState>, AllocError>
     requires moment { start ≤ LAST_MOMENT }
-    requires places { ArePlaces setup.now saved.now.objects saved.now.objects places.now }
-    ensures { IfOk result (λ objects. objects.items ≡ objects_resumed setup.now saved.now start) }
+    requires saved_indexes { AreSavedIndexes setup.now saved.now.objects saved.now.objects saved_indexes.now }
+    ensures { IfOk result (λ objects. objects.items ≡ objects_after_resume setup.now saved.now start) }
 {
     let times = initial_times(alloc, setup, start)?;
-    let mut objects = kept_objects(alloc, setup, saved, places, &times)?;
-    keep_limit(setup, &mut objects, start);
+    let mut objects = kept_objects(alloc, setup, saved, saved_indexes, &times)?;
+    abandon_over_limit(setup, &mut objects, start);
     Ok(objects)
 }
 
@@ -111,16 +112,16 @@ fn kept_objects(
     alloc: Global,
     setup: &Setup,
     saved: &Saved,
-    places: &[Option<usize>],
+    saved_indexes: &[Option<usize>],
     times: &[Option<u64>],
 ) -> Result<Vec<ObjectState>, AllocError>
     requires each { length times.now ≡ object_count setup.now }
-    requires places { ArePlaces setup.now saved.now.objects saved.now.objects places.now }
+    requires saved_indexes { AreSavedIndexes setup.now saved.now.objects saved.now.objects saved_indexes.now }
     ensures { IfOk result (λ objects. objects.items ≡ objects_kept setup.now saved.now times.now) }
 {
     let mut objects = Vec::with_capacity(alloc, setup.len())?;
     for (number, first) in times.iter().enumerate() {
-        let kept = kept(saved, places, number as u32);
+        let kept = saved_match(saved, saved_indexes, number as u32);
         let object = setup.object(number as u32);
         objects.push(scheduling(setup, object, *first, kept))?;
     }
@@ -128,7 +129,7 @@ fn kept_objects(
 }
 
 /// Abandons the runs of all services at this moment, if more are running than the limit allows.
-fn keep_limit(setup: &Setup, objects: &mut Vec<ObjectState>, now: u64)
+fn abandon_over_limit(setup: &Setup, objects: &mut Vec<ObjectState>, now: u64)
     requires { host_count setup.now ≤ length objects.old.items }
     ensures { objects.new.items ≡ within_limit setup.now now objects.old.items }
 {
@@ -136,16 +137,16 @@ fn keep_limit(setup: &Setup, objects: &mut Vec<ObjectState>, now: u64)
     if limit == 0 || running_from(objects, setup.hosts()) as u64 <= limit {
         return;
     }
-    give_up_from(objects, setup.hosts(), now);
+    abandon_runs_from(objects, setup.hosts(), now);
 }
 
 /// Abandons the runs of the objects with the numbers from `from` on, at this moment.
-fn give_up_from(objects: &mut Vec<ObjectState>, from: usize, now: u64)
+fn abandon_runs_from(objects: &mut Vec<ObjectState>, from: usize, now: u64)
     requires { from ≤ length objects.old.items }
-    ensures { objects.new.items ≡ take from objects.old.items ++ map (given_up now) (drop from objects.old.items) }
+    ensures { objects.new.items ≡ take from objects.old.items ++ map (object_after_abandon now) (drop from objects.old.items) }
 {
     for number in from..objects.len() {
-        objects[number].give_up(now);
+        objects[number].abandon_run(now);
     }
 }
 
@@ -154,15 +155,15 @@ fn resumed_standings(
     alloc: Global,
     setup: &Setup,
     saved: &Saved,
-    places: &[Option<usize>],
+    saved_indexes: &[Option<usize>],
 ) -> Result<Vec<Standing>, AllocError>
-    requires { ArePlaces setup.now saved.now.objects saved.now.objects places.now }
-    ensures { IfOk result (λ standings. standings.items ≡ standings_resumed setup.now saved.now) }
+    requires { AreSavedIndexes setup.now saved.now.objects saved.now.objects saved_indexes.now }
+    ensures { IfOk result (λ standings. standings.items ≡ standings_after_resume setup.now saved.now) }
 {
     let count = setup.len();
     let mut standings = Vec::with_capacity(alloc, count)?;
     for index in 0..count {
-        let kept = kept(saved, places, index as u32);
+        let kept = saved_match(saved, saved_indexes, index as u32);
         let object = setup.object(index as u32);
         standings.push(standing(index < setup.hosts(), object, kept))?;
     }
@@ -174,16 +175,16 @@ fn resumed_results(
     alloc: Global,
     setup: &Setup,
     saved: &Saved,
-    places: &[Option<usize>],
+    saved_indexes: &[Option<usize>],
 ) -> Result<Results, AllocError>
     requires saved { IsSaved saved.now }
-    requires places { ArePlaces setup.now saved.now.objects saved.now.objects places.now }
-    ensures { IfOk result (λ results. results ≡ results_resumed setup.now saved.now) }
+    requires saved_indexes { AreSavedIndexes setup.now saved.now.objects saved.now.objects saved_indexes.now }
+    ensures { IfOk result (λ results. results ≡ result_lists_after_resume setup.now saved.now) }
 {
     let count = setup.len();
     let mut by_number = Vec::with_capacity(alloc, count)?;
     for number in 0..count {
-        let kept = kept(saved, places, number as u32);
+        let kept = saved_match(saved, saved_indexes, number as u32);
         let results = last_results(alloc, kept)?;
         by_number.push(results)?;
     }
@@ -193,11 +194,11 @@ fn resumed_results(
 /// The stored results of an object: the saved ones, or none if the object is new. An Err means out of
 /// memory.
 fn last_results(alloc: Global, kept: Option<&SavedObject>) -> Result<LastResults, AllocError>
-    requires { IfSome (option_map (λ o. o.now) kept) (λ o. length o.results ≤ KEPT_RESULTS) }
-    ensures { IfOk result (λ results. results ≡ results_of (option_map (λ o. o.now) kept.entry)) }
+    requires { IfSome (option_map (λ o. o.now) kept) (λ o. length o.results ≤ STORED_RESULTS) }
+    ensures { IfOk result (λ results. results ≡ results_after_resume (option_map (λ o. o.now) kept.entry)) }
 {
     match kept {
         Some(saved) => LastResults::of(alloc, &saved.results),
-        None => LastResults::none(alloc),
+        None => LastResults::empty(alloc),
     }
 }

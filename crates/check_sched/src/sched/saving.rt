@@ -1,11 +1,11 @@
 //! Saves the state of a scheduler.
 
 ghost use Rattle.std.specs.Prelude.{◌≡◌, ◌<◌, IfOk, Some, slice_get};
-ghost use Rattle.check_objects.specs.Configuration.{Named, object_count, objects_of};
+ghost use Rattle.check_objects.specs.Configuration.{NamedObject, object_count, objects_of};
 ghost use Rattle.check_sched.specs.Saved.{saved_object, saved_of};
 
 use super::Sched;
-use check_saved::{Saved, SavedObject};
+use check_saved_state::{Saved, SavedObject};
 use check_spread::milliseconds;
 use std::alloc::{AllocError, Global};
 
@@ -37,7 +37,7 @@ impl Sched {
     /// Saves the object with this number.
     fn saved_object(&self, alloc: Global, number: u32) -> Result<SavedObject, AllocError>
         requires { number < object_count self.now.setup }
-        ensures { IfOk result (λ made. (o : Named) → slice_get (objects_of self.now.setup) number ≡ Some o
+        ensures { IfOk result (λ made. (o : NamedObject) → slice_get (objects_of self.now.setup) number ≡ Some o
             → made ≡ saved_object self.now (number, o)) }
     {
         let name = String::from_str(alloc, self.setup.name(number))?;

@@ -2,23 +2,24 @@
 
 ghost use Rattle.std.specs.Prelude.{◌≡◌, ◌+◌, ◌<◌, ◌≤◌, IfSome, IsTrue, Ok, OnOk, None, false, length, slice_set, true};
 ghost use Rattle.check_objects.specs.Configuration.{object_count};
-ghost use Rattle.check_rules.specs.Flapping.{kept_after};
-ghost use Rattle.check_sched.specs.State.{has_room, next_of, results_at};
+ghost use Rattle.check_rules.specs.Flapping.{results_after};
+ghost use Rattle.check_sched.specs.State.{is_below_limit, next_of, results_at};
 ghost use Rattle.check_sched.specs.Steady.{IsSteadyIn};
 ghost use Rattle.check_queue.specs.Order.{least};
-ghost use Rattle.check_sched.specs.Step.{eligible, is_forced, is_held_back, is_open, put_off, report_told, step, taken, waiting_reply, within_range};
+ghost use Rattle.check_sched.specs.Step.{eligible_candidates, is_forced, is_held_back, is_startable, put_off, report_result, step, state_after_take};
+ghost use Rattle.check_sched.specs.Step.{waiting_reply, moment_test};
 ghost use Rattle.check_sched.specs.Report.{put_off_until};
-ghost use Rattle.check_sched.specs.Reply.{NamesObjectOf, TellsTimesUpTo, reply_of};
+ghost use Rattle.check_sched.specs.Reply.{NamesObjectOf, HasTimesUpTo, reply_of};
 
 use super::Sched;
 use crate::call::{Call, Refusal, Reply};
 use crate::candidate::{Candidate, if_due};
-use crate::intervals::{next_by, next_past};
+use crate::intervals::{next_check_time, time_after};
 use crate::object_state::Change;
-use crate::report::{flap_thresholds, is_changed, judged, put_off_until, state_found};
+use crate::report::{flap_thresholds, is_changed, new_standing, state_found};
 use crate::results::Results;
 use check_rules::{Code, Standing, State, blocked};
-use check_saved::{MAX_RUNS, SavedRun};
+use check_saved_state::{MAX_RUNS, SavedRun};
 use check_spread::{LAST_MOMENT, LAST_TIME};
 
 impl Sched {
@@ -29,14 +30,14 @@ impl Sched {
         ensures state { self.new ≡ (step self.old (Call.Take now)).0 }
         ensures reply { reply_of result ≡ (step self.old (Call.Take now)).1 }
         ensures named { NamesObjectOf self.new.setup (reply_of result) }
-        ensures times { TellsTimesUpTo LAST_TIME (reply_of result) }
+        ensures times { HasTimesUpTo LAST_TIME (reply_of result) }
     {
         test_moment(now)?;
         if self.runs >= MAX_RUNS {
             return Err(Refusal::RunsSpent);
         }
         let Some((_time, number)) = self.least_eligible(now) else {
-            return Ok(self.waiting(now));
+            return Ok(self.idle_reply(now));
         };
         if self.is_held_back(number) {
             Ok(self.put_off(number, now))
@@ -48,11 +49,11 @@ impl Sched {
     /// The least object that is due and whose check may begin. If there is no room for one more service, the
     /// object is a host.
     fn least_eligible(&self, now: u64) -> Option<Candidate>
-        ensures value { result ≡ least (eligible now self.now) }
-        ensures there { IfSome result (λ c. c.1 < object_count self.now.setup) }
-        ensures open { IfSome result (λ c. IsTrue (is_open self.now c.1)) }
+        ensures value { result ≡ least (eligible_candidates now self.now) }
+        ensures in_range { IfSome result (λ c. c.1 < object_count self.now.setup) }
+        ensures open { IfSome result (λ c. IsTrue (is_startable self.now c.1)) }
     {
-        if self.has_room() {
+        if self.is_below_limit() {
             if_due(self.roster.first(), now)
         } else {
             if_due(self.roster.first_host(), now)
@@ -60,8 +61,8 @@ impl Sched {
     }
 
     /// Whether the check of one more service may begin.
-    fn has_room(&self) -> bool
-        ensures { result ≡ has_room self.now }
+    fn is_below_limit(&self) -> bool
+        ensures { result ≡ is_below_limit self.now }
     {
         let limit = self.setup.options().max_concurrent_checks;
         limit == 0 || (self.roster.running_services() as u64) < limit
@@ -88,25 +89,26 @@ impl Sched {
     /// Puts an object off by its check interval.
     #[inline(never)]
     fn put_off(&mut self, object: u32, now: u64) -> Reply
-        requires there { object < object_count self.old.setup }
+        requires in_range { object < object_count self.old.setup }
         requires moment { now ≤ LAST_MOMENT }
         requires unforced { is_forced self.old object ≡ false }
         ensures state { self.new ≡ put_off now object self.old }
         ensures reply { result ≡ Reply.PutOff object (put_off_until self.old.setup object now) }
-        ensures times { TellsTimesUpTo LAST_TIME result }
+        ensures times { HasTimesUpTo LAST_TIME result }
     {
-        let until = put_off_until(&self.setup, object, now);
+        let intervals = self.intervals[object as usize];
+        let until = time_after(now, intervals.check);
         self.change(object, Change::PutOff(until));
         Reply::PutOff { object, until }
     }
 
     /// Begins the check of an object, under the next run number.
     fn begin(&mut self, object: u32, now: u64) -> Reply
-        requires there { object < object_count self.old.setup }
+        requires in_range { object < object_count self.old.setup }
         requires moment { now ≤ LAST_MOMENT }
         requires spare { self.old.runs < MAX_RUNS }
-        requires open { IsTrue (is_open self.old object) }
-        ensures state { self.new ≡ taken now object self.old }
+        requires open { IsTrue (is_startable self.old object) }
+        ensures state { self.new ≡ state_after_take now object self.old }
         ensures reply { result ≡ Reply.Taken object (self.old.runs + 1) }
     {
         self.runs += 1;
@@ -123,10 +125,10 @@ impl Sched {
 
     /// The reply if no check may begin. If an object is due then, it is a service, and the limit is reached.
     #[inline(never)]
-    fn waiting(&self, now: u64) -> Reply
-        requires { least (eligible now self.now) ≡ None }
+    fn idle_reply(&self, now: u64) -> Reply
+        requires { least (eligible_candidates now self.now) ≡ None }
         ensures reply { result ≡ waiting_reply now self.now }
-        ensures times { TellsTimesUpTo LAST_TIME result }
+        ensures times { HasTimesUpTo LAST_TIME result }
     {
         match self.roster.first() {
             Some((time, _number)) if time <= now => Reply::AtLimit,
@@ -140,16 +142,16 @@ impl Sched {
     pub(super) fn report(&mut self, object: u32, run: u64, code: Code) -> Result<Reply, Refusal>
         ensures state { self.new ≡ (step self.old (Call.Report object run code)).0 }
         ensures reply { reply_of result ≡ (step self.old (Call.Report object run code)).1 }
-        ensures times { TellsTimesUpTo LAST_TIME (reply_of result) }
+        ensures times { HasTimesUpTo LAST_TIME (reply_of result) }
     {
         let state = self.object(object)?;
         let running = state.run_under(run)?;
         let start = running.start;
         let already = state.next();
         if code == Code::Ok && self.is_steady(object) {
-            Ok(self.stay(object, start, already))
+            Ok(self.report_unchanged(object, start, already))
         } else {
-            Ok(self.judge(object, code, start, already))
+            Ok(self.report_changed(object, code, start, already))
         }
     }
 
@@ -163,19 +165,18 @@ impl Sched {
 
     /// Ends a run that began at `start` by an OK that leaves the object unchanged, except for its next time.
     /// The next time may be set already.
-    fn stay(&mut self, object: u32, start: u64, already: Option<u64>) -> Reply
-        requires there { object < object_count self.old.setup }
+    fn report_unchanged(&mut self, object: u32, start: u64, already: Option<u64>) -> Reply
+        requires in_range { object < object_count self.old.setup }
         requires moment { start ≤ LAST_MOMENT }
         requires in_time { IfSome already (λ time. time ≤ LAST_TIME) }
         requires already { next_of object self.old ≡ already }
         requires steady { IsSteadyIn self.old object }
-        ensures state { self.new ≡ (report_told object start Code.Ok already self.old).0 }
-        ensures reply { result ≡ (report_told object start Code.Ok already self.old).1 }
-        ensures times { TellsTimesUpTo LAST_TIME result }
+        ensures state { self.new ≡ (report_result object start Code.Ok already self.old).0 }
+        ensures reply { result ≡ (report_result object start Code.Ok already self.old).1 }
+        ensures times { HasTimesUpTo LAST_TIME result }
     {
         let standing = self.standing(object);
-        let intervals = self.intervals[object as usize];
-        let next = next_past(intervals.check, start, already);
+        let next = next_check_time(self.intervals[object as usize], standing, start, already);
         self.change(object, Change::End(next));
         Reply::Standing {
             standing,
@@ -188,14 +189,14 @@ impl Sched {
     /// The next time may be set already.
     // A separate call, so that an OK which changes nothing doesn't pay for the values that this one keeps.
     #[inline(never)]
-    fn judge(&mut self, object: u32, code: Code, start: u64, already: Option<u64>) -> Reply
-        requires there { object < object_count self.old.setup }
+    fn report_changed(&mut self, object: u32, code: Code, start: u64, already: Option<u64>) -> Reply
+        requires in_range { object < object_count self.old.setup }
         requires moment { start ≤ LAST_MOMENT }
         requires in_time { IfSome already (λ time. time ≤ LAST_TIME) }
         requires already { next_of object self.old ≡ already }
-        ensures state { self.new ≡ (report_told object start code already self.old).0 }
-        ensures reply { result ≡ (report_told object start code already self.old).1 }
-        ensures times { TellsTimesUpTo LAST_TIME result }
+        ensures state { self.new ≡ (report_result object start code already self.old).0 }
+        ensures reply { result ≡ (report_result object start code already self.old).1 }
+        ensures times { HasTimesUpTo LAST_TIME result }
     {
         let found = state_found(&self.setup, &self.standings, object, code);
         let thresholds = flap_thresholds(&self.setup, object);
@@ -204,10 +205,10 @@ impl Sched {
         // The standing is read again, and stored before the queue changes, so that few values have to be
         // saved over a call.
         let before = self.standings[object as usize];
-        let standing = judged(&self.setup, &self.standings, object, found, flapping);
+        let standing = new_standing(&self.setup, &self.standings, object, found, flapping);
         let changed = is_changed(before, standing);
         let intervals = self.intervals[object as usize];
-        let next = next_by(intervals, standing, start, already);
+        let next = next_check_time(intervals, standing, start, already);
         put_standing(&mut self.standings, object, standing);
         self.steady[object as usize] = is_steady_after(
             &self.results,
@@ -230,12 +231,12 @@ impl Sched {
     pub(super) fn abandon(&mut self, object: u32, run: u64, now: u64) -> Result<Reply, Refusal>
         ensures state { self.new ≡ (step self.old (Call.Abandon object run now)).0 }
         ensures reply { reply_of result ≡ (step self.old (Call.Abandon object run now)).1 }
-        ensures times { TellsTimesUpTo LAST_TIME (reply_of result) }
+        ensures times { HasTimesUpTo LAST_TIME (reply_of result) }
     {
         let state = self.object(object)?;
         test_moment(now)?;
         state.run_under(run)?;
-        let next = state.next().unwrap_or(now);
+        let next = state.freed_time(now);
         self.change(object, Change::End(Some(next)));
         Ok(Reply::Freed { next })
     }
@@ -254,7 +255,7 @@ fn is_steady_after(
     requires { number < length results.now }
     ensures ok { result ≡ true → code ≡ Code.Ok }
     ensures same { result ≡ true → before ≡ after }
-    ensures kept { result ≡ true → kept_after (results_at results.now number) found ≡ results_at results.now number }
+    ensures kept { result ≡ true → results_after (results_at results.now number) found ≡ results_at results.now number }
 {
     code == Code::Ok && is_same(before, after) && results.are_all(number, found)
 }
@@ -288,7 +289,7 @@ fn is_same(one: Standing, other: Standing) -> bool
 
 /// Refuses a moment that is too late.
 pub(super) fn test_moment(moment: u64) -> Result<(), Refusal>
-    ensures value { result ≡ within_range moment }
+    ensures value { result ≡ moment_test moment }
     ensures within { OnOk result (moment ≤ LAST_MOMENT) }
 {
     if moment > LAST_MOMENT {

@@ -58,7 +58,7 @@ fn look_at_doors(rt: &impl Wait, desk: &Desk, pass: Pass, doors: &Doors) -> Pass
 }
 
 /// The operator's thread: the cellar is checked at once, though it may not be due, and a check that
-/// somebody took and won't report is given up.
+/// somebody took and won't report is abandoned.
 fn operate(rt: &impl Wait, desk: &Desk, pass: Pass) -> Pass
     requires { IsPassOf desk.now pass }
     ensures { IsPassOf desk.now result }

@@ -5,7 +5,7 @@ ghost use Rattle.check_desk.specs.Desks.{IsPassOf};
 ghost use Rattle.std.specs.Prelude.{IfOk};
 
 use super::AlwaysOk;
-use crate::openings::{ONE_SERVICE, closed, opened};
+use crate::openings::{ONE_SERVICE, close_desk, open_desk};
 use check_desk::{Answer, Desk, Pass};
 use check_rules::Code;
 use check_sched::{Call, Refusal, Reply};
@@ -21,7 +21,7 @@ fn three_passes(alloc: Global) -> Result<(Desk, Pass, Pass, Pass), Fail>
     ensures { IfOk result (λ made. IsPassOf made.0 made.1 × IsPassOf made.0 made.2
         × IsPassOf made.0 made.3) }
 {
-    let (desk, mut passes) = opened(alloc, ONE_SERVICE, 3, 1)?;
+    let (desk, mut passes) = open_desk(alloc, ONE_SERVICE, 3, 1)?;
     let third = passes.pop();
     let second = passes.pop();
     let first = passes.pop();
@@ -92,7 +92,7 @@ fn a_spent_worker_leaves_its_check_open(rt: HostRuntime) -> Result<(), Fail> {
     let third = ask_once(&rt, &desk, third, report, too_late);
     let pass = desk.gather(desk.gather(first, second), third);
     assert_eq!(rt; (pass.gathered(), pass.calls()), (3, 3));
-    let book = closed(&rt, desk, pass);
+    let book = close_desk(&rt, desk, pass);
     assert_eq!(rt; (book.entries().len(), book.refused()), (3, 0));
     Ok(())
 }
@@ -101,7 +101,7 @@ fn a_spent_worker_leaves_its_check_open(rt: HostRuntime) -> Result<(), Fail> {
 #[test]
 fn a_crew_of_a_pass_with_one_call(rt: HostRuntime) -> Result<(), Fail> {
     let alloc = rt.alloc();
-    let (desk, passes) = opened(alloc, ONE_SERVICE, 1, 1)?;
+    let (desk, passes) = open_desk(alloc, ONE_SERVICE, 1, 1)?;
     let Ok((book, tally)) = crew(&rt, alloc, desk, passes, &AlwaysOk, &[0]) else {
         return Err(Fail::from("no book"));
     };

@@ -1,4 +1,5 @@
 //! One turn over the counter book, as a layer above uses the lock.
+
 ghost use Rattle.std.specs.Prelude.{◌≡◌, ◌+◌, MatchResult};
 ghost use Rattle.ticket_lock.specs.Tokens.{seat_of, turn_of, IsSeatOf, IsTurnOf};
 

@@ -2,11 +2,11 @@
 
 use super::devices::{FailingReader, KINDS, ShortWriter};
 use super::with_host;
-use check_drive::drive::{Outcome, drive};
-use check_drive::live::live;
-use check_script::{DriveError, Start};
-use check_session::check::{check, write_setup_line};
-use check_session::drill::drill;
+use nagsched_cli::check::{check, write_setup_line};
+use nagsched_cli::drill::drill;
+use nagsched_protocol::{DriveError, Start};
+use nagsched_run::drive::{Outcome, drive};
+use nagsched_run::live::live;
 use std::alloc::Global;
 use std::io::ErrorKind;
 use std::test::Fail;

@@ -1,9 +1,9 @@
 //! Conversations: each answer goes out before more is asked for.
 
 use super::with_host;
-use check_drive::drive::Outcome;
-use check_drive::live::live;
-use check_script::Start;
+use nagsched_protocol::Start;
+use nagsched_run::drive::Outcome;
+use nagsched_run::live::live;
 use std::cell::Cell;
 use std::io;
 use std::io::{Read, Write};

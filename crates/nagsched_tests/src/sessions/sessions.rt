@@ -2,7 +2,7 @@
 
 use super::devices::ShortWriter;
 use super::with_host;
-use check_session::session::session;
+use nagsched_cli::session::session;
 use std::io::ErrorKind;
 use std::test::Fail;
 

@@ -8,8 +8,8 @@ returns-clause-words c = λ setup start room history. opened_words setup start r
 pub returns-clause-read : goal.returns-clause-read
 returns-clause-read c = λ setup start room history object valid there. opened_read setup start room history object valid there
 
-pub returns-clause-few : goal.returns-clause-few
-returns-clause-few c = λ book. few_words book
+pub returns-clause-bounded : goal.returns-clause-bounded
+returns-clause-bounded c = λ book. few_words book
 
 pub returns-clause-words_from : goal.returns-clause-words_from
 returns-clause-words_from c = λ opened history is. state_words opened history is

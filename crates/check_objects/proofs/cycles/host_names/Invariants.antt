@@ -1,6 +1,6 @@
 use Rattle.std.proofs.Common.{◌≡◌, map, take, string_bytes}
-use Rattle.check_drafts.specs.Drafted.{host}
-use Rattle.check_drafts.specs.Keys.{names_of}
+use Rattle.setup_model.specs.ParsedViews.{host}
+use Rattle.setup_model.specs.Keys.{names_of}
 use Rattle.check_objects.proofs.cycles.host_names.Given as goal
 
 abbrev pub invariant-loop-host : goal.invariant-loop-host

@@ -1,6 +1,6 @@
 use Rattle.std.proofs.Common.{◌∙◌, ap, refl, bytes_eq, map, string_bytes}
 use Rattle.std.proofs.lemmas.List.{take_all}
-use Rattle.check_drafts.specs.Ends.{is_known}
+use Rattle.setup_model.specs.Ends.{is_known}
 use Rattle.check_objects.proofs.IndexLemmas.{index_next}
 use Rattle.check_objects.proofs.cycles.index_by_name.Goals as goal
 

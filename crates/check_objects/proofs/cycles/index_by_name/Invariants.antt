@@ -1,5 +1,5 @@
 use Rattle.std.proofs.Common.{◌≡◌, ℕ, Bor, List, bytes_eq, map, take, string_bytes, true}
-use Rattle.check_drafts.specs.Ends.{is_known}
+use Rattle.setup_model.specs.Ends.{is_known}
 use Rattle.check_objects.specs.Indices.{HasIndex}
 use Rattle.indexmap.specs.IndexMap.{get}
 use Rattle.check_objects.proofs.cycles.index_by_name.Given as goal

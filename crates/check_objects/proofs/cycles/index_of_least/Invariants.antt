@@ -1,5 +1,5 @@
 use Rattle.std.proofs.Common.{◌<◌, ◌≤◌, ℕ, get_or, length}
-use Rattle.check_objects.proofs.cycles.place_of_least.Given as goal
+use Rattle.check_objects.proofs.cycles.index_of_least.Given as goal
 
 abbrev pub invariant-loop-place : goal.invariant-loop-place
 invariant-loop-place l = record {

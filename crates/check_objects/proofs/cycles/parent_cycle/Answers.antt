@@ -1,12 +1,12 @@
 use Rattle.std.proofs.Common.{◌≡◌, ◌<◌, ℕ, List, [], ap, ◌∙◌, get_or, length, map, string_bytes, arith}
 use Rattle.std.proofs.lemmas.List.{length-map}
-use Rattle.check_drafts.specs.Drafted.{drafts_view, host}
-use Rattle.check_drafts.specs.Ends.{is_known}
-use Rattle.check_drafts.specs.Keys.{names_of}
-use Rattle.check_numbers.specs.Configuration.{Configuration, parents_by_host}
-use Rattle.check_numbers.specs.Entries.{names_in}
-use Rattle.check_numbers.specs.Numbering.{configuration}
-use Rattle.link_order.specs.Ordering.{IsCycle}
+use Rattle.setup_model.specs.ParsedViews.{parsed_view, host}
+use Rattle.setup_model.specs.Ends.{is_known}
+use Rattle.setup_model.specs.Keys.{names_of}
+use Rattle.check_objects.specs.Configuration.{Configuration, parents_by_host}
+use Rattle.check_objects.specs.Entries.{names_in}
+use Rattle.check_objects.specs.Numbering.{configuration}
+use Rattle.setup_order.specs.Results.{IsCycle}
 use Rattle.check_objects.proofs.NamedCycleLemmas.{host_count_is, hosts_listed, parent_round}
 use Rattle.check_objects.proofs.cycles.parent_cycle.Goals as goal
 
@@ -16,7 +16,7 @@ hosts_within conf count numbers same cycle i h = omega (arith, same, cycle.withi
 
 pub document_indices-requires-clause-high : goal.document_indices-requires-clause-high
 document_indices-requires-clause-high c =
-    let ds = drafts_view c.args.drafts.now in
+    let ds = parsed_view c.args.drafts.now in
     λ place h.
     let below = hosts_within (configuration ds) _ c.args.cycle.now (host_count_is ds c.requires.faultless c.args.hosts.now.entries c.requires.hosts) c.requires.cycle
     place h in
@@ -24,14 +24,14 @@ document_indices-requires-clause-high c =
 
 pub document_indices-requires-clause-known : goal.document_indices-requires-clause-known
 document_indices-requires-clause-known c =
-    let ds = drafts_view c.args.drafts.now in
+    let ds = parsed_view c.args.drafts.now in
     let full = ap (map string_bytes) c.deref-2.ensures.value ∙ c.in_ok-names.ensures ∙ ap (λ l. names_of (map host l)) c.deref.ensures.value in
     λ index h.
     ap (λ l. is_known l (get_or (names_in c.args.hosts.now.entries) index [])) full ∙ hosts_listed ds c.requires.faultless c.args.hosts.now.entries c.requires.hosts index h
 
 pub returns : goal.returns
 returns c =
-    let ds = drafts_view c.args.drafts.now in
+    let ds = parsed_view c.args.drafts.now in
     let full = ap (map string_bytes) c.deref-2.ensures.value ∙ c.in_ok-names.ensures ∙ ap (λ l. names_of (map host l)) c.deref.ensures.value in (
       c.requires.cyclic,
       parent_round ds c.requires.faultless c.args.hosts.now.entries c.requires.hosts c.args.cycle.now c.requires.cycle

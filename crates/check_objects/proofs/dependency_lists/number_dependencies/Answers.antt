@@ -1,12 +1,12 @@
 use Rattle.std.proofs.Common.{◌≡◌, get_or}
-use Rattle.check_drafts.specs.Drafted.{dependency}
-use Rattle.check_drafts.specs.Ends.{has_known_ends}
-use Rattle.check_drafts.proofs.PastEnds.{no_dependency}
-use Rattle.check_numbers.specs.Entries.{names_in}
-use Rattle.check_numbers.specs.Numbering.{numbered_behind}
-use Rattle.check_numbers.proofs.DependencyLemmas.{pushed_next}
-use Rattle.check_numbers.proofs.EndLemmas.{one_of_all}
-use Rattle.check_numbers.proofs.dependency_lists.number_dependencies.Goals as goal
+use Rattle.setup_model.specs.ParsedViews.{dependency}
+use Rattle.setup_model.specs.Ends.{has_known_ends}
+use Rattle.setup_model.proofs.DefaultItems.{no_dependency}
+use Rattle.check_objects.specs.Entries.{names_in}
+use Rattle.check_objects.specs.Numbering.{offset_dependency}
+use Rattle.check_objects.proofs.DependencyLemmas.{pushed_next}
+use Rattle.check_objects.proofs.DependencyEndLemmas.{one_of_all}
+use Rattle.check_objects.proofs.dependency_lists.number_dependencies.Goals as goal
 
 pub number_dependency-requires-clause-known : goal.number_dependency-requires-clause-known
 number_dependency-requires-clause-known g c =
@@ -15,6 +15,6 @@ number_dependency-requires-clause-known g c =
 
 pub loop-draft-preserved : goal.loop-draft-preserved
 loop-draft-preserved g c =
-    pushed_next (numbered_behind c.args.others (names_in c.args.objects.now.entries)) dependency c.args.numbered.now.items c.loop-draft.numbered.items
+    pushed_next (offset_dependency c.args.others (names_in c.args.objects.now.entries)) dependency c.args.numbered.now.items c.loop-draft.numbered.items
     c.push.new.self.items c.args.drafts.now c.loop-draft.draft-index no_dependency c.number_dependency.result c.loop-draft.invariant c.loop-draft-test.true
     c.in_ok-push.ensures.items c.number_dependency.ensures

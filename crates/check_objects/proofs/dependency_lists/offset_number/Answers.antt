@@ -1,8 +1,8 @@
 use Rattle.std.proofs.Common.{◌≡◌, ◌∙◌, ap, sym}
 use Rattle.std.specs.Prelude.{is_some}
-use Rattle.check_numbers.specs.Entries.{names_in}
-use Rattle.check_numbers.proofs.EndLemmas.{number_known, place_known, place_of_name}
-use Rattle.check_numbers.proofs.dependency_lists.number_behind.Goals as goal
+use Rattle.check_objects.specs.Entries.{names_in}
+use Rattle.check_objects.proofs.DependencyEndLemmas.{number_known, place_known, place_of_name}
+use Rattle.check_objects.proofs.dependency_lists.offset_number.Goals as goal
 
 pub unwrap-index-requires : goal.unwrap-index-requires
 unwrap-index-requires g c =

@@ -1,12 +1,12 @@
 use Rattle.std.proofs.Common.{sym, ap, ◌∙◌, bytes_eq, string_bytes, refl, true}
 use Rattle.std.specs.List.{list_any}
-use Rattle.check_drafts.specs.Drafted.{texts}
-use Rattle.check_numbers.specs.Entries.{host_entry, sorted_host}
-use Rattle.check_numbers.specs.Numbering.{numbered_host}
-use Rattle.check_drafts.specs.Name.{text_order}
-use Rattle.check_drafts.proofs.ListLemmas.{list_any-map}
-use Rattle.check_numbers.proofs.NumberingLemmas.{built_seen, built_all, new_among, map_twice, all_good, texts_apart}
-use Rattle.check_numbers.proofs.numbering.index_hosts.Goals as goal
+use Rattle.setup_model.specs.ParsedViews.{texts}
+use Rattle.check_objects.specs.Entries.{host_entry, sorted_host}
+use Rattle.check_objects.specs.Numbering.{numbered_host}
+use Rattle.setup_model.specs.Name.{text_order}
+use Rattle.setup_model.proofs.ListLemmas.{list_any-map}
+use Rattle.check_objects.proofs.NumberingLemmas.{built_seen, built_all, new_among, map_twice, all_good, texts_apart}
+use Rattle.check_objects.proofs.object_index.index_hosts.Goals as goal
 
 pub append-requires : goal.append-requires
 append-requires c =

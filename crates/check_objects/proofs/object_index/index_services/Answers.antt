@@ -1,12 +1,12 @@
 use Rattle.std.proofs.Common.{sym, ap, ◌∙◌, bytes_eq, string_bytes, refl}
 use Rattle.std.specs.List.{list_any}
-use Rattle.check_drafts.specs.Drafted.{texts}
-use Rattle.check_numbers.specs.Entries.{service_entry, sorted_service, description_in}
-use Rattle.check_drafts.specs.Name.{full_name, is_host_name, pair_order}
-use Rattle.check_numbers.specs.Numbering.{numbered_service}
-use Rattle.check_drafts.proofs.ListLemmas.{list_any-map}
-use Rattle.check_numbers.proofs.NumberingLemmas.{built_seen, built_all, new_among, map_twice, names_apart, good_next, description_behind}
-use Rattle.check_numbers.proofs.numbering.index_services.Goals as goal
+use Rattle.setup_model.specs.ParsedViews.{texts}
+use Rattle.check_objects.specs.Entries.{service_entry, sorted_service, description_in}
+use Rattle.setup_model.specs.Name.{full_name, is_host_name, pair_order}
+use Rattle.check_objects.specs.Numbering.{numbered_service}
+use Rattle.setup_model.proofs.ListLemmas.{list_any-map}
+use Rattle.check_objects.proofs.NumberingLemmas.{built_seen, built_all, new_among, map_twice, names_apart, good_next, description_behind}
+use Rattle.check_objects.proofs.object_index.index_services.Goals as goal
 
 pub append-requires : goal.append-requires
 append-requires c =
@@ -16,13 +16,13 @@ append-requires c =
     (λ x y p q less. names_apart (x.0.0.now, x.0.1.now) (y.0.0.now, y.0.1.now) p q less)
     (λ x. numbered_service (texts c.args.names.now.keys) (sorted_service x)) (λ y. y.name)
     (λ x. refl) c.args.sorted.entries c.loop-host.host-iterator c.next.new.self _
-    ((c.in-Some.host, c.in-Some.description), c.in-Some.object) c.len.ensures.ordered c.requires.parted c.loop-host.invariant c.in-Some.ensures.steps
+    ((c.in-Some.host, c.in-Some.description), c.in-Some.object) c.len.ensures.ordered c.requires.without_semicolon c.loop-host.invariant c.in-Some.ensures.steps
 
 pub loop-host-preserved : goal.loop-host-preserved
 loop-host-preserved c =
-    let parted = good_next _ (λ x. is_host_name x.0.0.now) c.args.sorted.entries c.loop-host.host-iterator c.next.new.self _
-    ((c.in-Some.host, c.in-Some.description), c.in-Some.object) c.loop-host.invariant c.in-Some.ensures.steps c.requires.parted in
-    let description = ap description_in c.in_ok-name.ensures ∙ description_behind c.in-Some.host.now c.in-Some.description.now parted in
+    let without_semicolon = good_next _ (λ x. is_host_name x.0.0.now) c.args.sorted.entries c.loop-host.host-iterator c.next.new.self _
+    ((c.in-Some.host, c.in-Some.description), c.in-Some.object) c.loop-host.invariant c.in-Some.ensures.steps c.requires.without_semicolon in
+    let description = ap description_in c.in_ok-name.ensures ∙ description_behind c.in-Some.host.now c.in-Some.description.now without_semicolon in
     built_seen (λ x. numbered_service (texts c.args.names.now.keys)
     (sorted_service x)) service_entry c.args.sorted.entries c.loop-host.host-iterator c.next.new.self c.loop-host.services.entries c.append.new.map.entries
     (c.in_ok-name.name, record { object = c.in-Some.object; host = c.number_of-host.result })

@@ -1,9 +1,9 @@
 use Rattle.std.proofs.Common.{map}
-use Rattle.check_drafts.specs.Drafted.{texts}
-use Rattle.check_numbers.specs.Entries.{service_entry, sorted_service}
-use Rattle.check_numbers.specs.Numbering.{numbered_service}
-use Rattle.check_numbers.proofs.NumberingLemmas.{Built}
-use Rattle.check_numbers.proofs.numbering.index_services.Given as goal
+use Rattle.setup_model.specs.ParsedViews.{texts}
+use Rattle.check_objects.specs.Entries.{service_entry, sorted_service}
+use Rattle.check_objects.specs.Numbering.{numbered_service}
+use Rattle.check_objects.proofs.NumberingLemmas.{Built}
+use Rattle.check_objects.proofs.object_index.index_services.Given as goal
 
 abbrev pub invariant-loop-host : goal.invariant-loop-host
 invariant-loop-host l =

@@ -2,10 +2,10 @@ use Rattle.std.proofs.Common.{sym, subst, ◌∙◌, bytes_eq, refl, true}
 use Rattle.std.specs.BTreeMap.{keys}
 use Rattle.std.specs.List.{list_any}
 use Rattle.std.specs.List.Sorted.{IsStrictlySortedBy}
-use Rattle.check_drafts.specs.Name.{text_order}
-use Rattle.check_drafts.proofs.ListLemmas.{one_key_more, list_any-map}
-use Rattle.check_numbers.proofs.NumberingLemmas.{built_seen, built_all, new_among, all_good, texts_apart, map_same, names_of_entries}
-use Rattle.check_numbers.proofs.numbering.number_names.Goals as goal
+use Rattle.setup_model.specs.Name.{text_order}
+use Rattle.setup_model.proofs.ListLemmas.{one_key_more, list_any-map}
+use Rattle.check_objects.proofs.NumberingLemmas.{built_seen, built_all, new_among, all_good, texts_apart, map_same, names_of_entries}
+use Rattle.check_objects.proofs.object_index.number_names.Goals as goal
 
 pub loop-name-preserved : goal.loop-name-preserved
 loop-name-preserved c =

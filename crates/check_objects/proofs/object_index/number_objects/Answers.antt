@@ -2,17 +2,17 @@ use Rattle.std.proofs.Common.{◌≤◌, List, sym, ap, ◌∙◌, bytes_eq, len
 use Rattle.std.proofs.lemmas.List.{length-map}
 use Rattle.std.proofs.lemmas.List.Folds.{list_all-map}
 use Rattle.std.specs.List.{list_all}
-use Rattle.check_drafts.specs.declared.draft.HostDraft.{HostDraft}
-use Rattle.check_drafts.specs.Drafted.{host, service}
-use Rattle.check_numbers.specs.Entries.{sorted_service}
-use Rattle.check_numbers.specs.Numbering.{numbered_host, numbered_service, hosts_in_order, services_in_order}
-use Rattle.check_drafts.specs.Name.{is_host_name}
-use Rattle.check_drafts.specs.Keys.{first_repeat, names_of, same_key, key_of}
-use Rattle.check_numbers.proofs.NumberLaws.{few_names, hosts_counted, parted_in_order}
-use Rattle.check_numbers.proofs.numbering.number_objects.Goals as goal
+use Rattle.setup_model.specs.declared.parsed_setup.ParsedHost.{ParsedHost}
+use Rattle.setup_model.specs.ParsedViews.{host, service}
+use Rattle.check_objects.specs.Entries.{sorted_service}
+use Rattle.check_objects.specs.Numbering.{numbered_host, numbered_service, hosts_in_order, services_in_order}
+use Rattle.setup_model.specs.Name.{is_host_name}
+use Rattle.setup_model.specs.Keys.{first_repeat, names_of, is_same_key, key_of}
+use Rattle.check_objects.proofs.NumberLaws.{few_names, hosts_counted, parted_in_order}
+use Rattle.check_objects.proofs.object_index.number_objects.Goals as goal
 
-few_in_order : (hosts : List HostDraft) → length hosts ≤ 4096 → length (hosts_in_order (map host hosts)) ≤ 4096
-few_in_order hosts few = omega (arith, few, hosts_counted (map host hosts), length-map hosts host)
+few_in_order : (hosts : List ParsedHost) → length hosts ≤ 4096 → length (hosts_in_order (map host hosts)) ≤ 4096
+few_in_order hosts bounded = omega (arith, bounded, hosts_counted (map host hosts), length-map hosts host)
 
 pub sort_hosts-requires-clause-distinct : goal.sort_hosts-requires-clause-distinct
 sort_hosts-requires-clause-distinct c =
@@ -21,24 +21,24 @@ sort_hosts-requires-clause-distinct c =
 
 pub sort_services-requires-clause-distinct : goal.sort_services-requires-clause-distinct
 sort_services-requires-clause-distinct c =
-    ap (λ l. first_repeat same_key (map key_of (map service l))) c.deref-2.ensures.value
+    ap (λ l. first_repeat is_same_key (map key_of (map service l))) c.deref-2.ensures.value
     ∙ c.requires.keys
 
 pub index_hosts-requires : goal.index_hosts-requires
 index_hosts-requires c =
     let order = c.in_ok-hosts.ensures ∙ ap (λ l. hosts_in_order (map host l)) c.deref.ensures.value in
-    few_names c.in_ok-names.names.keys _ _ c.in_ok-names.ensures order (few_in_order c.args.drafts.now.hosts.items c.requires.few)
+    few_names c.in_ok-names.names.keys _ _ c.in_ok-names.ensures order (few_in_order c.args.drafts.now.hosts.items c.requires.bounded)
 
-pub index_services-requires-clause-few : goal.index_services-requires-clause-few
-index_services-requires-clause-few c =
+pub index_services-requires-clause-bounded : goal.index_services-requires-clause-bounded
+index_services-requires-clause-bounded c =
     let order = c.in_ok-hosts.ensures ∙ ap (λ l. hosts_in_order (map host l)) c.deref.ensures.value in
-    few_names c.in_ok-names.names.keys _ _ c.in_ok-names.ensures order (few_in_order c.args.drafts.now.hosts.items c.requires.few)
+    few_names c.in_ok-names.names.keys _ _ c.in_ok-names.ensures order (few_in_order c.args.drafts.now.hosts.items c.requires.bounded)
 
-pub index_services-requires-clause-parted : goal.index_services-requires-clause-parted
-index_services-requires-clause-parted c =
+pub index_services-requires-clause-without_semicolon : goal.index_services-requires-clause-without_semicolon
+index_services-requires-clause-without_semicolon c =
     sym (list_all-map (λ e. is_host_name e.0.0) sorted_service c.in_ok-services.services.entries)
     ∙ ap (list_all (λ e. is_host_name e.0.0)) (c.in_ok-services.ensures ∙ ap (λ l. services_in_order (map service l)) c.deref-2.ensures.value)
-    ∙ parted_in_order (map service c.args.drafts.now.services.items) c.requires.parted
+    ∙ parted_in_order (map service c.args.drafts.now.services.items) c.requires.without_semicolon
 
 pub returns-clause-hosts : goal.returns-clause-hosts
 returns-clause-hosts c =

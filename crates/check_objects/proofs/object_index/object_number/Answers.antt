@@ -1,6 +1,6 @@
 use Rattle.std.proofs.Common.{ap, ◌∙◌, ◌+◌, length, option_map, Some}
-use Rattle.check_numbers.proofs.ObjectLemmas.{number_front, number_back}
-use Rattle.check_numbers.proofs.numbering.object_number.Goals as goal
+use Rattle.check_objects.proofs.ObjectLemmas.{number_front, number_back}
+use Rattle.check_objects.proofs.object_index.object_number.Goals as goal
 
 pub returns-in-Some : goal.returns-in-Some
 returns-in-Some c = number_front c.args.hosts.now.entries c.args.services.now.entries c.args.name.now c.in-Some.index c.in-Some.ensures.index

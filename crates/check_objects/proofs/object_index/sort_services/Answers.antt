@@ -1,16 +1,16 @@
 use Rattle.std.proofs.Common.{◌∙◌, map, get_or, refl, sym, ap, arith}
 use Rattle.std.proofs.lemmas.List.{drop_all}
-use Rattle.check_drafts.specs.Drafted.{service}
-use Rattle.check_drafts.specs.Keys.{key_of}
-use Rattle.check_numbers.specs.Numbering.{object_of}
-use Rattle.check_drafts.specs.Name.{pair_order}
-use Rattle.check_drafts.proofs.ListLemmas.{dropped_at}
-use Rattle.check_drafts.proofs.PastEnds.{no_service}
-use Rattle.check_numbers.proofs.NumberingLemmas.{placed_next}
-use Rattle.check_numbers.specs.Entries.{sorted_service}
-use Rattle.check_numbers.proofs.NumberLaws.{services_placed}
-use Rattle.check_numbers.proofs.Placed.{placed}
-use Rattle.check_numbers.proofs.numbering.sort_services.Goals as goal
+use Rattle.setup_model.specs.ParsedViews.{service}
+use Rattle.setup_model.specs.Keys.{key_of}
+use Rattle.check_objects.specs.Numbering.{object_of}
+use Rattle.setup_model.specs.Name.{pair_order}
+use Rattle.setup_model.proofs.ListLemmas.{dropped_at}
+use Rattle.setup_model.proofs.DefaultItems.{no_service}
+use Rattle.check_objects.proofs.NumberingLemmas.{placed_next}
+use Rattle.check_objects.specs.Entries.{sorted_service}
+use Rattle.check_objects.proofs.NumberLaws.{services_placed}
+use Rattle.check_objects.proofs.InsertionLemmas.{placed}
+use Rattle.check_objects.proofs.object_index.sort_services.Goals as goal
 
 pub loop-draft-preserved : goal.loop-draft-preserved
 loop-draft-preserved c =

@@ -1,11 +1,11 @@
 use Rattle.std.proofs.Common.{◌≡◌, [], map, drop}
-use Rattle.check_drafts.specs.Keys.{key_of}
-use Rattle.check_numbers.specs.Numbering.{object_of}
-use Rattle.check_drafts.specs.Name.{pair_order}
-use Rattle.check_drafts.specs.Drafted.{service}
-use Rattle.check_numbers.specs.Entries.{sorted_service}
-use Rattle.check_numbers.proofs.numbering.sort_services.Given as goal
-use Rattle.check_numbers.proofs.Placed.{placed}
+use Rattle.setup_model.specs.Keys.{key_of}
+use Rattle.check_objects.specs.Numbering.{object_of}
+use Rattle.setup_model.specs.Name.{pair_order}
+use Rattle.setup_model.specs.ParsedViews.{service}
+use Rattle.check_objects.specs.Entries.{sorted_service}
+use Rattle.check_objects.proofs.object_index.sort_services.Given as goal
+use Rattle.check_objects.proofs.InsertionLemmas.{placed}
 
 abbrev pub invariant-loop-draft : goal.invariant-loop-draft
 invariant-loop-draft l =

@@ -14,7 +14,7 @@ loop-hole-preserved c =
 pub returns-clause-ordered : goal.returns-clause-ordered
 returns-clause-ordered c =
     let l = c.loop-hole in let p = c.put_at-2.ensures in
-    rw (p.entries, p.positions) (rests _ _ _ _ _ l.invariant.around l.invariant.below l.invariant.outside (λ i b d. elim c.loop-hole-test.branch [
+    rw (p.entries, p.positions) (rests _ _ _ _ _ l.invariant.kept.around l.invariant.below l.invariant.outside (λ i b d. elim c.loop-hole-test.branch [
       | else-loop-hole-test w ↦ absurd (omega arith)
       | then-loop-hole-test+then-not-is_before w ↦
           below_parent _ l.hole ((l.hole - 1) / 2) _ (omega arith) (omega arith) (sym w.if-not-is_before.ensures) i b d
@@ -24,4 +24,4 @@ pub returns-clause-times : goal.returns-clause-times
 returns-clause-times c =
     let i = c.loop-hole.invariant in let p = c.put_at-2.ensures in
     rw (p.entries, p.positions)
-    (times_write _ _ _ _ _ i.around.linked i.around.inside i.outside.below ∙ ap (λ ts. set ts c.args.held.number (Some c.args.held.time)) i.times)
+    (times_write _ _ _ _ _ i.kept.around.linked i.kept.around.inside ∙ ap (λ ts. set ts c.args.held.number (Some c.args.held.time)) i.kept.times)

@@ -8,6 +8,6 @@ invariant-loop-found l = record {
   weight : l.changes.weight + weight_after l.last (drop l.found-index l.results) l.next_weight ≡ weight_after l.initial.last l.results l.initial.next_weight;
   count : l.changes.count + changes_after l.last (drop l.found-index l.results) ≡ changes_after l.initial.last l.results;
   step : l.next_weight ≡ l.initial.next_weight + 2 * l.found-index;
-  light : l.changes.weight ≤ l.found-index * 200;
-  few : l.changes.count ≤ l.found-index;
+  upper_bound : l.changes.weight ≤ l.found-index * 200;
+  bounded : l.changes.count ≤ l.found-index;
 }

@@ -1,9 +1,9 @@
 use Rattle.std.proofs.Common.{refl, sym, ◌∙◌, map}
-use Rattle.check_drafts.proofs.RepeatLemmas.{first_repeat_is}
-use Rattle.check_saved.proofs.RepeatLemmas.{run_here, run_later, run_none}
-use Rattle.check_saved.specs.Verification.{is_same_run, run_number}
-use Rattle.check_saved.proofs.lawful.repeated_run.Goals as goal
-use Rattle.check_saved.proofs.lawful.repeated_run.Goals.{in-Some+in_ok-insert+else-not-branch, in_default}
+use Rattle.setup_model.proofs.RepeatLemmas.{first_repeat_is}
+use Rattle.check_saved_state.proofs.RepeatLemmas.{run_here, run_later, run_none}
+use Rattle.check_saved_state.specs.Verification.{is_same_run, run_number}
+use Rattle.check_saved_state.proofs.invariants.first_repeated_run.Goals as goal
+use Rattle.check_saved_state.proofs.invariants.first_repeated_run.Goals.{in-Some+in_ok-insert+else-not-branch, in_default}
 
 pub loop-index-init : goal.loop-index-init
 loop-index-init c = record { repeat = first_repeat_is is_same_run (map run_number c.args.objects.now); known = λ n. rw c.in_ok-numbers.ensures.empty refl }

@@ -1,9 +1,9 @@
 use Rattle.std.proofs.Common.{◌≡◌, ℕ, ◌==◌, map, drop, take, Some}
 use Rattle.std.specs.List.{list_any}
-use Rattle.check_drafts.specs.Keys.{first_repeat}
-use Rattle.check_drafts.proofs.RepeatLemmas.{repeat_after}
-use Rattle.check_saved.specs.Verification.{is_same_run, run_number}
-use Rattle.check_saved.proofs.lawful.repeated_run.Given as goal
+use Rattle.setup_model.specs.Keys.{first_repeat}
+use Rattle.setup_model.proofs.RepeatLemmas.{repeat_after}
+use Rattle.check_saved_state.specs.Verification.{is_same_run, run_number}
+use Rattle.check_saved_state.proofs.invariants.first_repeated_run.Given as goal
 
 abbrev pub invariant-loop-index : goal.invariant-loop-index
 invariant-loop-index l = record {

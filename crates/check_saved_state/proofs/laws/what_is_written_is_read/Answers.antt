@@ -1,7 +1,7 @@
-use Rattle.check_saved.proofs.InverseLemmas.{fits, inverse}
-use Rattle.check_saved.proofs.SavedLemmas.{read_by}
-use Rattle.check_saved.proofs.WritableLemmas.{read_is_writable}
-use Rattle.check_saved.proofs.laws.what_is_written_is_read.Goals as goal
+use Rattle.check_saved_state.proofs.InverseLemmas.{fits, inverse}
+use Rattle.check_saved_state.proofs.SavedLemmas.{read_by}
+use Rattle.check_saved_state.proofs.WritableLemmas.{read_is_writable}
+use Rattle.check_saved_state.proofs.laws.what_is_written_is_read.Goals as goal
 
 pub returns : goal.returns
 returns c = record {

@@ -1,8 +1,8 @@
 use Rattle.std.proofs.Common.{◌≡◌, ◌==◌, true, not, arith}
 use Rattle.std.proofs.lemmas.Str.Pattern.{split_once_first}
-use Rattle.check_drafts.specs.Name.{is_host_name}
-use Rattle.check_saved.proofs.NameLemmas.{all_by_prefix}
-use Rattle.check_saved.proofs.name.is_full_name.Goals as goal
+use Rattle.setup_model.specs.Name.{is_host_name}
+use Rattle.check_saved_state.proofs.NameLemmas.{all_by_prefix}
+use Rattle.check_saved_state.proofs.name.is_full_name.Goals as goal
 
 pub returns-in-None : goal.returns-in-None
 returns-in-None c =

@@ -1,8 +1,8 @@
 use Rattle.std.proofs.Common.{◌≡◌, drop}
 use Rattle.serde_json.specs.View.{items_view}
-use Rattle.check_drafts.specs.Agreement.{with_front}
-use Rattle.check_saved.specs.Reading.{objects_from}
-use Rattle.check_saved.proofs.reading.read_objects.Given as goal
+use Rattle.setup_model.specs.Agreement.{with_front}
+use Rattle.check_saved_state.specs.Reading.{objects_from}
+use Rattle.check_saved_state.proofs.reading.read_objects.Given as goal
 
 abbrev pub invariant-loop-index : goal.invariant-loop-index
 invariant-loop-index l =

@@ -1,7 +1,7 @@
 use Rattle.std.proofs.Common.{◌≡◌, map, drop, bytes_eq}
-use Rattle.check_drafts.specs.Keys.{first_repeat}
-use Rattle.check_drafts.proofs.RepeatLemmas.{repeat_after}
-use Rattle.check_saved.proofs.verification.verify_distinct.Given as goal
+use Rattle.setup_model.specs.Keys.{first_repeat}
+use Rattle.setup_model.proofs.RepeatLemmas.{repeat_after}
+use Rattle.check_saved_state.proofs.verification.verify_distinct.Given as goal
 
 abbrev pub invariant-loop-index : goal.invariant-loop-index
 invariant-loop-index l =

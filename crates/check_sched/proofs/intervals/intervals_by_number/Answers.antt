@@ -17,10 +17,10 @@ intervals_for-requires-clause-retry c =
 
 pub loop-number-preserved : goal.loop-number-preserved
 loop-number-preserved c =
-    let there : c.loop-number.number < object_count c.args.setup.now = omega arith in
+    let in_range : c.loop-number.number < object_count c.args.setup.now = omega arith in
     one_more c.loop-number.number (intervals_of c.args.setup.now) c.loop-number.intervals.items _ c.intervals_for.result c.in_ok-push.ensures.items
     c.loop-number.invariant
-    (intervals_seen c.args.setup.now c.loop-number.number c.object.result.now c.intervals_for.result there c.object.ensures c.intervals_for.ensures)
+    (intervals_seen c.args.setup.now c.loop-number.number c.object.result.now c.intervals_for.result in_range c.object.ensures c.intervals_for.ensures)
 
 pub returns : goal.returns
 returns c =

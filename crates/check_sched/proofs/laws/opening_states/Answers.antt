@@ -1,4 +1,4 @@
-use Rattle.check_sched.proofs.NewLaws.{opening_can_be}
+use Rattle.check_sched.proofs.NewObjectLaws.{opening_can_be}
 use Rattle.check_sched.proofs.laws.opening_states.Goals as goal
 
 pub returns : goal.returns

@@ -1,4 +1,4 @@
-use Rattle.check_sched.proofs.OrderedLaws.{resumed_in_any_order}
+use Rattle.check_sched.proofs.SavedOrderLaws.{resumed_in_any_order}
 use Rattle.check_sched.proofs.laws.resumed_in_any_order.Goals as goal
 
 pub returns : goal.returns

@@ -9,5 +9,5 @@ returns-clause-counted c = λ s front back e object run legal is. runs_counted s
 
 pub returns-clause-out : goal.returns-clause-out
 returns-clause-out c =
-    λ setup saved start front back e object run other there out stays legal is.
-    out_until setup saved start front back e object run other there out stays legal is
+    λ setup saved start front back e object run other in_range out stays legal is.
+    out_until setup saved start front back e object run other in_range out stays legal is

@@ -4,6 +4,6 @@ use Rattle.check_sched.proofs.report.max_attempts.Goals as goal
 pub returns-clause-value : goal.returns-clause-value
 returns-clause-value c = max_attempts_at _ c.object.result.now c.object.ensures
 
-pub returns-clause-some : goal.returns-clause-some
-returns-clause-some c =
+pub returns-clause-nonempty : goal.returns-clause-nonempty
+returns-clause-nonempty c =
     one_attempt c.object.result.now (object_read_in_range c.args.setup.now c.args.number c.object.result.now c.requires.valid_setup c.object.ensures)

@@ -4,10 +4,10 @@ use Rattle.check_rules.specs.Verdict.{verdict_on}
 use Rattle.check_sched.specs.Report.{is_host_up}
 use Rattle.check_sched.specs.State.{max_attempts_of, standing_at}
 use Rattle.check_sched.proofs.ReportLaws.{verdict_by_host}
-use Rattle.check_sched.proofs.report.judged.Goals as goal
+use Rattle.check_sched.proofs.report.new_standing.Goals as goal
 
 pub verdict-requires-clause-attempts : goal.verdict-requires-clause-attempts
-verdict-requires-clause-attempts c = c.max_attempts-max.ensures.some
+verdict-requires-clause-attempts c = c.max_attempts-max.ensures.nonempty
 
 pub verdict-requires-clause-lawful : goal.verdict-requires-clause-lawful
 verdict-requires-clause-lawful c = rw (c.standing_at-before.ensures, c.max_attempts-max.ensures.value) c.requires.before.lawful

@@ -5,5 +5,5 @@ use Rattle.check_sched.proofs.roster.running_from.Given as goal
 abbrev pub invariant-loop-number : goal.invariant-loop-number
 invariant-loop-number l = record {
   counted : l.running + running_among (drop l.number l.objects) ≡ running_among (drop l.from l.objects);
-  few : l.running ≤ l.number;
+  bounded : l.running ≤ l.number;
 }

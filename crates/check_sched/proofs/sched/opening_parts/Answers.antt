@@ -3,8 +3,8 @@ use Rattle.check_spread.specs.Spread.{initial_times}
 use Rattle.check_sched.proofs.OpeningLaws.{opened_few, opened_hosts}
 use Rattle.check_sched.proofs.sched.opening_parts.Goals as goal
 
-pub new-requires-clause-few : goal.new-requires-clause-few
-new-requires-clause-few c =
+pub new-requires-clause-bounded : goal.new-requires-clause-bounded
+new-requires-clause-bounded c =
     let made = c.in_ok-objects.ensures in
     opened_few c.args.setup.now (initial_times c.args.setup.now c.args.start) c.in_ok-objects.objects.items made.valid_setup made.one_each made.items
 

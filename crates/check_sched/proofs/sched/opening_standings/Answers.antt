@@ -7,9 +7,9 @@ use Rattle.check_sched.proofs.sched.opening_standings.Goals as goal
 
 pub loop-index-preserved : goal.loop-index-preserved
 loop-index-preserved c =
-    let there : c.loop-index.index < object_count c.args.setup.now = omega arith in
+    let in_range : c.loop-index.index < object_count c.args.setup.now = omega arith in
     one_more c.loop-index.index _ c.loop-index.standings.items _ c.pending.result c.in_ok-push.ensures.items c.loop-index.invariant
-    (standing_seen c.args.setup.now c.loop-index.index c.pending.result _ there c.pending.ensures
+    (standing_seen c.args.setup.now c.loop-index.index c.pending.result _ in_range c.pending.ensures
     (ap (λ hosts. nat_lt c.loop-index.index hosts) c.hosts.ensures.count))
 
 pub returns : goal.returns

@@ -4,7 +4,7 @@ use Rattle.std.proofs.Math.Nat.{mod-lt}
 use Rattle.std.proofs.lemmas.Grind.{get_or_default_zero}
 use Rattle.std.proofs.lemmas.List.{take_all}
 use Rattle.std.proofs.lemmas.List.Elements.{All-push}
-use Rattle.check_drafts.specs.declared.object.Object.{Object}
+use Rattle.setup_model.specs.declared.parsed_setup.Object.{Object}
 use Rattle.check_spread.specs.Spread.{first_times}
 use Rattle.check_spread.specs.declared.limits.TheConstants.{LAST_TIME}
 use Rattle.check_spread.specs.Visits.{is_visited_earlier}
@@ -13,8 +13,8 @@ use Rattle.check_spread.proofs.TimesLemmas.{first_times_more, length-first_times
 use Rattle.check_spread.proofs.times.push_first_times.Goals as goal
 use Rattle.check_spread.proofs.times.push_first_times.Goals.{then-is_scheduled+in_ok-push, else-is_scheduled+in_ok-push-2}
 
-pub time-requires-clause-among : goal.time-requires-clause-among
-time-requires-clause-among c =
+pub time-requires-clause-in_range : goal.time-requires-clause-in_range
+time-requires-clause-in_range c =
     let below : c.loop-position.position % c.args.spread.factor < c.args.spread.factor = mod-lt c.loop-position.position c.requires.limits.steps in
     let has = c.loop-position.invariant.0 in
     let at = has.at (c.loop-position.position % c.args.spread.factor) below in
@@ -29,11 +29,11 @@ overflow_add-index_mut c =
     let below : c.loop-position.position % c.args.spread.factor < c.args.spread.factor = mod-lt c.loop-position.position c.requires.limits.steps in
     let has = c.loop-position.invariant.0 in
     let at = has.at (c.loop-position.position % c.args.spread.factor) below in
-    let few = visits_few (is_visited_earlier c.args.spread.factor c.loop-position.position (c.loop-position.position % c.args.spread.factor)) 0
+    let bounded = visits_few (is_visited_earlier c.args.spread.factor c.loop-position.position (c.loop-position.position % c.args.spread.factor)) 0
     c.args.objects.now in
     let same = get_or_default_zero c.loop-position.ranks.items (c.loop-position.position % c.args.spread.factor) c.index_mut.result.now
     (omega (arith, below, has.size)) in
-    omega (arith, c.index_mut.ensures.value, at, few, same, c.requires.few)
+    omega (arith, c.index_mut.ensures.value, at, bounded, same, c.requires.bounded)
 
 pub loop-position-preserved : goal.loop-position-preserved
 loop-position-preserved c =

@@ -3,7 +3,8 @@ use Rattle.std.proofs.Math.Nat.{mod-lt}
 use Rattle.std.proofs.lemmas.Grind.{get_or_default_zero}
 use Rattle.std.proofs.lemmas.Result.{IfOk-weaker}
 use Rattle.check_spread.specs.Visits.{has_remainder_before, sums_before}
-use Rattle.check_spread.proofs.VisitLemmas.{counts_first, counts_add, counts_skip, counts_all, few_in_all, ranks_first, visits_few, remainder_same, remainder_more}
+use Rattle.check_spread.proofs.VisitLemmas.{counts_first, counts_add, counts_skip, counts_all, few_in_all, ranks_first, visits_few, remainder_same}
+use Rattle.check_spread.proofs.VisitLemmas.{remainder_more}
 use Rattle.check_spread.proofs.visits.first_ranks.Goals as goal
 use Rattle.check_spread.proofs.visits.first_ranks.Goals.{then-is_scheduled, else-is_scheduled}
 
@@ -14,10 +15,10 @@ pub overflow_add-index_mut : goal.overflow_add-index_mut
 overflow_add-index_mut c =
     let below : c.loop-position.position % c.args.factor < c.args.factor = mod-lt c.loop-position.position c.requires.steps in
     let at = c.loop-position.invariant.at (c.loop-position.position % c.args.factor) below in
-    let few = visits_few (has_remainder_before c.args.factor c.loop-position.position (c.loop-position.position % c.args.factor)) 0 c.args.objects.now in
+    let bounded = visits_few (has_remainder_before c.args.factor c.loop-position.position (c.loop-position.position % c.args.factor)) 0 c.args.objects.now in
     let same = get_or_default_zero c.loop-position.counts.items (c.loop-position.position % c.args.factor) c.index_mut.result.now
     (omega (arith, below, c.loop-position.invariant.size)) in
-    omega (arith, c.index_mut.ensures.value, at, few, same, c.requires.few)
+    omega (arith, c.index_mut.ensures.value, at, bounded, same, c.requires.bounded)
 
 pub loop-position-preserved : goal.loop-position-preserved
 loop-position-preserved c =
@@ -41,8 +42,8 @@ sums_before-requires c =
     let objects = c.args.objects.now in
     let counted = counts_all c.args.factor c.loop-position.position objects c.loop-position.counts.items
     (omega (arith, c.loop-position.auto.position-end)) c.loop-position.invariant in
-    let few = few_in_all c.args.factor objects c.loop-position.counts.items counted in
-    rw c.deref.ensures.value (omega (arith, few, c.requires.few))
+    let bounded = few_in_all c.args.factor objects c.loop-position.counts.items counted in
+    rw c.deref.ensures.value (omega (arith, bounded, c.requires.bounded))
 
 pub returns : goal.returns
 returns c =

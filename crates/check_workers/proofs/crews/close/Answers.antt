@@ -7,5 +7,5 @@ use Rattle.check_workers.proofs.crews.close.Goals as goal
 
 pub returns-in-Ok-clause-gathered : goal.returns-in-Ok-clause-gathered
 returns-in-Ok-clause-gathered c =
-    let few : passes_of c.args.desk < suc (length (pass_of c.in-Some.pass).numbers) = lt_of_not-le (λ h. false≢true (c.in-Ok.ensures.missing.1 h)) in
+    let bounded : passes_of c.args.desk < suc (length (pass_of c.in-Some.pass).numbers) = lt_of_not-le (λ h. false≢true (c.in-Ok.ensures.missing.1 h)) in
     (c.in-Some.pass, c.in-Some.ensures, c.in-Ok.ensures.history, c.in-Ok.ensures.calls, omega arith)

@@ -4,11 +4,11 @@ use Rattle.check_desk.specs.Passes.{pass_of}
 use Rattle.check_workers.specs.Tallies.{IsSum}
 use Rattle.check_workers.proofs.CrewLemmas.{all_begin, all_numbers, all_tallied, are_shifts, crew_error, failed_then_so, made_then_so, missing_calls}
 use Rattle.check_workers.proofs.CrewLemmas.{none_brought, same_numbers, shifts_from, sum_calls, sum_is, sum_stops, sum_sums}
-use Rattle.check_desk.proofs.PublicLaws.{seen_history, some_number}
+use Rattle.check_desk.proofs.PublicLaws.{seen_history, nonempty_numbers}
 use Rattle.check_workers.proofs.crews.crew.Goals as goal
 
 pub close-requires : goal.close-requires
-close-requires g c = all_tallied (g.P.Plugin.allows c.args.plugin.now) c.args.moments.now c.args.desk some_number c.args.passes.items
+close-requires g c = all_tallied (g.P.Plugin.allows c.args.plugin.now) c.args.moments.now c.args.desk nonempty_numbers c.args.passes.items
     c.in-Ok.worked.items c.in-Ok.ensures
 
 pub returns-in-Ok-clause-shifts : goal.returns-in-Ok-clause-shifts

@@ -1,5 +1,5 @@
 use Rattle.std.proofs.Common.{subst, sym}
-use Rattle.check_desk.specs.Desks.{opened_with}
+use Rattle.check_desk.specs.Desks.{desk_opening}
 use Rattle.check_desk.specs.Passes.{pass_of}
 use Rattle.check_workers.specs.Tallies.{IsSum}
 use Rattle.check_workers.proofs.SumLemmas.{report_sum}
@@ -8,8 +8,8 @@ use Rattle.check_workers.proofs.CallerLemmas.{made_reply}
 use Rattle.check_book.proofs.PublicLaws.{report_reply}
 use Rattle.check_workers.proofs.round.report.Goals as goal
 
-pub returns-in-Reply-clause-came : goal.returns-in-Reply-clause-came
-returns-in-Reply-clause-came g c = record {
+pub returns-in-Reply-clause-progress : goal.returns-in-Reply-clause-progress
+returns-in-Reply-clause-progress g c = record {
   code = c.check-code.result;
   answer = c.in-Reply.reply;
   allowed = c.check-code.ensures;
@@ -21,6 +21,6 @@ returns-in-Reply-clause-came g c = record {
 
 pub returns-in-Reply-clause-sums : goal.returns-in-Reply-clause-sums
 returns-in-Reply-clause-sums g c = subst IsSum (sym (c.of_report.ensures 0 c.args.object c.args.run c.check-code.result))
-    (report_sum report_reply (opened_with c.args.desk.now) c.args.object c.args.run c.check-code.result c.in-Reply.reply (pass_of c.args.pass)
+    (report_sum report_reply (desk_opening c.args.desk.now) c.args.object c.args.run c.check-code.result c.in-Reply.reply (pass_of c.args.pass)
     (pass_of c.ask-pass.result.0) c.requires.taken
     (rw c.in-Reply.is at c.ask-pass.ensures.answer) c.ask-pass.ensures.legal 0)

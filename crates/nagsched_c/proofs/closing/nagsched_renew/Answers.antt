@@ -2,11 +2,11 @@ use Rattle.std.proofs.Common.{◌≡◌, ◌∙◌, None, subst}
 use Rattle.std.specs.Prelude.{Option}
 use Rattle.std.specs.declared.alloc.Global.{Global}
 use Rattle.std_alloc.specs.declared.boxed.Box.{Box}
-use Rattle.check_handles.specs.declared.target.HandleTarget.{HandleTarget}
-use Rattle.check_handles.specs.Closing.{HasGoneOn}
-use Rattle.check_handles.specs.Handles.{boxed, contents_of}
+use Rattle.nagsched_handles.specs.declared.target.HandleTarget.{HandleTarget}
+use Rattle.nagsched_handles.specs.Closing.{HasRenewedBook}
+use Rattle.nagsched_handles.specs.Handles.{box_value, contents_of}
 use Rattle.nagsched_c.proofs.Closings.{unchanged}
-use Rattle.check_handles.proofs.Options.{none_of}
+use Rattle.nagsched_handles.proofs.Options.{none_of}
 use Rattle.nagsched_c.proofs.closing.nagsched_renew.Goals as goal
 
 pub returns-in-Some-past-clause-renewed : goal.returns-in-Some-past-clause-renewed
@@ -14,14 +14,14 @@ returns-in-Some-past-clause-renewed c = λ is.
     let was = c.in-Some.target.value in
     let from = c.replace.ensures.value ∙ c.deref_mut.ensures.value in
     let none : contents_of c.args.history.now ≡ None = none_of _ c.is_empty.result c.is_empty.ensures c.if-not-is_empty.false in
-    let gone = subst (λ (b : HandleTarget). HasGoneOn c.args.room b c.renew-now.result.0 (boxed c.renew-now.result.1)) from c.renew-now.ensures in
-    let handed = subst (λ (o : Option (Box HandleTarget Global)). HasGoneOn c.args.room was c.renew-now.result.0 (boxed o)) c.in-Some-past.is gone in
+    let gone = subst (λ (b : HandleTarget). HasRenewedBook c.args.room b c.renew-now.result.0 (box_value c.renew-now.result.1)) from c.renew-now.ensures in
+    let handed = subst (λ (o : Option (Box HandleTarget Global)). HasRenewedBook c.args.room was c.renew-now.result.0 (box_value o)) c.in-Some-past.is gone in
     (none, rw (← c.in-Some.ensures.value, c.of-2.ensures, c.of-in-Some-past.ensures) handed)
 
 pub returns-in-None-clause-kept : goal.returns-in-None-clause-kept
 returns-in-None-clause-kept c = λ is.
     let was = c.in-Some.target.value in
     let from = c.replace.ensures.value ∙ c.deref_mut.ensures.value in
-    let gone = subst (λ (b : HandleTarget). HasGoneOn c.args.room b c.renew-now.result.0 (boxed c.renew-now.result.1)) from c.renew-now.ensures in
-    let same = subst (λ (o : Option (Box HandleTarget Global)). HasGoneOn c.args.room was c.renew-now.result.0 (boxed o)) c.in-None.is gone in
+    let gone = subst (λ (b : HandleTarget). HasRenewedBook c.args.room b c.renew-now.result.0 (box_value c.renew-now.result.1)) from c.renew-now.ensures in
+    let same = subst (λ (o : Option (Box HandleTarget Global)). HasRenewedBook c.args.room was c.renew-now.result.0 (box_value o)) c.in-None.is gone in
     rw (← c.in-Some.ensures.value, c.of-2.ensures) (unchanged c.args.room was c.renew-now.result.0 same)

@@ -1,15 +1,15 @@
 use Rattle.std.proofs.Common.{◌≡◌, ◌++◌, ◌∷◌, [], List, ℕ, ap, refl, rules, ◌∙◌}
 use Rattle.std.specs.Prelude.{string_bytes}
-use Rattle.check_drafts.specs.Fault.{load_error, seen}
-use Rattle.check_script.specs.declared.refusal.InputRefusal.TheVariants as refusal
-use Rattle.check_text.specs.Text.{refusal_line}
-use Rattle.check_session.proofs.CheckLemmas.{two_lines}
-use Rattle.check_session.proofs.check.tell_refusal.Goals as goal
+use Rattle.setup_model.specs.Fault.{load_error, view_of}
+use Rattle.nagsched_protocol.specs.declared.refusal.InputRefusal.TheVariants as refusal
+use Rattle.nagsched_protocol.specs.Text.{refusal_line}
+use Rattle.nagsched_cli.proofs.CheckLemmas.{two_lines}
+use Rattle.nagsched_cli.proofs.check.render_refusal.Goals as goal
 
 pub returns : goal.returns
 returns c =
     let words = string_bytes c.in_ok-words.words in
-    let line = refusal_line (refusal.Setup (load_error (seen c.args.fault))) in
+    let line = refusal_line (refusal.Setup (load_error (view_of c.args.fault))) in
     let first : string_bytes c.push_refusal.new.line ≡ string_bytes c.new-text.result ++ line =
     c.in_ok-push_refusal.ensures ∙ ap (λ e. string_bytes c.new-text.result ++ refusal_line (refusal.Setup e)) c.from.ensures in
     let second : string_bytes c.push_str.new.self ≡ string_bytes c.push_refusal.new.line ++ words =

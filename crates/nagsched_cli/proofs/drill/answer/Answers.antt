@@ -1,13 +1,13 @@
 use Rattle.std.proofs.Common.{◌∙◌, Ok, Err}
 use Rattle.std.proofs.lemmas.Result.{err_from_is_err_and}
-use Rattle.check_drive.proofs.DriveLemmas.{met_refusal, no_refusal}
-use Rattle.check_session.proofs.DrillDriveLemmas.{refusal_of_drill, text_of_drill, wrote_drill, wrote_none}
-use Rattle.check_script.proofs.DrillLemmas.{few_moments}
-use Rattle.check_text.proofs.WrittenLemmas.{text_line}
-use Rattle.check_session.proofs.drill.answer.Goals as goal
+use Rattle.nagsched_run.proofs.DriveLemmas.{met_refusal, no_refusal}
+use Rattle.nagsched_cli.proofs.DrillDriveLemmas.{refusal_of_drill, text_of_drill, wrote_drill, wrote_none}
+use Rattle.nagsched_protocol.proofs.DrillLemmas.{few_moments}
+use Rattle.nagsched_protocol.proofs.WrittenLemmas.{text_line}
+use Rattle.nagsched_cli.proofs.drill.answer.Goals as goal
 
-pub work_all-requires-clause-few : goal.work_all-requires-clause-few
-work_all-requires-clause-few g c κs within = few_moments c.args.input.now _ c.in-Ok.ensures
+pub work_all-requires-clause-bounded : goal.work_all-requires-clause-bounded
+work_all-requires-clause-bounded g c κs within = few_moments c.args.input.now _ c.in-Ok.ensures
 
 -- ---- a history
 

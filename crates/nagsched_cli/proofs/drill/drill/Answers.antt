@@ -1,7 +1,7 @@
 use Rattle.std.proofs.lemmas.Result.{err_from_is_err_and}
-use Rattle.check_session.proofs.DrillDriveLemmas.{drill_read_fault, drill_write_fault, drill_flush_fault, drill_written, drill_outcome_is, unwritten_drill}
-use Rattle.check_session.proofs.DrillDriveLemmas.{cut_drill, drill_short_at, unflushed_drill, flushed_drill}
-use Rattle.check_session.proofs.drill.drill.Goals as goal
+use Rattle.nagsched_cli.proofs.DrillDriveLemmas.{drill_read_fault, drill_write_fault, drill_flush_fault, drill_written, drill_outcome_is, unwritten_drill}
+use Rattle.nagsched_cli.proofs.DrillDriveLemmas.{cut_drill, drill_short_at, unflushed_drill, flushed_drill}
+use Rattle.nagsched_cli.proofs.drill.drill.Goals as goal
 
 pub returns-in_err-input-clause-fault : goal.returns-in_err-input-clause-fault
 returns-in_err-input-clause-fault g c =

@@ -4,31 +4,31 @@ use Rattle.check_sched.specs.State.{opening}
 use Rattle.check_book.proofs.PublicLaws.{book_is_legal, joined_setup}
 use Rattle.check_book.specs.Books.{entries_of, opening_of, refused_of}
 use Rattle.check_book.specs.BookState.{BookState, book_opening, book_step}
-use Rattle.check_desk.specs.Desks.{opened_with}
+use Rattle.check_desk.specs.Desks.{desk_opening}
 use Rattle.check_workers.specs.Crews.{AreShiftsOf}
-use Rattle.check_session.specs.Drill.{gives_scripted}
-use Rattle.check_script.specs.DrillScripted.{drill_script}
-use Rattle.check_session.proofs.DrillLaws.{drill_is}
-use Rattle.check_session.proofs.drill.work_all.Goals as goal
+use Rattle.nagsched_cli.specs.Drill.{returns_scripted}
+use Rattle.nagsched_protocol.specs.DrillScripted.{drill_script}
+use Rattle.nagsched_cli.proofs.DrillLaws.{drill_is}
+use Rattle.nagsched_cli.proofs.drill.work_all.Goals as goal
 
 pub returns-in-Ok-crew-clause-drill : goal.returns-in-Ok-crew-clause-drill
 returns-in-Ok-crew-clause-drill g c =
     let script = drill_script c.args.script in
-    let allows = gives_scripted script.returns in
+    let allows = returns_scripted script.returns in
     let desk = c.in-Ok-open.desk in
     let passes = c.in-Ok-open.passes.items in
     let history = entries_of c.in-Ok-crew.book in
     let x = c.in-Ok-crew.ensures.shifts in
-    let opened : opened_with desk ≡ book_opening c.args.script.setup c.args.start c.args.room =
+    let opened : desk_opening desk ≡ book_opening c.args.script.setup c.args.start c.args.room =
     c.in-Ok-open.ensures.opening ∙ c.in-Ok.ensures.opening in
-    let room : (opened_with desk).room ≡ c.args.room = ap (λ s. s.room) opened in
+    let room : (desk_opening desk).room ≡ c.args.room = ap (λ s. s.room) opened in
     let are : AreShiftsOf allows script.moments c.args.room history passes x.0 =
     subst (λ m. AreShiftsOf allows m c.args.room history passes x.0) c.deref.ensures.value
     (subst (λ r. AreShiftsOf allows c.deref.result.now r history passes x.0) room x.1) in
     let whole : opening_of c.in-Ok-crew.book ≡ book_opening c.args.script.setup c.args.start c.args.room = c.in-Ok-crew.ensures.opening ∙ opened in
     let legal = book_is_legal (opening c.args.script.setup c.args.start) c.args.room history
     (subst (λ s. IsLegal book_step s history) whole c.in-Ok-crew.ensures.lawful.legal) in
-    drill_is script c.args.start c.args.workers c.args.room history (refused_of c.in-Ok-crew.book) desk passes x.0 c.in-Ok-crew._tally c.requires.few
+    drill_is script c.args.start c.args.workers c.args.room history (refused_of c.in-Ok-crew.book) desk passes x.0 c.in-Ok-crew._tally c.requires.bounded
     c.in-Ok-open.ensures.list c.in-Ok-open.ensures.new are x.2
     (λ number from. c.in-Ok-crew.ensures.numbers number (let same = c.in-Ok-open.ensures.passes in omega (arith, same, from))) c.in-Ok-crew.ensures.calls legal
 

@@ -1,5 +1,5 @@
 use Rattle.std.proofs.lemmas.Result.{err_from_is_err_and}
-use Rattle.check_session.proofs.drill.write_book.Goals as goal
+use Rattle.nagsched_cli.proofs.drill.write_book.Goals as goal
 
 pub returns-in_err-write_history-clause-wrote : goal.returns-in_err-write_history-clause-wrote
 returns-in_err-write_history-clause-wrote g c =

@@ -1,9 +1,9 @@
 use Rattle.std.proofs.Common.{arith}
 use Rattle.std.proofs.lemmas.Result.{err_from_is_err_and}
-use Rattle.check_text.proofs.OutputLemmas.{lines_next, lines_none}
-use Rattle.check_text.proofs.TextLemmas.{entries_next, entries_end, entry_line_ends, total_line_ends}
-use Rattle.check_text.proofs.WrittenLemmas.{text_cut, text_ended}
-use Rattle.check_session.proofs.drill.write_history.Goals as goal
+use Rattle.nagsched_protocol.proofs.OutputLemmas.{lines_next, lines_none}
+use Rattle.nagsched_protocol.proofs.TextLemmas.{entries_next, entries_end, entry_line_ends, total_line_ends}
+use Rattle.nagsched_protocol.proofs.WrittenLemmas.{text_cut, text_ended}
+use Rattle.nagsched_cli.proofs.drill.write_history.Goals as goal
 
 pub loop-entry-init : goal.loop-entry-init
 loop-entry-init g c = lines_none _ _

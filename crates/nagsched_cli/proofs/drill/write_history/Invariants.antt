@@ -1,8 +1,8 @@
 use Rattle.std.proofs.Common.{◌++◌, drop, length}
 use Rattle.std.specs.Prelude.{flat_map}
-use Rattle.check_text.specs.Output.{WroteLinesUpTo}
-use Rattle.check_text.specs.Text.{drill_text, entry_line, total_line}
-use Rattle.check_session.proofs.drill.write_history.Given as goal
+use Rattle.nagsched_protocol.specs.Output.{WroteLinesUpTo}
+use Rattle.nagsched_protocol.specs.Text.{drill_text, entry_line, total_line}
+use Rattle.nagsched_cli.proofs.drill.write_history.Given as goal
 
 abbrev pub invariant-loop-entry : goal.invariant-loop-entry
 invariant-loop-entry g l =

@@ -4,7 +4,7 @@ use Rattle.std.specs.Prelude.{codes}
 use Rattle.std.specs.Str.{bytes_eq}
 use Rattle.clap.specs.Words.{found_of}
 use Rattle.clap.proofs.WalkLemmas.{first_value-rows}
-use Rattle.check_words.proofs.job.read_flag.Goals as goal
+use Rattle.nagsched_cli.proofs.job.has_flag.Goals as goal
 
 pub returns-in-Some : goal.returns-in-Some
 returns-in-Some c =

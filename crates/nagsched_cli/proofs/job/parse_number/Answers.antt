@@ -1,5 +1,5 @@
-use Rattle.check_words.proofs.WordsLemmas.{number_some, number_none}
-use Rattle.check_words.proofs.job.parse_number.Goals as goal
+use Rattle.nagsched_cli.proofs.ArgumentLemmas.{number_some, number_none}
+use Rattle.nagsched_cli.proofs.job.parse_number.Goals as goal
 
 pub returns-in-Ok-clause-value : goal.returns-in-Ok-clause-value
 returns-in-Ok-clause-value c =

@@ -2,8 +2,8 @@ use Rattle.std.proofs.Common.{◌∙◌, ap}
 use Rattle.std.specs.Prelude.{option_and_then}
 use Rattle.clap.specs.Words.{found_of}
 use Rattle.clap.proofs.WalkLemmas.{first_value-rows}
-use Rattle.check_words.specs.Words.{number_between}
-use Rattle.check_words.proofs.job.read_number.Goals as goal
+use Rattle.nagsched_cli.specs.Arguments.{number_between}
+use Rattle.nagsched_cli.proofs.job.read_number.Goals as goal
 
 pub returns-in_err-get_str-clause-value : goal.returns-in_err-get_str-clause-value
 returns-in_err-get_str-clause-value c =

@@ -1,7 +1,7 @@
 use Rattle.std.proofs.Common.{[], ◌∷◌, ◌++◌, sym, ap, ◌∙◌}
-use Rattle.check_script.specs.Input.{without_last_feed}
-use Rattle.check_session.proofs.ReadingLemmas.{feed_cut, feed_stays}
-use Rattle.check_session.proofs.reading.document.Goals as goal
+use Rattle.nagsched_protocol.specs.Input.{without_last_feed}
+use Rattle.nagsched_cli.proofs.ReadingLemmas.{feed_cut, feed_stays}
+use Rattle.nagsched_cli.proofs.reading.document.Goals as goal
 
 pub returns-in-Some : goal.returns-in-Some
 returns-in-Some c =

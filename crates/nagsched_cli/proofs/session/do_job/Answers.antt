@@ -1,5 +1,5 @@
 use Rattle.std.proofs.Common.{refl}
-use Rattle.check_session.proofs.session.do_job.Goals as goal
+use Rattle.nagsched_cli.proofs.session.do_job.Goals as goal
 
 pub returns-in-Run : goal.returns-in-Run
 returns-in-Run g c = rw c.in-Run.is c.run.ensures
@@ -8,7 +8,7 @@ pub returns-in-Live : goal.returns-in-Live
 returns-in-Live g c = rw c.in-Live.is c.live.ensures
 
 pub returns-in-Check : goal.returns-in-Check
-returns-in-Check g c = rw c.in-Check.is c.check.ensures.checked
+returns-in-Check g c = rw c.in-Check.is c.check.ensures.ending
 
 pub returns-in-SetupLine : goal.returns-in-SetupLine
 returns-in-SetupLine g c = rw c.in-SetupLine.is c.write_setup_line.ensures
@@ -19,4 +19,4 @@ returns-in-Drill g c =
     rw c.in-Drill.is (record { input = d.input; read = d.read; fault = d.fault; memory = d.memory })
 
 pub returns-in-Schema : goal.returns-in-Schema
-returns-in-Schema g c = rw c.in-Schema.is (refl, c.tell_schema.ensures)
+returns-in-Schema g c = rw c.in-Schema.is (refl, c.print_schema.ensures)

@@ -1,6 +1,6 @@
-use Rattle.check_records.proofs.PlainLaws.{calls_told, entries_told, refusals_told, replies_told, standings_told}
-use Rattle.check_records.proofs.FaultLaws.{faults_told}
-use Rattle.check_records.proofs.laws.structs_tell.Goals as goal
+use Rattle.nagsched_handles.proofs.StructLaws.{calls_told, entries_told, refusals_told, replies_told, standings_told}
+use Rattle.nagsched_handles.proofs.FaultLaws.{faults_told}
+use Rattle.nagsched_handles.proofs.laws.structs_are_distinct.Goals as goal
 
 pub returns : goal.returns
 returns c = record {

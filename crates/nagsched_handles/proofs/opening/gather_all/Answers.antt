@@ -3,9 +3,9 @@ use Rattle.ticket_lock.specs.Callers.{Caller}
 use Rattle.check_sched.specs.declared.call.Call.{Call}
 use Rattle.check_sched.specs.declared.call.Reply.{Reply}
 use Rattle.check_desk.specs.Passes.{pass_of}
-use Rattle.check_handles.specs.Opening.{IsFreshPassOf}
-use Rattle.check_handles.proofs.Fresh.{joined_numbers, joined_seen, last_too, left_all, shorter}
-use Rattle.check_handles.proofs.opening.gather_all.Goals as goal
+use Rattle.nagsched_handles.specs.Opening.{IsFreshPassOf}
+use Rattle.nagsched_handles.proofs.Fresh.{joined_numbers, joined_seen, last_too, left_all, shorter}
+use Rattle.nagsched_handles.proofs.opening.gather_all.Goals as goal
 
 pub loop-pass-preserved : goal.loop-pass-preserved
 loop-pass-preserved c =
@@ -13,7 +13,7 @@ loop-pass-preserved c =
     let was = c.loop-pass.invariant in
     let one = pass_of c.loop-pass.whole in
     let other = pass_of c.in-Some-pop.pass in
-    let made = c.gather-whole.ensures.joined in
+    let made = c.gather-whole.ensures.gathered_caller in
     let popped = c.in-Some-pop.ensures.items in
     let fresh = last_too (IsFreshPassOf desk) c.loop-pass.rest.items c.pop.new.self.items c.in-Some-pop.pass popped was.1 in
     let fewer = shorter c.loop-pass.rest.items c.pop.new.self.items c.in-Some-pop.pass popped in

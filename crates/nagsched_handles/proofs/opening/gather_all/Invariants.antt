@@ -2,8 +2,8 @@ use Rattle.std.proofs.Common.{◌≡◌, ◌+◌, [], length}
 use Rattle.std.specs.List.{All}
 use Rattle.check_desk.specs.Desks.{IsPassOf}
 use Rattle.check_desk.specs.Passes.{pass_of}
-use Rattle.check_handles.specs.Opening.{IsFreshPassOf}
-use Rattle.check_handles.proofs.opening.gather_all.Given as goal
+use Rattle.nagsched_handles.specs.Opening.{IsFreshPassOf}
+use Rattle.nagsched_handles.proofs.opening.gather_all.Given as goal
 
 abbrev pub invariant-loop-pass : goal.invariant-loop-pass
 invariant-loop-pass l =

@@ -1,11 +1,11 @@
 use Rattle.std.proofs.Common.{◌≡◌, ◌<◌, ◌≤◌, ◌+◌, ◌++◌, ◌∷◌, [], ◌∙◌, sym, ap, subst, arith, length, length-append, length-set, drop}
 use Rattle.std.proofs.lemmas.List.{append_assoc, append-nil, drop_all}
 use Rattle.std_alloc.specs.Arc.{arc_value}
-use Rattle.check_handles.specs.declared.target.HandleTarget.{HandleTarget}
-use Rattle.check_handles.specs.Opening.{IsFreshPassOf}
-use Rattle.check_handles.specs.Seats.{HasPass, HavePasses, IsSeatFor, IsSeatOf, IsTaken}
-use Rattle.check_handles.proofs.Fresh.{handed, last_too, left_all, seat_for, seated, shorter}
-use Rattle.check_handles.proofs.opening.hand_out.Goals as goal
+use Rattle.nagsched_handles.specs.declared.target.HandleTarget.{HandleTarget}
+use Rattle.nagsched_handles.specs.Opening.{IsFreshPassOf}
+use Rattle.nagsched_handles.specs.Seats.{HasPass, HavePasses, IsSeatFor, IsSeatOf, IsSeatWithPass}
+use Rattle.nagsched_handles.proofs.Fresh.{handed, last_too, left_all, seat_for, seated, shorter}
+use Rattle.nagsched_handles.proofs.opening.hand_out.Goals as goal
 
 pub loop-pass-init : goal.loop-pass-init
 loop-pass-init c =
@@ -41,7 +41,7 @@ loop-pass-preserved c =
     let fewer = shorter passes rest pass popped in
     let less : length rest < length c.loop-pass.handles = omega (arith, fewer, was.0, ap length was.4.1, length-append passes given) in
     let of = last_too (λ s. IsSeatOf desk s.value) c.loop-pass.seats.items c.pop-in-Some.new.self.items seat c.in-Some-pop.ensures.items was.3 in
-    let taken = subst (λ (b : HandleTarget). IsTaken pass b c.take_seat.new.seat) c.deref_mut.ensures.value c.take_seat.ensures in
+    let taken = subst (λ (b : HandleTarget). IsSeatWithPass pass b c.take_seat.new.seat) c.deref_mut.ensures.value c.take_seat.ensures in
     let has = subst (HasPass desk pass) (sym c.of.ensures) (seated desk pass seat.value c.take_seat.new.seat of taken) in
     let at : c.len.result ≡ length rest = omega (arith, c.len.ensures, c.in-Some.ensures.len, fewer) in
     let behind : HavePasses desk given (drop (length rest + 1) c.loop-pass.handles) = rw (← fewer) was.4.2 in (

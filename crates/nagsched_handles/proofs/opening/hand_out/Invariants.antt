@@ -2,9 +2,9 @@ use Rattle.std.proofs.Common.{◌≡◌, ◌++◌, List, length, drop}
 use Rattle.std.specs.List.{All}
 use Rattle.std_alloc.specs.Arc.{arc_value}
 use Rattle.check_desk.specs.declared.passes.Pass.{Pass}
-use Rattle.check_handles.specs.Opening.{IsFreshPassOf}
-use Rattle.check_handles.specs.Seats.{HavePasses, IsSeatOf}
-use Rattle.check_handles.proofs.opening.hand_out.Given as goal
+use Rattle.nagsched_handles.specs.Opening.{IsFreshPassOf}
+use Rattle.nagsched_handles.specs.Seats.{HavePasses, IsSeatOf}
+use Rattle.nagsched_handles.proofs.opening.hand_out.Given as goal
 
 abbrev pub invariant-loop-pass : goal.invariant-loop-pass
 invariant-loop-pass l =

@@ -1,8 +1,8 @@
 use Rattle.std.proofs.Common.{◌∙◌, refl, sym}
 use Rattle.std.proofs.lemmas.Result.{on_ok_weaker}
 use Rattle.check_book.specs.Books.{opening_of}
-use Rattle.check_handles.proofs.Fresh.{fresh_all, opened}
-use Rattle.check_handles.proofs.opening.open_book.Goals as goal
+use Rattle.nagsched_handles.proofs.Fresh.{fresh_all, opened}
+use Rattle.nagsched_handles.proofs.opening.open_book.Goals as goal
 
 pub seat_all-requires-clause-fresh : goal.seat_all-requires-clause-fresh
 seat_all-requires-clause-fresh c =

@@ -1,8 +1,8 @@
 use Rattle.std.proofs.Common.{◌≡◌, length}
 use Rattle.std.specs.List.{AllWithin}
 use Rattle.std_alloc.specs.Arc.{arc_value}
-use Rattle.check_handles.specs.Seats.{IsSeatOf}
-use Rattle.check_handles.proofs.opening.share.Given as goal
+use Rattle.nagsched_handles.specs.Seats.{IsSeatOf}
+use Rattle.nagsched_handles.proofs.opening.share.Given as goal
 
 abbrev pub invariant-loop-at : goal.invariant-loop-at
 invariant-loop-at l =

@@ -2,11 +2,11 @@ use Rattle.std.proofs.Common.{ap, subst, ◌∙◌}
 use Rattle.check_book.specs.Books.{entries_of, opening_of, refused_of, sched_of, state_of}
 use Rattle.check_desk.specs.Desks.{AreNewPassesWith}
 use Rattle.check_desk.specs.Passes.{opening_calls, pass_of}
-use Rattle.machine_room.proofs.MonthLemmas.{all_new, history_leads, new_unseen, opened_at}
-use Rattle.machine_room.proofs.months.generation.Goals as goal
+use Rattle.nagsched_loop.proofs.MonthLemmas.{all_new, history_leads, new_unseen, opened_at}
+use Rattle.nagsched_loop.proofs.months.generation.Goals as goal
 
-pub returns-clause-led : goal.returns-clause-led
-returns-clause-led g c =
+pub returns-clause-generation_ended : goal.returns-clause-generation_ended
+returns-clause-generation_ended g c =
     let ended = c.in-Ok-close.book in
     let next = c.in-Ok-renew.book in
     let opened = ap (λ s. s.sched) (c.in-Ok-close.ensures.opening ∙ c.in-Ok.ensures.opening) ∙ opened_at c.args.book c.requires.0 in

@@ -1,6 +1,6 @@
 use Rattle.check_desk.specs.Passes.{pass_of}
-use Rattle.machine_room.specs.Loop.{IsReturned}
-use Rattle.machine_room.proofs.months.watch.Given as goal
+use Rattle.nagsched_loop.specs.Loop.{IsReturned}
+use Rattle.nagsched_loop.proofs.months.watch.Given as goal
 
 abbrev pub invariant-loop-round : goal.invariant-loop-round
 invariant-loop-round g l = IsReturned l.desk (pass_of l.initial.pass) l.initial.runs.items l.runs.items l.pass

@@ -1,13 +1,15 @@
 use Rattle.std.proofs.Common.{◌≡◌, List, []}
-use Rattle.ticket_steps.specs.declared.kept.Entry.{Entry}
+use Rattle.ticket_steps.specs.declared.books.Entry.{Entry}
 use Rattle.check_book.specs.Books.{entries_of, refused_of, sched_of}
 use Rattle.check_sched.specs.declared.call.Call.{Call}
 use Rattle.check_sched.specs.declared.call.Reply.{Reply}
-use Rattle.machine_room.specs.Months.{AreGenerations}
-use Rattle.machine_room.proofs.months.watch_setup.Given as goal
+use Rattle.nagsched_loop.specs.Loop.{KeepsOtherRuns}
+use Rattle.nagsched_loop.specs.Months.{AreGenerations, entries_in}
+use Rattle.nagsched_loop.proofs.months.watch_setup.Given as goal
 
 abbrev pub invariant-loop : goal.invariant-loop
 invariant-loop g l =
     (goal.iterator-loop g).can_next l.iterator' × (goal.iterator-loop g).is_finite l.iterator'
     × ((entries_of l.book ≡ []) × (refused_of l.book ≡ 0)
-    × (histories : List (List (Entry Call Reply))) × AreGenerations g.F.Files.past histories (sched_of l.initial.book) (sched_of l.book))
+    × (histories : List (List (Entry Call Reply))) × AreGenerations g.F.Files.past histories (sched_of l.initial.book) (sched_of l.book)
+    × KeepsOtherRuns (entries_in histories) l.initial.runs.items l.runs.items)

@@ -1,6 +1,6 @@
 use Rattle.std.proofs.lemmas.Result.{err_from_is_err_and}
-use Rattle.machine_room.proofs.FaultLemmas.{not_read}
-use Rattle.machine_room.proofs.restart.take_up.Goals as goal
+use Rattle.nagsched_loop.proofs.FaultLemmas.{not_read}
+use Rattle.nagsched_loop.proofs.resuming.resume_book.Goals as goal
 
 pub returns-in_err-saved-clause-refused : goal.returns-in_err-saved-clause-refused
 returns-in_err-saved-clause-refused c =

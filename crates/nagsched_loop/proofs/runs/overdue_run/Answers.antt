@@ -2,8 +2,8 @@ use Rattle.std.proofs.Common.{arith, subst, take, ◌≡◌, ◌<◌, List}
 use Rattle.std.proofs.lemmas.List.{take_all}
 use Rattle.std.proofs.lemmas.List.Elements.{All-more}
 use Rattle.std.specs.List.{All}
-use Rattle.machine_room.specs.declared.runs.Run.{Run}
-use Rattle.machine_room.proofs.runs.overdue.Goals as goal
+use Rattle.nagsched_loop.specs.declared.runs.Run.{Run}
+use Rattle.nagsched_loop.proofs.runs.overdue_run.Goals as goal
 
 pub loop-run-preserved : goal.loop-run-preserved
 loop-run-preserved c =

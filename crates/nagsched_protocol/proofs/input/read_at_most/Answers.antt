@@ -1,9 +1,9 @@
 use Rattle.std.proofs.Common.{arith}
 use Rattle.std.proofs.lemmas.List.{length-take}
 use Rattle.std.proofs.lemmas.Result.{err_from_is_err_and}
-use Rattle.check_script.proofs.InputLemmas.{begun_by, read_limit, read_end, read_nothing, some_there}
-use Rattle.check_script.proofs.input.read_at_most.Goals as goal
-use Rattle.check_script.proofs.input.read_at_most.Goals.{else-loop-chunk-test, then-loop-chunk-test+in_ok-count+then-count-eq0}
+use Rattle.nagsched_protocol.proofs.InputLemmas.{begun_by, read_limit, read_end, read_nothing, some_there}
+use Rattle.nagsched_protocol.proofs.input.read_at_most.Goals as goal
+use Rattle.nagsched_protocol.proofs.input.read_at_most.Goals.{else-loop-chunk-test, then-loop-chunk-test+in_ok-count+then-count-eq0}
 
 pub returns-in_err-append-clause-memory : goal.returns-in_err-append-clause-memory
 returns-in_err-append-clause-memory g c =

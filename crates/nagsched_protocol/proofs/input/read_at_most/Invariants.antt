@@ -1,7 +1,7 @@
 use Rattle.std.proofs.Common.{◌≡◌, length, ◌≤◌, ◌-◌, vec_len}
 use Rattle.std.specs.Io.KnownBytes.{Consumes}
-use Rattle.check_script.specs.declared.input.TheConstants.{CHUNK}
-use Rattle.check_script.proofs.input.read_at_most.Given as goal
+use Rattle.nagsched_protocol.specs.declared.input.TheConstants.{CHUNK}
+use Rattle.nagsched_protocol.proofs.input.read_at_most.Given as goal
 
 abbrev pub invariant-loop-chunk : goal.invariant-loop-chunk
 invariant-loop-chunk g l =

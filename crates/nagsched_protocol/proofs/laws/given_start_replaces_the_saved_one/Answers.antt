@@ -1,5 +1,5 @@
-use Rattle.check_text.proofs.LiveLaws.{given_start, start_replaced}
-use Rattle.check_text.proofs.laws.start_takes_the_place_of_the_saved_one.Goals as goal
+use Rattle.nagsched_protocol.proofs.LiveLaws.{given_start, start_replaced}
+use Rattle.nagsched_protocol.proofs.laws.given_start_replaces_the_saved_one.Goals as goal
 
 pub returns-clause-given : goal.returns-clause-given
 returns-clause-given c = given_start

@@ -1,7 +1,7 @@
 use Rattle.std.proofs.Common.{◌∙◌, sym}
 use Rattle.std.proofs.lemmas.Result.{err_from_is_err_and}
-use Rattle.check_script.proofs.KeptLemmas.{said_command, said_fails}
-use Rattle.check_script.proofs.live_input.read_kept.Goals as goal
+use Rattle.nagsched_protocol.proofs.KeptLemmas.{said_command, said_fails}
+use Rattle.nagsched_protocol.proofs.line_reader.read_buffered.Goals as goal
 
 pub returns-in_err-read_command : goal.returns-in_err-read_command
 returns-in_err-read_command g c text kept =

@@ -1,22 +1,22 @@
 use Rattle.std.proofs.Common.{sym, ◌∙◌, arith, ap, length, map, [], ◌∷◌}
 use Rattle.std.proofs.lemmas.List.{map-append}
-use Rattle.check_script.specs.Input.{lines_of}
-use Rattle.check_script.specs.Script.{commands_behind}
-use Rattle.check_script.proofs.ScriptLemmas.{blank_passed, command_read, commands_by_number, commands_from, few_lines, with_front-nothing}
-use Rattle.check_script.proofs.script.read_commands.Goals as goal
-use Rattle.check_script.proofs.script.read_commands.Goals.{then-not-is_blank+in_ok-command+in-Ok, else-not-is_blank}
+use Rattle.nagsched_protocol.specs.Input.{lines_of}
+use Rattle.nagsched_protocol.specs.Script.{commands_of_lines}
+use Rattle.nagsched_protocol.proofs.ScriptLemmas.{blank_passed, command_read, commands_by_number, commands_from, few_lines, with_front-nothing}
+use Rattle.nagsched_protocol.proofs.script.read_commands.Goals as goal
+use Rattle.nagsched_protocol.proofs.script.read_commands.Goals.{then-not-is_blank+in_ok-command+in-Ok, else-not-is_blank}
 
 pub loop-line-init : goal.loop-line-init
 loop-line-init g c =
     let same = c.into_iter-line-iterator.ensures.into_iter_gives in
     let begun = c.new-lines.ensures.bytes in
-    let few = few_lines c.args.bytes.now c.requires.few in
+    let bounded = few_lines c.args.bytes.now c.requires.bounded in
     let first = c.requires.first in
     let meaning = g.C.Command.meaning c.args.setup.now in
     let lines = lines_of c.args.bytes.now in (
       rw (c.new-commands.ensures.items, same, begun) (commands_by_number meaning c.args.first lines ∙ sym (with_front-nothing (commands_from meaning c.args.first lines))),
       rw (same, begun)
-          (omega (arith, few, first)),
+          (omega (arith, bounded, first)),
     )
 
 -- what is still to come is numbered behind the line
@@ -31,17 +31,17 @@ loop-line-preserved g c =
     let rest = lines_of c.next.new.self.rest.now in
     let line = c.in-Some.line.now in
     let fewer = ap length lines in
-    let few = before.1 in
-    let all = commands_behind c.args.first meaning (lines_of c.args.bytes.now) in
+    let bounded = before.1 in
+    let all = commands_of_lines c.args.first meaning (lines_of c.args.bytes.now) in
     elim c.if-not-is_blank.branch [
       | then-not-is_blank+in_ok-command+in-Ok w ↦ (
         rw (w.commands-is, w.in-Ok.ensures.items, map-append g.C.Command.seen c.loop-line.commands.items (w.in_ok-command.command ∷ []))
             (command_read meaning number all seen come line rest (g.C.Command.seen w.in_ok-command.command) before.0 lines
             (sym (w.if-not-is_blank.ensures)) w.in_ok-command.ensures),
-        omega (arith, few, fewer),
+        omega (arith, bounded, fewer),
       )
       | else-not-is_blank w ↦ (
         rw (w.commands-is) (blank_passed meaning number all seen come line rest before.0 lines (sym (w.if-not-is_blank.ensures))),
-        omega (arith, few, fewer),
+        omega (arith, bounded, fewer),
       )
     ]

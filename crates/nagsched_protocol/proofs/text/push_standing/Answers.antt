@@ -1,16 +1,16 @@
 use Rattle.std.proofs.Common.{ℕ, List, ◌++◌, ap}
 use Rattle.std.specs.Prelude.{codes, decimal, string_bytes}
 use Rattle.check_rules.specs.Words.{kind_word}
-use Rattle.check_saved.specs.Words.{flapping_word}
-use Rattle.check_text.specs.Text.{state_text, changed_text, time_text}
-use Rattle.check_text.proofs.TextLemmas.{standing_appended}
-use Rattle.check_text.proofs.text.push_standing.Goals as goal
+use Rattle.check_saved_state.specs.Words.{flapping_word}
+use Rattle.nagsched_protocol.specs.Text.{state_text, changed_word, time_text}
+use Rattle.nagsched_protocol.proofs.TextLemmas.{standing_appended}
+use Rattle.nagsched_protocol.proofs.text.push_standing.Goals as goal
 
 pub returns-clause-text : goal.returns-clause-text
 returns-clause-text c =
     let s = c.args.standing in
     standing_appended (string_bytes c.args.line.now) (codes "standing ") (codes " ") (state_text s) (kind_word s.kind) (decimal s.attempt)
-    (changed_text c.args.changed) (flapping_word s.flapping) (time_text c.args.next) c.args.name.now
+    (changed_word c.args.changed) (flapping_word s.flapping) (time_text c.args.next) c.args.name.now
     c.state_text.result.now (codes " " ++ (c.word.result.now ++ codes " ")) c.marks_between_spaces.result.now _ _ _ _ _ _ _ _
     c.state_text.ensures.text (ap (λ (w : List ℕ). codes " " ++ (w ++ codes " ")) c.word.ensures.text) c.marks_between_spaces.ensures.text
     c.in_ok-push_str.ensures.bytes c.in_ok-push_str-2.ensures.bytes c.in_ok-push_between_spaces.ensures.text c.in_ok-push_number.ensures.text

@@ -1,8 +1,8 @@
 use Rattle.std.proofs.lemmas.Result.{err_from_is_err_and}
-use Rattle.check_text.specs.Text.{text}
-use Rattle.check_drive.proofs.DriveLemmas.{met_refusal, no_refusal}
-use Rattle.check_text.proofs.WrittenLemmas.{line_none, text_line}
-use Rattle.check_drive.proofs.drive.answer.Goals as goal
+use Rattle.nagsched_protocol.specs.Text.{text}
+use Rattle.nagsched_run.proofs.DriveLemmas.{met_refusal, no_refusal}
+use Rattle.nagsched_protocol.proofs.WrittenLemmas.{line_none, text_line}
+use Rattle.nagsched_run.proofs.drive.answer.Goals as goal
 
 pub returns-in-Ok-clause-wrote : goal.returns-in-Ok-clause-wrote
 unfolding text

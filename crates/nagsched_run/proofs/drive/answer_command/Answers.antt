@@ -1,4 +1,4 @@
-use Rattle.check_drive.proofs.drive.answer_command.Goals as goal
+use Rattle.nagsched_run.proofs.drive.answer_command.Goals as goal
 
 pub returns-in-Call-clause-wrote : goal.returns-in-Call-clause-wrote
 returns-in-Call-clause-wrote g c = rw (c.in-Call.is) c.make_call.ensures.wrote

@@ -1,11 +1,11 @@
 use Rattle.std.proofs.Common.{arith, get_or}
 use Rattle.std.proofs.lemmas.Result.{err_from_is_err_and}
 use Rattle.check_sched.specs.declared.call.Call.TheVariants as call
-use Rattle.check_script.specs.declared.command.RunCommand.TheVariants as command
-use Rattle.check_text.proofs.OutputLemmas.{WroteUpTo-whole, lines_next, lines_none}
-use Rattle.check_text.proofs.TextLemmas.{answer_line_ends, text_end, text_next}
-use Rattle.check_text.proofs.WrittenLemmas.{text_cut}
-use Rattle.check_drive.proofs.drive.carry_out.Goals as goal
+use Rattle.nagsched_protocol.specs.declared.command.RunCommand.TheVariants as command
+use Rattle.nagsched_protocol.proofs.OutputLemmas.{WroteUpTo-whole, lines_next, lines_none}
+use Rattle.nagsched_protocol.proofs.TextLemmas.{answer_line_ends, text_end, text_next}
+use Rattle.nagsched_protocol.proofs.WrittenLemmas.{text_cut}
+use Rattle.nagsched_run.proofs.drive.carry_out.Goals as goal
 
 pub loop-command-init : goal.loop-command-init
 loop-command-init g c = lines_none _ _

@@ -1,7 +1,7 @@
 use Rattle.std.proofs.Common.{drop}
-use Rattle.check_text.specs.Output.{WroteLinesUpTo}
-use Rattle.check_text.specs.Text.{text_from}
-use Rattle.check_drive.proofs.drive.carry_out.Given as goal
+use Rattle.nagsched_protocol.specs.Output.{WroteLinesUpTo}
+use Rattle.nagsched_protocol.specs.Text.{text_from}
+use Rattle.nagsched_run.proofs.drive.carry_out.Given as goal
 
 abbrev pub invariant-loop-command : goal.invariant-loop-command
 invariant-loop-command g l =

@@ -1,8 +1,8 @@
 use Rattle.std.proofs.Common.{rules, ◌≡◌}
 use Rattle.std.proofs.lemmas.Result.{err_from_is_err_and}
-use Rattle.check_text.specs.Text.{line_from}
-use Rattle.check_text.proofs.WrittenLemmas.{Keeps-same, line_written}
-use Rattle.check_drive.proofs.drive.make_call.Goals as goal
+use Rattle.nagsched_protocol.specs.Text.{line_from}
+use Rattle.nagsched_protocol.proofs.WrittenLemmas.{Keeps-same, line_written}
+use Rattle.nagsched_run.proofs.drive.make_call.Goals as goal
 
 pub returns-in_err-push_reply-clause-wrote : goal.returns-in_err-push_reply-clause-wrote
 returns-in_err-push_reply-clause-wrote g c =

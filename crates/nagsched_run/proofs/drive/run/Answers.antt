@@ -1,6 +1,6 @@
 use Rattle.std.proofs.lemmas.Result.{err_from_is_err_and}
-use Rattle.check_drive.proofs.DriveLemmas.{cut_run, flushed_run, unflushed_run, unread_run}
-use Rattle.check_drive.proofs.drive.run.Goals as goal
+use Rattle.nagsched_run.proofs.DriveLemmas.{cut_run, flushed_run, unflushed_run, unread_run}
+use Rattle.nagsched_run.proofs.drive.run.Goals as goal
 
 pub returns-in_err-input : goal.returns-in_err-input
 returns-in_err-input g c =

@@ -1,31 +1,32 @@
 use Rattle.std.proofs.Common.{◌≡◌, ◌∙◌, ◌++◌, [], Ok, Err}
 use Rattle.std.proofs.lemmas.Result.{err_from_is_err_and}
-use Rattle.check_drive.specs.declared.drive.Outcome.TheVariants as outcome
-use Rattle.check_drive.specs.Live.{saved_in}
-use Rattle.check_script.proofs.LiveInputLemmas.{Consumes-none}
-use Rattle.check_drive.proofs.LiveLemmas.{gives_refused}
-use Rattle.check_text.proofs.WrittenLemmas.{Keeps-same}
-use Rattle.check_drive.proofs.WentOnLemmas.{answered_later, gone_answered, gone_opened, gone_refused, gone_unwritten, memory_later, opened_later, saved_ends}
-use Rattle.check_drive.proofs.live.go_on.Goals as goal
+use Rattle.nagsched_run.specs.declared.drive.Outcome.TheVariants as outcome
+use Rattle.nagsched_run.specs.Live.{saved_at_start}
+use Rattle.nagsched_protocol.proofs.LiveInputLemmas.{Consumes-none}
+use Rattle.nagsched_run.proofs.LiveLemmas.{gives_refused}
+use Rattle.nagsched_protocol.proofs.WrittenLemmas.{Keeps-same}
+use Rattle.nagsched_run.proofs.ContinuationLemmas.{answered_later, gone_answered, gone_opened, gone_refused, gone_unwritten, memory_later, opened_later}
+use Rattle.nagsched_run.proofs.ContinuationLemmas.{saved_ends}
+use Rattle.nagsched_run.proofs.live.continue_live.Goals as goal
 
 -- ---- a fresh scheduler
 
-pub returns-in_err-open-in-Fresh-clause-went_on : goal.returns-in_err-open-in-Fresh-clause-went_on
-returns-in_err-open-in-Fresh-clause-went_on g c =
+pub returns-in_err-open-in-Fresh-clause-continuation : goal.returns-in_err-open-in-Fresh-clause-continuation
+returns-in_err-open-in-Fresh-clause-continuation g c =
     let p = err_from_is_err_and c.from_residual.result c.from_residual.ensures.1 in
     rw (p.1) (gone_unwritten _ _ _ _ [] _ _ _ _ _ (Consumes-none _) c.requires.end (Keeps-same _))
 
-pub returns-in_err-talk-in-Fresh-clause-went_on : goal.returns-in_err-talk-in-Fresh-clause-went_on
-returns-in_err-talk-in-Fresh-clause-went_on g c =
+pub returns-in_err-talk-in-Fresh-clause-continuation : goal.returns-in_err-talk-in-Fresh-clause-continuation
+returns-in_err-talk-in-Fresh-clause-continuation g c =
     let p = err_from_is_err_and c.from_residual-in_err-talk-in-Fresh.result c.from_residual-in_err-talk-in-Fresh.ensures.1 in
     rw (p.1) (gone_unwritten _ _ _ _ [] _ _ _ _ _ (Consumes-none _) c.requires.end (Keeps-same _))
 
-pub returns-in-Fresh-clause-went_on : goal.returns-in-Fresh-clause-went_on
-returns-in-Fresh-clause-went_on g c =
+pub returns-in-Fresh-clause-continuation : goal.returns-in-Fresh-clause-continuation
+returns-in-Fresh-clause-continuation g c =
     let t = c.in_ok-talk-in-Fresh.ensures in
     let a = c.answer_all.ensures in
     rw (c.in-Fresh.is)
-    (gone_opened _ _ _ _ _ _ _ _ _ c.requires.end a.outcome a.none (rw (t.sched ∙ c.in_ok-open-in-Fresh.ensures, t.at_hand) at a.lines))
+    (gone_opened _ _ _ _ _ _ _ _ _ c.requires.end a.outcome a.none (rw (t.sched ∙ c.in_ok-open-in-Fresh.ensures, t.buffered) at a.lines))
 
 pub returns-in_err-open-in-Fresh-clause-spent : goal.returns-in_err-open-in-Fresh-clause-spent
 returns-in_err-open-in-Fresh-clause-spent g c =
@@ -39,56 +40,56 @@ returns-in_err-talk-in-Fresh-clause-spent g c =
 
 pub returns-in-Fresh-clause-spent : goal.returns-in-Fresh-clause-spent
 returns-in-Fresh-clause-spent g c =
-    opened_later _ _ _ _ _ _ _ (rw (c.in_ok-talk-in-Fresh.ensures.at_hand) at c.answer_all.ensures.spent)
+    opened_later _ _ _ _ _ _ _ (rw (c.in_ok-talk-in-Fresh.ensures.buffered) at c.answer_all.ensures.spent)
 
 -- ---- one that continues from a saved state
 
-pub returns-in_err-saved-in-Resumed-clause-went_on : goal.returns-in_err-saved-in-Resumed-clause-went_on
-returns-in_err-saved-in-Resumed-clause-went_on g c =
-    let t = c.in_err-saved-in-Resumed.ensures.took in
+pub returns-in_err-saved-in-Resumed-clause-continuation : goal.returns-in_err-saved-in-Resumed-clause-continuation
+returns-in_err-saved-in-Resumed-clause-continuation g c =
+    let t = c.in_err-saved-in-Resumed.ensures.reading in
     let p = err_from_is_err_and c.from_residual-in_err-saved-in-Resumed.result c.from_residual-in_err-saved-in-Resumed.ensures.1 in
     rw (p.1) (gone_unwritten _ _ _ _ t.0 _ _ _ _ _ t.1 c.requires.end (Keeps-same _))
 
-pub returns-in_err-sched-in-Ok-clause-went_on : goal.returns-in_err-sched-in-Ok-clause-went_on
-returns-in_err-sched-in-Ok-clause-went_on g c =
-    let t = c.in_ok-saved-in-Resumed.ensures.took in
+pub returns-in_err-sched-in-Ok-clause-continuation : goal.returns-in_err-sched-in-Ok-clause-continuation
+returns-in_err-sched-in-Ok-clause-continuation g c =
+    let t = c.in_ok-saved-in-Resumed.ensures.reading in
     let p = err_from_is_err_and c.from_residual-in_err-sched-in-Ok.result c.from_residual-in_err-sched-in-Ok.ensures.1 in
     rw (p.1) (gone_unwritten _ _ _ _ t.0 _ _ _ _ _ t.1 c.requires.end (Keeps-same _))
 
-pub returns-in_err-talk-in-Ok-clause-went_on : goal.returns-in_err-talk-in-Ok-clause-went_on
-returns-in_err-talk-in-Ok-clause-went_on g c =
-    let t = c.in_ok-saved-in-Resumed.ensures.took in
+pub returns-in_err-talk-in-Ok-clause-continuation : goal.returns-in_err-talk-in-Ok-clause-continuation
+returns-in_err-talk-in-Ok-clause-continuation g c =
+    let t = c.in_ok-saved-in-Resumed.ensures.reading in
     let p = err_from_is_err_and c.from_residual-in_err-talk-in-Ok.result c.from_residual-in_err-talk-in-Ok.ensures.1 in
     rw (p.1) (gone_unwritten _ _ _ _ t.0 _ _ _ _ _ t.1 c.requires.end (Keeps-same _))
 
-pub returns-in-Ok-clause-went_on : goal.returns-in-Ok-clause-went_on
-returns-in-Ok-clause-went_on g c =
-    let t = c.in_ok-saved-in-Resumed.ensures.took in
-    let s : saved_in (c.args.at_hand ++ t.0) ≡ Ok c.in-Ok.saved = rw (c.in-Ok.is) at t.4.0 in
+pub returns-in-Ok-clause-continuation : goal.returns-in-Ok-clause-continuation
+returns-in-Ok-clause-continuation g c =
+    let t = c.in_ok-saved-in-Resumed.ensures.reading in
+    let s : saved_at_start (c.args.buffered ++ t.0) ≡ Ok c.in-Ok.saved = rw (c.in-Ok.is) at t.4.0 in
     let talk = c.in_ok-talk-in-Ok.ensures in
     let a = c.answer_all-in-Ok.ensures in
     rw (c.in-Resumed.is)
     (gone_answered _ _ c.in-Ok.saved _ _ _ t.0 _ _ _ _ _ _ s t.1 t.2 c.requires.end t.4.1.follows (saved_ends _ c.in-Ok.saved _ _ s t.4.1.follows t.4.1.ended) a.outcome a.none
-    (rw (talk.sched ∙ c.in_ok-sched-in-Ok.ensures, talk.at_hand ∙ t.4.1.hand_is) at a.lines))
+    (rw (talk.sched ∙ c.in_ok-sched-in-Ok.ensures, talk.buffered ∙ t.4.1.buffer_is) at a.lines))
 
-pub returns-in-Err-Refused-clause-went_on : goal.returns-in-Err-Refused-clause-went_on
-returns-in-Err-Refused-clause-went_on g c =
-    let t = c.in_ok-saved-in-Resumed.ensures.took in
-    let s : saved_in (c.args.at_hand ++ t.0) ≡ Err c.in-Err-Refused.why =
+pub returns-in-Err-Refused-clause-continuation : goal.returns-in-Err-Refused-clause-continuation
+returns-in-Err-Refused-clause-continuation g c =
+    let t = c.in_ok-saved-in-Resumed.ensures.reading in
+    let s : saved_at_start (c.args.buffered ++ t.0) ≡ Err c.in-Err-Refused.why =
     gives_refused _ c.in_ok-saved-in-Resumed.saved _ c.in-Err-Refused.why _ t.4.0 c.in-Err-Refused.is
     (rw (c.in-Err-Refused.is) at c.in-Err-Refused.field-0-is) in
     let r = c.refuse.ensures in
     rw (c.in-Resumed.is)
-    (gone_refused _ _ _ _ _ t.0 _ _ _ _ c.in-Err-Refused.why _ _ s t.1 t.2 t.3 c.requires.end t.4.1.follows t.4.1.ended r.outcome r.written r.fault c.as_written.ensures)
+    (gone_refused _ _ _ _ _ t.0 _ _ _ _ c.in-Err-Refused.why _ _ s t.1 t.2 t.3 c.requires.end t.4.1.follows t.4.1.ended r.outcome r.written r.fault c.as_live_result.ensures)
 
-pub returns-clause-went_on : goal.returns-clause-went_on
-returns-clause-went_on g c =
-    let t = c.in_ok-saved-in-Resumed.ensures.took in
+pub returns-clause-continuation : goal.returns-clause-continuation
+returns-clause-continuation g c =
+    let t = c.in_ok-saved-in-Resumed.ensures.reading in
     gone_unwritten _ _ _ _ t.0 _ _ _ _ _ t.1 c.requires.end (Keeps-same _)
 
 pub returns-in-Ok-clause-spent : goal.returns-in-Ok-clause-spent
 returns-in-Ok-clause-spent g c =
-    let t = c.in_ok-saved-in-Resumed.ensures.took in
+    let t = c.in_ok-saved-in-Resumed.ensures.reading in
     let a = c.answer_all-in-Ok.ensures in
     answered_later _ outcome.Ran _ _ t.0 _ _ _ _ _ c.in_ok-saved-in-Resumed.follow t.4.1.follows t.1 (λ f. (a.none f).0)
-    (rw (c.in_ok-talk-in-Ok.ensures.at_hand ∙ t.4.1.hand_is) at a.spent)
+    (rw (c.in_ok-talk-in-Ok.ensures.buffered ∙ t.4.1.buffer_is) at a.spent)

@@ -1,8 +1,8 @@
 use Rattle.std.proofs.lemmas.Result.{err_from_is_err_and}
-use Rattle.check_drive.proofs.LiveLemmas.{leaves_all, leaves_left}
-use Rattle.check_text.proofs.OutputLemmas.{Appends-Keeps}
-use Rattle.check_text.proofs.WrittenLemmas.{left_clauses}
-use Rattle.check_drive.proofs.live.refuse.Goals as goal
+use Rattle.nagsched_run.proofs.LiveLemmas.{leaves_all, leaves_left}
+use Rattle.nagsched_protocol.proofs.OutputLemmas.{Appends-Keeps}
+use Rattle.nagsched_protocol.proofs.WrittenLemmas.{left_clauses}
+use Rattle.nagsched_run.proofs.live.refuse.Goals as goal
 
 pub returns-in_err-write_refusal-clause-fault : goal.returns-in_err-write_refusal-clause-fault
 returns-in_err-write_refusal-clause-fault g c =

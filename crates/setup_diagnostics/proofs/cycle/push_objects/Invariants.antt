@@ -1,7 +1,7 @@
 use Rattle.std.proofs.Common.{◌≡◌, ◌++◌, drop}
 use Rattle.serde_json.specs.View.{view}
-use Rattle.check_explain.specs.Cycles.{objects_text}
-use Rattle.check_explain.proofs.cycle.push_objects.Given as goal
+use Rattle.setup_diagnostics.specs.Cycles.{objects_text}
+use Rattle.setup_diagnostics.proofs.cycle.push_objects.Given as goal
 
 abbrev pub invariant-loop-object : goal.invariant-loop-object
 invariant-loop-object l =

@@ -1,7 +1,7 @@
 use Rattle.serde_json.specs.View.{view}
-use Rattle.check_documents.proofs.FeedLemmas.{compact_free}
-use Rattle.check_explain.proofs.LineLemmas.{shallow_tree, tree_is}
-use Rattle.check_explain.proofs.document_line.write_line.Goals as goal
+use Rattle.setup_reader.proofs.FeedLemmas.{compact_free}
+use Rattle.setup_diagnostics.proofs.LineLemmas.{shallow_tree, tree_is}
+use Rattle.setup_diagnostics.proofs.document_line.compact_document.Goals as goal
 
 pub returns-clause-same : goal.returns-clause-same
 returns-clause-same c = λ document is.

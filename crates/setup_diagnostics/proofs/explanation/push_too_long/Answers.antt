@@ -1,7 +1,7 @@
 use Rattle.std.specs.Prelude.{codes, decimal}
 use Rattle.std.proofs.lemmas.Result.{on_ok_weaker}
-use Rattle.check_explain.proofs.PieceLemmas.{three_pieces}
-use Rattle.check_explain.proofs.explanation.push_too_long.Goals as goal
+use Rattle.setup_diagnostics.proofs.PieceLemmas.{three_pieces}
+use Rattle.setup_diagnostics.proofs.explanation.push_too_long.Goals as goal
 
 pub returns : goal.returns
 returns c =

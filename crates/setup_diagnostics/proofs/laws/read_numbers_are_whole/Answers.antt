@@ -1,5 +1,5 @@
-use Rattle.check_explain.proofs.NumberLemmas.{no_float, whole_numbers}
-use Rattle.check_explain.proofs.laws.read_numbers_are_whole.Goals as goal
+use Rattle.setup_diagnostics.proofs.NumberLemmas.{no_float, whole_numbers}
+use Rattle.setup_diagnostics.proofs.laws.read_numbers_are_whole.Goals as goal
 
 pub returns : goal.returns
 returns c = record {

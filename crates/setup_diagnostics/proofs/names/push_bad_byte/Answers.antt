@@ -1,8 +1,8 @@
 use Rattle.std.proofs.Common.{◌≡◌, ◌==◌, false, ne_eqb}
 use Rattle.std.specs.Prelude.{codes, decimal}
 use Rattle.std.proofs.lemmas.Result.{on_ok_weaker}
-use Rattle.check_explain.proofs.PieceLemmas.{three_pieces}
-use Rattle.check_explain.proofs.names.push_bad_byte.Goals as goal
+use Rattle.setup_diagnostics.proofs.PieceLemmas.{three_pieces}
+use Rattle.setup_diagnostics.proofs.names.push_bad_byte.Goals as goal
 
 pub returns : goal.returns
 returns c =

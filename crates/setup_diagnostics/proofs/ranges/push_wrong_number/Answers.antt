@@ -1,8 +1,8 @@
 use Rattle.std.proofs.lemmas.Result.{on_ok_weaker}
-use Rattle.check_drafts.specs.Members as members
-use Rattle.check_explain.specs.Ranges.{above_text, number_text}
-use Rattle.check_explain.proofs.PieceLemmas.{two_pieces}
-use Rattle.check_explain.proofs.ranges.push_wrong_number.Goals as goal
+use Rattle.setup_model.specs.Members as members
+use Rattle.setup_diagnostics.specs.Ranges.{above_text, number_text}
+use Rattle.setup_diagnostics.proofs.PieceLemmas.{two_pieces}
+use Rattle.setup_diagnostics.proofs.ranges.push_wrong_number.Goals as goal
 
 pub returns-in_ok-push_number-in-ServiceThresholds : goal.returns-in_ok-push_number-in-ServiceThresholds
 returns-in_ok-push_number-in-ServiceThresholds c =

@@ -1,7 +1,7 @@
 use Rattle.std.proofs.lemmas.Result.{IfOk-weaker}
-use Rattle.check_drafts.specs.Members.{document_members}
-use Rattle.check_explain.proofs.GrowthLemmas.{all_then}
-use Rattle.check_explain.proofs.schema.write_schema.Goals as goal
+use Rattle.setup_model.specs.Members.{document_members}
+use Rattle.setup_diagnostics.proofs.GrowthLemmas.{all_then}
+use Rattle.setup_diagnostics.proofs.schema.json_schema.Goals as goal
 
 pub returns : goal.returns
 returns c = record {

@@ -1,6 +1,6 @@
 use Rattle.std.proofs.lemmas.Result.{on_ok_weaker}
-use Rattle.check_explain.proofs.GrowthLemmas.{begins_by, begins_then}
-use Rattle.check_explain.proofs.schema.push_between.Goals as goal
+use Rattle.setup_diagnostics.proofs.GrowthLemmas.{begins_by, begins_then}
+use Rattle.setup_diagnostics.proofs.schema.push_between.Goals as goal
 
 pub returns : goal.returns
 returns c =

@@ -1,7 +1,7 @@
 use Rattle.std.proofs.Common.{◌∙◌, Some, String, Global, Option, ap, string_bytes, sym}
 use Rattle.std.specs.Prelude.{option_map}
-use Rattle.check_explain.proofs.HeadLemmas.{key_seen}
-use Rattle.check_explain.proofs.shapes.key_at.Goals as goal
+use Rattle.setup_diagnostics.proofs.HeadLemmas.{key_seen}
+use Rattle.setup_diagnostics.proofs.shapes.nth_member_name.Goals as goal
 
 pub returns-in-Some : goal.returns-in-Some
 returns-in-Some c =

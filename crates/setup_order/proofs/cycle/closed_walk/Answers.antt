@@ -1,5 +1,5 @@
-use Rattle.link_order.proofs.WalkLemmas.{way_begins, way_comes_back, way_continues, way_ends}
-use Rattle.link_order.proofs.cycle.round.Goals as goal
+use Rattle.setup_order.proofs.WalkLemmas.{way_begins, way_comes_back, way_continues, way_ends}
+use Rattle.setup_order.proofs.cycle.closed_walk.Goals as goal
 
 pub loop-step-init : goal.loop-step-init
 loop-step-init c = rw c.new-cycle.ensures.items (way_begins c.args.next.now c.args.object)

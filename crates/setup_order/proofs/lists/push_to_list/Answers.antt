@@ -1,6 +1,6 @@
 use Rattle.std.proofs.Common.{arith}
-use Rattle.link_order.proofs.DependentLemmas.{push_in}
-use Rattle.link_order.proofs.lists.push_at.Goals as goal
+use Rattle.setup_order.proofs.DependentLemmas.{push_in}
+use Rattle.setup_order.proofs.lists.push_to_list.Goals as goal
 
 pub returns-clause-pushed : goal.returns-clause-pushed
 returns-clause-pushed g c =

@@ -1,6 +1,6 @@
 use Rattle.std.proofs.Common.{take, map}
-use Rattle.link_order.specs.Growth.{AddsDependent}
-use Rattle.link_order.proofs.order.add_dependent.Given as goal
+use Rattle.setup_order.specs.Growth.{AddsDependent}
+use Rattle.setup_order.proofs.order.add_dependent.Given as goal
 
 abbrev pub invariant-loop-link : goal.invariant-loop-link
 invariant-loop-link l =

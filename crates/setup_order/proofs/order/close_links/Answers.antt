@@ -1,5 +1,5 @@
-use Rattle.link_order.proofs.GrowthLemmas.{still_to_close, closed_next}
-use Rattle.link_order.proofs.order.close_links.Goals as goal
+use Rattle.setup_order.proofs.GrowthLemmas.{still_to_close, closed_next}
+use Rattle.setup_order.proofs.order.close_links.Goals as goal
 
 pub close_link-requires-clause-open : goal.close_link-requires-clause-open
 close_link-requires-clause-open c =

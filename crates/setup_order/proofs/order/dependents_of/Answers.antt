@@ -1,8 +1,8 @@
 use Rattle.std.proofs.Common.{◌≡◌, arith, length, map, sym, ◌∙◌, vec_len}
 use Rattle.std.proofs.lemmas.List.{length-map}
-use Rattle.link_order.proofs.ChainLemmas.{links_within}
-use Rattle.link_order.proofs.DependentLemmas.{dependents_none, replicate_within, dependents_next, dependents_all, list_at, all_below_same}
-use Rattle.link_order.proofs.order.dependents_of.Goals as goal
+use Rattle.setup_order.proofs.ChainLemmas.{links_within}
+use Rattle.setup_order.proofs.DependentLemmas.{dependents_none, replicate_within, dependents_next, dependents_all, list_at, all_below_same}
+use Rattle.setup_order.proofs.order.dependents_of.Goals as goal
 
 pub loop-object-init : goal.loop-object-init
 loop-object-init c =

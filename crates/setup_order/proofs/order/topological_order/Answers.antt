@@ -1,18 +1,18 @@
 use Rattle.std.proofs.Common.{◌≡◌, ℕ, ◌<◌, List, arith, get_or, length, map, sym, ◌∙◌}
 use Rattle.std.proofs.lemmas.List.{length-map}
-use Rattle.link_order.specs.Cycles.{links_of}
-use Rattle.link_order.specs.Growth.{HasDependents, IsUnderWay}
-use Rattle.link_order.specs.Orders.{times}
-use Rattle.link_order.proofs.ChainLemmas.{links_within}
-use Rattle.link_order.proofs.GrowthLemmas.{under_way_first, under_way_next, enough_open, order_whole, cycle_left, stuck_left, placed_below, written_back}
-use Rattle.link_order.proofs.DependentLemmas.{dependents_at, all_below_same}
-use Rattle.link_order.proofs.order.order_by_links.Goals as goal
+use Rattle.setup_order.specs.Cycles.{links_of}
+use Rattle.setup_order.specs.Growth.{HasDependents, IsOrderPrefix}
+use Rattle.setup_order.specs.Orders.{occurrences}
+use Rattle.setup_order.proofs.ChainLemmas.{links_within}
+use Rattle.setup_order.proofs.GrowthLemmas.{under_way_first, under_way_next, enough_open, order_whole, cycle_left, stuck_left, placed_below, written_back}
+use Rattle.setup_order.proofs.DependentLemmas.{dependents_at, all_below_same}
+use Rattle.setup_order.proofs.order.topological_order.Goals as goal
 
 -- what was read of the object that stands at a place of the order: the list of those that link to it, each once for each of its links there
 dependents_read : {X : Type 0} (f : X → List ℕ) (n : ℕ) (links : List (List ℕ)) (xs : List X) (place object : ℕ) (left order read : List ℕ) (w : X)
-    → HasDependents n links (map f xs) → IsUnderWay links place left order → place < length order → length links ≡ n → object ≡ get_or order place object
+    → HasDependents n links (map f xs) → IsOrderPrefix links place left order → place < length order → length links ≡ n → object ≡ get_or order place object
     → w ≡ get_or xs object w → read ≡ f w
-    → (read ≡ links_of (map f xs) object) × ((o : ℕ) → o < length links → times o read ≡ times (get_or order place object) (links_of links o))
+    → (read ≡ links_of (map f xs) object) × ((o : ℕ) → o < length links → occurrences o read ≡ occurrences (get_or order place object) (links_of links o))
 dependents_read f n links xs place object left order read w d u h size at is same =
     let below : object < n = (let b = placed_below links place object left order u h at in omega arith) in
     let e = same ∙ dependents_at f n links xs object w d below is in

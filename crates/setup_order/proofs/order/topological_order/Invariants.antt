@@ -1,9 +1,9 @@
 use Rattle.std.proofs.Common.{length, map, ◌-◌}
-use Rattle.link_order.specs.Growth.{IsUnderWay}
-use Rattle.link_order.proofs.order.order_by_links.Given as goal
+use Rattle.setup_order.specs.Growth.{IsOrderPrefix}
+use Rattle.setup_order.proofs.order.topological_order.Given as goal
 
 abbrev pub invariant-loop-place : goal.invariant-loop-place
-invariant-loop-place l = IsUnderWay (map (λ list. list.items) l.links) l.place l.left.items l.order.items
+invariant-loop-place l = IsOrderPrefix (map (λ list. list.items) l.links) l.place l.left.items l.order.items
 
 abbrev pub decreases-loop-place : goal.decreases-loop-place
 decreases-loop-place l = length l.links - l.place

@@ -1,4 +1,4 @@
-use Rattle.check_documents.proofs.criteria.with_piece.Goals as goal
+use Rattle.setup_reader.proofs.criteria.with_piece.Goals as goal
 
 pub returns : goal.returns
 returns c = λ i. record {

@@ -1,6 +1,6 @@
-use Rattle.check_documents.proofs.TreeLemmas.{tree_some, tree_none}
-use Rattle.check_documents.proofs.tree.read_tree.Goals as goal
-use Rattle.check_documents.proofs.tree.read_tree.Goals.{then-is_memory, else-is_memory}
+use Rattle.setup_reader.proofs.TreeLemmas.{tree_some, tree_none}
+use Rattle.setup_reader.proofs.json_tree.read_tree.Goals as goal
+use Rattle.setup_reader.proofs.json_tree.read_tree.Goals.{then-is_memory, else-is_memory}
 
 pub returns-in-Ok : goal.returns-in-Ok
 returns-in-Ok c = tree_some _ _ _ c.in-Ok.ensures.ok.0 c.in-Ok.ensures.ok.1

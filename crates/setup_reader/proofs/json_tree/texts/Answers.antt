@@ -1,7 +1,7 @@
 use Rattle.std.proofs.Common.{sym, ◌∙◌, ap, true, false}
 use Rattle.std.specs.List.{list_all}
-use Rattle.check_documents.proofs.TreeLemmas.{is_text, texts_of_items}
-use Rattle.check_documents.proofs.tree.texts.Goals as goal
+use Rattle.setup_reader.proofs.TreeLemmas.{is_text, texts_of_items}
+use Rattle.setup_reader.proofs.json_tree.texts.Goals as goal
 
 pub returns-then-are_texts : goal.returns-then-are_texts
 returns-then-are_texts c =

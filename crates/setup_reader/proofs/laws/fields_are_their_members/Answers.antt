@@ -1,5 +1,5 @@
-use Rattle.check_documents.proofs.FieldLaws.{dependency_by, host_by, options_by, service_by}
-use Rattle.check_documents.proofs.laws.fields_are_their_members.Goals as goal
+use Rattle.setup_reader.proofs.FieldLaws.{dependency_by, host_by, options_by, service_by}
+use Rattle.setup_reader.proofs.laws.fields_are_their_members.Goals as goal
 
 pub returns-clause-host : goal.returns-clause-host
 returns-clause-host c = host_by

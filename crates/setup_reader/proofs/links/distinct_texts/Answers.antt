@@ -1,9 +1,9 @@
 use Rattle.std.proofs.Common.{sym, ap, ◌∙◌, map, take, string_bytes, refl, arith}
 use Rattle.std.proofs.lemmas.List.{take_all}
-use Rattle.check_drafts.specs.Ends.{is_known}
-use Rattle.check_drafts.proofs.ListLemmas.{mapped_next}
-use Rattle.check_faults.proofs.VerificationLemmas.{known_more}
-use Rattle.check_faults.proofs.links.distinct_texts.Goals as goal
+use Rattle.setup_model.specs.Ends.{is_known}
+use Rattle.setup_model.proofs.ListLemmas.{mapped_next}
+use Rattle.setup_reader.proofs.VerificationLemmas.{known_more}
+use Rattle.setup_reader.proofs.links.distinct_texts.Goals as goal
 
 pub loop-text-preserved : goal.loop-text-preserved
 loop-text-preserved c =

@@ -2,14 +2,14 @@ use Rattle.std.proofs.Common.{◌≡◌, ap, ◌∙◌, Ok, Some, map, length, r
 use Rattle.std.specs.Prelude.{slice_get}
 use Rattle.std.specs.List.{list_any}
 use Rattle.std.proofs.lemmas.Option.{slice_get-map, slice_get_read}
-use Rattle.check_drafts.specs.Agreement.{◌>>=◌}
-use Rattle.check_drafts.specs.Drafted.{host}
-use Rattle.check_drafts.specs.Keys.{first_like, names_of}
-use Rattle.check_drafts.specs.Place.{host_at}
-use Rattle.check_drafts.proofs.ListLemmas.{dropped_as, one_key_more}
-use Rattle.check_drafts.proofs.RepeatLemmas.{first_repeat_is}
-use Rattle.check_faults.proofs.VerificationLemmas.{keys_later, like_the_first, repeat_here, repeat_later, repeated_at, was_known, was_new}
-use Rattle.check_faults.proofs.names.distinct_names.Goals as goal
+use Rattle.setup_model.specs.Agreement.{◌>>=◌}
+use Rattle.setup_model.specs.ParsedViews.{host}
+use Rattle.setup_model.specs.Keys.{first_equal_index, names_of}
+use Rattle.setup_model.specs.Place.{host_place}
+use Rattle.setup_model.proofs.ListLemmas.{dropped_as, one_key_more}
+use Rattle.setup_model.proofs.RepeatLemmas.{first_repeat_is}
+use Rattle.setup_reader.proofs.VerificationLemmas.{keys_later, like_the_first, repeat_here, repeat_later, repeated_at, was_known, was_new}
+use Rattle.setup_reader.proofs.names.distinct_names.Goals as goal
 
 pub loop-index-init : goal.loop-index-init
 loop-index-init c = record { repeat = first_repeat_is bytes_eq (names_of (map host c.args.hosts.now)) ∙ search rules; names = search rules }
@@ -30,7 +30,7 @@ returns-then-not-is_new c =
     ∙ ap (option_map host) (slice_get_read hs (length hs) i draft refl c.loop-index-test.true c.index-hosts-index.is)) in
     let like = like_the_first bytes_eq (λ n. n.now) names keys _ i c.in_ok-first.first draft.name.now c.loop-index.invariant.names at known
     c.in_ok-first.ensures.index in
-    ap (λ r. r >>= λ _. Ok names) (repeated_at host_at (first_like bytes_eq names) _ i c.host.result c.in_ok-first.first repeat c.host.ensures like)
+    ap (λ r. r >>= λ _. Ok names) (repeated_at host_place (first_equal_index bytes_eq names) _ i c.host.result c.in_ok-first.first repeat c.host.ensures like)
 
 pub loop-index-preserved : goal.loop-index-preserved
 loop-index-preserved c =

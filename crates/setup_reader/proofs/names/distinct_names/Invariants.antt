@@ -1,8 +1,8 @@
 use Rattle.std.proofs.Common.{◌≡◌, ◌++◌, map, drop, bytes_eq}
-use Rattle.check_drafts.specs.Keys.{first_repeat, names_of}
-use Rattle.check_drafts.specs.Drafted.{host, texts}
-use Rattle.check_faults.proofs.names.distinct_names.Given as goal
-use Rattle.check_drafts.proofs.RepeatLemmas.{repeat_after}
+use Rattle.setup_model.specs.Keys.{first_repeat, names_of}
+use Rattle.setup_model.specs.ParsedViews.{host, texts}
+use Rattle.setup_reader.proofs.names.distinct_names.Given as goal
+use Rattle.setup_model.proofs.RepeatLemmas.{repeat_after}
 
 abbrev pub invariant-loop-index : goal.invariant-loop-index
 invariant-loop-index l = record {

@@ -2,18 +2,18 @@ use Rattle.std.proofs.Common.{◌≡◌, ap, ◌∙◌, ◌&&◌, get_or, Some, 
 use Rattle.std.specs.Prelude.{slice_get}
 use Rattle.std.specs.List.{list_any}
 use Rattle.std.proofs.lemmas.Option.{slice_get-map, slice_get-get_or}
-use Rattle.check_drafts.specs.Drafted.{service}
-use Rattle.check_drafts.specs.Keys.{first_like, key_of, same_key}
-use Rattle.check_drafts.specs.Place.{service_at}
-use Rattle.check_drafts.proofs.PastEnds.{no_service}
-use Rattle.check_drafts.proofs.ListLemmas.{dropped_at, one_key_more}
-use Rattle.check_drafts.proofs.RepeatLemmas.{first_repeat_is}
-use Rattle.check_faults.proofs.VerificationLemmas.{keys_later, like_the_first, repeat_here, repeat_later, repeated_at, was_known, was_new}
-use Rattle.check_faults.proofs.names.verify_distinct_services.Goals as goal
+use Rattle.setup_model.specs.ParsedViews.{service}
+use Rattle.setup_model.specs.Keys.{first_equal_index, key_of, is_same_key}
+use Rattle.setup_model.specs.Place.{service_place}
+use Rattle.setup_model.proofs.DefaultItems.{no_service}
+use Rattle.setup_model.proofs.ListLemmas.{dropped_at, one_key_more}
+use Rattle.setup_model.proofs.RepeatLemmas.{first_repeat_is}
+use Rattle.setup_reader.proofs.VerificationLemmas.{keys_later, like_the_first, repeat_here, repeat_later, repeated_at, was_known, was_new}
+use Rattle.setup_reader.proofs.names.verify_distinct_services.Goals as goal
 
 pub loop-index-init : goal.loop-index-init
 loop-index-init c =
-    record { repeat = first_repeat_is same_key (map key_of (map service c.args.services.now)) ∙ search rules; names = search rules }
+    record { repeat = first_repeat_is is_same_key (map key_of (map service c.args.services.now)) ∙ search rules; names = search rules }
 
 pub returns-then-not-is_new : goal.returns-then-not-is_new
 returns-then-not-is_new c =
@@ -26,14 +26,14 @@ returns-then-not-is_new c =
     let known = was_known c.in_ok-first.is_new (list_any (λ k. bytes_eq draft.host.now k.0.now && bytes_eq draft.description.now k.1.now) keys)
     c.in_ok-first.ensures.added c.if-not-is_new.true in
     let repeat = c.loop-index.invariant.repeat
-    ∙ repeat_here same_key (λ k. (k.0.now, k.1.now)) (λ ds. map key_of (map service ds)) (λ d. (d.host, d.description)) (λ d ds. refl) keys ss i draft rest
+    ∙ repeat_here is_same_key (λ k. (k.0.now, k.1.now)) (λ ds. map key_of (map service ds)) (λ d. (d.host, d.description)) (λ d ds. refl) keys ss i draft rest
     known in
     let at : slice_get all i ≡ Some (draft.host.now, draft.description.now) =
     slice_get-map key_of (map service ss) i ∙ ap (option_map key_of) (slice_get-map service ss i
     ∙ ap (option_map service) (slice_get-get_or ss i no_service c.loop-index-test.true)) in
-    let like = like_the_first same_key (λ k. (k.0.now, k.1.now)) all keys _ i c.in_ok-first.first (draft.host.now, draft.description.now)
+    let like = like_the_first is_same_key (λ k. (k.0.now, k.1.now)) all keys _ i c.in_ok-first.first (draft.host.now, draft.description.now)
     c.loop-index.invariant.names at known c.in_ok-first.ensures.index in
-    repeated_at service_at (first_like same_key all) _ i c.service.result c.in_ok-first.first repeat c.service.ensures like
+    repeated_at service_place (first_equal_index is_same_key all) _ i c.service.result c.in_ok-first.first repeat c.service.ensures like
 
 pub loop-index-preserved : goal.loop-index-preserved
 loop-index-preserved c =
@@ -49,10 +49,10 @@ loop-index-preserved c =
     record {
       repeat =
           c.loop-index.invariant.repeat
-          ∙ repeat_later same_key (λ k. (k.0.now, k.1.now)) (λ ds. map key_of (map service ds)) (λ d. (d.host, d.description))
+          ∙ repeat_later is_same_key (λ k. (k.0.now, k.1.now)) (λ ds. map key_of (map service ds)) (λ d. (d.host, d.description))
           (λ d ds. refl) keys c.insert_full.new.self.keys ss i draft rest new more;
       names =
           c.loop-index.invariant.names
-          ∙ keys_later same_key (λ k. (k.0.now, k.1.now)) (λ ds. map key_of (map service ds)) (λ d. (d.host, d.description))
+          ∙ keys_later is_same_key (λ k. (k.0.now, k.1.now)) (λ ds. map key_of (map service ds)) (λ d. (d.host, d.description))
           (λ d ds. refl) keys c.insert_full.new.self.keys ss i draft rest more;
     }

@@ -1,6 +1,6 @@
 use Rattle.serde_json.specs.View.{view}
-use Rattle.check_documents.proofs.ShapeLaws.{options_there, options_wrong}
-use Rattle.check_documents.proofs.reading.read_options.Goals as goal
+use Rattle.setup_reader.proofs.ShapeLaws.{options_there, options_wrong}
+use Rattle.setup_reader.proofs.reading.read_options.Goals as goal
 
 pub unwrap-requires : goal.unwrap-requires
 unwrap-requires c = options_there (λ v. view v.now) c.args.value c.in-None.ensures

@@ -1,8 +1,8 @@
 use Rattle.std.proofs.Common.{◌≡◌, drop, find, map}
 use Rattle.serde_json.specs.View.{view}
-use Rattle.check_drafts.specs.Member.{as_row}
-use Rattle.check_documents.specs.Shapes.{is_missing}
-use Rattle.check_documents.proofs.shapes.first_missing.Given as goal
+use Rattle.setup_model.specs.Member.{as_row}
+use Rattle.setup_reader.specs.Shapes.{is_missing}
+use Rattle.setup_reader.proofs.shapes.first_missing.Given as goal
 
 abbrev pub invariant-loop-member : goal.invariant-loop-member
 invariant-loop-member l =

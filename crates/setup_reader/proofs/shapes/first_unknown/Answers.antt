@@ -1,8 +1,8 @@
 use Rattle.std.proofs.Common.{◌∙◌, ap}
 use Rattle.serde_json.specs.View.{members_view}
-use Rattle.check_documents.specs.Shapes.{first_unknown}
-use Rattle.check_documents.proofs.KeyLemmas.{names_seen, unknown_seen}
-use Rattle.check_documents.proofs.shapes.first_unknown.Goals as goal
+use Rattle.setup_reader.specs.Shapes.{first_unknown}
+use Rattle.setup_reader.proofs.KeyLemmas.{names_seen, unknown_seen}
+use Rattle.setup_reader.proofs.shapes.first_unknown.Goals as goal
 
 pub returns : goal.returns
 returns c =

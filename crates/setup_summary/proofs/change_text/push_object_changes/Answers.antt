@@ -1,8 +1,8 @@
 use Rattle.std.proofs.Common.{◌<◌, ◌∙◌, ◌++◌, ap, arith, get_or, length, None, refl, string_bytes}
 use Rattle.check_objects.specs.Configuration.{name_of}
-use Rattle.check_changes.specs.Text.{object_text}
-use Rattle.check_changes.proofs.TextLemmas.{text_all, text_more}
-use Rattle.check_changes.proofs.text.push_changed.Goals as goal
+use Rattle.setup_summary.specs.ChangeText.{object_text}
+use Rattle.setup_summary.proofs.ChangeTextLemmas.{text_all, text_more}
+use Rattle.setup_summary.proofs.change_text.push_object_changes.Goals as goal
 
 pub loop-number-preserved : goal.loop-number-preserved
 loop-number-preserved c =

@@ -2,8 +2,8 @@ use Rattle.std.proofs.Common.{◌≡◌, ◌++◌, string_bytes, take}
 use Rattle.std.specs.Prelude.{flat_map}
 use Rattle.std.specs.List.{enumerate_from}
 use Rattle.check_objects.specs.Configuration.{name_of}
-use Rattle.check_changes.specs.Text.{object_text}
-use Rattle.check_changes.proofs.text.push_changed.Given as goal
+use Rattle.setup_summary.specs.ChangeText.{object_text}
+use Rattle.setup_summary.proofs.change_text.push_object_changes.Given as goal
 
 abbrev pub invariant-loop-number : goal.invariant-loop-number
 invariant-loop-number l =

@@ -1,9 +1,9 @@
 use Rattle.std.proofs.Common.{◌∙◌, [], arith, get_or, length, map, take}
 use Rattle.std.proofs.lemmas.List.{length-map, take_more, take_all}
-use Rattle.link_order.proofs.DependentLemmas.{list_at}
-use Rattle.link_order.proofs.GrowthLemmas.{below_at}
-use Rattle.check_summary.proofs.DepthLemmas.{knows_none, knows_more, knows_all, links_placed, all_placed_below}
-use Rattle.check_summary.proofs.depths.find_depths.Goals as goal
+use Rattle.setup_order.proofs.DependentLemmas.{list_at}
+use Rattle.setup_order.proofs.GrowthLemmas.{below_at}
+use Rattle.setup_summary.proofs.DepthLemmas.{knows_none, knows_more, knows_all, links_placed, all_placed_below}
+use Rattle.setup_summary.proofs.depths.find_depths.Goals as goal
 
 pub loop-object-init : goal.loop-object-init
 loop-object-init c =
@@ -31,7 +31,7 @@ loop-object-preserved c =
     let at = below_at (length links) order c.loop-object.object-index 0 c.loop-object-test.true c.requires.order.within in
     let same = c.as_slice.ensures ∙ list_at (λ list. list.items) c.args.links.now object
     c.index-links-object.result c.index-links-object.result (omega (arith, at, size)) c.index-links-object.is in
-    let placed = links_placed links [] order c.loop-object.object-index 0 c.requires.order.behind_links c.loop-object-test.true in
+    let placed = links_placed links [] order c.loop-object.object-index 0 c.requires.order.after_links c.loop-object-test.true in
     rw (take_more order c.loop-object.object-index 0 c.loop-object-test.true, c.depth_over-depth.ensures, c.deref.ensures.value, same)
     (knows_more links (take c.loop-object.object-index order) c.loop-object.depths.items object c.loop-object.invariant at placed)
 

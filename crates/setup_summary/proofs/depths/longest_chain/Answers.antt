@@ -1,7 +1,7 @@
 use Rattle.std.proofs.Common.{map, ◌∙◌, sym}
 use Rattle.std.proofs.lemmas.List.{length-map}
-use Rattle.check_summary.proofs.DepthLemmas.{longest_by_depths, longest_in_cycle}
-use Rattle.check_summary.proofs.depths.longest_chain.Goals as goal
+use Rattle.setup_summary.proofs.DepthLemmas.{longest_by_depths, longest_in_cycle}
+use Rattle.setup_summary.proofs.depths.longest_chain.Goals as goal
 
 pub returns-in-Order : goal.returns-in-Order
 returns-in-Order c =

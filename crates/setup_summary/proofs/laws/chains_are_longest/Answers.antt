@@ -1,5 +1,5 @@
-use Rattle.check_summary.proofs.LawLemmas.{longest_reached, none_longer}
-use Rattle.check_summary.proofs.laws.chains_are_longest.Goals as goal
+use Rattle.setup_summary.proofs.LawLemmas.{longest_reached, none_longer}
+use Rattle.setup_summary.proofs.laws.chains_are_longest.Goals as goal
 
 pub returns-clause-reached : goal.returns-clause-reached
 returns-clause-reached c = longest_reached

@@ -1,7 +1,7 @@
 use Rattle.std.proofs.Common.{◌≡◌, drop}
-use Rattle.check_summary.specs.Summary.{earliest}
+use Rattle.setup_summary.specs.Summary.{earliest}
 use Rattle.check_spread.specs.Spread.{earlier}
-use Rattle.check_summary.proofs.spans.find_first.Given as goal
+use Rattle.setup_summary.proofs.spans.earliest.Given as goal
 
 abbrev pub invariant-loop-time : goal.invariant-loop-time
 invariant-loop-time l = earliest l.times ≡ earlier l.first (earliest (drop l.time-index l.times))

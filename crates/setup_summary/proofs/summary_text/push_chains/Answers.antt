@@ -1,7 +1,7 @@
 use Rattle.std.proofs.Common.{◌++◌, ◌∙◌, ap, append_assoc, string_bytes, codes}
 use Rattle.std.proofs.lemmas.Result.{IfOk-equal}
-use Rattle.check_summary.specs.Text.{chains_text, count_line}
-use Rattle.check_summary.proofs.text.push_chains.Goals as goal
+use Rattle.setup_summary.specs.SummaryText.{chains_text, count_line}
+use Rattle.setup_summary.proofs.summary_text.push_chains.Goals as goal
 
 -- two lines, one after the other
 pub returns : goal.returns

@@ -1,6 +1,6 @@
 use Rattle.std.proofs.Common.{rules, ◌≡◌, ◌∷◌, ◌++◌, [], sym, ap, ◌∙◌, List, ℕ, ◌+◌, arith}
 use Rattle.ticket_steps.specs.Sums.{counted}
-use Rattle.ticket_steps.proofs.Totals.{counted_more}
+use Rattle.ticket_steps.proofs.SumLemmas.{counted_more}
 use Rattle.ticket_steps.proofs.core_steps.first_numbers.Goals as goal
 
 pub loop-number-preserved : goal.loop-number-preserved

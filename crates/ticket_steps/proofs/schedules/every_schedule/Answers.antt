@@ -1,6 +1,7 @@
 use Rattle.std.proofs.Common.{arith}
 use Rattle.ticket_steps.specs.declared.seats.CoreSeat.{CoreSeat}
-use Rattle.ticket_steps.proofs.ScheduleLemmas.{schedule_lawful, schedule_book, schedule_made, schedule_ended, schedule_of, schedule_glanced, schedule_strangers, lawful_line}
+use Rattle.ticket_steps.proofs.ScheduleLemmas.{schedule_lawful, schedule_book, schedule_made, schedule_ended, schedule_of, schedule_glanced, schedule_strangers}
+use Rattle.ticket_steps.proofs.ScheduleLemmas.{lawful_line}
 use Rattle.ticket_steps.proofs.SeatLemmas.{alone, named_once, one_holder, served_le, unnumbered_calls}
 use Rattle.ticket_steps.proofs.schedules.every_schedule.Goals as goal
 
@@ -23,7 +24,7 @@ returns g c = record {
       );
   lawful = λ s is. schedule_book g.K.Kept s is;
   entries = λ s is. schedule_of g.K.Kept s is;
-  glanced = λ s is own place word before after happened. schedule_glanced g.K.Kept s is own place word before after happened;
+  glanced = λ s is own place word before after happenings. schedule_glanced g.K.Kept s is own place word before after happenings;
   strangers = λ s is. schedule_strangers g.K.Kept s is;
   named = λ s is i k p q at there at' there' same. named_once s.numbers s.draws s.end (schedule_lawful g.K.Kept s is) i k p q at at' there there' same;
   numbered = λ s is. (schedule_lawful g.K.Kept s is).numbered;

@@ -6,7 +6,7 @@ use Rattle.check_sched.specs.State.{IsState}
 use Rattle.check_book.specs.declared.book.Log.{Log}
 use Rattle.check_book.specs.BookState.{book_at, book_step}
 use Rattle.check_book.specs.Logs.{log_opening, log_state}
-use Rattle.check_book.proofs.book.Book.over.Goals as goal
+use Rattle.check_book.proofs.book.Book.with_sched.Goals as goal
 
 pub invariant_of-result : goal.invariant_of-result
 invariant_of-result c =

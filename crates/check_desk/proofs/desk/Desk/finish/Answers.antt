@@ -1,7 +1,7 @@
 use Rattle.std.proofs.Common.{◌∙◌, sym, ap}
-use Rattle.ticket_lock.specs.Callers.{ended}
-use Rattle.check_desk.specs.Desks.{opened_with}
-use Rattle.check_desk.specs.Passes.{holder_of}
+use Rattle.ticket_lock.specs.Callers.{caller_after_call}
+use Rattle.check_desk.specs.Desks.{desk_opening}
+use Rattle.check_desk.specs.Passes.{hold_caller}
 use Rattle.check_desk.proofs.BoardLemmas.{place_within}
 use Rattle.check_desk.proofs.RecordLemmas.{brings_back, has_recorded}
 use Rattle.check_desk.proofs.desk.Desk.finish.Goals as goal
@@ -9,7 +9,7 @@ use Rattle.check_desk.proofs.desk.Desk.finish.Goals.{in-Ok, in-Err}
 
 pub leave-seat-requires-clause-place : goal.leave-seat-requires-clause-place
 leave-seat-requires-clause-place c =
-    place_within c.args.hold.book (opened_with c.args.self.now) c.args.call c.posts-place.result c.posts-place.ensures c.requires.1
+    place_within c.args.hold.book (desk_opening c.args.self.now) c.args.call c.posts-place.result c.posts-place.ensures c.requires.1
 
 pub leave-seat-requires-clause-book : goal.leave-seat-requires-clause-book
 leave-seat-requires-clause-book c =
@@ -22,6 +22,6 @@ pub returns-clause-caller : goal.returns-clause-caller
 returns-clause-caller c =
     let h = c.args.hold in
     elim c.match-recorded.branch [
-      | in-Ok w ↦ rw (w.answer-is) (has_recorded _ _ c.number.ensures _ h.book c.record-recorded.new.self c.args.call _ (holder_of h) _ c.leave-seat.ensures.ended h.seen w.in-Ok.ensures.replied.0)
-      | in-Err w ↦ rw (w.answer-is) (c.leave-seat.ensures.ended ∙ ap (λ l. ended l (holder_of h)) (w.in-Err.ensures.refused.0 ∙ sym h.seen))
+      | in-Ok w ↦ rw (w.answer-is) (has_recorded _ _ c.number.ensures _ h.book c.record-recorded.new.self c.args.call _ (hold_caller h) _ c.leave-seat.ensures.caller_after_call h.seen w.in-Ok.ensures.replied.0)
+      | in-Err w ↦ rw (w.answer-is) (c.leave-seat.ensures.caller_after_call ∙ ap (λ l. caller_after_call l (hold_caller h)) (w.in-Err.ensures.refused.0 ∙ sym h.seen))
     ]

@@ -1,5 +1,5 @@
 use Rattle.std.proofs.Common.{◌≡◌, ◌<◌, ◌∙◌, Some, None, sym, ap, arith}
-use Rattle.check_rules.specs.Board.{decoded}
+use Rattle.check_rules.specs.Board.{standing_of_word}
 use Rattle.check_book.specs.Books.{opening_of}
 use Rattle.ticket_lock.specs.Tokens.{seat_of, start_of, words_of}
 use Rattle.check_desk.specs.Desks.{objects_of, standing_after}
@@ -18,7 +18,7 @@ read c =
     let desk = c.args.self.now in
     let book = (start_of desk.lock).book in
     let opened = opening_of book in
-    c.decode.ensures ∙ (ap decoded c.glance-seat.ensures.word
+    c.decode.ensures ∙ (ap standing_of_word c.glance-seat.ensures.word
     ∙ state_read opened (seat_of c.glance-seat.result.0).seen c.args.object book.opened
     (there (goal.at.returns-clause-missing c).Else-self-object))
 

@@ -25,7 +25,7 @@ loop-number-preserved c =
     let own : seat_of c.split-own.result.0 ≡ new_pass_with calls n = rw (c.split-own.ensures.kept, c.count-others.ensures.numbers)
     (own_is calls n (passes_of desk - n) rest more was.rest_is) in
     let left : seat_of c.split-own.result.1 ≡ rest_from calls (n + 1)
-    (passes_of desk - n - 1) = rw (c.split-own.ensures.given, c.count-others.ensures.numbers)
+    (passes_of desk - n - 1) = rw (c.split-own.ensures.split_part, c.count-others.ensures.numbers)
     (more_is calls n (passes_of desk - n) rest more was.rest_is) in
     let less : passes_of desk - n - 1 ≡ passes_of desk - (n + 1) = omega arith in (
       record {
@@ -44,7 +44,7 @@ returns-clause-new c =
     let calls = calls_of desk in
     let n = c.loop-number._number in
     let was = c.loop-number.invariant.0 in
-    let one : passes_of desk - n ≡ 1 = omega (arith, desk.passes_are, c.loop-number-test.false, c.loop-number.auto._number-end, c.requires.some) in
+    let one : passes_of desk - n ≡ 1 = omega (arith, desk.passes_are, c.loop-number-test.false, c.loop-number.auto._number-end, c.requires.nonempty) in
     rw c.push_reserved-2.ensures.items (new_push calls desk 0 c.loop-number.list.items _ was.new c.loop-number.invariant.1
     (last_is calls n (seat_of c.loop-number.rest) (was.rest_is ∙ ap (rest_from calls n) one) ∙ ap (new_pass_with calls) (omega (arith, was.count))))
 

@@ -17,4 +17,4 @@ invariant_of-desk c = record {
 }
 
 pub returns-in-Err-clause-err : goal.returns-in-Err-clause-err
-returns-in-Err-clause-err c = c.in-Err.ensures.refused
+returns-in-Err-clause-err c = c.in-Err.ensures.err

@@ -1,57 +1,57 @@
 use Rattle.std.proofs.Common.{◌≡◌, ◌≤◌, List, sym, ap, subst, ◌∙◌, length, map, true, false, Ok, rules}
 use Rattle.std.specs.Prelude.{ℕ}
-use Rattle.link_order.specs.Cycles.{are_within, has_cycle}
-use Rattle.link_order.specs.Orders.{IsOrder}
-use Rattle.link_order.proofs.ChainLemmas.{order_has_no_cycle}
-use Rattle.check_drafts.specs.declared.dependency.Dependency.{Dependency}
-use Rattle.check_numbers.specs.Configuration.{Host, Service, IsSetup, masters_of, masters_in}
-use Rattle.check_drafts.specs.Draft.{Drafts}
-use Rattle.check_drafts.specs.Drafted.{drafts_view}
-use Rattle.check_numbers.specs.Numbering.{configuration}
-use Rattle.check_faults.specs.Verification.{is_faultless}
+use Rattle.setup_order.specs.Cycles.{are_within, has_cycle}
+use Rattle.setup_order.specs.Orders.{IsOrder}
+use Rattle.setup_order.proofs.ChainLemmas.{order_has_no_cycle}
+use Rattle.setup_model.specs.declared.dependency.Dependency.{Dependency}
+use Rattle.check_objects.specs.Configuration.{Host, Service, IsSetup, masters_of, masters_in}
+use Rattle.setup_model.specs.ParsedSetup.{ParsedSetup}
+use Rattle.setup_model.specs.ParsedViews.{parsed_view}
+use Rattle.check_objects.specs.Numbering.{configuration}
+use Rattle.setup_reader.specs.Verification.{verification}
 use Rattle.check_objects.proofs.CycleLemmas.{acyclic_setup, parents_refuse}
 use Rattle.check_objects.proofs.SetupLemmas.{configuration_is_setup, has_lists, few_lists, masters_within}
 use Rattle.check_objects.proofs.setup.Setup.without_cycles.Goals as goal
 
 -- ---- what was numbered is what the definitions number
 
-same_setup : (ds : Drafts) (hosts : List Host) (services : List Service) (lists : List (List Dependency)) → hosts ≡ (configuration ds).hosts
+same_setup : (ds : ParsedSetup) (hosts : List Host) (services : List Service) (lists : List (List Dependency)) → hosts ≡ (configuration ds).hosts
     → services ≡ (configuration ds).services → lists ≡ (configuration ds).dependencies
     → configuration ds ≡ record { options = ds.options; hosts = hosts; services = services; dependencies = lists }
 same_setup ds hosts services lists h s l =
     λ i. record { options = ds.options; hosts = sym h i; services = sym s i; dependencies = sym l i }
 
 -- a slice of the lists, as few as an order asks for, and of masters that there are
-seen_lists : {L : Type 0} (items : L → List Dependency) (ds : Drafts) (lists seen : List L) → is_faultless ds ≡ Ok tt → seen ≡ lists
+seen_lists : {L : Type 0} (items : L → List Dependency) (ds : ParsedSetup) (lists seen : List L) → verification ds ≡ Ok tt → seen ≡ lists
     → map items lists ≡ (configuration ds).dependencies → (length seen ≤ 4096) × (are_within (length seen) (map masters_in (map items seen)) ≡ true)
 seen_lists items ds lists seen e same l =
     let are = ap (map items) same ∙ l in
     (few_lists items seen (configuration ds) (has_lists ds e) are, masters_within items seen (configuration ds) (has_lists ds e) are)
 
-acyclic : (ds : Drafts) (lists : List (List Dependency)) (order : List ℕ) → lists ≡ (configuration ds).dependencies → IsOrder (map masters_in lists) order
+acyclic : (ds : ParsedSetup) (lists : List (List Dependency)) (order : List ℕ) → lists ≡ (configuration ds).dependencies → IsOrder (map masters_in lists) order
     → has_cycle (masters_of (configuration ds)) ≡ false
 acyclic ds lists order same is = ap (λ l. has_cycle (map masters_in l)) (sym same) ∙ order_has_no_cycle _ _ is
 
 -- ---- the answers
 
-pub order_by_masters-requires-clause-few : goal.order_by_masters-requires-clause-few
-order_by_masters-requires-clause-few c =
-    (seen_lists (λ list. list.items) (drafts_view c.args.drafts.now) _ _ c.requires.faultless c.deref.ensures.value c.requires.dependencies).0
+pub dependency_order-requires-clause-bounded : goal.dependency_order-requires-clause-bounded
+dependency_order-requires-clause-bounded c =
+    (seen_lists (λ list. list.items) (parsed_view c.args.drafts.now) _ _ c.requires.faultless c.deref.ensures.value c.requires.dependencies).0
 
-pub order_by_masters-requires-clause-within : goal.order_by_masters-requires-clause-within
-order_by_masters-requires-clause-within c =
-    (seen_lists (λ list. list.items) (drafts_view c.args.drafts.now) _ _ c.requires.faultless c.deref.ensures.value c.requires.dependencies).1
+pub dependency_order-requires-clause-within : goal.dependency_order-requires-clause-within
+dependency_order-requires-clause-within c =
+    (seen_lists (λ list. list.items) (parsed_view c.args.drafts.now) _ _ c.requires.faultless c.deref.ensures.value c.requires.dependencies).1
 
 pub returns-in_err-verify_no_parent_cycle-in-Order : goal.returns-in_err-verify_no_parent_cycle-in-Order
 returns-in_err-verify_no_parent_cycle-in-Order c =
-    let ds = drafts_view c.args.drafts.now in
+    let ds = parsed_view c.args.drafts.now in
     let free = acyclic ds _ _ (ap (map (λ list. list.items)) c.deref.ensures.value ∙ c.requires.dependencies) (rw c.in-Order.is at c.in_ok-order.ensures) in
     let refused = parents_refuse ds _ free c.in_err-verify_no_parent_cycle-in-Order.ensures.cycle in
     search (rules, refused)
 
 pub invariant_of-result : goal.invariant_of-result
 invariant_of-result c =
-    let ds = drafts_view c.args.drafts.now in
+    let ds = parsed_view c.args.drafts.now in
     let order = rw c.in-Order.is at c.in_ok-order.ensures in
     let free = acyclic ds _ _ (ap (map (λ list. list.items)) c.deref.ensures.value ∙ c.requires.dependencies) order in
     record {
@@ -63,7 +63,7 @@ invariant_of-result c =
 
 pub returns-in_ok-verify_no_parent_cycle-in-Order : goal.returns-in_ok-verify_no_parent_cycle-in-Order
 returns-in_ok-verify_no_parent_cycle-in-Order c =
-    let ds = drafts_view c.args.drafts.now in
+    let ds = parsed_view c.args.drafts.now in
     let free = acyclic ds _ _ (ap (map (λ list. list.items)) c.deref.ensures.value ∙ c.requires.dependencies) (rw c.in-Order.is at c.in_ok-order.ensures) in
     record {
       setup =

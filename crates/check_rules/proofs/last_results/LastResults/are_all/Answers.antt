@@ -9,10 +9,10 @@ use Rattle.check_rules.proofs.last_results.LastResults.are_all.Goals as goal
 as_they_are : (c : goal.After-is_full) → IsTrue c.is_full.result → IsSettled c.args.self.now c.args.found
 as_they_are c e =
     let r = c.self.inside in
-    let full : length r.kept.items ≡ 21 = eqb-true (length r.kept.items) r.kept.capacity (sym c.is_full.ensures ∙ e) ∙ c.self.invariant.room in
+    let full : length r.kept.items ≡ 21 = eqb-true (length r.kept.items) r.kept.capacity (sym c.is_full.ensures ∙ e) ∙ c.self.invariant.capacity in
     let counted = c.self.invariant.counted full in
-    let few = c.if-self-gt0.false in
-    let none : changes_in r.kept.items ≡ 0 = omega (arith, counted, few) in
+    let bounded = c.if-self-gt0.false in
+    let none : changes_in r.kept.items ≡ 0 = omega (arith, counted, bounded) in
     rw (← c.self.view_is)
     (settled r.kept.items c.args.found r.newest full none c.self.invariant.newest (sym c.is_another.ensures ∙ c.if-is_another.false))
 

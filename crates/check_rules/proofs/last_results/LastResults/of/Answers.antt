@@ -16,8 +16,8 @@ invariant_of-result c =
     let newest = last_where c.args.results.now state.Ok c.unwrap_or.result
     (c.unwrap_or.ensures ∙ ap (λ found. unwrap_or found state.Ok) (c.copied.ensures ∙ c.last.ensures.value)) in
     record {
-      room = ap (λ (ring : Buffer State). ring.capacity) c.extend_from_slice.ensures ∙ ap (λ (ring : Buffer State). ring.capacity) c.in_ok-kept.ensures;
-      few = rw (items_are c) c.requires;
+      capacity = ap (λ (ring : Buffer State). ring.capacity) c.extend_from_slice.ensures ∙ ap (λ (ring : Buffer State). ring.capacity) c.in_ok-kept.ensures;
+      bounded = rw (items_are c) c.requires;
       newest = rw (items_are c) newest;
       weighed = λ e. c.among-changes.ensures.weight;
       counted = λ e. c.among-changes.ensures.count;

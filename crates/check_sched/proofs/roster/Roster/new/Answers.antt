@@ -12,5 +12,5 @@ invariant_of-result c = record {
       ∙ ap (λ to. waiting_times (between c.args.hosts to) c.args.objects.items) (c.len.ensures ∙ c.args.objects.ok.0)
       ∙ between_services c.args.hosts c.args.objects.items;
   running_services = c.running_from-running_services.ensures ∙ ap (λ os. running_among (drop c.args.hosts os)) c.deref-3.ensures.value;
-  few = c.requires.few;
+  bounded = c.requires.bounded;
 }

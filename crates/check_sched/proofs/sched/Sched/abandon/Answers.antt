@@ -7,4 +7,4 @@ returns-clause-state c =
     let answer = abandon_answers c.args.object c.args.run c.args.now c.args.self.now c.in_ok-state.state.now c.in_ok-test_moment.field-0 c.in_ok-run_under.field-0
     c.in_ok-state.ensures.value (sym c.test_moment.ensures.value ∙ c.in_ok-test_moment.was)
     (sym c.run_under.ensures ∙ c.in_ok-run_under.was) in
-    rw (answer, ← c.next.ensures, ← c.unwrap_or-next.ensures) c.change.ensures
+    rw (answer, ← c.freed_time-next.ensures) c.change.ensures

@@ -1,15 +1,15 @@
 use Rattle.std.proofs.Common.{ap, sym, ◌∙◌}
 use Rattle.check_queue.specs.Order.{least}
 use Rattle.check_sched.specs.Sched.{state_of}
-use Rattle.check_sched.specs.Step.{eligible}
+use Rattle.check_sched.specs.Step.{eligible_candidates}
 use Rattle.check_sched.proofs.EligibleLaws.{waiting_at_limit, waiting_early, waiting_none}
 use Rattle.check_sched.proofs.TakeLaws.{least_time}
-use Rattle.check_sched.proofs.sched.Sched.waiting.Goals as goal
+use Rattle.check_sched.proofs.sched.Sched.idle_reply.Goals as goal
 
 pub returns-in-Some-clause-reply : goal.returns-in-Some-clause-reply
 returns-in-Some-clause-reply c =
     let found = sym c.in-Some.ensures in
-    let none = ap (λ s. least (eligible c.args.now s)) c.self.view_is ∙ c.requires in
+    let none = ap (λ s. least (eligible_candidates c.args.now s)) c.self.view_is ∙ c.requires in
     rw (← c.self.view_is) (sym (waiting_at_limit c.args.now (state_of c.self.inside) (c.in-Some.time, c.in-Some._number) none found c.if-time-now.true))
 
 pub returns-in-Some-2-clause-reply : goal.returns-in-Some-2-clause-reply

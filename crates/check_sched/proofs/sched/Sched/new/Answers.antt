@@ -1,6 +1,6 @@
 use Rattle.std.proofs.Common.{subst, sym}
 use Rattle.check_sched.specs.State.{IsState}
-use Rattle.check_sched.proofs.NewLaws.{opening_can_be}
+use Rattle.check_sched.proofs.NewObjectLaws.{opening_can_be}
 use Rattle.check_sched.proofs.sched.Sched.new.Goals as goal
 
 pub of-requires-clause-state : goal.of-requires-clause-state

@@ -1,8 +1,8 @@
 use Rattle.std.proofs.Common.{◌≡◌, ap, subst, sym}
-use Rattle.check_saved.specs.Saved.{IsSaved, Saved}
+use Rattle.check_saved_state.specs.Saved.{IsSaved, Saved}
 use Rattle.check_sched.specs.Saved.{saved_of}
 use Rattle.check_sched.specs.State.{IsState, State}
-use Rattle.check_sched.proofs.KeepingLaws.{saved_of_state}
+use Rattle.check_sched.proofs.SaveLaws.{saved_of_state}
 use Rattle.check_sched.proofs.sched.Sched.save.Goals as goal
 
 pub of-requires : goal.of-requires

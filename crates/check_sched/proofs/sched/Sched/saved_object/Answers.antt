@@ -2,9 +2,9 @@ use Rattle.std.proofs.Common.{◌≡◌, ◌<◌, length, ap, arith, subst, IfOk
 use Rattle.std.specs.Prelude.{string_bytes}
 use Rattle.check_objects.specs.Configuration.{object_count}
 use Rattle.check_sched.specs.Sched.{state_of}
-use Rattle.check_saved.specs.Scheduling.{Scheduling}
+use Rattle.check_saved_state.specs.Scheduling.{Scheduling}
 use Rattle.check_sched.specs.State.{State, results_at}
-use Rattle.check_sched.proofs.EachLaws.{saved_made}
+use Rattle.check_sched.proofs.EachObjectLaws.{saved_made}
 use Rattle.check_sched.proofs.ReportLaws.{check_in_range, object_read_in_range, standing_read}
 use Rattle.check_sched.proofs.sched.Sched.saved_object.Goals as goal
 
@@ -19,8 +19,8 @@ returns c =
     let n = c.args.number in
     let count = ap (λ (z : State). object_count z.setup) c.self.view_is in
     let each = c.self.invariant.state.one_standing_each in
-    let there : n < length s.standings = omega (arith, c.requires, count, each) in
-    let stands = standing_read s.standings n c.index.result.now there c.index.ensures in
+    let in_range : n < length s.standings = omega (arith, c.requires, count, each) in
+    let stands = standing_read s.standings n c.index.result.now in_range c.index.ensures in
     let kept = subst (λ r. IfOk r (λ copy. copy.items ≡ results_at s.results n)) c.in_ok-results.was c.copy.ensures in
     let state : Scheduling = record { next = c.next.result; run = c.run.result; enabled = c.is_enabled.result; forced = c.is_forced.result } in
     let same : state ≡ c.at-state.result.now = λ i. record {

@@ -9,7 +9,7 @@ pub returns-clause-lawful : goal.returns-clause-lawful
 returns-clause-lawful c =
     let count = ap (λ (s : State). object_count s.setup) c.self.view_is in
     let known : c.args.number < object_count c.self.inside.setup = omega (arith, count) in
-    let there : c.args.number < length c.self.inside.standings.items = let m = c.self.invariant.state.one_standing_each in omega (arith, known, m) in
-    let before = standing_read c.self.inside.standings.items c.args.number c.index.result.now there c.index.ensures in
+    let in_range : c.args.number < length c.self.inside.standings.items = let m = c.self.invariant.state.one_standing_each in omega (arith, known, m) in
+    let before = standing_read c.self.inside.standings.items c.args.number c.index.result.now in_range c.index.ensures in
     rw (← c.self.view_is) (subst (IsStandingOf c.self.inside.setup c.args.number) before
     (standing_of_state (state_of c.self.inside) c.args.number c.self.invariant.state known))

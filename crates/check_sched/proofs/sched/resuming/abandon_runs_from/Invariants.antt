@@ -1,6 +1,6 @@
 use Rattle.std.proofs.Common.{◌≡◌, ◌≤◌}
-use Rattle.check_sched.proofs.GivenUpLaws.{freed_below}
-use Rattle.check_sched.proofs.sched.resuming.give_up_from.Given as goal
+use Rattle.check_sched.proofs.AbandonLaws.{freed_below}
+use Rattle.check_sched.proofs.sched.resuming.abandon_runs_from.Given as goal
 
 abbrev pub invariant-loop-number : goal.invariant-loop-number
 invariant-loop-number l = record {

@@ -1,5 +1,5 @@
 use Rattle.std.proofs.Common.{◌≡◌, rules}
-use Rattle.check_sched.proofs.sched.checks.is_same.Goals as goal
+use Rattle.check_sched.proofs.sched.worker_calls.is_same.Goals as goal
 
 pub returns-then-one-other-2 : goal.returns-then-one-other-2
 returns-then-one-other-2 c e =

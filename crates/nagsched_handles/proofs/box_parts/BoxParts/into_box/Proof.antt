@@ -23,12 +23,12 @@ use Rattle.std_alloc.proofs.BoxSteps.Form.{D, B, word, box_ty, box_typed}
 use Rattle.std_alloc.proofs.BoxSteps.Steps.{box_out, box_in}
 use Rattle.std.proofs.raw_atomic.Walks.{proved_at, leaves}
 use Rattle.std_alloc.proofs.boxed.Box.from_raw.Met.{met}
-use Rattle.check_handles.proofs.Walks.{enters}
-use Rattle.check_handles.proofs.Unboxing.{Apart, alive, box_at, passed, tokens, used_up, Shuts, Shut}
-use Rattle.check_handles.specs.contracts.unboxed.Unboxed.into_box.{ended, clauses}
-use Rattle.check_handles.specs.contracts.unboxed.Unboxed.into_box.Key.{name as #self}
-use Rattle.check_handles.proofs.unboxed.Unboxed.into_box.Statement.{statement}
-use Rattle.check_handles.proofs.unboxed.Unboxed.into_box.Code as code
+use Rattle.nagsched_handles.proofs.Walks.{enters}
+use Rattle.nagsched_handles.proofs.BoxPartsLemmas.{Apart, alive, box_at, passed, tokens, used_up, Shuts, Shut}
+use Rattle.nagsched_handles.specs.contracts.box_parts.BoxParts.into_box.{ended, clauses}
+use Rattle.nagsched_handles.specs.contracts.box_parts.BoxParts.into_box.Key.{name as #self}
+use Rattle.nagsched_handles.proofs.box_parts.BoxParts.into_box.Statement.{statement}
+use Rattle.nagsched_handles.proofs.box_parts.BoxParts.into_box.Code as code
 
 pub into_box_spec : {M : Type 1} → statement M
 into_box_spec 𝓤 𝓛 𝓜 𝓡 wired T A LT LA g d dt da allocator drops frees =

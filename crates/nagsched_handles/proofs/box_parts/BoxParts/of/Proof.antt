@@ -24,12 +24,12 @@ use Rattle.std_alloc.proofs.BoxSteps.Form.{D, τ, R, B, word, box_typed}
 use Rattle.std_alloc.proofs.BoxSteps.Steps.{box_out, box_in}
 use Rattle.std.proofs.raw_atomic.Walks.{proved_at, leaves}
 use Rattle.std_alloc.proofs.boxed.Box.into_raw_with_allocator.Met.{met}
-use Rattle.check_handles.proofs.Walks.{enters}
-use Rattle.check_handles.proofs.Unboxing.{Apart, alive, box_at, passed, tokens, used_up, parts, Opens, Opened}
-use Rattle.check_handles.specs.contracts.unboxed.Unboxed.of.{ended, clauses}
-use Rattle.check_handles.specs.contracts.unboxed.Unboxed.of.Key.{name as #self}
-use Rattle.check_handles.proofs.unboxed.Unboxed.of.Statement.{statement}
-use Rattle.check_handles.proofs.unboxed.Unboxed.of.Code as code
+use Rattle.nagsched_handles.proofs.Walks.{enters}
+use Rattle.nagsched_handles.proofs.BoxPartsLemmas.{Apart, alive, box_at, passed, tokens, used_up, parts, Opens, Opened}
+use Rattle.nagsched_handles.specs.contracts.box_parts.BoxParts.of.{ended, clauses}
+use Rattle.nagsched_handles.specs.contracts.box_parts.BoxParts.of.Key.{name as #self}
+use Rattle.nagsched_handles.proofs.box_parts.BoxParts.of.Statement.{statement}
+use Rattle.nagsched_handles.proofs.box_parts.BoxParts.of.Code as code
 
 pub of_spec : {M : Type 1} → statement M
 of_spec 𝓤 𝓛 𝓜 𝓡 wired T A LT LA g d dt da allocator drops frees =

@@ -23,25 +23,25 @@ use Rattle.std.proofs.raw_atomic.Walks.{proved_at, leaves}
 use Rattle.std.specs.Box.Ownership.{box_owns}
 use Rattle.std.specs.contracts.alloc.Global.{the_row as global_row}
 use Rattle.std.specs.contracts.impls.GlobalAllocator.TheImpl.{ghosts}
-use Rattle.check_handles.proofs.Walks.{enters}
-use Rattle.check_handles.specs.declared.target.HandleTarget.{HandleTarget}
-use Rattle.check_handles.specs.Held.{heap, held}
-use Rattle.check_handles.specs.contracts.target.HandleTarget.{the_row as target_row}
-use Rattle.check_handles.proofs.Raws.{Raw, address, with_alloc, the_heap, is_typed, apart_in, raw_out}
-use Rattle.check_handles.specs.contracts.raw.Raw.into_unboxed as f
-use Rattle.check_handles.specs.contracts.raw.Raw.into_unboxed.Key.{name as #self}
-use Rattle.check_handles.proofs.raw.Raw.into_unboxed.Statement.{statement}
-use Rattle.check_handles.proofs.raw.Raw.into_unboxed.Code as code
+use Rattle.nagsched_handles.proofs.Walks.{enters}
+use Rattle.nagsched_handles.specs.declared.target.HandleTarget.{HandleTarget}
+use Rattle.nagsched_handles.specs.Ownership.{heap, owned_at}
+use Rattle.nagsched_handles.specs.contracts.target.HandleTarget.{the_row as target_row}
+use Rattle.nagsched_handles.proofs.Raws.{Raw, address, with_alloc, the_heap, is_typed, apart_in, raw_out}
+use Rattle.nagsched_handles.specs.contracts.raw.Raw.into_box_parts as f
+use Rattle.nagsched_handles.specs.contracts.raw.Raw.into_box_parts.Key.{name as #self}
+use Rattle.nagsched_handles.proofs.raw.Raw.into_box_parts.Statement.{statement}
+use Rattle.nagsched_handles.proofs.raw.Raw.into_box_parts.Code as code
 
-pub into_unboxed_spec : {M : Type 1} → statement M
-into_unboxed_spec 𝓤 𝓛 𝓜 𝓡 wired =
+pub into_box_parts_spec : {M : Type 1} → statement M
+into_box_parts_spec 𝓤 𝓛 𝓜 𝓡 wired =
     let c = f.clauses 𝓛 𝓜.mem 𝓡.returns in
     let hs : Stays f.ended.signature.params f.ended.kept = (stay_dropped (plain (λ _. Raw)) yes, (stay_dropped (plain (λ _. global_row)) yes, tt)) in
     proved_at 𝓛 f.ended hs c 𝓜 𝓡 (Goes-blank 𝓛 0 (plain (λ _. Raw)) yes (λ κs x l. tt), (Goes-blank 𝓛 0 (plain (λ _. global_row)) yes (λ κs x l. tt), tt)) #self code.function (code.unfolded 𝓤 𝓛.H 𝓜 𝓡 wired) (λ z are.
     let v = z.0.3.0 in let a = z.0.3.1.0 in
     let Full : Type 0 = (x : HandleTarget) × (v.value ≡ Some x) in
     qed 𝓛 ((‵ ftrue ⊛ ‵ (owns (types_at f.ended.signature.params z.0.0) z.0.3 z.0.4)) ∷ raw (fact 𝓤 Full) ∷ []) ∵ move ! (1 ∷ []) $ heard ! Full (λ full. let x : HandleTarget = full.0 in
-    split ! $ drop ! $ fsplit ! $ raw_out ! v z.0.4.0 (λ ws. rewrite ! 0 (λ (y : Option HandleTarget). ‵ (held target_row v.at y)) full.1 refl $
+    split ! $ drop ! $ fsplit ! $ raw_out ! v z.0.4.0 (λ ws. rewrite ! 0 (λ (y : Option HandleTarget). ‵ (owned_at target_row v.at y)) full.1 refl $
     in_a_block ! v.at (λ p. box_owns (ghosts.dealloc_token heap) target_row p x) (fst∗ 𝓤 (never 𝓤) (sem 𝓛 (ghosts.dealloc_token heap (bare (lone target_row.mir)) null_ptr))) (λ b o e.
     move ! (1 ∷ []) $ fsplit ! $ handle_tells the_heap ! a z.0.4.1.0 (λ h eh fits. move ! (2 ∷ 0 ∷ []) $
     -- [the box; the allocator; nothing]

@@ -14,14 +14,14 @@ use denote.RawPtr.{null_ptr}
 use denote.Steps.{nothing}
 use denote.Triple.Walked.{Stays, walk_of}
 use Rattle.std.proofs.raw_atomic.Walks.{proved_at, leaves}
-use Rattle.check_handles.specs.declared.target.HandleTarget.{HandleTarget}
-use Rattle.check_handles.specs.Held.{held}
-use Rattle.check_handles.specs.contracts.target.HandleTarget.{the_row as target_row}
-use Rattle.check_handles.proofs.Raws.{address, raw_in}
-use Rattle.check_handles.specs.contracts.raw.Raw.none as f
-use Rattle.check_handles.specs.contracts.raw.Raw.none.Key.{name as #self}
-use Rattle.check_handles.proofs.raw.Raw.none.Statement.{statement}
-use Rattle.check_handles.proofs.raw.Raw.none.Code as code
+use Rattle.nagsched_handles.specs.declared.target.HandleTarget.{HandleTarget}
+use Rattle.nagsched_handles.specs.Ownership.{owned_at}
+use Rattle.nagsched_handles.specs.contracts.target.HandleTarget.{the_row as target_row}
+use Rattle.nagsched_handles.proofs.Raws.{address, raw_in}
+use Rattle.nagsched_handles.specs.contracts.raw.Raw.none as f
+use Rattle.nagsched_handles.specs.contracts.raw.Raw.none.Key.{name as #self}
+use Rattle.nagsched_handles.proofs.raw.Raw.none.Statement.{statement}
+use Rattle.nagsched_handles.proofs.raw.Raw.none.Code as code
 
 pub none_spec : {M : Type 1} → statement M
 none_spec 𝓤 𝓛 𝓜 𝓡 wired =
@@ -34,5 +34,5 @@ none_spec 𝓤 𝓛 𝓜 𝓡 wired =
     sets ! (agg ! (and_then ! (lit ! tt) (no_more !))) refl (tt, (record { fits = lit< tt }, tt)) $
     returns ! (look_at ! 0 refl) $ free_all ! refl $
     use0 𝓛 (raw (fact 𝓤 (empty ≡ empty))) (fact_i 𝓤 (empty ≡ empty) (emp 𝓤) refl) $
-    use0 𝓛 (‵ (held target_row null_ptr None)) (id⊢ 𝓤 _) $ raw_in ! null_ptr None $ nothing ! $ nothing ! $
+    use0 𝓛 (‵ (owned_at target_row null_ptr None)) (id⊢ 𝓤 _) $ raw_in ! null_ptr None $ nothing ! $ nothing ! $
     by ! (leaves 𝓛 f.ended hs c z (address null_ptr) (record { at = null_ptr; value = None }) tt tt)))

@@ -17,15 +17,15 @@ use denote.Steps.{nothing}
 use denote.Triple.Walked.{Stays, stay_dropped}
 use Rattle.core.proofs.alloc.Calls.{Goes-blank}
 use Rattle.std.proofs.raw_atomic.Walks.{proved_at, leaves}
-use Rattle.check_handles.proofs.Walks.{enters}
-use Rattle.check_handles.specs.declared.target.HandleTarget.{HandleTarget}
-use Rattle.check_handles.specs.Held.{held}
-use Rattle.check_handles.specs.contracts.target.HandleTarget.{the_row as target_row}
-use Rattle.check_handles.proofs.Raws.{Apart, address, with_alloc, is_typed, apart_out, raw_in}
-use Rattle.check_handles.specs.contracts.raw.Raw.of as f
-use Rattle.check_handles.specs.contracts.raw.Raw.of.Key.{name as #self}
-use Rattle.check_handles.proofs.raw.Raw.of.Statement.{statement}
-use Rattle.check_handles.proofs.raw.Raw.of.Code as code
+use Rattle.nagsched_handles.proofs.Walks.{enters}
+use Rattle.nagsched_handles.specs.declared.target.HandleTarget.{HandleTarget}
+use Rattle.nagsched_handles.specs.Ownership.{owned_at}
+use Rattle.nagsched_handles.specs.contracts.target.HandleTarget.{the_row as target_row}
+use Rattle.nagsched_handles.proofs.Raws.{Apart, address, with_alloc, is_typed, apart_out, raw_in}
+use Rattle.nagsched_handles.specs.contracts.raw.Raw.of as f
+use Rattle.nagsched_handles.specs.contracts.raw.Raw.of.Key.{name as #self}
+use Rattle.nagsched_handles.proofs.raw.Raw.of.Statement.{statement}
+use Rattle.nagsched_handles.proofs.raw.Raw.of.Code as code
 
 pub of_spec : {M : Type 1} → statement M
 of_spec 𝓤 𝓛 𝓜 𝓡 wired =
@@ -41,6 +41,6 @@ of_spec 𝓤 𝓛 𝓜 𝓡 wired =
     sets ! (of_opd ! (get_in ! (fld ! refl (stop !)) (sub ! 0 refl (whole !)))) refl (tt, tt) $ sets ! (of_opd ! (get ! refl)) refl (tt, tt) $
     sets ! (agg ! (and_then ! (get ! refl) (no_more !))) refl (tt, (tt, tt)) $
     returns ! (look_at ! 0 refl) $ free_all ! refl $
-    use1 𝓛 (‵ (held target_row (block_ptr b o) new)) (id⊢ 𝓤 _) $ raw_in ! (block_ptr b o) new $
+    use1 𝓛 (‵ (owned_at target_row (block_ptr b o) new)) (id⊢ 𝓤 _) $ raw_in ! (block_ptr b o) new $
     use0 𝓛 (raw (fact 𝓤 (new ≡ new))) (fact_i 𝓤 (new ≡ new) (emp 𝓤) refl) $ nothing ! $ nothing ! $ fjoin ! $ nothing ! $ move ! (0 ∷ 1 ∷ 3 ∷ 2 ∷ []) $
     by ! (leaves 𝓛 f.ended hs c z (address (block_ptr b o)) (record { at = block_ptr b o; value = new }) (tt, tt) (tt, tt)))))

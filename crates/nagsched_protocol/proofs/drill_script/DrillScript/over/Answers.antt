@@ -1,9 +1,9 @@
 use Rattle.std.proofs.Common.{◌∙◌, ap, map}
 use Rattle.std.specs.Prelude.{filter_map}
-use Rattle.check_script.specs.DrillCommanded.{drill_command}
-use Rattle.check_script.specs.DrillScript.{moment_of, returns_below}
-use Rattle.check_script.proofs.DrillLemmas.{drill_is}
-use Rattle.check_script.proofs.drill_script.DrillScript.over.Goals as goal
+use Rattle.nagsched_protocol.specs.DrillCommanded.{drill_command}
+use Rattle.nagsched_protocol.specs.DrillScript.{moment_of, returns_below}
+use Rattle.nagsched_protocol.proofs.DrillLemmas.{drill_is}
+use Rattle.nagsched_protocol.proofs.drill_script.DrillScript.over.Goals as goal
 
 pub returns : goal.returns
 returns c =

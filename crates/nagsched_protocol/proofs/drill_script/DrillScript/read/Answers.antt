@@ -2,10 +2,10 @@ use Rattle.std.proofs.Common.{◌≡◌, Ok, false, length, ap, sym, arith}
 use Rattle.std.specs.Prelude.{nat_lt}
 use Rattle.std.proofs.lemmas.Bool.Decides.{nat_tests}
 use Rattle.std.proofs.lemmas.Result.{err_from_is_err_and}
-use Rattle.check_script.specs.declared.script.TheConstants.{MAX_INPUT_BYTES}
-use Rattle.check_script.specs.DrillScript.{drill_script_of}
-use Rattle.check_script.proofs.ScriptLemmas.{part_fails, part_stops}
-use Rattle.check_script.proofs.drill_script.DrillScript.read.Goals as goal
+use Rattle.nagsched_protocol.specs.declared.script.TheConstants.{MAX_INPUT_BYTES}
+use Rattle.nagsched_protocol.specs.DrillScript.{drill_script_of}
+use Rattle.nagsched_protocol.proofs.ScriptLemmas.{part_fails, part_stops}
+use Rattle.nagsched_protocol.proofs.drill_script.DrillScript.read.Goals as goal
 
 pub returns-in_err-commands : goal.returns-in_err-commands
 unfolding drill_script_of

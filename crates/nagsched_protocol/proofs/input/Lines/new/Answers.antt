@@ -1,5 +1,5 @@
-use Rattle.check_script.proofs.LineLaws.{lines_are, lines_only}
-use Rattle.check_script.proofs.input.Lines.new.Goals as goal
+use Rattle.nagsched_protocol.proofs.LineLaws.{lines_are, lines_only}
+use Rattle.nagsched_protocol.proofs.input.Lines.new.Goals as goal
 
 pub returns-clause-lines : goal.returns-clause-lines
 returns-clause-lines c = lines_are c.args.input.now

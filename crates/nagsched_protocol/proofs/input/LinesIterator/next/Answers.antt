@@ -1,7 +1,7 @@
 use Rattle.std.proofs.Common.{◌≡◌, sym, ◌∙◌, ap, length, arith, ◌∷◌}
-use Rattle.check_script.proofs.InputLemmas.{lines_next}
-use Rattle.check_script.specs.Input.{lines_of}
-use Rattle.check_script.proofs.input.LinesIterator.next.Goals as goal
+use Rattle.nagsched_protocol.proofs.InputLemmas.{lines_next}
+use Rattle.nagsched_protocol.specs.Input.{lines_of}
+use Rattle.nagsched_protocol.proofs.input.LinesIterator.next.Goals as goal
 
 pub returns-clause-steps : goal.returns-clause-steps
 returns-clause-steps c =

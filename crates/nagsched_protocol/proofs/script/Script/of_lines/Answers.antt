@@ -1,8 +1,8 @@
 use Rattle.std.proofs.Common.{◌∙◌, Ok, ap, refl}
 use Rattle.std.proofs.lemmas.List.{map-id}
 use Rattle.std.proofs.lemmas.Result.{err_from_is_err_and}
-use Rattle.check_script.proofs.ScriptLemmas.{part_fails}
-use Rattle.check_script.proofs.script.Script.of_lines.Goals as goal
+use Rattle.nagsched_protocol.proofs.ScriptLemmas.{part_fails}
+use Rattle.nagsched_protocol.proofs.script.Script.of_lines.Goals as goal
 
 pub returns-in_err-commands : goal.returns-in_err-commands
 returns-in_err-commands c =

@@ -1,5 +1,5 @@
 use Rattle.std.proofs.lemmas.Result.{err_from_is_err_and}
-use Rattle.check_drive.proofs.live.Talk.answer_all.Goals as goal
+use Rattle.nagsched_run.proofs.live.Conversation.answer_all.Goals as goal
 
 pub returns-in_err-answer_lines-clause-lines : goal.returns-in_err-answer_lines-clause-lines
 returns-in_err-answer_lines-clause-lines g c =

@@ -1,8 +1,8 @@
 use Rattle.std.proofs.Common.{arith, ◌-◌, ◌^◌, ◌∙◌, sym, ap, Err}
 use Rattle.std.proofs.lemmas.Result.{err_from_is_err_and}
-use Rattle.check_script.specs.declared.live_error.LiveError.TheVariants as errors
-use Rattle.check_drive.proofs.LiveLemmas.{talk_begins, talk_ends, talk_fails, lines_answered, line_spends, written_lines, talk_goes_on, talk_spent}
-use Rattle.check_drive.proofs.live.Talk.answer_lines.Goals as goal
+use Rattle.nagsched_protocol.specs.declared.live_error.LiveError.TheVariants as errors
+use Rattle.nagsched_run.proofs.LiveLemmas.{talk_begins, talk_ends, talk_fails, lines_answered, line_spends, written_lines, talk_goes_on, talk_spent}
+use Rattle.nagsched_run.proofs.live.Conversation.answer_lines.Goals as goal
 
 pub loop-number-init : goal.loop-number-init
 loop-number-init g c = (talk_begins _ _ _ _ _, c.requires.buffers.0, c.requires.buffers.1)
@@ -11,8 +11,8 @@ pub loop-number-preserved : goal.loop-number-preserved
 loop-number-preserved g c =
     let k = c.loop-number.invariant in
     let a = c.in_ok-answer_next.ensures in
-    let t = a.took in
-    (talk_goes_on _ _ _ _ _ _ _ t.0 _ _ _ _ _ _ _ k.0 t.1 (sym t.2.follows ∙ c.if-not-branch.false) t.2.hand_is t.2.state_is t.2.wrote, a.line, a.room)
+    let t = a.reading in
+    (talk_goes_on _ _ _ _ _ _ _ t.0 _ _ _ _ _ _ _ k.0 t.1 (sym t.2.follows ∙ c.if-not-branch.false) t.2.buffer_is t.2.state_is t.2.wrote, a.line, a.capacity)
 
 pub returns-in_err-answer_next-clause-lines : goal.returns-in_err-answer_next-clause-lines
 returns-in_err-answer_next-clause-lines g c =
@@ -24,19 +24,19 @@ returns-in_err-answer_next-clause-lines g c =
 pub returns-in_err-answer_next-clause-spent : goal.returns-in_err-answer_next-clause-spent
 returns-in_err-answer_next-clause-spent g c =
     let k = c.loop-number.invariant in
-    let t = c.in_err-answer_next.ensures.took in
+    let t = c.in_err-answer_next.ensures.reading in
     let p = err_from_is_err_and c.from_residual.result c.from_residual.ensures.1 in
     rw (p.1, p.2) (line_spends _ _ _ _ _ t.0 _ _ _ _ _ _ _ _ k.0 t.1 t.3)
 
 pub returns-then-not-branch-clause-lines : goal.returns-then-not-branch-clause-lines
 returns-then-not-branch-clause-lines g c =
     let k = c.loop-number.invariant in
-    let t = c.in_ok-answer_next.ensures.took in
-    talk_ends _ _ _ _ _ t.0 _ _ _ _ _ _ _ _ _ _ k.0 t.1 (sym t.2.follows ∙ c.if-not-branch.true) (t.2.ended c.if-not-branch.true) t.2.wrote c.flush.ensures.kept c.as_written.ensures
+    let t = c.in_ok-answer_next.ensures.reading in
+    talk_ends _ _ _ _ _ t.0 _ _ _ _ _ _ _ _ _ _ k.0 t.1 (sym t.2.follows ∙ c.if-not-branch.true) (t.2.ended c.if-not-branch.true) t.2.wrote c.flush.ensures.kept c.as_live_result.ensures
     c.flush.ensures.kind
 
 pub returns-then-not-branch-clause-spent : goal.returns-then-not-branch-clause-spent
-returns-then-not-branch-clause-spent g c = written_lines _ _ _ _ _ _ _ _ _ c.as_written.ensures
+returns-then-not-branch-clause-spent g c = written_lines _ _ _ _ _ _ _ _ _ c.as_live_result.ensures
 
 pub returns-clause-lines : goal.returns-clause-lines
 returns-clause-lines g c = talk_spent _ _ _ _ _ _ _ _ _ _ errors.LinesSpent c.loop-number.invariant.0

@@ -1,8 +1,8 @@
 use Rattle.std.proofs.Common.{◌≡◌, ◌+◌, ◌-◌, suc, refl, arith}
 use Rattle.std.proofs.lemmas.Result.{on_ok_weaker}
 use Rattle.std.proofs.lemmas.Str.{IsUtf8-past_char}
-use Rattle.check_explain.proofs.ShownLemmas.{cut_ended, cut_next, cut_off}
-use Rattle.check_explain.proofs.line.Line.push_cut.Goals as goal
+use Rattle.setup_diagnostics.proofs.ExcerptLemmas.{cut_ended, cut_next, cut_off}
+use Rattle.setup_diagnostics.proofs.line.Line.push_excerpt.Goals as goal
 
 pub loop-shown-init : goal.loop-shown-init
 loop-shown-init c = record {

@@ -13,7 +13,7 @@ last_book : (g : Over) (c : After-take-slot g) → let key = c.args.self.table.s
 last_book g c =
     let f = c.close_with-closed.ensures.values.2 in
     let s = c.args.seat in
-    let t = closes g.K.Kept _ f.0 _ _ f.1.0 f.1.1 s.idle (omega (arith, s.told.count, c.args.self.told.0, c.if-seat-self.false)) in
+    let t = closes g.K.Kept _ f.0 _ _ f.1.0 f.1.1 s.idle (omega (arith, s.agreement.count, c.args.self.agreement.0, c.if-seat-self.false)) in
     (t.0, some-injective _ _ (sym c.take-slot.ensures.value ∙ f.4 0 (Some t.0) t.1), t.2)
 
 -- so a book that came out of it is the last one
@@ -34,7 +34,7 @@ returns-clause-opening g c = (is_last g (goal.at.returns-clause-opening g c).Aft
 pub returns-clause-numbers : goal.returns-clause-numbers
 returns-clause-numbers g c =
     let last = is_last g (goal.at.returns-clause-numbers g c).After-take-slot c.in-Some.book c.in-Some.is in
-    λ n h. last.numbers n (omega (arith, h, c.args.self.told.0))
+    λ n h. last.numbers n (omega (arith, h, c.args.self.agreement.0))
 
 pub returns-clause-history : goal.returns-clause-history
 returns-clause-history g c = (is_last g (goal.at.returns-clause-history g c).After-take-slot c.in-Some.book c.in-Some.is).history
@@ -44,4 +44,4 @@ returns-clause-calls g c = let last = is_last g (goal.at.returns-clause-calls g 
 
 pub returns-clause-missing : goal.returns-clause-missing
 returns-clause-missing g c =
-    (λ refused. absurd (false≢true refused), λ missing. absurd (omega (arith, missing, c.args.seat.told.count, c.if-seat-self.false)))
+    (λ refused. absurd (false≢true refused), λ missing. absurd (omega (arith, missing, c.args.seat.agreement.count, c.if-seat-self.false)))

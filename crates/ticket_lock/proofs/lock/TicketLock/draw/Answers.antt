@@ -4,11 +4,11 @@ use Rattle.ticket_lock.proofs.Obligations.{draws}
 use Rattle.ticket_lock.proofs.lock.TicketLock.draw.Goals as goal
 
 pub fetch_add-ticket-requires : goal.fetch_add-ticket-requires
-fetch_add-ticket-requires g c = let s = c.args.seat in (search rules, search rules, draws g.K.Kept _ _ _ _ s.idle (omega (arith, s.told.left)))
+fetch_add-ticket-requires g c = let s = c.args.seat in (search rules, search rules, draws g.K.Kept _ _ _ _ s.idle (omega (arith, s.agreement.left)))
 
 pub returns-clause-spent : goal.returns-clause-spent
 returns-clause-spent g c =
-    (λ refused. absurd (false≢true refused), λ none. absurd (omega (arith, none, c.args.seat.told.left)))
+    (λ refused. absurd (false≢true refused), λ none. absurd (omega (arith, none, c.args.seat.agreement.left)))
 
 pub returns-then-seat-eq0-clause-spent : goal.returns-then-seat-eq0-clause-spent
-returns-then-seat-eq0-clause-spent g c = (λ _. c.args.seat.told.left ∙ c.if-seat-eq0.true, λ _. refl)
+returns-then-seat-eq0-clause-spent g c = (λ _. c.args.seat.agreement.left ∙ c.if-seat-eq0.true, λ _. refl)

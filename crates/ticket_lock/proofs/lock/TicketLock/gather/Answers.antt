@@ -1,10 +1,10 @@
 use Rattle.std.proofs.Common.{rules, ◌<◌, arith, sym, ap, ◌∙◌, subst, length, length-append}
-use Rattle.ticket_steps.specs.Sums.{times}
-use Rattle.ticket_steps.proofs.Totals.{times-append}
+use Rattle.ticket_steps.specs.Sums.{occurrences}
+use Rattle.ticket_steps.proofs.SumLemmas.{occurrences-append}
 use Rattle.ticket_lock.specs.Legal.{IsLegalFrom}
 use Rattle.ticket_lock.specs.Views.{longer}
 use Rattle.ticket_lock.proofs.Obligations.{joins, second_loads}
-use Rattle.ticket_lock.proofs.Seen.{longer_is}
+use Rattle.ticket_lock.proofs.HistoryLemmas.{longer_is}
 use Rattle.ticket_lock.proofs.lock.TicketLock.gather.Goals as goal
 
 pub join_seat-requires : goal.join_seat-requires
@@ -38,19 +38,19 @@ invariant_of-result g c =
       bare = ap (λ m. m.1) e ∙ (ap (λ m. m.1) j ∙ s.bare);
       legal = subst (λ m. IsLegalFrom k m.0.start m.0.seen) (sym e) (subst (λ m. IsLegalFrom k m.0.start m.0.seen) (sym j) legal);
       idle = ap (λ m. m.0.seat.phase) e ∙ ap (λ m. m.0.seat.phase) j;
-      told = record {
-        own = ap (λ m. m.0.seat.own) e ∙ (ap (λ m. m.0.seat.own) j ∙ s.told.own);
+      agreement = record {
+        own = ap (λ m. m.0.seat.own) e ∙ (ap (λ m. m.0.seat.own) j ∙ s.agreement.own);
         count =
             ap (λ m. length m.0.seat.numbers) e
-            ∙ (ap (λ m. length m.0.seat.numbers) j ∙ omega (arith, both, s.told.count, o.told.count));
-        left = ap (λ m. m.0.seat.left) e ∙ (ap (λ m. m.0.seat.left) j ∙ s.told.left);
-        calls = ap (λ m. m.0.seat.calls) e ∙ (ap (λ m. m.0.seat.calls) j ∙ omega (arith, s.told.calls, o.told.calls));
-        some_number = omega (arith, s.told.some_number);
-        few_numbers =
-            omega (arith, t.3, ap (λ m. length m.0.seat.numbers) j, both, s.told.count, o.told.count);
-        few_calls = omega (arith, t.4, ap (λ m. m.0.seat.calls) j, s.told.calls, o.told.calls);
-        among = subst (λ m. 0 < times m.0.seat.own m.0.seat.numbers) (sym e) (subst (λ m. 0 < times m.0.seat.own m.0.seat.numbers) (sym j)
-            (omega (arith, s.told.among, times-append s.table_seat.me.0.seat.own s.table_seat.me.0.seat.numbers o.table_seat.me.0.seat.numbers)));
+            ∙ (ap (λ m. length m.0.seat.numbers) j ∙ omega (arith, both, s.agreement.count, o.agreement.count));
+        left = ap (λ m. m.0.seat.left) e ∙ (ap (λ m. m.0.seat.left) j ∙ s.agreement.left);
+        calls = ap (λ m. m.0.seat.calls) e ∙ (ap (λ m. m.0.seat.calls) j ∙ omega (arith, s.agreement.calls, o.agreement.calls));
+        nonempty_numbers = omega (arith, s.agreement.nonempty_numbers);
+        bounded_numbers =
+            omega (arith, t.3, ap (λ m. length m.0.seat.numbers) j, both, s.agreement.count, o.agreement.count);
+        bounded_calls = omega (arith, t.4, ap (λ m. m.0.seat.calls) j, s.agreement.calls, o.agreement.calls);
+        among = subst (λ m. 0 < occurrences m.0.seat.own m.0.seat.numbers) (sym e) (subst (λ m. 0 < occurrences m.0.seat.own m.0.seat.numbers) (sym j)
+            (omega (arith, s.agreement.among, occurrences-append s.table_seat.me.0.seat.own s.table_seat.me.0.seat.numbers o.table_seat.me.0.seat.numbers)));
       };
       fresh_is = ap (λ m. m.0.seat.fresh) e ∙ ap (λ m. m.0.seat.fresh) j;
       range = λ some. absurd (omega (arith, some));

@@ -26,7 +26,7 @@ invariant_of-seat g c =
       legal = subst (λ w. IsLegalFrom k w.start w.seen) (sym now)
           (subst (λ a. IsLegalFrom k a t.0) (sym c.requires.lock.1) (t.2 _ c.requires.lock.1).legal);
       idle = ap (λ w. w.seat.phase) now ∙ s.idle;
-      told = subst (λ w. AreCountsOf s.counts w.seat) (sym now) s.told;
+      agreement = subst (λ w. AreCountsOf s.counts w.seat) (sym now) s.agreement;
       fresh_is = ap (λ w. w.seat.fresh) now ∙ s.fresh_is;
       range = s.range;
       row = λ h. ap (λ w. w.seat.numbers) now ∙ s.row h;

@@ -1,10 +1,10 @@
 use Rattle.std.proofs.Common.{subst, rules, refl, sym, ap, ◌∙◌, ◌≡◌}
 use Rattle.ticket_steps.specs.History.{IsLegal}
-use Rattle.ticket_lock.specs.Callers.{IsHanded}
+use Rattle.ticket_lock.specs.Callers.{IsHandedOut}
 use Rattle.ticket_lock.specs.Counts.{AreCountsOf}
 use Rattle.ticket_lock.specs.Legal.{IsLegalFrom}
 use Rattle.ticket_lock.specs.Tokens.{start_of}
-use Rattle.ticket_lock.specs.Views.{held_view}
+use Rattle.ticket_lock.specs.Views.{view_after_look}
 use Rattle.ticket_lock.proofs.Obligations.{looks, in_hand}
 use Rattle.ticket_lock.proofs.SeatLaws.{counts_stay}
 use Rattle.ticket_lock.proofs.lock.TicketLock.look.Goals as goal
@@ -19,16 +19,16 @@ invariant_of-hold g c =
     let book = c.take_book-book.result in
     let t = (c.load-granted.ensures.2 s.ticket s.waits).0 c.if-granted-ticket.true in
     let same : book ≡ t.0 = ap (in_hand t.0) (sym c.take_book-book.ensures.book ∙ ap (λ m. m.1) t.1) in
-    let now : c.take_book-book.new.table_seat.me.0 ≡ held_view k s.ticket s.table_seat.me.0 book =
-    ap (λ m. m.0) c.take_book-book.ensures.taken ∙ (ap (λ m. m.0) t.1 ∙ ap (held_view k s.ticket s.table_seat.me.0) (sym same)) in
-    let handed = subst (IsHanded k (start_of c.args.self.now) s.table_seat.me.0.seat.numbers s.table_seat.me.0.seen s.ticket) (sym same) (t.2 _ c.requires.1) in
+    let now : c.take_book-book.new.table_seat.me.0 ≡ view_after_look k s.ticket s.table_seat.me.0 book =
+    ap (λ m. m.0) c.take_book-book.ensures.taken ∙ (ap (λ m. m.0) t.1 ∙ ap (view_after_look k s.ticket s.table_seat.me.0) (sym same)) in
+    let handed = subst (IsHandedOut k (start_of c.args.self.now) s.table_seat.me.0.seat.numbers s.table_seat.me.0.seen s.ticket) (sym same) (t.2 _ c.requires.1) in
     record {
-      few = handed.few;
+      bounded = handed.bounded;
       out = ap (λ m. m.1) c.take_book-book.ensures.taken;
       legal = subst (λ w. IsLegalFrom k w.start w.seen) (sym now) (subst (λ a. IsLegalFrom k a (k.history book)) (sym c.requires.1)
           (subst (λ o. IsLegal k.step o (k.history book)) handed.opening (g.met.K.Kept.legal book)));
       holds = ap (λ w. w.seat.phase) now;
-      told = subst (λ w. AreCountsOf s.counts w.seat) (sym now) (counts_stay s.counts s.table_seat.me.0.seat _ refl refl refl refl s.told);
+      agreement = subst (λ w. AreCountsOf s.counts w.seat) (sym now) (counts_stay s.counts s.table_seat.me.0.seat _ refl refl refl refl s.agreement);
       stale = ap (λ w. w.seat.fresh) now ∙ s.stale;
     }
 
@@ -39,7 +39,7 @@ returns-then-granted-ticket-clause-book g c =
     let book = c.take_book-book.result in
     let t = (c.load-granted.ensures.2 s.ticket s.waits).0 c.if-granted-ticket.true in
     let same : book ≡ t.0 = ap (in_hand t.0) (sym c.take_book-book.ensures.book ∙ ap (λ m. m.1) t.1) in
-    subst (IsHanded k (start_of c.args.self.now) s.table_seat.me.0.seat.numbers s.table_seat.me.0.seen s.ticket) (sym same) (t.2 _ c.requires.1)
+    subst (IsHandedOut k (start_of c.args.self.now) s.table_seat.me.0.seat.numbers s.table_seat.me.0.seen s.ticket) (sym same) (t.2 _ c.requires.1)
 
 pub take_book-book-requires-clause-full : goal.take_book-book-requires-clause-full
 take_book-book-requires-clause-full g c =
@@ -56,6 +56,6 @@ invariant_of-result g c =
       waits = ap (λ m. m.0.seat.phase) t.0 ∙ s.waits;
       bare = ap (λ m. m.1) t.0 ∙ s.bare;
       legal = subst (λ m. IsLegalFrom g.K.Kept m.0.start m.0.seen) (sym t.0) s.legal;
-      told = subst (λ m. AreCountsOf s.counts m.0.seat) (sym t.0) s.told;
+      agreement = subst (λ m. AreCountsOf s.counts m.0.seat) (sym t.0) s.agreement;
       stale = ap (λ m. m.0.seat.fresh) t.0 ∙ s.stale;
     }

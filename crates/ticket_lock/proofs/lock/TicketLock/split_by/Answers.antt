@@ -1,9 +1,9 @@
 use Rattle.std.proofs.Common.{rules, refl, ◌≡◌, ℕ, ◌+◌, ◌-◌, ◌*◌, ◌≤◌, List, arith, sym, ap, ◌∙◌, length, take, drop}
 use Rattle.ticket_steps.specs.Sums.{counted}
-use Rattle.ticket_steps.proofs.Totals.{drop-counted, take-counted}
-use Rattle.ticket_lock.specs.declared.counts.SeatCounts.{SeatCounts}
+use Rattle.ticket_steps.proofs.SumLemmas.{drop-counted, take-counted}
+use Rattle.ticket_lock.specs.declared.tokens.SeatCounts.{SeatCounts}
 use Rattle.ticket_lock.specs.Tokens.{caller_in}
-use Rattle.ticket_lock.specs.Views.{draws_in, keeping_view}
+use Rattle.ticket_lock.specs.Views.{draws_in, view_after_split}
 use Rattle.ticket_lock.proofs.Callers.{kept_len, given_len, keeping_is, given_is}
 use Rattle.ticket_lock.proofs.Obligations.{splits}
 use Rattle.std.proofs.lemmas.Bool.{ltb-true}
@@ -21,45 +21,45 @@ split_seat-other-requires g c = let s = c.args.seat in (
 )
 
 -- the last numbers of a row, and the first
-last_of_row : (ns : List ℕ) (own size given n : ℕ) → ns ≡ counted own size → length ns ≡ size → n ≡ given → given ≤ size
-    → drop (length ns - n) ns ≡ counted (own + (size - given)) given
-last_of_row ns own size given n row len is le =
-    let kept : length ns - n ≡ size - given = omega (arith, len, is) in
-    let left : size - (size - given) ≡ given = omega (arith, le) in
-    (λ i. drop (kept i) (row i)) ∙ drop-counted own (size - given) size (omega arith) ∙ ap (counted (own + (size - given))) left
+last_of_row : (ns : List ℕ) (own size given_count n : ℕ) → ns ≡ counted own size → length ns ≡ size → n ≡ given_count → given_count ≤ size
+    → drop (length ns - n) ns ≡ counted (own + (size - given_count)) given_count
+last_of_row ns own size given_count n row len is le =
+    let kept : length ns - n ≡ size - given_count = omega (arith, len, is) in
+    let left : size - (size - given_count) ≡ given_count = omega (arith, le) in
+    (λ i. drop (kept i) (row i)) ∙ drop-counted own (size - given_count) size (omega arith) ∙ ap (counted (own + (size - given_count))) left
 
-first_of_row : (ns : List ℕ) (own size given n : ℕ) → ns ≡ counted own size → length ns ≡ size → n ≡ given
-    → take (length ns - n) ns ≡ counted own (size - given)
-first_of_row ns own size given n row len is =
-    let kept : length ns - n ≡ size - given = omega (arith, len, is) in
-    (λ i. take (kept i) (row i)) ∙ take-counted own (size - given) size (omega arith)
+first_of_row : (ns : List ℕ) (own size given_count n : ℕ) → ns ≡ counted own size → length ns ≡ size → n ≡ given_count
+    → take (length ns - n) ns ≡ counted own (size - given_count)
+first_of_row ns own size given_count n row len is =
+    let kept : length ns - n ≡ size - given_count = omega (arith, len, is) in
+    (λ i. take (kept i) (row i)) ∙ take-counted own (size - given_count) size (omega arith)
 
 -- the seat has a row of numbers, within those of its lock
 in_row : (g : Over) (c : After-split_seat-other g) → let s = c.args.seat in
     (s.table_seat.me.0.seat.numbers ≡ counted s.counts.number s.counts.count) × (s.counts.number + s.counts.count ≤ 1024)
 in_row g c = let s = c.args.seat in let some = ltb-true 0 s.parts (sym s.fresh_is ∙ c.requires.3) in (s.row some, s.range some)
 
-pub invariant_of-given : goal.invariant_of-given
-invariant_of-given g c =
+pub invariant_of-split_part : goal.invariant_of-split_part
+invariant_of-split_part g c =
     let s = c.args.seat in
     let v = s.table_seat.me.0 in
-    let before = in_row g (goal.at.invariant_of-given g c).After-split_seat-other in
+    let before = in_row g (goal.at.invariant_of-split_part g c).After-split_seat-other in
     let kept : ℕ = s.counts.count - c.args.count in
     let counts : SeatCounts = record { number = s.counts.number + kept; count = c.args.count; left = c.args.count * c.args.self.now.draws; calls = 0 } in
     let len = given_len v g.N.Count.count c.args.count c.args.self.now.draws (sym c.requires.0) (ap draws_in c.requires.4.1) (omega (arith, c.requires.2)) in
-    let row = last_of_row v.seat.numbers s.counts.number s.counts.count c.args.count g.N.Count.count before.0 s.told.count (sym c.requires.0)
-    (omega (arith, c.requires.2, s.told.count)) in
+    let row = last_of_row v.seat.numbers s.counts.number s.counts.count c.args.count g.N.Count.count before.0 s.agreement.count (sym c.requires.0)
+    (omega (arith, c.requires.2, s.agreement.count)) in
     let t = fresh_token g.K.Kept counts c.args.count _ _ c.split_seat-other.ensures.4 refl refl c.requires.1 s.legal
-    (omega (arith, s.told.own, s.told.count, c.requires.0)) row (λ i. len i * ap draws_in c.requires.4.1 i) refl c.requires.1
-    (omega (arith, before.1, c.requires.2, s.told.count)) (omega arith) in
-    record { bare = t.bare; legal = t.legal; idle = t.idle; told = t.told; fresh_is = t.fresh_is; range = t.range; row = t.row }
+    (omega (arith, s.agreement.own, s.agreement.count, c.requires.0)) row (λ i. len i * ap draws_in c.requires.4.1 i) refl c.requires.1
+    (omega (arith, before.1, c.requires.2, s.agreement.count)) (omega arith) in
+    record { bare = t.bare; legal = t.legal; idle = t.idle; agreement = t.agreement; fresh_is = t.fresh_is; range = t.range; row = t.row }
 
 -- what is kept is as many numbers as the counts say
 kept_count : (g : Over) (c : After-split_seat-other g) → let n = length c.args.seat.table_seat.me.0.seat.numbers in
     length (take (n - g.N.Count.count) c.args.seat.table_seat.me.0.seat.numbers) ≡ c.args.seat.counts.count - c.args.count
 kept_count g c =
     kept_len c.args.seat.table_seat.me.0 g.N.Count.count c.args.count c.args.self.now.draws (sym c.requires.0) (ap draws_in c.requires.4.1)
-    (omega (arith, c.requires.2)) ∙ ap (λ (m : ℕ). m - c.args.count) c.args.seat.told.count
+    (omega (arith, c.requires.2)) ∙ ap (λ (m : ℕ). m - c.args.count) c.args.seat.agreement.count
 
 pub invariant_of-seat : goal.invariant_of-seat
 invariant_of-seat g c =
@@ -68,13 +68,13 @@ invariant_of-seat g c =
     let before = in_row g at in
     let kept : ℕ = s.counts.count - c.args.count in
     let counts : SeatCounts = record { number = s.counts.number; count = kept; left = kept * c.args.self.now.draws; calls = s.counts.calls } in
-    let row = first_of_row s.table_seat.me.0.seat.numbers s.counts.number s.counts.count c.args.count g.N.Count.count before.0 s.told.count
+    let row = first_of_row s.table_seat.me.0.seat.numbers s.counts.number s.counts.count c.args.count g.N.Count.count before.0 s.agreement.count
     (sym c.requires.0) in
-    let e = c.split_seat-other.ensures.2 ∙ ap (λ q. (keeping_view g.N.Count.count s.table_seat.me.0, q)) s.bare in
-    let t = fresh_token g.K.Kept counts kept _ _ e refl refl (omega (arith, c.requires.2, s.told.count)) s.legal s.told.own row
-    (λ i. kept_count g at i * ap draws_in c.requires.4.1 i) s.told.calls (omega (arith, c.requires.2, s.told.count)) (omega (arith, before.1))
-    s.told.few_calls in
-    record { bare = t.bare; legal = t.legal; idle = t.idle; told = t.told; fresh_is = t.fresh_is; range = t.range; row = t.row }
+    let e = c.split_seat-other.ensures.2 ∙ ap (λ q. (view_after_split g.N.Count.count s.table_seat.me.0, q)) s.bare in
+    let t = fresh_token g.K.Kept counts kept _ _ e refl refl (omega (arith, c.requires.2, s.agreement.count)) s.legal s.agreement.own row
+    (λ i. kept_count g at i * ap draws_in c.requires.4.1 i) s.agreement.calls (omega (arith, c.requires.2, s.agreement.count)) (omega (arith, before.1))
+    s.agreement.bounded_calls in
+    record { bare = t.bare; legal = t.legal; idle = t.idle; agreement = t.agreement; fresh_is = t.fresh_is; range = t.range; row = t.row }
 
 pub returns-clause-kept : goal.returns-clause-kept
 returns-clause-kept g c =
@@ -82,8 +82,8 @@ returns-clause-kept g c =
     (ap draws_in c.requires.4.1) (omega (arith, c.requires.2)) in
     (search rules, ap (λ m. caller_in m.0) c.split_seat-other.ensures.2 ∙ is)
 
-pub returns-clause-given : goal.returns-clause-given
-returns-clause-given g c =
+pub returns-clause-split_part : goal.returns-clause-split_part
+returns-clause-split_part g c =
     let is = given_is c.args.seat.table_seat.me.0 g.N.Count.count c.args.count c.args.self.now.draws (sym c.requires.0)
     (ap draws_in c.requires.4.1) (omega (arith, c.requires.2)) in
     (search rules, ap (λ m. caller_in m.0) c.split_seat-other.ensures.4 ∙ is)

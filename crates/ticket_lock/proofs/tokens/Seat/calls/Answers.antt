@@ -2,7 +2,7 @@ use Rattle.std.proofs.Common.{arith, sym}
 use Rattle.ticket_lock.proofs.tokens.Seat.calls.Goals as goal
 
 pub returns-clause-calls : goal.returns-clause-calls
-returns-clause-calls g c = sym c.args.self.now.told.calls
+returns-clause-calls g c = sym c.args.self.now.agreement.calls
 
-pub returns-clause-few : goal.returns-clause-few
-returns-clause-few g c = omega (arith, c.args.self.now.told.few_calls)
+pub returns-clause-bounded : goal.returns-clause-bounded
+returns-clause-bounded g c = omega (arith, c.args.self.now.agreement.bounded_calls)

@@ -2,4 +2,4 @@ use Rattle.std.proofs.Common.{sym}
 use Rattle.ticket_lock.proofs.tokens.Seat.left.Goals as goal
 
 pub returns : goal.returns
-returns g c = sym c.args.self.now.told.left
+returns g c = sym c.args.self.now.agreement.left

@@ -7,10 +7,10 @@ use Rattle.ticket_steps.specs.declared.seats.Phase.TheVariants.{Idle}
 use Rattle.ticket_steps.specs.declared.events.Event.TheVariants.{Gather}
 use Rattle.ticket_steps.specs.declared.events.Seen.TheVariants as seen
 use Rattle.ticket_steps.specs.declared.events.Fault.TheVariants.{Phase}
-use Rattle.ticket_steps.specs.Cores.{state_of}
+use Rattle.ticket_steps.specs.Cores.{core_state_of}
 use Rattle.ticket_steps.specs.Faults.{Shows}
 use Rattle.ticket_steps.specs.Happenings.{gathered, with_seats}
-use Rattle.ticket_steps.specs.Seats.{joined}
+use Rattle.ticket_steps.specs.Seats.{gathered_seat}
 use Rattle.ticket_steps.proofs.CoreLemmas.{gather_moves, few_served}
 use Rattle.ticket_steps.proofs.FaultLemmas.{steps_fault, steps_shown, shows_lawful, read_is, unfit_gather}
 use Rattle.ticket_steps.proofs.Lists.{at_same, set_else}
@@ -34,8 +34,8 @@ returns-then-seat-other-clause-step g c =
           ↦ λ t. let is = read_is self.seats.items c.in_ok-from.from d.1 w.index-else-not-is_idle.ensures in
           false≢true (sym w.if-not-is_idle-2.true ∙ w.is_idle-else-not-is_idle.ensures.1 (ap (λ (s : CoreSeat). s.phase) is ∙ t.2))
     ] in
-    steps_fault g.K.Kept self.draws (state_of self) (Gather c.args.seat c.args.other) Phase
-    (unfit_gather g.K.Kept self.numbers self.draws (state_of self) self.lawful c.in_ok-at.at c.args.seat e.0 e.1 e.2 e.3 c.in_ok-from.from c.args.other d.0 d.1
+    steps_fault g.K.Kept self.draws (core_state_of self) (Gather c.args.seat c.args.other) Phase
+    (unfit_gather g.K.Kept self.numbers self.draws (core_state_of self) self.lawful c.in_ok-at.at c.args.seat e.0 e.1 e.2 e.3 c.in_ok-from.from c.args.other d.0 d.1
     d.2 d.3 bad)
 
 -- the two seats are two
@@ -59,15 +59,15 @@ other_idle g c =
     ap (λ (s : CoreSeat). s.phase) (sym is) ∙ c.is_idle-else-not-is_idle.ensures.0 c.if-not-is_idle-2.false
 
 -- what is given up is the other seat as it was found
-other_was : (g : Over) (c : After-index_mut-2 g) → c.give_up-given.result ≡ c.in_ok-from.ensures.found.0
-other_was g c = c.give_up-given.ensures.was ∙ read_is c.args.self.now.seats.items c.in_ok-from.from c.in_ok-from.ensures.found.1 c.index_mut.ensures.value
+other_was : (g : Over) (c : After-index_mut-2 g) → c.retire-other_seat.result ≡ c.in_ok-from.ensures.found.0
+other_was g c = c.retire-other_seat.ensures.was ∙ read_is c.args.self.now.seats.items c.in_ok-from.from c.in_ok-from.ensures.found.1 c.index_mut.ensures.value
 
 -- and the seat that joins it is as it was found
 seat_is : (g : Over) (c : After-index_mut-2 g) → c.index_mut-2.result.now ≡ c.in_ok-at.ensures.found.0
 seat_is g c =
     let items = c.args.self.now.seats.items in
-    let at = set_else items c.in_ok-from.from c.in_ok-at.at c.give_up-given.new.self (λ h. apart g c (sym h)) ∙ c.in_ok-at.ensures.found.1 in
-    read_is (set items c.in_ok-from.from c.give_up-given.new.self) c.in_ok-at.at at c.index_mut-2.ensures.value
+    let at = set_else items c.in_ok-from.from c.in_ok-at.at c.retire-other_seat.new.self (λ h. apart g c (sym h)) ∙ c.in_ok-at.ensures.found.1 in
+    read_is (set items c.in_ok-from.from c.retire-other_seat.new.self) c.in_ok-at.at at c.index_mut-2.ensures.value
 
 pub join-requires-clause-idle : goal.join-requires-clause-idle
 join-requires-clause-idle g c = ap (λ (s : CoreSeat). s.phase) (seat_is g c) ∙ idle g c
@@ -75,27 +75,27 @@ join-requires-clause-idle g c = ap (λ (s : CoreSeat). s.phase) (seat_is g c) �
 pub join-requires-clause-numbers : goal.join-requires-clause-numbers
 join-requires-clause-numbers g c =
     let self = c.args.self.now in
-    let both = two_numbers self.numbers self.draws (state_of self) self.lawful _ _ _ _ (apart g c) c.in_ok-at.ensures.found.1 c.in_ok-from.ensures.found.1 in
-    omega (arith, ap (λ (s : CoreSeat). length s.numbers) (seat_is g c), ap (λ (s : CoreSeat). length s.numbers) (other_was g c), both, self.few)
+    let both = two_numbers self.numbers self.draws (core_state_of self) self.lawful _ _ _ _ (apart g c) c.in_ok-at.ensures.found.1 c.in_ok-from.ensures.found.1 in
+    omega (arith, ap (λ (s : CoreSeat). length s.numbers) (seat_is g c), ap (λ (s : CoreSeat). length s.numbers) (other_was g c), both, self.bounded)
 
 pub join-requires-clause-calls : goal.join-requires-clause-calls
 join-requires-clause-calls g c =
     let self = c.args.self.now in
-    let both = two_calls self.numbers self.draws (state_of self) self.lawful _ _ _ _ (apart g c) c.in_ok-at.ensures.found.1 c.in_ok-from.ensures.found.1 in
-    let served = few_served self.numbers self.draws (state_of self) self.lawful self.few (omega (arith, self.few_draws)) in
+    let both = two_calls self.numbers self.draws (core_state_of self) self.lawful _ _ _ _ (apart g c) c.in_ok-at.ensures.found.1 c.in_ok-from.ensures.found.1 in
+    let served = few_served self.numbers self.draws (core_state_of self) self.lawful self.bounded (omega (arith, self.bounded_draws)) in
     omega (arith, ap (λ (s : CoreSeat). s.calls) (seat_is g c), ap (λ (s : CoreSeat). s.calls) (other_was g c), both, served)
 
 -- the one takes over the other
 gathers : (g : Over) (c : After-self-2-1 g) → let self = c.args.self.now in
-    Shows g.K.Kept self.draws (state_of self) (Gather c.args.seat c.args.other) seen.Gathered
-    (with_seats (state_of self) (set (set self.seats.items c.in_ok-from.from c.give_up-given.new.self) c.in_ok-at.at c.join.new.self))
+    Shows g.K.Kept self.draws (core_state_of self) (Gather c.args.seat c.args.other) seen.Gathered
+    (with_seats (core_state_of self) (set (set self.seats.items c.in_ok-from.from c.retire-other_seat.new.self) c.in_ok-at.at c.join.new.self))
 gathers g c =
     let self = c.args.self.now in let e = c.in_ok-at.ensures.found in
     let d = c.in_ok-from.ensures.found in
     let at = (goal.at.invariant_of-self-clause-lawful g c).After-index_mut-2 in
-    let move = gather_moves g.K.Kept self.draws (state_of self) c.in_ok-at.at c.args.seat e.0 e.1 e.2 c.in_ok-from.from c.args.other d.0
-    c.give_up-given.new.self c.join.new.self d.1 d.2 (idle g at) (other_idle g at) c.if-seat-other.false
-    c.give_up-given.ensures.gone (c.join.ensures ∙ (λ i. joined (seat_is g at i) (other_was g at i))) in
+    let move = gather_moves g.K.Kept self.draws (core_state_of self) c.in_ok-at.at c.args.seat e.0 e.1 e.2 c.in_ok-from.from c.args.other d.0
+    c.retire-other_seat.new.self c.join.new.self d.1 d.2 (idle g at) (other_idle g at) c.if-seat-other.false
+    c.retire-other_seat.ensures.gone_seat (c.join.ensures ∙ (λ i. gathered_seat (seat_is g at i) (other_was g at i))) in
     (gathered c.args.seat c.args.other, refl, refl, move, tt)
 
 pub invariant_of-self-clause-lawful : goal.invariant_of-self-clause-lawful

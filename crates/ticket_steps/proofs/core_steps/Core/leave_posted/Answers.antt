@@ -6,9 +6,9 @@ use Rattle.ticket_steps.specs.declared.seats.Phase.TheVariants.{Posted}
 use Rattle.ticket_steps.specs.declared.events.Event.TheVariants.{Leave}
 use Rattle.ticket_steps.specs.declared.events.Seen.TheVariants as seen
 use Rattle.ticket_steps.specs.declared.events.Fault.TheVariants.{Phase}
-use Rattle.ticket_steps.specs.Cores.{state_of}
+use Rattle.ticket_steps.specs.Cores.{core_state_of}
 use Rattle.ticket_steps.specs.Happenings.{left_posted, Moves}
-use Rattle.ticket_steps.specs.Seats.{ended}
+use Rattle.ticket_steps.specs.Seats.{seat_after_turn}
 use Rattle.ticket_steps.proofs.CoreLemmas.{left_posted_moves, can_end, changed_is, ticket_served}
 use Rattle.ticket_steps.proofs.FaultLemmas.{steps_fault, steps_shown, shows_lawful, read_is, unfit_leave_posted}
 use Rattle.ticket_steps.proofs.SeatLemmas.{posted_holds}
@@ -20,9 +20,9 @@ pub returns-in_default-clause-step : goal.returns-in_default-clause-step
 returns-in_default-clause-step g c =
     let self = c.args.self.now in let e = c.in_ok-at.ensures.found in
     let is = read_is self.seats.items c.in_ok-at.at e.1 c.index.ensures in
-    let unfit = unfit_leave_posted g.K.Kept self.numbers self.draws (state_of self) self.lawful c.in_ok-at.at c.args.seat e.0 e.1 e.2 e.3
+    let unfit = unfit_leave_posted g.K.Kept self.numbers self.draws (core_state_of self) self.lawful c.in_ok-at.at c.args.seat e.0 e.1 e.2 e.3
     (λ ticket posts. c.in_default.not-Posted ticket (ap (λ (s : CoreSeat). s.phase) is ∙ posts)) in
-    steps_fault g.K.Kept self.draws (state_of self) (Leave c.args.seat None) Phase unfit
+    steps_fault g.K.Kept self.draws (core_state_of self) (Leave c.args.seat None) Phase unfit
 
 -- the ticket of the seat that leaves
 ticket_is : (g : Over) (c : In-Posted g) → (c.in-Posted.ticket ≡ c.args.self.now.grants) × (c.in-Posted.ticket < 2 ^ 60)
@@ -40,16 +40,16 @@ leave-requires-clause-served g c = (ticket_is g (goal.at.leave-requires-clause-s
 
 -- the seat leaves, and nothing more is recorded
 leaves : (g : Over) (c : After-leave g) → let self = c.args.self.now in
-    Shows g.K.Kept self.draws (state_of self) (Leave c.args.seat None) (seen.Left None)
-    (core_state self.next c.leave.new.self (set self.seats.items c.in_ok-at.at c.end.new.self) (state_of self).book)
+    Shows g.K.Kept self.draws (core_state_of self) (Leave c.args.seat None) (seen.Left None)
+    (core_state self.next c.leave.new.self (set self.seats.items c.in_ok-at.at c.end.new.self) (core_state_of self).book)
 leaves g c =
     let self = c.args.self.now in
     let e = c.in_ok-at.ensures.found in
     let ticket = c.in-Posted.ticket in
-    let s = changed_is self.seats.items c.in_ok-at.at ended (Posted ticket) e.1 c.index.ensures c.in-Posted.is c.index_mut.ensures.value c.end.ensures in
+    let s = changed_is self.seats.items c.in_ok-at.at seat_after_turn (Posted ticket) e.1 c.index.ensures c.in-Posted.is c.index_mut.ensures.value c.end.ensures in
     let first = ticket_served self c.in_ok-at.at e.1 c.index.ensures ticket (posted_holds ticket _ c.in-Posted.is) in
     let up : c.leave.new.self ≡ self.grants + 1 = c.leave.ensures ∙ ap (λ (n : ℕ). n + 1) first.0 in
-    let b = state_of self in
+    let b = core_state_of self in
     let seats = set self.seats.items c.in_ok-at.at c.end.new.self in (
       left_posted c.args.seat,
       refl,

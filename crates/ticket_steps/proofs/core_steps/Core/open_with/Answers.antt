@@ -2,7 +2,7 @@ use Rattle.std.proofs.Common.{rules, ◌≡◌, ◌*◌, ◌∷◌, [], sym, ap,
 use Rattle.ticket_steps.specs.declared.seats.Phase.TheVariants.{Idle}
 use Rattle.ticket_steps.specs.History.{replay}
 use Rattle.ticket_steps.specs.Books.{book_state}
-use Rattle.ticket_steps.specs.CoreStates.{core_state, opened}
+use Rattle.ticket_steps.specs.CoreStates.{core_state, opening_core}
 use Rattle.ticket_steps.specs.Lawful.{IsLawful}
 use Rattle.ticket_steps.specs.Seats.{seat}
 use Rattle.ticket_steps.proofs.CoreLemmas.{opened_is}
@@ -14,7 +14,7 @@ use Rattle.ticket_steps.proofs.core_steps.Core.open_with.Goals as goal
 -- what is opened stands for the core state at the opening
 opens : (g : Over) (c : After-open g) → let k = g.K.Kept in let book = c.args.book in
     core_state 0 c.open.result c.push_reserved.new.self.items (book_state (k.state book) (k.history book) (k.refusals book))
-    ≡ opened c.args.numbers c.args.draws (k.opening book)
+    ≡ opening_core c.args.numbers c.args.draws (k.opening book)
 opens g c =
     let k = g.K.Kept in
     let book = c.args.book in
@@ -28,5 +28,5 @@ invariant_of-result-clause-lawful g c =
     subst (IsLawful c.args.numbers c.args.draws) (sym (opens g (goal.at.invariant_of-result-clause-lawful g c).After-open))
     (lawful_opened c.args.numbers c.args.draws (g.K.Kept.opening c.args.book) c.requires.numbers.0)
 
-pub returns-clause-opened : goal.returns-clause-opened
-returns-clause-opened g c = opens g (goal.at.returns-clause-opened g c).After-open
+pub returns-clause-opening_core : goal.returns-clause-opening_core
+returns-clause-opening_core g c = opens g (goal.at.returns-clause-opening_core g c).After-open

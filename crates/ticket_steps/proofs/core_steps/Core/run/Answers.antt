@@ -2,7 +2,7 @@ use Rattle.std.proofs.Common.{◌≡◌, ℕ, Result, take, arith, sym, refl, �
 use Rattle.std.specs.Prelude.{IfOk, OnErr}
 use Rattle.std.proofs.lemmas.Option.{get_or_from_slice_get}
 use Rattle.std.proofs.lemmas.List.{take_all}
-use Rattle.ticket_steps.specs.Cores.{state_of, draws_of}
+use Rattle.ticket_steps.specs.Cores.{core_state_of, core_draws}
 use Rattle.ticket_steps.specs.declared.events.Seen.{Seen}
 use Rattle.ticket_steps.specs.declared.events.Fault.{Fault}
 use Rattle.ticket_steps.specs.Faults.{Shows, IsFault, LeadsBy}
@@ -19,21 +19,21 @@ pub loop-place-preserved : goal.loop-place-preserved
 loop-place-preserved g c =
     let k = g.K.Kept in
     let before = c.loop-place.invariant in
-    let alike = c.step.ensures.alike in
+    let same_opening = c.step.ensures.same_opening in
     let event = c.index-events-place.result in
     let was = c.loop-place.self in
     let now = c.step.new.self in
-    let went = subst (λ (r : Result (Seen g.row.K-Reply.Denot) Fault). IfOk r (λ seen. Shows k (draws_of was) (state_of was) event seen (state_of now)))
-    c.in_default.is c.step.ensures.shown in
-    let shown = subst (λ (n : ℕ). Shows k n (state_of was) event c.in_default.field-0 (state_of now)) before.1.draws went in (
-      leads_by_more k (draws_of c.args.self.now) (state_of c.args.self.now) (state_of was) (state_of now) c.args.events.now
-          c.loop-place.place event c.in_default.field-0 before.0 c.loop-place-test.true c.index-events-place.is shown,
-      record { opening = alike.opening ∙ before.1.opening; numbers = alike.numbers ∙ before.1.numbers; draws = alike.draws ∙ before.1.draws },
+    let went = subst (λ (r : Result (Seen g.row.K-Reply.Denot) Fault). IfOk r (λ seen. Shows k (core_draws was) (core_state_of was) event seen (core_state_of now)))
+    c.in_default.is c.step.ensures.readout in
+    let readout = subst (λ (n : ℕ). Shows k n (core_state_of was) event c.in_default.field-0 (core_state_of now)) before.1.draws went in (
+      leads_by_more k (core_draws c.args.self.now) (core_state_of c.args.self.now) (core_state_of was) (core_state_of now) c.args.events.now
+          c.loop-place.place event c.in_default.field-0 before.0 c.loop-place-test.true c.index-events-place.is readout,
+      record { opening = same_opening.opening ∙ before.1.opening; numbers = same_opening.numbers ∙ before.1.numbers; draws = same_opening.draws ∙ before.1.draws },
     )
 
 -- an event with a fault has changed nothing
-same : (g : Over) (c : In-Err g) → state_of c.step.new.self ≡ state_of c.loop-place.self
-same g c = subst (λ (r : Result (Seen g.row.K-Reply.Denot) Fault). OnErr r (state_of c.step.new.self ≡ state_of c.loop-place.self))
+same : (g : Over) (c : In-Err g) → core_state_of c.step.new.self ≡ core_state_of c.loop-place.self
+same g c = subst (λ (r : Result (Seen g.row.K-Reply.Denot) Fault). OnErr r (core_state_of c.step.new.self ≡ core_state_of c.loop-place.self))
     c.in-Err.is c.step.ensures.same
 
 pub returns-in-Err-clause-place : goal.returns-in-Err-clause-place
@@ -41,7 +41,7 @@ returns-in-Err-clause-place g c = c.loop-place-test.true
 
 pub returns-in-Err-clause-before : goal.returns-in-Err-clause-before
 returns-in-Err-clause-before g c =
-    subst (LeadsBy g.K.Kept (draws_of c.args.self.now) (state_of c.args.self.now) (take c.loop-place.place c.args.events.now)) (sym (same g c))
+    subst (LeadsBy g.K.Kept (core_draws c.args.self.now) (core_state_of c.args.self.now) (take c.loop-place.place c.args.events.now)) (sym (same g c))
     c.loop-place.invariant.0
 
 pub returns-in-Err-clause-fault : goal.returns-in-Err-clause-fault
@@ -52,13 +52,13 @@ returns-in-Err-clause-fault g c =
     let found = (c.step.ensures.fault fault).0 c.in-Err.is in
     λ event at.
     let is = c.index-events-place.is ∙ get_or_from_slice_get c.args.events.now c.loop-place.place event read at in
-    subst (λ b. IsFault k b event fault) (sym (same g c)) (subst (λ e. IsFault k (state_of c.loop-place.self) e fault) is found)
+    subst (λ b. IsFault k b event fault) (sym (same g c)) (subst (λ e. IsFault k (core_state_of c.loop-place.self) e fault) is found)
 
-pub returns-in-Err-clause-alike : goal.returns-in-Err-clause-alike
-returns-in-Err-clause-alike g c =
+pub returns-in-Err-clause-same_opening : goal.returns-in-Err-clause-same_opening
+returns-in-Err-clause-same_opening g c =
     let before = c.loop-place.invariant.1 in
-    let alike = c.step.ensures.alike in
-    record { opening = alike.opening ∙ before.opening; numbers = alike.numbers ∙ before.numbers; draws = alike.draws ∙ before.draws }
+    let same_opening = c.step.ensures.same_opening in
+    record { opening = same_opening.opening ∙ before.opening; numbers = same_opening.numbers ∙ before.numbers; draws = same_opening.draws ∙ before.draws }
 
 pub returns-in-Err-clause-lawful : goal.returns-in-Err-clause-lawful
 returns-in-Err-clause-lawful g c = c.step.ensures.lawful
@@ -68,11 +68,11 @@ returns-in-Err-clause-book g c = c.step.ensures.book
 
 pub returns-clause-all : goal.returns-clause-all
 returns-clause-all g c =
-    subst (λ es. LeadsBy g.K.Kept (draws_of c.args.self.now) (state_of c.args.self.now) es (state_of c.loop-place.self))
+    subst (λ es. LeadsBy g.K.Kept (core_draws c.args.self.now) (core_state_of c.args.self.now) es (core_state_of c.loop-place.self))
     (take_all c.loop-place.place c.args.events.now (omega (arith, c.loop-place-test.false))) c.loop-place.invariant.0
 
-pub returns-clause-alike : goal.returns-clause-alike
-returns-clause-alike g c = c.loop-place.invariant.1
+pub returns-clause-same_opening : goal.returns-clause-same_opening
+returns-clause-same_opening g c = c.loop-place.invariant.1
 
 pub returns-clause-lawful : goal.returns-clause-lawful
 returns-clause-lawful g c = c.loop-place.self.lawful

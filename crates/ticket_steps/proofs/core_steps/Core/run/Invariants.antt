@@ -1,8 +1,8 @@
 use Rattle.std.proofs.Common.{take}
-use Rattle.ticket_steps.specs.Cores.{state_of, draws_of, IsOpenedAlike}
+use Rattle.ticket_steps.specs.Cores.{core_state_of, core_draws, HasSameOpening}
 use Rattle.ticket_steps.specs.Faults.{LeadsBy}
 use Rattle.ticket_steps.proofs.core_steps.Core.run.Given as goal
 
 abbrev pub invariant-loop-place : goal.invariant-loop-place
 invariant-loop-place g l =
-    LeadsBy g.K.Kept (draws_of l.initial.self) (state_of l.initial.self) (take l.place l.events) (state_of l.self) × IsOpenedAlike l.initial.self l.self
+    LeadsBy g.K.Kept (core_draws l.initial.self) (core_state_of l.initial.self) (take l.place l.events) (core_state_of l.self) × HasSameOpening l.initial.self l.self

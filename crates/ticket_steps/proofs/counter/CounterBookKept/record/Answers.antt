@@ -1,5 +1,5 @@
 use Rattle.std.proofs.Common.{rules, arith, ◌≡◌, refl, ◌+◌, ◌%◌, ◌^◌, ◌∷◌, ◌++◌, [], sym, ap, subst}
-use Rattle.ticket_steps.specs.Counting.{counts}
+use Rattle.ticket_steps.specs.Counting.{counter_step}
 use Rattle.ticket_steps.specs.History.{entry, IsLegal}
 use Rattle.ticket_steps.proofs.Histories.{replay-last, legal-last}
 use Rattle.ticket_steps.proofs.counter.CounterBookKept.record.Goals as goal
@@ -11,7 +11,7 @@ invariant_of-self-2 c =
     let items : c.push.new.self.items ≡ b.entries.items ++ e ∷ [] = search rules in
     record {
       reserved = omega (arith, c.push.ensures.capacity, b.reserved);
-      legal = subst (IsLegal counts 0) (sym items) (legal-last counts 0 b.entries.items e b.legal (ap (λ s. (s + c.args.call) % 2 ^ 64) b.summed));
+      legal = subst (IsLegal counter_step 0) (sym items) (legal-last counter_step 0 b.entries.items e b.legal (ap (λ s. (s + c.args.call) % 2 ^ 64) b.summed));
       summed = rw items (rw replay-last (ap (λ s. (s + c.args.call) % 2 ^ 64) b.summed));
     }
 

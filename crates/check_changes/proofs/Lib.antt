@@ -1,4 +1,0 @@
-pub mod KeptLemmas
-pub mod FigureLemmas
-pub mod TextLemmas
-pub mod FigureLaws

@@ -1,9 +1,0 @@
-use Rattle.std.proofs.Common.{◌≡◌, drop, find, map}
-use Rattle.serde_json.specs.View.{view}
-use Rattle.check_drafts.specs.Member.{as_row}
-use Rattle.check_documents.specs.Shapes.{is_misfit}
-use Rattle.check_documents.proofs.shapes.first_misfit.Given as goal
-
-abbrev pub invariant-loop-member : goal.invariant-loop-member
-invariant-loop-member l =
-    find (is_misfit (view l.object)) (map as_row l.members) ≡ find (is_misfit (view l.object)) (map as_row (drop l.member-index l.members))

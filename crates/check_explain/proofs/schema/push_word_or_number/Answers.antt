@@ -1,7 +1,0 @@
-use Rattle.std.proofs.lemmas.Result.{on_ok_weaker}
-use Rattle.check_explain.proofs.GrowthLemmas.{begins_by, begins_then}
-use Rattle.check_explain.proofs.schema.push_word_or_number.Goals as goal
-
-pub returns : goal.returns
-returns c =
-    on_ok_weaker c.push_json-3.result (λ last. begins_then _ _ _ (begins_then _ _ _ (begins_then _ _ _ (begins_then _ _ _ (c.in_ok-begin.ensures.grows) (begins_by _ _ _ c.in_ok-push_json.ensures)) (begins_by _ _ _ c.in_ok-push_json-2.ensures)) (c.in_ok-push_limits.ensures)) (begins_by _ _ _ last)) c.push_json-3.ensures

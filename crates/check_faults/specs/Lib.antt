@@ -1,4 +1,0 @@
-pub use Rattle.check_drafts.specs.Draft
-pub use Rattle.check_drafts.specs.Drafted
-pub use Rattle.check_drafts.specs.LoadError
-pub mod Verification

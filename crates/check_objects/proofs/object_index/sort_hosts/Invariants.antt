@@ -1,0 +1,12 @@
+use Rattle.std.proofs.Common.{◌≡◌, [], map, drop}
+use Rattle.check_objects.specs.Numbering.{host_body}
+use Rattle.setup_model.specs.Name.{text_order}
+use Rattle.setup_model.specs.ParsedViews.{host}
+use Rattle.check_objects.specs.Entries.{sorted_host}
+use Rattle.check_objects.proofs.object_index.sort_hosts.Given as goal
+use Rattle.check_objects.proofs.InsertionLemmas.{placed}
+
+abbrev pub invariant-loop-draft : goal.invariant-loop-draft
+invariant-loop-draft l =
+    placed text_order (λ h. h.name) host_body [] (map host l.drafts)
+    ≡ placed text_order (λ h. h.name) host_body (map sorted_host l.sorted.entries) (map host (drop l.draft-index l.drafts))

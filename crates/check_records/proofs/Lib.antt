@@ -1,2 +1,0 @@
-pub mod PlainLaws
-pub mod FaultLaws

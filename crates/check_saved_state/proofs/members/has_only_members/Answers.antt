@@ -1,0 +1,9 @@
+use Rattle.std.proofs.Common.{sym, ◌∙◌, ap, map}
+use Rattle.setup_reader.specs.JsonTree.{has_only_members}
+use Rattle.setup_reader.proofs.TreeLemmas.{object_by_members, only_known}
+use Rattle.check_saved_state.proofs.members.has_only_members.Goals as goal
+
+pub returns-in-Some : goal.returns-in-Some
+returns-in-Some c =
+    let e = object_by_members _ _ (sym c.in-Some.ensures) in
+    c.are_allowed.ensures ∙ only_known (λ name. name.now) c.args.names.now _ ∙ sym (ap (has_only_members (map (λ name. name.now) c.args.names.now)) e)

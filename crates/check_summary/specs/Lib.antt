@@ -1,4 +1,0 @@
-pub mod Chains
-pub mod Summary
-pub mod Text
-pub mod Worth

@@ -1,5 +1,0 @@
-use Rattle.check_text.proofs.LiveLaws.{goes_on}
-use Rattle.check_text.proofs.laws.live_goes_on.Goals as goal
-
-pub returns : goal.returns
-returns c = goes_on

@@ -1,5 +1,0 @@
-pub mod Text
-pub mod LiveText
-pub mod Room
-pub mod Output
-pub mod Written

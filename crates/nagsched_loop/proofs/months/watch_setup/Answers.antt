@@ -1,0 +1,56 @@
+use Rattle.std.proofs.Common.{◌≡◌, [], ◌∷◌, ◌++◌, false, refl, subst, ◌∙◌}
+use Rattle.std.specs.Prelude.{Contains}
+use Rattle.std.proofs.lemmas.List.Elements.{All-contains, All-contains_itself}
+use Rattle.check_book.specs.Books.{sched_of}
+use Rattle.nagsched_loop.specs.Loop.{has_call_for, run_with_limit}
+use Rattle.nagsched_loop.specs.Months.{IsFirst, entries_in}
+use Rattle.nagsched_loop.proofs.MonthLemmas.{generations_more, kept_generation}
+use Rattle.nagsched_loop.proofs.months.watch_setup.Goals as goal
+
+pub loop-init : goal.loop-init
+loop-init g c =
+    let empty = c.in_ok-book.ensures.empty in
+    (tt, tt, (empty.0, empty.1, [], refl, λ k d lt e. All-contains_itself _ k d lt))
+
+pub returns-in-Setup : goal.returns-in-Setup
+returns-in-Setup g c =
+    let before = c.loop.invariant.2 in
+    let generation_ended = c.in_ok-next.ensures.generation_ended in
+    let histories = before.2 ++ generation_ended.0 ∷ [] in
+    let stored = kept_generation before.2 generation_ended.0 _ _ _ before.4 generation_ended.2 in
+    record {
+      stored = c.in_ok-next.ensures.stored;
+      watched = record {
+        start = c.now-start.result;
+        clock = c.now-start.new.self;
+        read = c.now-start.ensures.does;
+        setup = c.in_ok-setup.setup;
+        given = c.in_ok-setup.ensures.given;
+        first = sched_of c.in_ok-book.book;
+        is_first =
+            subst (λ stored. IsFirst c.in_ok-setup.setup stored c.now-start.result (sched_of c.in_ok-book.book))
+            (c.in_ok-stored.ensures ∙ c.setup.ensures.stored) c.in_ok-book.ensures.first;
+        histories = histories;
+        lead = generations_more g.F.Files.past before.2 generation_ended.0 _ _ _ before.3 generation_ended.1;
+        still_listed = λ object number is unnamed.
+            let run = run_with_limit object number c.now-start.result in
+            All-contains (λ r. has_call_for (entries_in histories) r ≡ false → Contains c.generation.new.runs.items r) _ run stored
+            (c.in_ok-runs.ensures.all object number is) unnamed;
+      };
+    }
+
+pub loop-preserved : goal.loop-preserved
+loop-preserved g c =
+    let before = c.loop.invariant.2 in
+    let generation_ended = c.in_ok-next.ensures.generation_ended in
+    let empty = c.in_ok-next.ensures.empty in (
+      tt,
+      tt,
+      (
+        empty.0,
+        empty.1,
+        before.2 ++ generation_ended.0 ∷ [],
+        generations_more g.F.Files.past before.2 generation_ended.0 _ _ _ before.3 generation_ended.1,
+        kept_generation before.2 generation_ended.0 _ _ _ before.4 generation_ended.2,
+      ),
+    )

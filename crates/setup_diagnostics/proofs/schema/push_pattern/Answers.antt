@@ -1,0 +1,7 @@
+use Rattle.std.proofs.lemmas.Result.{on_ok_weaker}
+use Rattle.setup_diagnostics.proofs.GrowthLemmas.{begins_by, begins_then}
+use Rattle.setup_diagnostics.proofs.schema.push_pattern.Goals as goal
+
+pub returns : goal.returns
+returns c =
+    on_ok_weaker c.push_json.result (λ last. begins_then _ _ _ (begins_then _ _ _ (begins_then _ _ _ (c.in_ok-begin.ensures.extends) (c.in_ok-push_all.ensures)) (c.in_ok-push_all-2.ensures)) (begins_by _ _ _ last)) c.push_json.ensures

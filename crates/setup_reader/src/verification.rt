@@ -1,0 +1,33 @@
+//! Verifies a parsed setup (manual: "Verifying Your Configuration"): counts, names, repeats, links, limits. Each test
+//! covers all items before the next test begins.
+
+ghost use Rattle.std.specs.Prelude.{◌≤◌, ◌+◌, length, OnOk, All};
+ghost use Rattle.setup_model.specs.ParsedViews.{parsed_view, HasBoundedAttempts};
+ghost use Rattle.setup_model.specs.Fault.{IsExpectedReading};
+ghost use Rattle.setup_reader.specs.Verification.{verification};
+
+use crate::counts::verify_counts;
+use crate::links::verify_links;
+use crate::names::{distinct_names, verify_distinct_services, verify_names};
+use crate::ranges::verify_ranges;
+use setup_model::{Fault, ParsedSetup};
+use std::alloc::Global;
+
+/// Whether a parsed setup has no fault except for cycles. The error is the first fault after the shape, in the order
+/// of [`LoadError`](setup_model::LoadError), with all details that the test has found. `Memory` can come in
+/// place of either.
+#[tactic(auto, unfolding(crate::specs::Verification::verification))]
+pub fn verify(alloc: Global, drafts: &ParsedSetup<'_>) -> Result<(), Fault>
+    ensures exact { IsExpectedReading (λ u. u) result (verification (parsed_view drafts.now)) }
+    ensures bounded { OnOk result
+        (length drafts.now.hosts.items + length drafts.now.services.items ≤ 4096) }
+    ensures hosts { OnOk result (All (λ h. HasBoundedAttempts h.check) drafts.now.hosts.items) }
+    ensures services { OnOk result (All (λ s. HasBoundedAttempts s.check) drafts.now.services.items) }
+{
+    verify_counts(drafts)?;
+    verify_names(&drafts.hosts, &drafts.services)?;
+    let names = distinct_names(alloc, &drafts.hosts)?;
+    verify_distinct_services(alloc, &drafts.services)?;
+    verify_links(alloc, drafts, &names)?;
+    verify_ranges(&drafts.options, &drafts.hosts, &drafts.services)
+}
