@@ -75,7 +75,7 @@ enum nagsched_result {
     NAGSCHED_WAIT = 1,      /* another pass is first: make the same call again */
     NAGSCHED_SPENT = 2,     /* the pass has no call left */
     NAGSCHED_NO_MEMORY = 3, /* out of memory; one of the six calls wasn't made, but is counted (nagsched_refused) */
-    NAGSCHED_REFUSED = 4,   /* the document is no setup, or the text no saved state: the refusal reports why and where */
+    NAGSCHED_REFUSED = 4,   /* the document isn't a setup, or the text isn't a saved state; the refusal has the reason and the place */
     NAGSCHED_MISSING = 5,   /* passes aren't gathered yet, no object has that name, the object is a host, or no check of it is running */
     NAGSCHED_WRONG = 6      /* a mistake of the caller's: a handle, a pointer or a number that this function doesn't take */
 };
@@ -96,7 +96,7 @@ enum nagsched_state {
 
 enum nagsched_kind { NAGSCHED_SOFT = 0, NAGSCHED_HARD = 1 };
 
-/* What is known of an object. */
+/* The standing of an object. */
 struct nagsched_standing {
     uint32_t checked;   /* 1: a result has come in; 0: never yet */
     uint32_t state;     /* nagsched_state; never checked: OK or UP */
@@ -191,7 +191,7 @@ enum nagsched_part {
     NAGSCHED_PART_HOST_DEPENDENCIES = 6
 };
 
-/* Why a document is no setup, and where; or why a text is no saved state, and at which object. */
+/* The reason for which a document or the text of a saved state is refused, and the place or the object of the fault. */
 struct nagsched_refusal {
     uint32_t kind;      /* nagsched_refusal_kind */
     uint32_t part;      /* nagsched_part; NONE if the kind has no place, and for a saved state */
@@ -323,7 +323,7 @@ uint32_t nagsched_renew(struct nagsched_handle *book, size_t room, struct nagsch
  *
  * OK: the whole text was written. WRONG, with length: the text is longer than room, and only length was written, so that a program can pass
  * room 0 to learn the length. WRONG: the handle has no book (close the desk first). NO_MEMORY: nothing was written.
- * Allocates, whatever the room is, and frees it before it returns; takes longer with more objects. Any thread, also while others read
+ * Allocates memory for any room, and frees it before it returns; takes longer with more objects. Any thread, also while others read
  * the book by functions that take it as const. */
 uint32_t nagsched_save(const struct nagsched_handle *book, uint8_t *text, size_t room, size_t *length);
 

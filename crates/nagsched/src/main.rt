@@ -1,12 +1,11 @@
 #![tactic(auto)]
-//! The program `nagsched`: reads standard input, and writes to standard output what came of it, by its
-//! subcommand. `run` reads a setup and a script, and writes the line of each reply. `live` reads a setup and
-//! answers each later line as it comes. `check` reads a setup, and reports what is in it or why it is refused.
-//! `drill` reads a setup and a script for many workers, and writes the history that they made. `schema` reads
-//! nothing, and writes the JSON schema of a setup.
+//! The program `nagsched` reads standard input, and writes to standard output. `run` reads a setup and a script,
+//! and writes a line for each reply. `live` reads a setup, and answers each later line when it arrives. `check`
+//! reads a setup, and reports its figures or why it is refused. `drill` reads a setup and a script for many
+//! workers, and writes the history that they made. `schema` reads nothing, and writes the JSON schema of a setup.
 //!
-//! Here are the program's own words and its streams. What it does with them, and the exit status, is
-//! `session` of `nagsched_cli`.
+//! This crate has the program's arguments and streams. `session` of `nagsched_cli` does the work and returns the
+//! exit status.
 
 ghost use Rattle.std.specs.Prelude.{◌≡◌, IfOk, map, string_bytes};
 ghost use Rattle.clap.specs.Walk.{texts};
@@ -25,8 +24,8 @@ fn main(rt: HostRuntime) -> ExitCode {
     ExitCode::from(run_program(&rt))
 }
 
-/// The session of the program's own words, from standard input to standard output. Writes are
-/// gathered, and flushed once at the end. `live` also flushes before it reads again. Words that are no
+/// The session for the program's arguments, from standard input to standard output. Writes are
+/// gathered, and flushed once at the end. `live` also flushes before it reads again. Arguments that aren't
 /// text are refused.
 fn run_program<R: Env + Input + Print + AllocGlobal + Threads + Wait + Sync>(rt: &R) -> u8 {
     let alloc = rt.alloc();

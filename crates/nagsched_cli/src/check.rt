@@ -1,5 +1,5 @@
-//! A check: reads a setup, and a saved state where there is to be one, and reports what is in them, or why
-//! one of the two is refused.
+//! A check reads a setup, and a saved state if a scheduler is to start from one. It reports their contents, or
+//! why one of the two is refused.
 
 ghost use Rattle.std.specs.Prelude.{◌≡◌, ◌≤◌, ℕ, List, Ok, IfOk, IfErr, option_map};
 ghost use Rattle.serde_json.specs.View.{view};
@@ -27,29 +27,29 @@ use setup_summary::{Summary, push_summary};
 use std::alloc::{AllocError, Global};
 use std::io::{Read, Write};
 
-/// What is reported of a document.
+/// The report on a document.
 #[derive(Drop)]
 pub(crate) struct Report {
     pub(crate) text: Vec<u8>,
     pub(crate) outcome: Outcome,
 }
 
-/// Reads a setup, and a saved state if a scheduler is to start from one, and reports what is in the setup
-/// and what becomes of the saved objects, or why one of the two is refused. No scheduler is opened.
+/// Reads a setup, and a saved state if a scheduler is to start from one. It reports the figures of the setup
+/// and what happens to the saved objects, or why one of the two is refused. No scheduler is opened.
 ///
-/// For a fresh start the document is the whole input, over as many lines as it likes, except for one line
-/// feed at its end. Of a good one it prints the line `setup ok` and its figures, of which the first checks
-/// are those of a scheduler that starts so. Of a refused one it prints the line that a run on it writes,
-/// and a line of plain words behind it.
+/// For a fresh start the document is the whole input except for one line feed at its end, and may have many
+/// lines. For a good document the check prints the line `setup ok` and its figures. Their first checks are
+/// those of a scheduler that starts fresh. For a refused document it prints the line that a run writes, and
+/// then an explanation in one line.
 ///
-/// For a start from a saved state the input is that of a run: line 1 is the setup, line 2 the saved state,
-/// and what stands behind the two isn't tested. The setup is tested first. Behind its figures stands what
-/// becomes of the saved objects. An input of more than 67,108,864 bytes is refused before either is tested.
+/// For a start from a saved state the input is that of a run: line 1 is the setup, and line 2 the saved
+/// state. Later lines aren't tested. The setup is tested first. After its figures the check prints what
+/// happens to the saved objects. An input of more than 67,108,864 bytes is refused before either is tested.
 ///
-/// Of a document alone no more than 16,777,217 bytes are read, which show that it is too long; where the
-/// last of these is a line feed, one byte more. The writer is flushed once, at the end. After the errors
-/// `Read` and `Memory` nothing was written, after `Write` a prefix of what was to be printed. `Memory`
-/// comes only where a byte was read, or there was none. (What a check prints is our own profile.)
+/// For a fresh start it reads at most 16,777,217 bytes, which show that a document is too long, and one byte
+/// more if the last of these is a line feed. The writer is flushed once, at the end. After the errors `Read`
+/// and `Memory` nothing was written, and after `Write` a prefix of the report. `Memory` comes only after a
+/// byte was read, or if the input is empty. The report is our own profile.
 pub fn check<R: Read, W: Write>(
     alloc: Global,
     start: Start,
@@ -68,9 +68,9 @@ pub fn check<R: Read, W: Write>(
     Ok(report.outcome)
 }
 
-/// Reads one setup document, as [`check`] does, and writes it on one line, which is read to the same setup.
-/// A refused one is reported as `check` reports it. A document whose line would be longer than one may be
-/// is refused too, as `TooLong`. Errors come as `check` has them.
+/// Reads one setup document, as [`check`] does, and writes it as one line, which is read as the same setup. A
+/// refused document is reported as `check` reports it. A document whose line would be longer than the limit
+/// is refused too, as `TooLong`. The errors are those of `check`.
 pub fn write_setup_line<R: Read, W: Write>(
     alloc: Global,
     reader: &mut R,
@@ -86,7 +86,7 @@ pub fn write_setup_line<R: Read, W: Write>(
     Ok(report.outcome)
 }
 
-/// What is to be printed of an input. An Err is `Memory`.
+/// The report on an input. An Err is `Memory`.
 fn render_input(alloc: Global, start: Start, input: &[u8]) -> Result<Report, DriveError>
     requires { CanStart start }
     ensures report { IfOk result (λ report.
@@ -99,7 +99,7 @@ fn render_input(alloc: Global, start: Start, input: &[u8]) -> Result<Report, Dri
     }
 }
 
-/// What is to be printed of a document. An Err is `Memory`.
+/// The report on a document. An Err is `Memory`.
 fn render_document(alloc: Global, start: u64, document: &[u8]) -> Result<Report, DriveError>
     requires start { start ≤ LAST_MOMENT }
     ensures report { IfOk result (λ report.
@@ -112,7 +112,7 @@ fn render_document(alloc: Global, start: u64, document: &[u8]) -> Result<Report,
     }
 }
 
-/// The line of a document, or why there is none. An Err is `Memory`.
+/// The line of a document, or why it is refused. An Err is `Memory`.
 fn render_line(alloc: Global, document: &[u8]) -> Result<Report, DriveError>
     ensures report { IfOk result (λ report.
         IsLineReport document.now report.text.items report.outcome) }
@@ -134,11 +134,11 @@ pub(crate) enum SetupReading {
         /// The tree.
         tree: Value,
     },
-    /// What is to be printed of its refusal.
+    /// The report on its refusal.
     Refused(Report),
 }
 
-/// The setup of a document, or what is to be printed of its refusal. An Err is `Memory`.
+/// The setup of a document, or the report on its refusal. An Err is `Memory`.
 pub(crate) fn read_with_fault(alloc: Global, document: &[u8]) -> Result<SetupReading, DriveError>
     ensures reading { IfOk result (IsSetupReading document.now) }
     ensures kind { IfErr result (λ e. e ≡ DriveError.Memory) }
@@ -150,7 +150,7 @@ pub(crate) fn read_with_fault(alloc: Global, document: &[u8]) -> Result<SetupRea
     }
 }
 
-/// The setup of a tree, or what is to be printed of its refusal. An Err is `Memory`.
+/// The setup of a tree, or the report on its refusal. An Err is `Memory`.
 fn read_tree_with_fault(alloc: Global, tree: Value) -> Result<SetupReading, DriveError>
     ensures reading { IfOk result (λ reading. (document : List ℕ)
         → document_tree document ≡ Ok (view tree) → IsSetupReading document reading) }

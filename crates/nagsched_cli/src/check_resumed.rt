@@ -1,4 +1,4 @@
-//! What a check prints of a setup and a saved state: what is in the setup and what becomes of the saved
+//! The report of a check on a setup and a saved state: the figures of the setup and what happens to the saved
 //! objects over it, or why one of the two is refused.
 
 ghost use Rattle.std.specs.Prelude.{◌≡◌, ◌≤◌, ℕ, Option, Ok, Err, IfOk, IfErr, IfSome};
@@ -17,8 +17,8 @@ use nagsched_run::drive::Outcome;
 use setup_summary::{Summary, push_changes, push_explanation, push_summary};
 use std::alloc::{AllocError, Global};
 
-/// What is to be printed of the input of a run that starts from a saved state, at the moment `start`, in
-/// milliseconds, or at the saved start where none is given. An Err is `Memory`.
+/// The report on the input of a run that starts from a saved state, at the moment `start` in milliseconds, or
+/// at the saved start if no moment is given. An Err is `Memory`.
 pub(crate) fn render_resumed_input(
     alloc: Global,
     start: Option<u64>,
@@ -37,7 +37,7 @@ pub(crate) fn render_resumed_input(
     render_setup_and_saved(alloc, start, document, text)
 }
 
-/// That the input is too long.
+/// The report on an input that is too long.
 fn render_excess_length(alloc: Global) -> Result<Report, AllocError>
     ensures { IfOk result (λ report. IsLengthReport report.text.items report.outcome) }
 {
@@ -56,7 +56,7 @@ fn render_excess_length(alloc: Global) -> Result<Report, AllocError>
     })
 }
 
-/// What is to be printed of a setup document and of the text of a saved state. An Err is `Memory`.
+/// The report on a setup document and the text of a saved state. An Err is `Memory`.
 fn render_setup_and_saved(
     alloc: Global,
     start: Option<u64>,
@@ -74,7 +74,7 @@ fn render_setup_and_saved(
     }
 }
 
-/// What is to be printed of the text of a saved state over a setup. An Err is `Memory`.
+/// The report on the text of a saved state over a setup. An Err is `Memory`.
 fn render_saved(
     alloc: Global,
     start: Option<u64>,
@@ -93,7 +93,7 @@ fn render_saved(
     }
 }
 
-/// The figures of a setup, and what becomes of the saved objects over it.
+/// The figures of a setup, and what happens to the saved objects over it.
 fn render_changes(
     alloc: Global,
     start: Option<u64>,

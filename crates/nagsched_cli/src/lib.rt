@@ -4,7 +4,7 @@
 //! conversation, a check, a drill, or the schema of a setup. If the arguments ask for none of them, a line
 //! says why.
 //!
-//! The modules of the arguments, the first of which is the program's name:
+//! The modules of the arguments:
 //!
 //! - `arguments`: the jobs that the arguments can ask for.
 //! - `job`: reads the arguments.
@@ -14,7 +14,7 @@
 //!
 //! - `session`: does the job that the arguments ask for.
 //! - `check`: reports the contents of a setup. `reading` says how much of the input is read, and
-//!   `check_resumed` reports what becomes of a saved state over a setup.
+//!   `check_resumed` reports what happens to a saved state over a setup.
 //! - `drill`: lets workers work on an input, with the plugin of `scripted_plugin`, and writes the result.
 //! - `printing`: prints the whole text of a job.
 //!
