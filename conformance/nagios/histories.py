@@ -87,19 +87,22 @@ def random_object(chance: random.Random, is_host: bool, is_plain: bool) -> dict[
     return members
 
 
+def random_criteria(chance: random.Random, letters: str) -> str:
+    chosen = [letter for letter in letters if chance.random() < 0.4] or [chance.choice(letters)]
+    chance.shuffle(chosen)
+    if chance.random() < 0.07:
+        chosen.insert(chance.randint(0, len(chosen)), "n")
+    return ",".join(chosen)
+
+
 def random_links(chance: random.Random, known: list[str], letters: str, most: int) -> list[dict[str, Any]]:
-    """Dependencies without a cycle."""
+    """Dependencies without a cycle. Some setups have a chain of three or more that all inherit, so that masters of masters matter."""
     order = chance.sample(known, len(known))
-    links = []
-    for _ in range(chance.randint(0, most) if len(known) > 1 else 0):
-        master, dependent = sorted(chance.sample(range(len(order)), 2))
-        chosen = [letter for letter in letters if chance.random() < 0.4] or [chance.choice(letters)]
-        chance.shuffle(chosen)
-        if chance.random() < 0.07:
-            chosen.insert(chance.randint(0, len(chosen)), "n")
-        links.append({"dependent": order[dependent], "master": order[master], "criteria": ",".join(chosen),
-                      "inherits_parent": chance.random() < 0.4})
-    return links
+    pairs = [(*sorted(chance.sample(range(len(order)), 2)), chance.random() < 0.4) for _ in range(chance.randint(0, most) if len(known) > 1 else 0)]
+    if len(known) > 3 and chance.random() < 0.2:
+        pairs += [(master, master + 1, True) for master in range(chance.randint(3, len(order) - 1))]
+    return [{"dependent": order[dependent], "master": order[master], "criteria": random_criteria(chance, letters), "inherits_parent": inherits}
+            for master, dependent, inherits in pairs]
 
 
 def random_thresholds(chance: random.Random, sort: str) -> dict[str, int]:

@@ -175,6 +175,13 @@ class NoInheritance(Rules):
         return any(self.fails(link) for link in o.links)
 
 
+class MastersOnly(Rules):
+    """a dependency of a master is inherited, but none of a master's masters"""
+
+    def is_forbidden(self, o: Object) -> bool:
+        return any(self.fails(link) or (link.inherits and any(map(self.fails, link.master.links))) for link in o.links)
+
+
 class AlwaysInheritance(Rules):
     """every dependency is inherited"""
 
@@ -229,13 +236,13 @@ class NoMaximumSpread(Rules):
 WRONG: tuple[type[Rules], ...] = (
     FirstProblemIsTheSecond, FirstProblemIsHard, HardTooLate, OtherProblemsBeginAgain, HardProblemsTurnSoft, HostDoesNotCount, AlwaysSoftRecoveries,
     LastHardStays, LastHardFollows, OneParent, NeverUnreachable, AlwaysAggressive, EqualWeights, OldChangesWeighMore, AlwaysTheCheckInterval,
-    AlwaysTheRetryInterval, ASecondLate, NothingChanges, NoInheritance, AlwaysInheritance, AllMastersMustFail, SoftStatesAlwaysCount,
-    OneMoreThanTheLimit, PutOffTwice, NoInterleaving, NoMaximumSpread)
+    AlwaysTheRetryInterval, ASecondLate, NothingChanges, NoInheritance, MastersOnly, AlwaysInheritance, AllMastersMustFail,
+    SoftStatesAlwaysCount, OneMoreThanTheLimit, PutOffTwice, NoInterleaving, NoMaximumSpread)
 
 
 def first_to_detect(rules: type[Rules], played: list[histories.History], told: list[histories.Told], known: set[str]) -> Optional[int]:
-    """The number of the first history that fails with these rules."""
-    for number, (history, lines) in enumerate(zip(played, told), 1):
+    """The number of the first history that fails with these rules, as `judge.py --one` takes it."""
+    for number, (history, lines) in enumerate(zip(played, told)):
         try:
             Comparison(history, lines, known, rules)
         except (Failure, AssertionError):
