@@ -15,6 +15,7 @@ import contextlib
 import json
 import os
 import pathlib
+import re
 import shlex
 import signal
 import sqlite3
@@ -37,6 +38,10 @@ case "$what $mode" in
 esac
 echo "OK - $1 | t=1"
 """
+
+
+# A line of the log about a change of state.
+CHANGE = re.compile(r" is [A-Z]+ (SOFT|HARD) ")
 
 
 class Site:
@@ -141,14 +146,14 @@ def signal_all(running: subprocess.Popen[bytes], word: str, number: signal.Signa
         os.kill(process, number)
 
 
-def plan(site: Site, running: subprocess.Popen[bytes]) -> list[tuple[float, str, Callable[[], None]]]:
+def plan(site: Site, running: subprocess.Popen[bytes], program: str) -> list[tuple[float, str, Callable[[], None]]]:
     """Each step: its minute, its name, and what it does. A trouble's end has an empty name."""
     hung = [name for name in sorted(site.allowed()) if " " not in name][::50]
     return [
         (5, f"{len(hung)} plugins hang for 4 minutes", lambda: site.set_hung(hung)), (9, "", lambda: site.set_hung([])),
         (15, "the runner is stopped for a minute", lambda: signal_all(running, "nagsched-runner", signal.SIGSTOP)),
         (16, "", lambda: signal_all(running, "nagsched-runner", signal.SIGCONT)),
-        (22, "the scheduler is killed", lambda: signal_all(running, "/nagsched", signal.SIGKILL)), (22.01, "", lambda: None),
+        (22, "the scheduler is killed", lambda: signal_all(running, program, signal.SIGKILL)), (22.01, "", lambda: None),
         (28, "the disk is full for 2 minutes", site.fill), (30, "", site.empty),
         (38, "all plugins take 30 s for 3 minutes", lambda: site.set_mode("all slow")), (41, "", lambda: site.set_mode("none")),
         (60, "", lambda: None),
@@ -162,13 +167,10 @@ def rates(site: Site, begin: float, minute: float) -> str:
     return f"{statistics.mean(each):5.1f} a second, deviation {statistics.pstdev(each):4.1f}, most {max(each)}"
 
 
-def run(site: Site, program: str, minute: float) -> int:
-    command = [sys.executable, TOP / "monitor/nagsched-monitor", "--program", program, site.folder]
-    with (site.control / "log").open("wb") as log:
-        running = subprocess.Popen([str(word) for word in command], stdout=log, stderr=log)
+def follow_plan(site: Site, running: subprocess.Popen[bytes], program: str, minute: float) -> int:
     time.sleep(5)
     waits, begin, lines = Waits(site), time.time(), list[tuple[float, str]]()
-    for at, name, act in plan(site, running):
+    for at, name, act in plan(site, running, program):
         while time.time() < begin + at * minute:
             waits.look()
             if running.poll() is not None:
@@ -176,8 +178,6 @@ def run(site: Site, program: str, minute: float) -> int:
             time.sleep(1)
         act()
         lines.append((at, name))
-    running.send_signal(signal.SIGTERM)
-    running.wait(timeout=60)
     for (at, name), (end, _) in zip(lines[::2], lines[1::2]):
         print(f"minute {at}: {name}")
         for what, place in (("before", at - 1), ("during", at), ("from the next minute on", end + 1), ("5 minutes later", end + 5)):
@@ -185,8 +185,19 @@ def run(site: Site, program: str, minute: float) -> int:
     over = waits.over()
     print(f"{len(waits.worst)} objects, {len((site.control / 'starts').read_text().splitlines())} plugins started; {len(over)} objects waited too long")
     print("".join(line + "\n" for line in over), end="")
-    print((site.control / "log").read_text()[-4000:])
+    print("".join(line for line in (site.control / "log").read_text().splitlines(keepends=True) if not CHANGE.search(line)), end="")
     return 1 if over else 0
+
+
+def run(site: Site, program: str, minute: float) -> int:
+    command = [sys.executable, TOP / "monitor/nagsched-monitor", "--program", program, site.folder]
+    with (site.control / "log").open("wb") as log:
+        running = subprocess.Popen([str(word) for word in command], stdout=log, stderr=log)
+    try:
+        return follow_plan(site, running, program, minute)
+    finally:
+        running.send_signal(signal.SIGTERM)
+        running.wait(timeout=60)
 
 
 def main() -> int:
