@@ -1,6 +1,6 @@
 """The calls to the scheduler, each a line of JSON, and its answers, each a line of words."""
 import json
-from typing import NamedTuple, Optional, Union
+from typing import Callable, Dict, NamedTuple, Optional, Union
 
 # The greatest moment and run number of a scheduler, and the greatest code of a plugin.
 GREATEST = 2**60
@@ -76,11 +76,7 @@ class PutOff(NamedTuple):
 
 
 class Idle(NamedTuple):
-    next: Optional[int]
-
-
-class AtLimit(NamedTuple):
-    pass
+    """No check begins: none is due, or as many run as may."""
 
 
 class Standing(NamedTuple):
@@ -114,32 +110,33 @@ class Refused(NamedTuple):
     why: str
 
 
-Answer = Union[Taken, PutOff, Idle, AtLimit, Standing, Freed, Done, Refused]
+Answer = Union[Taken, PutOff, Idle, Standing, Freed, Done, Refused]
 
 
 def read_time(word: str) -> Optional[int]:
     return None if word == "none" else int(word)
 
 
+def read_standing(rest: str) -> Standing:
+    state, kind, attempt, changed, flapping, time, name = rest.split(" ", 6)
+    return Standing(state, kind, int(attempt), changed == "yes", flapping == "FLAPPING", read_time(time), name)
+
+
+# An answer by its first word, from the rest of its line, the first word of this rest, and the name after that.
+READERS: Dict[str, Callable[[str, str, str], Answer]] = {
+    "taken": lambda rest, first, name: Taken(int(first), name),
+    "putoff": lambda rest, first, name: PutOff(read_time(first), name),
+    "idle": lambda rest, first, name: Idle(),
+    "atlimit": lambda rest, first, name: Idle(),
+    "standing": lambda rest, first, name: read_standing(rest),
+    "freed": lambda rest, first, name: Freed(int(first), name),
+    "done": lambda rest, first, name: Done(rest),
+    "refused": lambda rest, first, name: Refused(rest),
+}
+
+
 def read_answer(line: str) -> Optional[Answer]:
     """An answer; None if it isn't an answer to a call."""
     word, _, rest = line.partition(" ")
-    if word == "standing":
-        state, kind, attempt, changed, flapping, time, name = rest.split(" ", 6)
-        return Standing(state, kind, int(attempt), changed == "yes", flapping == "FLAPPING", None if time == "none" else int(time), name)
     first, _, name = rest.partition(" ")
-    if word == "taken":
-        return Taken(int(first), name)
-    if word == "putoff":
-        return PutOff(read_time(first), name)
-    if word == "idle":
-        return Idle(read_time(rest))
-    if word == "atlimit":
-        return AtLimit()
-    if word == "freed":
-        return Freed(int(first), name)
-    if word == "done":
-        return Done(rest)
-    if word == "refused":
-        return Refused(rest)
-    return None
+    return READERS[word](rest, first, name) if word in READERS else None
