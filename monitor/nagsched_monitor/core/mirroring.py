@@ -5,7 +5,7 @@ those of its mirrors are calls of one turn, which are stored together.
 """
 from typing import AbstractSet, Any, Dict, List, Mapping, Optional, Sequence, Set, Tuple
 
-from ..scheduler.protocol import Answer, Call, PutOff, Report, Reschedule, Take, Taken
+from ..scheduler.protocol import Answer, Call, Report, Reschedule, Take, Taken, object_name
 from .phases import MIRROR_FIRST
 from .run_table import ObjectKey, Owner, Run, RunTable
 
@@ -36,11 +36,8 @@ class Mirrors:
 
     def apply_answer(self, part: int, call: Call, answer: Answer) -> bool:
         """Whether an answer is about a mirror, which is then updated."""
-        names = self.names.get(part)
-        if not names:
-            return False
-        name: str = answer.name if isinstance(answer, (Taken, PutOff)) else getattr(call, "name", "")
-        if name not in names:
+        name = object_name(call, answer)
+        if name not in self.names_of(part):
             return False
         if isinstance(answer, Taken):
             self._running.begin(Run((part, name), answer.run, Owner.ORIGINAL))

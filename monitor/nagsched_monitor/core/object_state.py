@@ -3,7 +3,7 @@ import heapq
 from dataclasses import dataclass, field, replace
 from typing import Any, Dict, Iterable, List, Mapping, Optional, Set, Tuple
 
-from ..scheduler.protocol import Abandon, Answer, Call, Done, Enable, Freed, PutOff, Refused, Report, Reschedule, Standing, Take, Taken
+from ..scheduler.protocol import Abandon, Answer, Call, Done, Enable, Freed, PutOff, Report, Reschedule, Standing, Taken
 from ..site.site import ObjectDefinition
 from . import phases
 from .run_table import ObjectKey, Run, RunTable
@@ -71,9 +71,6 @@ class ObjectState:
         if freshness is None or self.forced or self.run is not None:
             return False
         return now - (self.awaited_since if self.last_result is None else self.last_result) >= freshness
-
-    def is_problem(self) -> bool:
-        return self.standing is not None and self.standing.is_problem()
 
 
 @dataclass
@@ -204,16 +201,8 @@ class ObjectStates:
         times = [time for due in self._due_queues.values() for time in (due.first_time(), due.second_time()) if time is not None]
         return sorted(times)[1] if len(times) > 1 else None
 
-    def apply_answer(self, call: Call, answer: Answer) -> Optional[ObjectState]:
-        """Takes in an answer; returns the object that it is about, if it is one of these."""
-        if not isinstance(call, Take):
-            obj = self.objects.get(call.name)
-        elif isinstance(answer, (Taken, PutOff)):
-            obj = self.objects.get(answer.name)
-        else:
-            return None
-        if obj is None or isinstance(answer, Refused):
-            return obj
+    def apply_answer(self, obj: ObjectState, call: Call, answer: Answer) -> None:
+        """Takes in an answer about an object."""
         if isinstance(answer, Taken):
             self.running.begin(Run(obj.key, answer.run, forced=obj.forced))
             obj.last_due, obj.next, obj.forced = obj.next, None, False
@@ -230,5 +219,4 @@ class ObjectStates:
             obj.next, obj.forced = call.time, call.forced
         elif isinstance(answer, Done) and isinstance(call, Enable):
             obj.on = call.on
-        self._due_queues[obj.definition.part].set_time(obj.name, obj.due_time())
-        return obj
+        self._set_due(obj)

@@ -140,3 +140,9 @@ def read_answer(line: str) -> Optional[Answer]:
     word, _, rest = line.partition(" ")
     first, _, name = rest.partition(" ")
     return READERS[word](rest, first, name) if word in READERS else None
+
+
+def object_name(call: Call, answer: Answer) -> str:
+    """The name of the object that an answer is about; empty if it is about none."""
+    name: str = getattr(answer, "name", "") or getattr(call, "name", "")
+    return name

@@ -18,7 +18,7 @@ from ..store.store import Store, Write
 from ..store.writes import begin_generation, end_generation, store_calls, store_change
 from . import migration
 from .live_process import Conversation
-from .protocol import Answer, Call, Report, Standing, Status, call_line, is_readable
+from .protocol import Answer, Call, Report, Standing, Status, call_line, is_readable, object_name
 from .schedulers import AnsweredCall, ConversationFactory, PendingCall, Schedulers
 
 
@@ -96,7 +96,7 @@ class Scheduling:
         calls = [Status(name) for name in names if name in self.states.objects and self.states.objects[name].standing is None]
         if calls:
             for call, answer in zip(calls, self.schedulers.query(part, calls)):
-                self.states.apply_answer(call, answer)
+                self.states.apply_answer(self.states.objects[call.name], call, answer)
 
     def reload(self, site: Site) -> List[str]:
         """Takes over another site; if it is refused, nothing has changed. Returns the changes of objects that stay, a line each."""
@@ -212,17 +212,18 @@ class Scheduling:
         return answers
 
     def _apply_answer(self, pending_call: PendingCall, answer: Answer, is_again: bool) -> ObjectAnswer:
-        name = getattr(answer, "name", None) or getattr(pending_call.call, "name", None)
-        obj = self.states.objects.get(str(name))
-        before, run = (None, None) if obj is None else (obj.standing, obj.run)
-        self.states.apply_answer(pending_call.call, answer)
-        if obj is not None:
-            if isinstance(pending_call.call, Report) and isinstance(answer, Standing):
-                obj.output = pending_call.output or ""
-                self._note_change(pending_call.number, obj, before, answer)
-            if not is_again:
-                self._standings.apply_answer(obj, pending_call.call, answer, run)
-        return ObjectAnswer(pending_call.call, answer, obj, before, run)
+        call = pending_call.call
+        obj = self.states.objects.get(object_name(call, answer))
+        if obj is None:
+            return ObjectAnswer(call, answer, None, None, None)
+        before, run = obj.standing, obj.run
+        self.states.apply_answer(obj, call, answer)
+        if isinstance(call, Report) and isinstance(answer, Standing):
+            obj.output = pending_call.output or ""
+            self._note_change(pending_call.number, obj, before, answer)
+        if not is_again:
+            self._standings.apply_answer(obj, call, answer, run)
+        return ObjectAnswer(call, answer, obj, before, run)
 
     def _note_change(self, number: int, obj: ObjectState, before: Optional[Standing], answer: Standing) -> None:
         if number in self._stored_changes or not changes.is_change(before, answer):
