@@ -4,15 +4,15 @@ A call is made once: it waits until its scheduler has answered it. A scheduler t
 same runs. A call after which a scheduler ends twice, if it is the only one that was sent, is set aside.
 """
 import collections
-from typing import Callable, Deque, Dict, List, Mapping, NamedTuple, Optional, Sequence, Tuple, TypeVar
+from typing import Callable, Deque, Dict, List, Mapping, Optional, Sequence, Tuple, TypeVar
 
 from ..core.clock import Clock
 from ..faults import ConversationEnded, NotStored
-from ..store.rows import Generation
+from ..store.rows import Generation, StoredCall
 from ..store.store import Store
 from ..store.writes import set_aside
 from .live_process import GRACE, Conversation
-from .protocol import Answer, Call, Refused, call_line, read_answer, read_call
+from .protocol import Answer, Call, Refused, call_line, read_answer
 
 # The most calls that are made together; how often a scheduler is restarted in one exchange, and the pause before the next exchange does so, in milliseconds.
 AT_ONCE = 4_096
@@ -26,18 +26,7 @@ PING = '["ping"]'
 
 ConversationFactory = Callable[[str, bytes, int, Optional[bytes]], Conversation]
 Value = TypeVar("Value")
-
-
-class PendingCall(NamedTuple):
-    """A stored call: its number and part, and the plugin's output if it reports one."""
-
-    number: int
-    part: int
-    call: Call
-    output: Optional[str]
-
-
-AnsweredCall = Tuple[PendingCall, Answer]
+AnsweredCall = Tuple[StoredCall, Answer]
 
 
 def read_answers(replies: Sequence[str], lines: Sequence[str]) -> List[Answer]:
@@ -58,7 +47,7 @@ class PartScheduler:
         self.generation, self._program, self._store, self._clock, self._log, self._converse = generation, program, store, clock, log, converse
         # The number of the last call that was answered.
         self.last_answered = generation.last_call
-        self.pending: Deque[PendingCall] = collections.deque()
+        self.pending: Deque[StoredCall] = collections.deque()
         self.conversation: Optional[Conversation] = None
         # Its fault, when the fault was last logged, and the moment before which it isn't started again.
         self.trouble: Optional[str] = None
@@ -70,14 +59,14 @@ class PartScheduler:
 
     def begin(self) -> None:
         """Sends pending calls, if the scheduler runs and may get several of them together."""
-        if self.conversation is not None and self.pending and self.pending[0].number > self._alone_until:
+        if self.conversation is not None and self.pending and self.pending[0].id > self._alone_until:
             self._send(self.conversation)
 
     def _send(self, conversation: Conversation) -> None:
-        is_alone = self.pending[0].number <= self._alone_until
+        is_alone = self.pending[0].id <= self._alone_until
         if is_alone:
             conversation.ask_lines([PING])
-        self._sent = [call_line(self.pending[place].call) for place in range(1 if is_alone else min(len(self.pending), AT_ONCE))]
+        self._sent = [self.pending[place].line for place in range(1 if is_alone else min(len(self.pending), AT_ONCE))]
         conversation.begin(self._sent)
 
     def finish(self) -> List[AnsweredCall]:
@@ -106,7 +95,7 @@ class PartScheduler:
             self._send(conversation)
         answers = read_answers(conversation.finish(), self._sent)
         answered = [(self.pending.popleft(), answer) for answer in answers]
-        self.last_answered, self._sent = answered[-1][0].number, []
+        self.last_answered, self._sent = answered[-1][0].id, []
         return answered
 
     def _open_conversation(self) -> Conversation:
@@ -114,7 +103,7 @@ class PartScheduler:
         if self.conversation is None:
             generation = self.generation
             self.conversation, self._sent = self._converse(self._program, generation.setup, generation.start, generation.saved), []
-            lines = [each.line for each in self._store.calls_between(generation.part, generation.last_call, self.last_answered)]
+            lines = [each.line for each in self._store.calls_since(generation.part, generation.last_call, self.last_answered)]
             for first in range(0, len(lines), AT_ONCE):
                 self.conversation.ask_lines(lines[first : first + AT_ONCE])
         return self.conversation
@@ -130,22 +119,21 @@ class PartScheduler:
         if not sent or not self.pending:
             return []
         first = self.pending[0]
-        if sent > 1 or first.number > self._alone_until:
-            self._alone_until = self.pending[sent - 1].number
+        if sent > 1 or first.id > self._alone_until:
+            self._alone_until = self.pending[sent - 1].id
             return []
-        self._suspect, self._end_count = first.number, 1 + (self._end_count if first.number == self._suspect else 0)
+        self._suspect, self._end_count = first.id, 1 + (self._end_count if first.id == self._suspect else 0)
         return self._set_aside(first) if self._end_count >= MOST_ENDS else []
 
-    def _set_aside(self, pending_call: PendingCall) -> List[AnsweredCall]:
-        line = call_line(pending_call.call)
+    def _set_aside(self, stored: StoredCall) -> List[AnsweredCall]:
         try:
-            self._store.write(set_aside(pending_call.number, pending_call.part, line))
+            self._store.write(set_aside(stored.id, stored.part, stored.line))
         except NotStored:
             return []
         self.pending.popleft()
-        self.last_answered = pending_call.number
-        self._log(f"call {pending_call.number} is set aside, since the scheduler of part {pending_call.part + 1} ends after it: {line}")
-        return [(pending_call, Refused("it was set aside"))]
+        self.last_answered = stored.id
+        self._log(f"call {stored.id} is set aside, since the scheduler of part {stored.part + 1} ends after it: {stored.line}")
+        return [(stored, Refused("it was set aside"))]
 
     def run_query(self, what: Callable[[Conversation], Value]) -> Value:
         """Carries out an action that changes nothing and isn't stored. Raises `ConversationEnded` if no scheduler can be started for it."""
@@ -191,8 +179,7 @@ class Schedulers:
 
     def load_pending(self, number: int) -> None:
         """Takes in the stored calls of a part that were made before this monitor started, which are answered again."""
-        stored = self._store.calls_since(number, self.parts[number].last_answered)
-        self.parts[number].pending.extend(PendingCall(each.id, each.part, read_call(each.line), each.words) for each in stored)
+        self.parts[number].pending.extend(self._store.calls_since(number, self.parts[number].last_answered))
 
     def is_down(self, number: int) -> bool:
         """Whether a part has calls that its scheduler couldn't answer."""
@@ -201,7 +188,7 @@ class Schedulers:
     def are_all_up(self) -> bool:
         return not any(part.pending for part in self.parts.values())
 
-    def add_calls(self, calls: Sequence[PendingCall]) -> None:
+    def add_calls(self, calls: Sequence[StoredCall]) -> None:
         """These calls were stored. The next exchange makes them."""
         for call in calls:
             self.parts[call.part].pending.append(call)

@@ -12,14 +12,14 @@ from ..core.phases import FIRST_TIME
 from ..core.run_table import ObjectKey, Run
 from ..faults import ConversationEnded, MonitorFault
 from ..site.site import Site, objects_of
-from ..store.rows import Generation, StoredChange
+from ..store.rows import Generation, StoredCall, StoredChange
 from ..store.status_table import StandingTable
 from ..store.store import Store, Write
 from ..store.writes import begin_generation, end_generation, store_calls, store_change
 from . import migration
 from .live_process import Conversation
-from .protocol import Answer, Call, Report, Standing, Status, call_line, is_readable, object_name
-from .schedulers import AnsweredCall, ConversationFactory, PendingCall, Schedulers
+from .protocol import Answer, Call, Report, Standing, Status, call_line, is_readable, object_name, read_call
+from .schedulers import AnsweredCall, ConversationFactory, Schedulers
 
 
 class ObjectAnswer(NamedTuple):
@@ -193,7 +193,7 @@ class Scheduling:
             self._pending_writes = []
             if standings:
                 self._standings.clear_marks()
-            self.schedulers.add_calls([PendingCall(number + place, *each) for place, each in enumerate(planned, 1)])
+            self.schedulers.add_calls([StoredCall(number + place, *each) for place, each in enumerate(calls, 1)])
 
     def make_calls(self) -> List[ObjectAnswer]:
         """Makes the stored calls, and returns the answers. Calls of a scheduler that can't be started now are made later."""
@@ -204,23 +204,23 @@ class Scheduling:
     def _apply_answers(self, answered: Sequence[AnsweredCall], is_again: bool = False) -> List[ObjectAnswer]:
         """Takes in answers, and returns all but those of mirrors. Answers that an earlier monitor got change no times."""
         answers: List[ObjectAnswer] = []
-        for pending_call, answer in answered:
-            if not self.mirrors.names or not self.mirrors.apply_answer(pending_call.part, pending_call.call, answer):
-                answers.append(self._apply_answer(pending_call, answer, is_again))
-        for part, name in self.mirrors.take_missing() if self.mirrors.names else ():
+        for stored, answer in answered:
+            call = read_call(stored.line)
+            if not self.mirrors.apply_answer(stored.part, call, answer):
+                answers.append(self._apply_answer(stored, call, answer, is_again))
+        for part, name in self.mirrors.take_missing():
             self._log(f"the scheduler of part {part + 1} took another object than the mirror of {name}; it is tried again")
         return answers
 
-    def _apply_answer(self, pending_call: PendingCall, answer: Answer, is_again: bool) -> ObjectAnswer:
-        call = pending_call.call
+    def _apply_answer(self, stored: StoredCall, call: Call, answer: Answer, is_again: bool) -> ObjectAnswer:
         obj = self.states.objects.get(object_name(call, answer))
         if obj is None:
             return ObjectAnswer(call, answer, None, None, None)
         before, run = obj.standing, obj.run
         self.states.apply_answer(obj, call, answer)
         if isinstance(call, Report) and isinstance(answer, Standing):
-            obj.output = pending_call.output or ""
-            self._note_change(pending_call.number, obj, before, answer)
+            obj.output = stored.words or ""
+            self._note_change(stored.id, obj, before, answer)
         if not is_again:
             self._standings.apply_answer(obj, call, answer, run)
         return ObjectAnswer(call, answer, obj, before, run)

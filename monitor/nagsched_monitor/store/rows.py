@@ -47,8 +47,7 @@ class Generation:
     mirrors: AbstractSet[str] = frozenset()
 
 
-@dataclass(frozen=True)
-class StoredCall:
+class StoredCall(NamedTuple):
     """A stored call: its number, part and line, and the output of the plugin that it reports."""
 
     id: int

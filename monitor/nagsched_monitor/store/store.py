@@ -24,7 +24,7 @@ import sqlite3
 from typing import Callable, Dict, Iterator, List, Optional, Sequence, Set, Tuple
 
 from ..faults import DamagedRow, MonitorFault, NotStored
-from ..scheduler.protocol import Abandon, Take, read_call
+from ..scheduler.protocol import GREATEST, Abandon, Take, read_call
 from .rows import (
     FOR_PEOPLE, GENERATIONS, INDEXES, INSERTS, TABLES, VERSION, Cell, Generation, StoredCall, StoredResult, StoredStanding, LastChanges, checksum_of, names_in,
 )
@@ -136,12 +136,8 @@ class Store:
         """The last generation of each part."""
         return {row[0]: Generation(*(*row[:-1], names_in(row[-1]))) for row in self._database.execute(GENERATIONS)}
 
-    def calls_since(self, part: int, number: int) -> List[StoredCall]:
-        """The calls of a part after the call with this number, except those that were set aside."""
-        return self.calls_between(part, number, self.last_call)
-
-    def calls_between(self, part: int, number: int, last: int) -> List[StoredCall]:
-        """Those of these calls up to the call with the number `last`."""
+    def calls_since(self, part: int, number: int, last: int = GREATEST) -> List[StoredCall]:
+        """The calls of a part after the call with this number, up to the last one, except those that were set aside."""
         rows = "SELECT id, part, line, words FROM calls WHERE part = ? AND id > ? AND id <= ? AND id NOT IN (SELECT id FROM aside) ORDER BY id"
         with self._read_errors():
             return [StoredCall(*row) for row in self._database.execute(rows, (part, number, last))]
