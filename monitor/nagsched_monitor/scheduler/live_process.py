@@ -12,6 +12,8 @@ READ_BYTES = 65_536
 # read, then for any other answer. And the limit for its end.
 OPENING, SILENCE = 30.0, 15.0
 GRACE = 5.0
+# The most lines that are sent together.
+AT_ONCE = 4_096
 
 
 class Conversation:
@@ -34,9 +36,12 @@ class Conversation:
         self._patience = OPENING
 
     def ask_lines(self, lines: Sequence[str]) -> List[str]:
-        """Sends these lines, and returns the lines that answer them."""
-        self.begin(lines)
-        return self.finish()
+        """Sends these lines, a number of them together, and returns the lines that answer them."""
+        answers: List[str] = []
+        for first in range(0, len(lines), AT_ONCE):
+            self.begin(lines[first : first + AT_ONCE])
+            answers += self.finish()
+        return answers
 
     def begin(self, lines: Sequence[str]) -> None:
         """Sends as much of these lines as there is room for now."""

@@ -11,11 +11,10 @@ from ..faults import ConversationEnded, NotStored
 from ..store.rows import Generation, StoredCall
 from ..store.store import Store
 from ..store.writes import set_aside
-from .live_process import GRACE, Conversation
+from .live_process import AT_ONCE, GRACE, Conversation
 from .protocol import Answer, Call, Refused, call_line, read_answer
 
-# The most calls that are made together; how often a scheduler is restarted in one exchange, and the pause before the next exchange does so, in milliseconds.
-AT_ONCE = 4_096
+# How often a scheduler is restarted in one exchange, and the pause before the next exchange does so, in milliseconds.
 TRIES = 3
 PAUSE = 1_000
 # The time between two messages that a scheduler can't be started, in milliseconds, and how often one may end after a call.
@@ -103,9 +102,7 @@ class PartScheduler:
         if self.conversation is None:
             generation = self.generation
             self.conversation, self._sent = self._converse(self._program, generation.setup, generation.start, generation.saved), []
-            lines = [each.line for each in self._store.calls_since(generation.part, generation.last_call, self.last_answered)]
-            for first in range(0, len(lines), AT_ONCE):
-                self.conversation.ask_lines(lines[first : first + AT_ONCE])
+            self.conversation.ask_lines([each.line for each in self._store.calls_since(generation.part, generation.last_call, self.last_answered)])
         return self.conversation
 
     def _handle_end(self, why: str) -> List[AnsweredCall]:
@@ -203,12 +200,7 @@ class Schedulers:
     def query(self, number: int, calls: Sequence[Call]) -> List[Answer]:
         """The answers to calls that change nothing, and aren't stored."""
         lines = [call_line(call) for call in calls]
-
-        def asked(conversation: Conversation) -> List[Answer]:
-            several = [lines[first : first + AT_ONCE] for first in range(0, len(lines), AT_ONCE)]
-            return [answer for some in several for answer in read_answers(conversation.ask_lines(some), some)]
-
-        return self.parts[number].run_query(asked)
+        return self.parts[number].run_query(lambda conversation: read_answers(conversation.ask_lines(lines), lines))
 
     def states(self) -> Optional[Dict[int, bytes]]:
         """The state of each scheduler; None if the program has no saved states. Raises `ConversationEnded` if a scheduler can't be started."""
