@@ -42,11 +42,11 @@ def read_answers(replies: Sequence[str], lines: Sequence[str]) -> List[Answer]:
 class PartScheduler:
     """The scheduler of a part: its process, and the calls that it hasn't answered."""
 
-    def __init__(self, generation: Generation, program: str, store: Store, clock: Clock, log: Callable[[str], None], converse: ConversationFactory) -> None:
-        self.generation, self._program, self._store, self._clock, self._log, self._converse = generation, program, store, clock, log, converse
-        # The number of the last call that was answered.
+    def __init__(self, generation: Generation, store: Store, clock: Clock, log: Callable[[str], None], start: Callable[[Generation], Conversation]) -> None:
+        self.generation, self._store, self._clock, self._log, self._start = generation, store, clock, log, start
+        # The number of the last call that was answered, and the calls after it. The calls of an earlier monitor are answered again.
         self.last_answered = generation.last_call
-        self.pending: Deque[StoredCall] = collections.deque()
+        self.pending: Deque[StoredCall] = collections.deque(store.calls_since(generation.part, generation.last_call))
         self.conversation: Optional[Conversation] = None
         # Its fault, when the fault was last logged, and the moment before which it isn't started again.
         self.trouble: Optional[str] = None
@@ -101,7 +101,7 @@ class PartScheduler:
         """The scheduler. If it doesn't run, it is started, and makes the answered calls again."""
         if self.conversation is None:
             generation = self.generation
-            self.conversation, self._sent = self._converse(self._program, generation.setup, generation.start, generation.saved), []
+            self.conversation, self._sent = self._start(generation), []
             self.conversation.ask_lines([each.line for each in self._store.calls_since(generation.part, generation.last_call, self.last_answered)])
         return self.conversation
 
@@ -154,12 +154,11 @@ class Schedulers:
     """One scheduler for each part of a site."""
 
     def __init__(self, program: str, store: Store, clock: Clock, log: Callable[[str], None], converse: ConversationFactory = Conversation) -> None:
-        self._converse = converse
-        self._make_part: Callable[[Generation], PartScheduler] = lambda generation: PartScheduler(
-            generation, program, store, clock, log, lambda *arguments: self._converse(*arguments)
-        )
-        self._store = store
+        self._program, self._store, self._clock, self._log, self._converse = program, store, clock, log, converse
         self.parts: Dict[int, PartScheduler] = {}
+
+    def _start(self, generation: Generation) -> Conversation:
+        return self._converse(self._program, generation.setup, generation.start, generation.saved)
 
     def open(self, generations: Mapping[int, Generation]) -> None:
         """Continues with these generations. A part with the same setup stays open."""
@@ -170,25 +169,9 @@ class Schedulers:
                 part.generation = generation
                 self.parts[number] = before.pop(number)
             else:
-                self.parts[number] = self._make_part(generation)
+                self.parts[number] = PartScheduler(generation, self._store, self._clock, self._log, self._start)
         for part in before.values():
             part.close_conversation()
-
-    def load_pending(self, number: int) -> None:
-        """Takes in the stored calls of a part that were made before this monitor started, which are answered again."""
-        self.parts[number].pending.extend(self._store.calls_since(number, self.parts[number].last_answered))
-
-    def is_down(self, number: int) -> bool:
-        """Whether a part has calls that its scheduler couldn't answer."""
-        return bool(self.parts[number].pending)
-
-    def are_all_up(self) -> bool:
-        return not any(part.pending for part in self.parts.values())
-
-    def add_calls(self, calls: Sequence[StoredCall]) -> None:
-        """These calls were stored. The next exchange makes them."""
-        for call in calls:
-            self.parts[call.part].pending.append(call)
 
     def exchange(self) -> List[AnsweredCall]:
         """Makes the waiting calls, and returns their answers. Calls of a scheduler that can't be started now continue to wait."""

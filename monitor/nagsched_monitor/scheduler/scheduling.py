@@ -63,25 +63,24 @@ class Scheduling:
         self.mirrors = Mirrors({part: generation.mirrors for part, generation in generations.items()}, self.states.running)
         self._stored_changes = self._store.changes_after(min((generation.last_call for generation in generations.values()), default=0))
         self.schedulers.open(generations)
-        # Parts that the site no longer has come first, so that an object's own part decides.
-        for part in sorted(generations, key=lambda part: part < len(self.site.setups)):
-            self._resume(generations[part])
+        self._resume()
         for line in self._change_site(self.site):
             self._log(line)
         self._query_unknown()
         self._standings.settle(self.states.objects)
 
-    def _resume(self, generation: Generation) -> None:
-        """Makes the stored calls of a part again."""
-        part = generation.part
-        if generation.saved is not None:
-            self._read_state(part, generation.saved)
-            # The states of objects are known before calls are made again: a result with the same state isn't a change.
-            self._query_standings(part, [it.name for it in objects_of(json.loads(generation.setup), part) if it.name not in self.mirrors.names_of(part)])
-        self.schedulers.load_pending(part)
+    def _resume(self) -> None:
+        """Makes the stored calls again."""
+        for number, part in self.schedulers.parts.items():
+            if part.generation.saved is not None:
+                self._read_state(number, part.generation.saved)
+                # The states of objects are known before calls are made again: a result with the same state isn't a change.
+                own = [it.name for it in objects_of(json.loads(part.generation.setup), number) if it.name not in part.generation.mirrors]
+                self._query_standings(number, own)
         self._apply_answers(self.schedulers.exchange(), is_again=True)
-        if self.schedulers.is_down(part):
-            raise ConversationEnded(f"the scheduler of part {part + 1} can't be opened: {self.schedulers.parts[part].trouble}")
+        for number, part in self.schedulers.parts.items():
+            if part.pending:
+                raise ConversationEnded(f"the scheduler of part {number + 1} can't be opened: {part.trouble}")
 
     def _query_unknown(self) -> None:
         """Asks for the standing of each object whose standing isn't known yet, and takes its first time as its phase."""
@@ -163,10 +162,10 @@ class Scheduling:
 
     def is_open(self, part: int) -> bool:
         """Whether calls of a part can be made now: its scheduler has answered all earlier ones."""
-        return not self.schedulers.is_down(part)
+        return not self.schedulers.parts[part].pending
 
     def is_object_open(self, obj: ObjectState) -> bool:
-        return not self.schedulers.is_down(obj.definition.part)
+        return self.is_open(obj.definition.part)
 
     def is_reportable(self, place: ObjectKey) -> bool:
         """Whether a result of an object can be reported now, to it and to its mirrors."""
@@ -187,17 +186,18 @@ class Scheduling:
         if bad:
             raise ValueError(f"no scheduler reads these calls: {bad}")
         if planned or writes or self.has_more():
-            standings, number = self._standings.writes(), self._store.last_call
+            standings, number = self._standings.writes(), self._store.last_call + 1
             calls = [(part, call_line(call), words) for part, call, words in planned]
             self._store.write(*self._pending_writes, *writes, *standings, *([store_calls(calls)] if calls else []))
             self._pending_writes = []
             if standings:
                 self._standings.clear_marks()
-            self.schedulers.add_calls([StoredCall(number + place, *each) for place, each in enumerate(calls, 1)])
+            for call_number, each in enumerate(calls, number):
+                self.schedulers.parts[each[0]].pending.append(StoredCall(call_number, *each))
 
     def make_calls(self) -> List[ObjectAnswer]:
         """Makes the stored calls, and returns the answers. Calls of a scheduler that can't be started now are made later."""
-        if self._has_unknown and self.schedulers.are_all_up():
+        if self._has_unknown and all(map(self.is_open, self.schedulers.parts)):
             self._query_new()
         return self._apply_answers(self.schedulers.exchange())
 
