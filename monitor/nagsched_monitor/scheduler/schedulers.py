@@ -44,9 +44,9 @@ class PartScheduler:
 
     def __init__(self, generation: Generation, store: Store, clock: Clock, log: Callable[[str], None], start: Callable[[Generation], Conversation]) -> None:
         self.generation, self._store, self._clock, self._log, self._start = generation, store, clock, log, start
-        # The number of the last call that was answered, and the calls after it. The calls of an earlier monitor are answered again.
+        # The number of the last call that was answered, and the calls after it.
         self.last_answered = generation.last_call
-        self.pending: Deque[StoredCall] = collections.deque(store.calls_since(generation.part, generation.last_call))
+        self.pending: Deque[StoredCall] = collections.deque()
         self.conversation: Optional[Conversation] = None
         # Its fault, when the fault was last logged, and the moment before which it isn't started again.
         self.trouble: Optional[str] = None

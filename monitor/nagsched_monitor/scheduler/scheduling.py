@@ -72,6 +72,7 @@ class Scheduling:
     def _resume(self) -> None:
         """Makes the stored calls again."""
         for number, part in self.schedulers.parts.items():
+            part.pending.extend(self._store.calls_since(number, part.last_answered))
             if part.generation.saved is not None:
                 self._read_state(number, part.generation.saved)
                 # The states of objects are known before calls are made again: a result with the same state isn't a change.
