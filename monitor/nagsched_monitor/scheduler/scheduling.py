@@ -116,14 +116,10 @@ class Scheduling:
 
     def _change_site(self, site: Site) -> List[str]:
         """Takes over a site. Parts with another setup begin from the combined states of all parts."""
-        open_parts = {part: scheduler.generation for part, scheduler in self.schedulers.parts.items()}
-        others = {
-            part for part, setup in enumerate(site.setups)
-            if part not in open_parts or (open_parts[part].setup, open_parts[part].mirrors) != (setup, site.mirrors.get(part, frozenset()))
-        }
-        changed: List[str] = []
-        if others or len(open_parts) > len(site.setups):
-            changed = self._begin_parts(site, others)
+        opened = {part: (scheduler.generation.setup, scheduler.generation.mirrors) for part, scheduler in self.schedulers.parts.items()}
+        wanted = {part: (setup, site.mirrors.get(part, frozenset())) for part, setup in enumerate(site.setups)}
+        others = {part for part, setup in wanted.items() if opened.get(part) != setup}
+        changed = self._begin_parts(site, others) if opened != wanted else []
         self.site = site
         self.states.change_site(site.objects, self._clock.moment())
         for part in sorted(others):
