@@ -126,6 +126,9 @@ class Scheduling:
             saved = self.schedulers.parts[part].generation.saved
             if saved is not None:
                 self._read_state(part, saved)
+        for obj in self.states.objects.values():
+            if obj.definition.part in others:
+                obj.standing = None
         return changed
 
     def _begin_parts(self, site: Site, others: AbstractSet[int]) -> List[str]:
@@ -147,13 +150,9 @@ class Scheduling:
         self.schedulers.open(generations)
         return changed
 
-    def _read_state(self, part: int, state: bytes) -> None:
-        """Reads the facts in a scheduler's state that its answers don't have: switches, forced marks and runs."""
-        members = self.mirrors.apply_saved(part, json.loads(state)["objects"])
-        self.states.apply_saved(members)
-        for it in members:
-            if it["name"] in self.states.objects:
-                self.states.objects[it["name"]].standing = None
+    def _read_state(self, part: int, state: bytes) -> List[str]:
+        """Reads a scheduler's state, which counts. Returns the names of the objects whose known switch, forced mark, next check or run was different."""
+        return self.states.apply_saved(self.mirrors.apply_saved(part, json.loads(state)["objects"]))
 
     # ---- calls
 
@@ -246,7 +245,9 @@ class Scheduling:
         states = self.schedulers.states()
         if states is None:
             return False
-        self._correct_states(states)
+        for part, state in states.items():
+            for name in self._read_state(part, state):
+                self._log(f"{name}: its scheduler has it otherwise than the monitor had; the scheduler counts")
         self._standings.write_soon()
         standings, last_call = self._standings.writes(), self._store.last_call
         opened = {part: replace(self.schedulers.parts[part].generation, saved=state, last_call=last_call) for part, state in states.items()}
@@ -255,12 +256,6 @@ class Scheduling:
         self._standings.clear_marks()
         self.schedulers.open(opened)
         return True
-
-    def _correct_states(self, states: "migration.States") -> None:
-        """Compares the known state of each object with its scheduler's, which counts."""
-        for part, state in states.items():
-            for name in self.states.apply_saved(self.mirrors.apply_saved(part, json.loads(state)["objects"])):
-                self._log(f"{name}: its scheduler has it otherwise than the monitor had; the scheduler counts")
 
     def process_ids(self) -> List[int]:
         return self.schedulers.process_ids()
