@@ -1,7 +1,7 @@
 """The schedulers of a site and their answers: calls are first stored together, then made together, and then their answers are applied."""
 import json
 from dataclasses import replace
-from typing import AbstractSet, Callable, List, NamedTuple, Optional, Sequence
+from typing import AbstractSet, Callable, List, Mapping, NamedTuple, Optional, Sequence
 
 from ..outputs import changes
 
@@ -143,12 +143,23 @@ class Scheduling:
             if part in others else replace(self.schedulers.parts[part].generation, saved=states[part], last_call=last_call)
             for part, setup in enumerate(site.setups)
         }
-        gone = [part for part in self.schedulers.parts if part not in generations]
-        self._store.write(*self._pending_writes, *map(end_generation, gone), *map(begin_generation, generations.values()))
-        self._pending_writes = []
+        self._begin(generations)
         self.mirrors = self.mirrors.change_site(site.mirrors, others)
-        self.schedulers.open(generations)
         return changed
+
+    def _begin(self, generations: Mapping[int, Generation]) -> None:
+        """Stores these generations, and continues with them."""
+        gone = [part for part in self.schedulers.parts if part not in generations]
+        self._write(*map(end_generation, gone), *map(begin_generation, generations.values()))
+        self.schedulers.open(generations)
+
+    def _write(self, *writes: Write) -> None:
+        """Writes these, with all that waits to be written."""
+        standings = self._standings.writes()
+        self._store.write(*self._pending_writes, *standings, *writes)
+        self._pending_writes = []
+        if standings:
+            self._standings.clear_marks()
 
     def _read_state(self, part: int, state: bytes) -> List[str]:
         """Reads a scheduler's state, which counts. Returns the names of the objects whose known switch, forced mark, next check or run was different."""
@@ -182,12 +193,9 @@ class Scheduling:
         if bad:
             raise ValueError(f"no scheduler reads these calls: {bad}")
         if planned or writes or self.has_more():
-            standings, number = self._standings.writes(), self._store.last_call + 1
+            number = self._store.last_call + 1
             calls = [(part, call_line(call), words) for part, call, words in planned]
-            self._store.write(*self._pending_writes, *writes, *standings, *([store_calls(calls)] if calls else []))
-            self._pending_writes = []
-            if standings:
-                self._standings.clear_marks()
+            self._write(*writes, store_calls(calls))
             for call_number, each in enumerate(calls, number):
                 self.schedulers.parts[each[0]].pending.append(StoredCall(call_number, *each))
 
@@ -249,12 +257,8 @@ class Scheduling:
             for name in self._read_state(part, state):
                 self._log(f"{name}: its scheduler has it otherwise than the monitor had; the scheduler counts")
         self._standings.write_soon()
-        standings, last_call = self._standings.writes(), self._store.last_call
-        opened = {part: replace(self.schedulers.parts[part].generation, saved=state, last_call=last_call) for part, state in states.items()}
-        self._store.write(*self._pending_writes, *standings, *map(begin_generation, opened.values()))
-        self._pending_writes = []
-        self._standings.clear_marks()
-        self.schedulers.open(opened)
+        generations = {part: scheduler.generation for part, scheduler in self.schedulers.parts.items()}
+        self._begin({part: replace(generations[part], saved=state, last_call=self._store.last_call) for part, state in states.items()})
         return True
 
     def process_ids(self) -> List[int]:
