@@ -34,7 +34,7 @@ class Checks:
 
     def has_more(self) -> bool:
         """Whether something has to be planned at once."""
-        return bool(self._to_spread) or any(self._scheduling.is_object_open(self._objects[name]) for name in self._planned_checks if name in self._objects)
+        return bool(self._to_spread) or any(self._scheduling.is_open(self._objects[name].definition.part) for name in self._planned_checks if name in self._objects)
 
     def plan(self, plan: Plan, now: int, is_after_pause: bool) -> None:
         """Plans next checks, after requests have set theirs."""
@@ -63,7 +63,7 @@ class Checks:
             return
         self._periods = self._scheduling.site.periods.active_by_name(wall)
         changed = [obj for obj in self._objects.values() if obj.on != self.is_to_be_enabled(obj.definition)]
-        opened = [obj for obj in changed if self._scheduling.is_object_open(obj)]
+        opened = [obj for obj in changed if self._scheduling.is_open(obj.definition.part)]
         plan.calls += [(obj.definition.part, Enable(obj.name, not obj.on), None) for obj in opened]
         begun = [obj.name for obj in changed if not obj.on]
 
@@ -101,7 +101,7 @@ class Checks:
         done = []
         for name, call in self._planned_checks.items():
             obj = self._objects.get(name)
-            if obj is not None and not self._scheduling.is_object_open(obj):
+            if obj is not None and not self._scheduling.is_open(obj.definition.part):
                 continue
             done.append(call)
             if obj is not None and obj.run is None:
@@ -118,7 +118,7 @@ class Checks:
         """Asks for a check of each object that had no result within its freshness, which runs its command."""
         for name in self._scheduling.site.with_freshness:
             obj = self._objects[name]
-            if obj.is_stale(now) and name not in self._passive and self._scheduling.is_object_open(obj) and self._is_in_period(obj.definition):
+            if obj.is_stale(now) and name not in self._passive and self._scheduling.is_open(obj.definition.part) and self._is_in_period(obj.definition):
                 self._log(f"{name}: no result for {(obj.definition.freshness or 0) / 1000:g} seconds; its command is run")
                 self.plan_check(obj, now, True)
 

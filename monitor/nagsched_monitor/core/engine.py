@@ -125,7 +125,7 @@ class Engine:
     def _make_plan(self, now: int) -> Plan:
         """All the work of this turn, in the order in which schedulers get it."""
         plan = Plan()
-        plan.calls += self.scheduling.mirror_take_calls(now)
+        plan.calls += [each for each in self.scheduling.mirrors.take_calls(now) if self.scheduling.is_open(each[0])]
         self.plugins.plan(plan, now)
         self.passive.plan_reports(plan, now)
         self.checks.plan_periods(plan)

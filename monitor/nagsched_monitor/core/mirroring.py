@@ -82,9 +82,9 @@ class Mirrors:
         """Whether a result of this object can be reported to all of its mirrors."""
         return all(self._running.get((part, name)) is not None for part in self.parts_of(name))
 
-    def report_calls(self, report: Report, moment: int) -> List[PlannedCall]:
-        """The reports to the mirrors of an object whose result is reported; they are taken again after them."""
-        whole: List[PlannedCall] = []
+    def report_calls(self, original: int, report: Report, words: str, moment: int) -> List[PlannedCall]:
+        """The calls that report a result to an object, in its part, and to its mirrors, which are taken again after that."""
+        whole: List[PlannedCall] = [(original, report, words)]
         for part in self.parts_of(report.name):
             run = self._running.get((part, report.name))
             assert run is not None

@@ -43,7 +43,7 @@ class PassiveResults:
 
     def _is_takeable(self, name: str) -> bool:
         obj = self._scheduling.states.objects.get(name)
-        return obj is not None and obj.run is None and obj.next != RESULT_FIRST and self._scheduling.is_object_open(obj)
+        return obj is not None and obj.run is None and obj.next != RESULT_FIRST and self._scheduling.is_open(obj.definition.part)
 
     def plan_takes(self, plan: Plan, now: int) -> None:
         """Takes each object that has a result and isn't running."""
@@ -51,7 +51,7 @@ class PassiveResults:
             obj = self._scheduling.states.objects[name]
             if self._is_takeable(name):
                 plan.calls += calls_for_result(obj, now)
-            elif obj.next == RESULT_FIRST and obj.run is None and self._scheduling.is_object_open(obj):
+            elif obj.next == RESULT_FIRST and obj.run is None and self._scheduling.is_open(obj.definition.part):
                 plan.calls.append((obj.definition.part, Take(now), None))  # the limit of running checks was reached when it had to be taken
                 plan.later.add(name)
 
@@ -62,7 +62,7 @@ class PassiveResults:
             obj, result = self._scheduling.states.objects.get(name), run.result
             if result is None or obj is None or not self._scheduling.is_reportable(run.key):
                 continue
-            plan.calls += self._scheduling.report_calls(part, Report(name, run.number, result.code), result.words, now)
+            plan.calls += self._scheduling.mirrors.report_calls(part, Report(name, run.number, result.code), result.words, now)
             plan.writes.append(drop_result(result.id))
             plan.then.append(partial(self._remove_first, result))
             if len(self._results[name]) > 1:

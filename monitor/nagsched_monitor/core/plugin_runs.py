@@ -142,14 +142,14 @@ class PluginRuns:
         obj = self._scheduling.states.objects[name]
         if isinstance(event, JobFinished):
             code, words = verdict(event, obj.definition.is_host(), self._scheduling.site.options.timeout_code)
-            return self._scheduling.report_calls(part, Report(name, run.number, code), words, now)
+            return self._scheduling.mirrors.report_calls(part, Report(name, run.number, code), words, now)
         if self._is_delayed(event):
             again = min(LONGEST_RETRY, RETRY << min(self._delays[name], 16))
             why = event.why if isinstance(event, JobLost) else ""
             self._log(f"{name}: its plugin can't be run now, and is tried again in {again / 1000:g} seconds: {why}")
             return [(part, Abandon(name, run.number, now), None), (part, Reschedule(name, now + again, run.forced), None)]
         if isinstance(event, JobLost) and self._losses[name] == MOST_LOST:
-            return self._scheduling.report_calls(part, Report(name, run.number, UNKNOWN), f"{event.why} {MOST_LOST + 1} times", now)
+            return self._scheduling.mirrors.report_calls(part, Report(name, run.number, UNKNOWN), f"{event.why} {MOST_LOST + 1} times", now)
         return abandon_calls(run, now)
 
     def _is_delayed(self, event: Event) -> bool:

@@ -153,7 +153,7 @@ class Requests:
 
     def _find_open_object(self, members: Members) -> ObjectState:
         obj = self._find_object(members)
-        if not self.engine.scheduling.is_object_open(obj):
+        if not self.engine.scheduling.is_open(obj.definition.part):
             raise AskAgain("the scheduler of this object is being started again")
         return obj
 

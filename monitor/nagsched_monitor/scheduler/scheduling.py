@@ -171,21 +171,10 @@ class Scheduling:
         """Whether calls of a part can be made now: its scheduler has answered all earlier ones."""
         return not self.schedulers.parts[part].pending
 
-    def is_object_open(self, obj: ObjectState) -> bool:
-        return self.is_open(obj.definition.part)
-
     def is_reportable(self, place: ObjectKey) -> bool:
         """Whether a result of an object can be reported now, to it and to its mirrors."""
         part, name = place
         return self.is_open(part) and self.mirrors.are_running(name) and all(self.is_open(other) for other in self.mirrors.parts_of(name))
-
-    def report_calls(self, part: int, report: Report, words: str, moment: int) -> List[PlannedCall]:
-        """The calls that report a result to an object and to its mirrors."""
-        return [(part, report, words), *self.mirrors.report_calls(report, moment)]
-
-    def mirror_take_calls(self, moment: int) -> List[PlannedCall]:
-        """The calls that take the mirrors that aren't running."""
-        return [each for each in self.mirrors.take_calls(moment) if self.is_open(each[0])] if self.mirrors.names else []
 
     def store_calls(self, planned: Sequence[PlannedCall], writes: Sequence[Write] = ()) -> None:
         """Stores these calls with the other writes; the next `make_calls` makes them. If something can't be stored, nothing is, and `NotStored` is raised."""
