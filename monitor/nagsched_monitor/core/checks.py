@@ -34,7 +34,8 @@ class Checks:
 
     def has_more(self) -> bool:
         """Whether something has to be planned at once."""
-        return bool(self._to_spread) or any(self._scheduling.is_open(self._objects[name].definition.part) for name in self._planned_checks if name in self._objects)
+        planned = [self._objects[name] for name in self._planned_checks if name in self._objects]
+        return bool(self._to_spread) or any(self._scheduling.is_open(obj.definition.part) for obj in planned)
 
     def plan(self, plan: Plan, now: int, is_after_pause: bool) -> None:
         """Plans next checks, after requests have set theirs."""
