@@ -55,7 +55,6 @@ class Engine:
         self._answers: Deque[ObjectAnswer] = collections.deque()
         self._last_turn: Optional[int] = None
         self._save_at, self._saved_call = self._now + SAVE_AFTER, store.last_call
-        self._can_save = True
         self.is_stuck = False
         self.result_count = 0
         self._await_results(min(clock.wall(), figures.get("written_at", 0.0)))
@@ -214,20 +213,18 @@ class Engine:
         return self._clock.moment() - (self._now if self._last_turn is None else self._last_turn)
 
     def _save_when_due(self) -> None:
-        if self._can_save and (self._now >= self._save_at or self.store.last_call - self._saved_call >= SAVE_CALLS):
+        if self._now >= self._save_at or self.store.last_call - self._saved_call >= SAVE_CALLS:
             try:
                 self.save()
             except (NotStored, ConversationEnded) as fault:
                 self._log(f"the state isn't saved: {fault}")
                 self._save_at, self._saved_call = self._now + SAVE_AGAIN, self.store.last_call
 
-    def save(self) -> bool:
-        """Saves the state, if the program can."""
-        self._can_save = self.scheduling.save()
+    def save(self) -> None:
+        """Saves the state."""
+        self.scheduling.save()
         self._save_at, self._saved_call = self._clock.moment() + SAVE_AFTER, self.store.last_call
-        if self._can_save:
-            self.counters.count_save()
-        return self._can_save
+        self.counters.count_save()
 
     def close(self) -> None:
         """Saves the state and the figures."""

@@ -240,7 +240,8 @@ class Requests:
 
     def _save_now(self, request: Request) -> None:
         try:
-            request.answer = {"done": "save"} if self.engine.save() else {"error": "this nagsched saves no states; all calls are kept"}
+            self.engine.save()
+            request.answer = {"done": "save"}
         except (NotStored, ConversationEnded, MonitorFault) as fault:
             request.answer = {"error": str(fault), "again": True}
 

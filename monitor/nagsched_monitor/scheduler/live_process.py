@@ -73,10 +73,12 @@ class Conversation:
             raise ConversationEnded(f"the scheduler answered more than it was asked: {lines[-READ_BYTES:].decode(errors='replace')!r}")
         return lines.decode(errors="replace").split("\n")[:-1]
 
-    def save(self) -> Optional[bytes]:
-        """The state of the scheduler as text; None if the program doesn't have that command."""
-        (line,) = self.ask_lines(['["save"]'])
-        return line[len("saved ") :].encode() if line.startswith("saved ") else None
+    def save(self) -> bytes:
+        """The state of the scheduler as text."""
+        word, _, state = self.ask_lines(['["save"]'])[0].partition(" ")
+        if word != "saved":
+            raise ConversationEnded(f"the scheduler answered {word} {state} to a save")
+        return state.encode()
 
     def process_id(self) -> int:
         return self._process.pid

@@ -185,17 +185,12 @@ class Schedulers:
         lines = [call_line(call) for call in calls]
         return self.parts[number].run_query(lambda conversation: read_answers(conversation.ask_lines(lines), lines))
 
-    def states(self) -> Optional[Dict[int, bytes]]:
-        """The state of each scheduler; None if the program has no saved states. Raises `ConversationEnded` if a scheduler can't be started."""
-        states: Dict[int, bytes] = {}
+    def states(self) -> Dict[int, bytes]:
+        """The state of each scheduler. Raises `ConversationEnded` if one hasn't answered all calls, or can't be started."""
         for number, part in self.parts.items():
             if part.pending:
                 raise ConversationEnded(part.trouble or f"the scheduler of part {number + 1} hasn't answered all calls")
-            state = part.run_query(lambda conversation: conversation.save())
-            if state is None:
-                return None
-            states[number] = state
-        return states
+        return {number: part.run_query(lambda conversation: conversation.save()) for number, part in self.parts.items()}
 
     def process_ids(self) -> List[int]:
         return [part.conversation.process_id() for part in self.parts.values() if part.conversation is not None]

@@ -10,7 +10,7 @@ from ..core.mirroring import Mirrors, PlannedCall
 from ..core.object_state import ObjectState, ObjectStates
 from ..core.phases import FIRST_TIME
 from ..core.run_table import ObjectKey, Run
-from ..faults import ConversationEnded, MonitorFault
+from ..faults import ConversationEnded
 from ..site.site import Site, objects_of
 from ..store.rows import Generation, StoredCall, StoredChange
 from ..store.status_table import StandingTable
@@ -134,8 +134,6 @@ class Scheduling:
     def _begin_parts(self, site: Site, others: AbstractSet[int]) -> List[str]:
         """Begins these parts of a site from scratch. The states of all parts are stored together, and all earlier calls are dropped."""
         states, moment, last_call = self.schedulers.states(), self._clock.moment(), self._store.last_call
-        if states is None:
-            raise MonitorFault("another setup is taken over from a saved state, and this nagsched saves none: stop, and move monitor.db away to begin again")
         begun = migration.merge_states(states, self.mirrors.names, site, moment) if states else {}
         changed = [line for part in sorted(others) if states for line in migration.carry_over(self._program, site, part, begun[part])]
         generations = {
@@ -237,18 +235,15 @@ class Scheduling:
 
     # ---- saving and ending
 
-    def save(self) -> bool:
-        """Saves the state of each scheduler, and drops the calls before it. Returns False if the program has no saved states."""
+    def save(self) -> None:
+        """Saves the state of each scheduler, and drops the calls before it."""
         states = self.schedulers.states()
-        if states is None:
-            return False
         for part, state in states.items():
             for name in self._read_state(part, state):
                 self._log(f"{name}: its scheduler has it otherwise than the monitor had; the scheduler counts")
         self._standings.write_soon()
         generations = {part: scheduler.generation for part, scheduler in self.schedulers.parts.items()}
         self._begin({part: replace(generations[part], saved=state, last_call=self._store.last_call) for part, state in states.items()})
-        return True
 
     def process_ids(self) -> List[int]:
         return self.schedulers.process_ids()
