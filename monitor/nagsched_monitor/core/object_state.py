@@ -5,23 +5,9 @@ from typing import Any, Dict, Iterable, List, Mapping, Optional, Set, Tuple
 
 from ..scheduler.protocol import Abandon, Answer, Call, Done, Enable, Freed, PutOff, Report, Reschedule, Standing, Taken
 from ..site.site import ObjectDefinition
+from ..store.rows import StateHistory
 from . import phases
 from .run_table import ObjectKey, Run, RunTable
-
-
-@dataclass
-class StateHistory:
-    """How long an object has been in its state, in seconds since 1970 of the wall clock; None if that isn't known."""
-
-    # The state that it has had since then, and the hard one.
-    state: Optional[str] = None
-    since: Optional[float] = None
-    hard_state: Optional[str] = None
-    hard_since: Optional[float] = None
-    last_check: Optional[float] = None
-    # How many seconds its last check took, and how late the last one began.
-    took: Optional[float] = None
-    late: Optional[float] = None
 
 
 @dataclass

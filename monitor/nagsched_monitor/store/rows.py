@@ -126,13 +126,25 @@ class StoredStanding(NamedTuple):
 
 
 @dataclass
-class LastChanges:
-    """The stored changes of an object: its last state and its last hard one, each with the time at which it began."""
+class StateHistory:
+    """How long an object has been in its state, in seconds since 1970 of the wall clock; None if that isn't known."""
 
-    state: str
-    since: float
+    # The state that it has had since then, and the hard one.
+    state: Optional[str] = None
+    since: Optional[float] = None
     hard_state: Optional[str] = None
     hard_since: Optional[float] = None
+    last_check: Optional[float] = None
+    # How many seconds its last check took, and how late the last one began.
+    took: Optional[float] = None
+    late: Optional[float] = None
+
+    def note(self, state: str, kind: str, time: float) -> None:
+        """Notes a state that the object has at a time."""
+        if state != self.state:
+            self.state, self.since = state, time
+        if kind == "HARD" and state != self.hard_state:
+            self.hard_state, self.hard_since = state, time
 
 
 def checksum_of(table: str, number: int, cells: Sequence[Cell]) -> str:

@@ -6,11 +6,11 @@ more than a second is written alone. Times in the table are seconds since 1970 o
 from typing import Dict, List, Mapping, Optional, Sequence
 
 from ..core.clock import Clock
-from ..core.object_state import ObjectState, StateHistory
+from ..core.object_state import ObjectState
 from ..core.phases import FIRST_TIME
 from ..core.run_table import Run
 from ..scheduler.protocol import Answer, Call, Report, Standing, Taken
-from .rows import StoredStanding
+from .rows import StateHistory, StoredStanding
 from .store import Store, Write
 from .writes import drop_standings, store_standings
 
@@ -44,13 +44,14 @@ class StandingTable:
 
     def settle(self, objects: Mapping[str, ObjectState]) -> None:
         """The states of the objects are known now. If the table had another state, the stored changes show when the new one began."""
-        for obj in [obj for obj in objects.values() if not is_settled(obj)]:
-            since = self._store.last_changes(obj.name)
-            assert obj.standing is not None
-            now = self._clock.wall()
-            note_state(obj.history, obj.standing, since.since if since and since.state == obj.standing.state else now)
-            if since and since.hard_state == obj.history.hard_state and since.hard_since is not None:
-                obj.history.hard_since = since.hard_since
+        for obj in objects.values():
+            standing, past = obj.standing, obj.history
+            if standing is None or is_settled(standing, past):
+                continue
+            stored = self._store.last_changes(obj.name) or StateHistory()
+            past.note(standing.state, standing.kind, stored.since if stored.since and stored.state == standing.state else self._clock.wall())
+            if stored.hard_since is not None and stored.hard_state == past.hard_state:
+                past.hard_since = stored.hard_since
         self._is_settled = True
         for obj in objects.values():
             self._marked[obj.name] = obj
@@ -73,7 +74,7 @@ class StandingTable:
             now = self._clock.wall()
             begun = now if ended is None or ended.began_at is None else ended.began_at
             past.last_check, past.took = begun, max(0.0, now - begun)
-            note_state(past, answer, now)
+            past.note(answer.state, answer.kind, now)
         self.mark(obj)
 
     def mark(self, obj: ObjectState) -> None:
@@ -107,20 +108,9 @@ class StandingTable:
         self._marked_at = None
 
 
-def is_settled(obj: ObjectState) -> bool:
+def is_settled(standing: Standing, past: StateHistory) -> bool:
     """Whether the known past of an object agrees with its state."""
-    standing, past = obj.standing, obj.history
-    if standing is None or standing.state == "PENDING":
-        return True
-    return standing.state == past.state and (standing.kind == "SOFT" or standing.state == past.hard_state)
-
-
-def note_state(past: StateHistory, standing: Standing, time: float) -> None:
-    """Notes a state, and a hard one, that began at a time."""
-    if standing.state != past.state:
-        past.state, past.since = standing.state, time
-    if standing.kind == "HARD" and standing.state != past.hard_state:
-        past.hard_state, past.hard_since = standing.state, time
+    return standing.state == "PENDING" or standing.state == past.state and (standing.kind == "SOFT" or standing.state == past.hard_state)
 
 
 def history_of(row: StoredStanding) -> StateHistory:

@@ -26,7 +26,7 @@ from typing import Callable, Dict, Iterator, List, Optional, Sequence, Set, Tupl
 from ..faults import DamagedRow, MonitorFault, NotStored
 from ..scheduler.protocol import GREATEST, Abandon, Take, read_call
 from .rows import (
-    FOR_PEOPLE, GENERATIONS, INDEXES, INSERTS, TABLES, VERSION, Cell, Generation, StoredCall, StoredResult, StoredStanding, LastChanges, checksum_of, names_in,
+    FOR_PEOPLE, GENERATIONS, INDEXES, INSERTS, TABLES, VERSION, Cell, Generation, StateHistory, StoredCall, StoredResult, StoredStanding, checksum_of, names_in,
 )
 
 # A write that is carried out together with others, or not at all.
@@ -185,17 +185,14 @@ class Store:
         with self._read_errors():
             return [StoredStanding(*cells) for cells in self._database.execute(f"SELECT {', '.join(StoredStanding._fields)} FROM standings")]
 
-    def last_changes(self, name: str) -> Optional[LastChanges]:
+    def last_changes(self, name: str) -> Optional[StateHistory]:
         """When an object's last state began, and its last hard one, from the stored changes; None if it has none."""
-        last: Optional[LastChanges] = None
         with self._read_errors():
             rows = self._database.execute("SELECT * FROM changes WHERE name = ? ORDER BY id", (name,)).fetchall()
+        past = StateHistory()
         for _, time, _, state, kind, *_ in self._sound_rows("changes", rows):
-            if last is None or last.state != state:
-                last = LastChanges(str(state), float(str(time)), *((None, None) if last is None else (last.hard_state, last.hard_since)))
-            if kind == "HARD" and last.hard_state != state:
-                last.hard_state, last.hard_since = str(state), float(str(time))
-        return last
+            past.note(str(state), str(kind), float(str(time)))
+        return past if past.state else None
 
     # ---- writing
 
