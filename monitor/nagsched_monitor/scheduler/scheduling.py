@@ -103,7 +103,7 @@ class Scheduling:
         changed = self._change_site(site)
         self._has_unknown = True
         self._query_new()
-        self._standings.change_site(self.states.objects)
+        self._standings.settle(self.states.objects)
         return changed
 
     def _query_new(self) -> None:

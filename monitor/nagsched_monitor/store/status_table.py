@@ -26,24 +26,21 @@ class StandingTable:
         self._store, self._clock = store, clock
         self._marked: Dict[str, ObjectState] = {}
         self._marked_at: Optional[int] = None
+        # Rows of objects that aren't part of the site any more.
         self._dropped: List[str] = []
-        self._is_settled = False
 
     # ---- at a start and after a reload
 
     def read(self, objects: Mapping[str, ObjectState]) -> None:
-        """Takes in the stored states of these objects; the states of others are dropped. Nothing is written before `settle`."""
-        self._is_settled = False
-        self._marked.clear()
-        rows = self._store.standings()
-        for row in rows:
+        """Takes in the stored states of these objects."""
+        for row in self._store.standings():
             if row.name in objects:
                 obj = objects[row.name]
                 obj.output, obj.phase, obj.history = row.words, row.phase, history_of(row)
-        self._dropped = [row.name for row in rows if row.name not in objects]
 
     def settle(self, objects: Mapping[str, ObjectState]) -> None:
-        """The states of the objects are known now. If the table had another state, the stored changes show when the new one began."""
+        """The states of all objects are known now, and are written. If the table had another state, the stored changes show when the new one began."""
+        self._dropped = [row.name for row in self._store.standings() if row.name not in objects]
         for obj in objects.values():
             standing, past = obj.standing, obj.history
             if standing is None or is_settled(standing, past):
@@ -52,16 +49,8 @@ class StandingTable:
             past.note(standing.state, standing.kind, stored.since if stored.since and stored.state == standing.state else self._clock.wall())
             if stored.hard_since is not None and stored.hard_state == past.hard_state:
                 past.hard_since = stored.hard_since
-        self._is_settled = True
-        for obj in objects.values():
-            self._marked[obj.name] = obj
+        self._marked = dict(objects)
         self.write_soon()
-
-    def change_site(self, objects: Mapping[str, ObjectState]) -> None:
-        """Another site is monitored: the rows of removed objects are deleted."""
-        self._marked.clear()
-        self._dropped += [row.name for row in self._store.standings() if row.name not in objects]
-        self.settle(objects)
 
     # ---- while it works
 
@@ -75,31 +64,25 @@ class StandingTable:
             begun = now if ended is None or ended.began_at is None else ended.began_at
             past.last_check, past.took = begun, max(0.0, now - begun)
             past.note(answer.state, answer.kind, now)
-        self.mark(obj)
-
-    def mark(self, obj: ObjectState) -> None:
-        """Has an object written with the next calls."""
         self._marked[obj.name] = obj
         if self._marked_at is None:
             self._marked_at = self._clock.moment()
 
     def write_soon(self) -> None:
-        """Has marked objects written with the next flush."""
-        if self._marked or self._dropped:
-            self._marked_at = self._clock.moment() - LONGEST - 1
+        """Has marked objects written with the next calls, without waiting for others."""
+        self._marked_at = self._clock.moment() - LONGEST - 1
 
     def is_overdue(self) -> bool:
         """Whether a marked object has waited too long for calls to be written with."""
-        return self._marked_at is not None and self._is_settled and self._clock.moment() - self._marked_at > LONGEST
+        return self._marked_at is not None and self._clock.moment() - self._marked_at > LONGEST
 
     def writes(self) -> Sequence[Write]:
         """The writes for the next calls."""
-        if self._marked_at is None or not self._is_settled or self._clock.moment() - self._marked_at < TOGETHER:
+        if self._marked_at is None or self._clock.moment() - self._marked_at < TOGETHER:
             return ()
         wall = self._clock.wall()
         ahead = self._clock.moment() / 1000 - wall
-        dropped = [drop_standings(self._dropped)] if self._dropped else []
-        return [*dropped, store_standings([row_of(obj, wall, ahead) for obj in self._marked.values()])]
+        return [drop_standings(self._dropped), store_standings([row_of(obj, wall, ahead) for obj in self._marked.values()])]
 
     def clear_marks(self) -> None:
         """The marked objects were written."""
