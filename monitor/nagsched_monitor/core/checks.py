@@ -1,4 +1,5 @@
 """The times of checks: switches, periods, freshness, phases and operators set them."""
+import collections
 from functools import partial
 from typing import Callable, Dict, List, Mapping, Optional, Tuple
 
@@ -143,16 +144,14 @@ class Checks:
 
     def plan_takes(self, plan: Plan, now: int) -> None:
         """A take for each check that is due and has a free slot."""
-        obj = self._scheduling.states
-        free = self._scheduling.site.options.slots - obj.running.local_plugin_count() + plan.freed
-        due = {part: names - plan.later for part, names in obj.due_by_part(now).items()}
-        for name in plan.at_once:
-            due.setdefault(obj.objects[name].definition.part, set()).add(name)
-        for part, names in due.items():
+        states = self._scheduling.states
+        free = self._scheduling.site.options.slots - states.running.local_plugin_count() + plan.freed
+        due = collections.Counter(self._objects[name].definition.part for name in (states.due.due_names(now) - plan.later) | plan.at_once)
+        for part, count in sorted(due.items()):
             if self._scheduling.is_open(part):
-                count = max(0, min(len(names), free))
-                plan.calls += [(part, Take(now), None)] * count
-                free -= count
+                taken = max(0, min(count, free))
+                plan.calls += [(part, Take(now), None)] * taken
+                free -= taken
 
     # ---- consequences of a result
 

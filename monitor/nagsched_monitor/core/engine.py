@@ -117,7 +117,7 @@ class Engine:
         has_run = any(self.scheduling.is_open(run.key[0]) for owner in (Owner.RESULT, Owner.NOBODY) for run in running.owned_by(owner))
         if has_run or self.checks.has_more() or self.passive.is_deliverable():
             return NO_REST
-        first = self.scheduling.states.first_time()
+        first = self.scheduling.states.due.first_time()
         latest = now + (CHANGES_WAIT if self.scheduling.has_more() else LONGEST_WAIT)
         return latest if first is None else min(first, latest)
 

@@ -61,7 +61,7 @@ class ObjectState:
 
 @dataclass
 class DueQueue:
-    """The objects of a part by the times for which they wait."""
+    """Objects by the times for which they wait."""
 
     _times: Dict[str, int] = field(default_factory=dict)
     _heap: List[Tuple[int, str]] = field(default_factory=list)
@@ -94,6 +94,7 @@ class DueQueue:
 
     def second_time(self) -> Optional[int]:
         """The time after the first one, if it is known without a search."""
+        self.first_time()
         times = [time for time, name in self._heap[1:3] if self._times.get(name) == time]
         return min(times) if times else None
 
@@ -104,22 +105,14 @@ class ObjectStates:
     def __init__(self) -> None:
         self.objects: Dict[str, ObjectState] = {}
         self.running = RunTable()
-        self._due_queues: Dict[int, DueQueue] = {}
-
-    def add(self, definition: ObjectDefinition, on: bool) -> None:
-        self.objects[definition.name] = ObjectState(definition, self.running, on)
-        self._due_queues.setdefault(definition.part, DueQueue())
+        self.due = DueQueue()
 
     def change_site(self, objects: Mapping[str, ObjectDefinition], now: int) -> None:
         """Takes over another site, and keeps the state of the objects that stay. A check of an object that moves to another part is abandoned there."""
-        before, self.objects, self._due_queues = self.objects, {}, {}
-        for definition in objects.values():
-            earlier = before.pop(definition.name, None)
-            self.add(definition, definition.enabled)
-            if earlier is None:
-                self.objects[definition.name].awaited_since = now
-            else:
-                self.objects[definition.name] = self._state_in_new_site(earlier, definition, now)
+        before, self.objects, self.due = self.objects, {}, DueQueue()
+        for name, definition in objects.items():
+            earlier = before.pop(name, None) or ObjectState(definition, self.running, definition.enabled, awaited_since=now)
+            self.objects[name] = self._state_in_new_site(earlier, definition, now)
         for obj in before.values():
             self.end_run(obj)
         for obj in self.objects.values():
@@ -162,30 +155,7 @@ class ObjectStates:
         return others
 
     def _set_due(self, obj: ObjectState) -> None:
-        self._due_queues[obj.definition.part].set_time(obj.name, obj.due_time())
-
-    def due_by_part(self, moment: int) -> Dict[int, Set[str]]:
-        """The objects whose time has come, by their parts."""
-        all_due: Dict[int, Set[str]] = {}
-        for part, due in self._due_queues.items():
-            names = due.due_names(moment)
-            if names:
-                all_due[part] = names
-        return all_due
-
-    def first_time(self) -> Optional[int]:
-        """The earliest time for which an object waits that isn't due yet."""
-        first: Optional[int] = None
-        for due in self._due_queues.values():
-            time = due.first_time()
-            if time is not None and (first is None or time < first):
-                first = time
-        return first
-
-    def second_time(self) -> Optional[int]:
-        """The time after the first one, if it is known without a search."""
-        times = [time for due in self._due_queues.values() for time in (due.first_time(), due.second_time()) if time is not None]
-        return sorted(times)[1] if len(times) > 1 else None
+        self.due.set_time(obj.name, obj.due_time())
 
     def apply_answer(self, obj: ObjectState, call: Call, answer: Answer) -> None:
         """Takes in an answer about an object."""

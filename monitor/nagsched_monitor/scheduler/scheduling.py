@@ -57,8 +57,7 @@ class Scheduling:
     def open(self) -> None:
         """Opens the scheduler of each part, with its stored calls."""
         generations = self._store.generations()
-        for definition in self.site.objects.values():
-            self.states.add(definition, definition.enabled)
+        self.states.change_site(self.site.objects, self._clock.moment())
         self._standings.read(self.states.objects)
         self.mirrors = Mirrors({part: generation.mirrors for part, generation in generations.items()}, self.states.running)
         self._stored_changes = self._store.changes_after(min((generation.last_call for generation in generations.values()), default=0))
