@@ -145,7 +145,7 @@ class Checks:
     def plan_takes(self, plan: Plan, now: int) -> None:
         """A take for each check that is due and has a free slot."""
         states = self._scheduling.states
-        free = self._scheduling.site.options.slots - states.running.local_plugin_count() + plan.freed
+        free = self._scheduling.site.options.slots - sum(job.runner is None for job in states.running.plugins()) + plan.freed
         due = collections.Counter(self._objects[name].definition.part for name in (states.due.due_names(now) - plan.later) | plan.at_once)
         for part, count in sorted(due.items()):
             if self._scheduling.is_open(part):

@@ -201,8 +201,7 @@ class Engine:
     # ---- for requests and tests
 
     def running_plugin_count(self) -> int:
-        """The number of running plugins."""
-        return self.scheduling.states.running.plugin_count()
+        return len(self.scheduling.states.running.plugins())
 
     def objects_with_plugins(self) -> Set[str]:
         """The objects whose plugins run."""

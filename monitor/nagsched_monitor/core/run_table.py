@@ -62,18 +62,9 @@ class RunTable:
     def __iter__(self) -> Iterator[Run]:
         return iter(list(self._runs.values()))
 
-    def plugin_count(self) -> int:
-        """The number of running plugins."""
-        return sum(run.owner is Owner.PLUGIN for run in self._runs.values()) + len(self.leftover_jobs)
-
-    def local_plugin_count(self) -> int:
-        """The number of plugins that run on this machine."""
-        jobs = [run.job for run in self._runs.values() if run.owner is Owner.PLUGIN] + list(self.leftover_jobs.values())
-        return sum(job is not None and job.runner is None for job in jobs)
+    def plugins(self) -> List[Job]:
+        """The plugins that run."""
+        return [run.job for run in self.owned_by(Owner.PLUGIN) if run.job is not None] + list(self.leftover_jobs.values())
 
     def owned_by(self, owner: Owner) -> List[Run]:
         return [run for run in self._runs.values() if run.owner is owner]
-
-    def overdue(self, now: int) -> List[Run]:
-        """The runs whose deadline has passed."""
-        return [run for run in self._runs.values() if run.deadline is not None and run.deadline < now]
