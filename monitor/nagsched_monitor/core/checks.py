@@ -100,21 +100,15 @@ class Checks:
         self._planned_checks.pop(name, None)
 
     def _plan_planned_checks(self, plan: Plan, now: int) -> None:
-        done = []
+        left: Dict[str, Reschedule] = {}
         for name, call in self._planned_checks.items():
             obj = self._objects.get(name)
             if obj is not None and not self._scheduling.is_open(obj.definition.part):
-                continue
-            done.append(call)
-            if obj is not None and obj.run is None:
+                left[name] = call
+            elif obj is not None and obj.run is None:
                 plan.calls.append((obj.definition.part, call, None))
                 (plan.at_once if call.time <= now else plan.later).add(name)
-        plan.then.append(partial(self._drop_made, done))
-
-    def _drop_made(self, done: List[Reschedule]) -> None:
-        for call in done:
-            if self._planned_checks.get(call.name) is call:
-                del self._planned_checks[call.name]
+        plan.then.append(partial(setattr, self, "_planned_checks", left))
 
     def _plan_freshness(self, now: int) -> None:
         """Asks for a check of each object that had no result within its freshness, which runs its command."""

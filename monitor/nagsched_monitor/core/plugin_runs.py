@@ -1,7 +1,7 @@
 """Runs of plugins: their beginning, their end, and the handling of those that don't end."""
 import collections
 from functools import partial
-from typing import Callable, Counter, Deque, Dict, List, Optional
+from typing import Callable, Counter, Dict, List, Optional
 
 from ..run.jobs import Event, Job, JobFinished, JobLost, Runners, StuckJobEnded
 from ..scheduler.protocol import Abandon, Report, Reschedule
@@ -32,7 +32,7 @@ class PluginRuns:
 
     def __init__(self, scheduling: Scheduling, runners: Runners, clock: Clock, log: Callable[[str], None], counters: Counters) -> None:
         self._scheduling, self._runners, self._clock, self._log, self._counters = scheduling, runners, clock, log, counters
-        self._events: Deque[Event] = collections.deque()
+        self._events: List[Event] = []
         # Plugins that were killed and haven't ended, by the names of their objects.
         self._stuck: Dict[str, Job] = {}
         # How often in a row the check of an object was lost, and couldn't be run here.
@@ -103,7 +103,7 @@ class PluginRuns:
 
     def plan(self, plan: Plan, now: int) -> None:
         """Reports the results of plugins. Events that can't be reported now stay."""
-        left: Deque[Event] = collections.deque()
+        left: List[Event] = []
         for event in self._events:
             run = self._run_of(event)
             if isinstance(event, StuckJobEnded) or run is None:
@@ -118,12 +118,7 @@ class PluginRuns:
             if self._scheduling.is_open(run.key[0]):
                 plan.calls += abandon_calls(run, now)
                 plan.then.append(partial(self._log, f"given up: run {run.number} of {run.key[1]}"))
-        plan.then.append(partial(self._drop_planned, len(self._events), left))
-
-    def _drop_planned(self, count: int, left: Deque[Event]) -> None:
-        for _ in range(count):
-            self._events.popleft()
-        self._events.extendleft(reversed(left))
+        plan.then.append(partial(setattr, self, "_events", left))
 
     def _drop_event(self, event: Event) -> None:
         """A plugin has ended that no run waits for."""
