@@ -76,7 +76,7 @@ class Mirrors:
     def take_calls(self, moment: int) -> List[PlannedCall]:
         """The calls that take the mirrors that aren't running."""
         places = [(part, name) for part, names in self.names.items() for name in sorted(names) if self._running.get((part, name)) is None]
-        return [call for place in places for call in retake_calls(place, moment)]
+        return [call for part, name in places for call in forced_take(part, name, MIRROR_FIRST, moment)]
 
     def are_running(self, name: str) -> bool:
         """Whether a result of this object can be reported to all of its mirrors."""
@@ -88,10 +88,10 @@ class Mirrors:
         for part in self.parts_of(report.name):
             run = self._running.get((part, report.name))
             assert run is not None
-            whole += [(part, Report(report.name, run.number, report.code), None), *retake_calls((part, report.name), moment)]
+            whole += [(part, Report(report.name, run.number, report.code), None), *forced_take(part, report.name, MIRROR_FIRST, moment)]
         return whole
 
 
-def retake_calls(place: ObjectKey, moment: int) -> List[PlannedCall]:
-    part, name = place
-    return [(part, Reschedule(name, MIRROR_FIRST, True), None), (part, Take(moment), None)]
+def forced_take(part: int, name: str, time: int, now: int) -> List[PlannedCall]:
+    """The calls that take an object before all that are due; the time decides about the order of such objects."""
+    return [(part, Reschedule(name, time, True), None), (part, Take(now), None)]
