@@ -40,7 +40,7 @@ class Store:
         self.path, self._log = folder / "monitor.db", log
         self._lock: Optional[int] = lock_site(folder)
         try:
-            self._database = self._open_database()
+            self._open_database()
             self._verify()
         except sqlite3.Error as error:
             self.close()
@@ -51,24 +51,19 @@ class Store:
         self.last_call = max(self._greatest("calls"), self._greatest("generations", "last_call"))
         self.last_result = self._greatest("passive")
 
-    def _open_database(self) -> sqlite3.Connection:
-        """The database, for its owner only, with a table for everything."""
+    def _open_database(self) -> None:
+        """Opens the database, which is for its owner only, and has a table for everything."""
         os.close(os.open(self.path, os.O_RDWR | os.O_CREAT | os.O_CLOEXEC, 0o600))
-        database = sqlite3.connect(self.path, isolation_level=None, timeout=5)
-        try:
-            for setting in ("journal_mode=WAL", "synchronous=FULL", "wal_autocheckpoint=1000"):
-                database.execute(f"PRAGMA {setting}")
-            database.execute("BEGIN IMMEDIATE")
-            self._migrate(database)
-            for table, members in TABLES.items():
-                database.execute(f"CREATE TABLE IF NOT EXISTS {table} (id INTEGER PRIMARY KEY, {members}, checksum TEXT)")
-            for index in INDEXES:
-                database.execute(f"CREATE INDEX IF NOT EXISTS {index}")
-            database.execute("COMMIT")
-        except (sqlite3.Error, MonitorFault):
-            database.close()
-            raise
-        return database
+        self._database = database = sqlite3.connect(self.path, isolation_level=None, timeout=5)
+        for setting in ("journal_mode=WAL", "synchronous=FULL", "wal_autocheckpoint=1000"):
+            database.execute(f"PRAGMA {setting}")
+        database.execute("BEGIN IMMEDIATE")
+        self._migrate(database)
+        for table, members in TABLES.items():
+            database.execute(f"CREATE TABLE IF NOT EXISTS {table} (id INTEGER PRIMARY KEY, {members}, checksum TEXT)")
+        for index in INDEXES:
+            database.execute(f"CREATE INDEX IF NOT EXISTS {index}")
+        database.execute("COMMIT")
 
     def _migrate(self, database: sqlite3.Connection) -> None:
         """Takes over a database of the version before: its standings had no phases."""
