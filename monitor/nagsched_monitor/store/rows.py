@@ -1,6 +1,5 @@
 """The rows of a site's database: its tables, the content of a row, and its checksum."""
 import hashlib
-import json
 from dataclasses import dataclass
 from typing import AbstractSet, Dict, NamedTuple, Optional, Sequence, Union
 
@@ -29,8 +28,6 @@ VERSION = 2
 INSERTS: Dict[str, str] = {
     table: f"INSERT OR REPLACE INTO {table} VALUES ({','.join('?' * (len(members.split(',')) + 2))})" for table, members in TABLES.items()
 }
-# The last generation of each part is the last of these.
-GENERATIONS = "SELECT part, setup, start, saved, last_call, names FROM generations LEFT JOIN mirrors USING (part) ORDER BY generations.id"
 
 
 @dataclass(frozen=True)
@@ -154,13 +151,3 @@ def checksum_of(table: str, number: int, cells: Sequence[Cell]) -> str:
 def row_number(name: str) -> int:
     """The number of an object's row, computed from its name, so that it is always the same."""
     return int.from_bytes(hashlib.blake2b(name.encode(errors="replace"), digest_size=7).digest(), "big")
-
-
-def names_text(names: AbstractSet[str]) -> str:
-    """Names as one cell."""
-    return json.dumps(sorted(names), ensure_ascii=False)
-
-
-def names_in(text: Optional[str]) -> AbstractSet[str]:
-    """The names in a cell; an empty set if the cell is empty."""
-    return frozenset() if text is None else frozenset(json.loads(text))

@@ -21,13 +21,11 @@ import json
 import os
 import pathlib
 import sqlite3
-from typing import Callable, Dict, Iterator, List, Optional, Sequence, Set, Tuple
+from typing import Any, Callable, Dict, List, Optional, Sequence, Set, Tuple
 
 from ..faults import DamagedRow, MonitorFault, NotStored
-from ..scheduler.protocol import GREATEST, Abandon, Take, read_call
-from .rows import (
-    FOR_PEOPLE, GENERATIONS, INDEXES, INSERTS, TABLES, VERSION, Cell, Generation, StateHistory, StoredCall, StoredResult, StoredStanding, checksum_of, names_in,
-)
+from ..scheduler.protocol import GREATEST
+from .rows import FOR_PEOPLE, INDEXES, INSERTS, TABLES, VERSION, Cell, Generation, StateHistory, StoredCall, StoredResult, StoredStanding, checksum_of
 
 # A write that is carried out together with others, or not at all.
 Write = Callable[["Store"], object]
@@ -115,11 +113,10 @@ class Store:
                 self.delete(table, "id = ?", number)
         return sound
 
-    @contextlib.contextmanager
-    def _read_errors(self) -> Iterator[None]:
-        """A failed read raises `NotStored`, as a failed write does."""
+    def _read(self, query: str, *cells: Cell) -> List[Any]:
+        """The rows of a query. A failed read raises `NotStored`, as a failed write does."""
         try:
-            yield
+            return self._database.execute(query, cells).fetchall()
         except sqlite3.Error as error:
             raise NotStored(f"{self.path}: {error}") from None
 
@@ -129,63 +126,54 @@ class Store:
 
     def generations(self) -> Dict[int, Generation]:
         """The last generation of each part."""
-        return {row[0]: Generation(*(*row[:-1], names_in(row[-1]))) for row in self._database.execute(GENERATIONS)}
+        rows = self._read("SELECT part, setup, start, saved, last_call, names FROM generations LEFT JOIN mirrors USING (part) ORDER BY generations.id")
+        return {row[0]: Generation(*(*row[:-1], frozenset(json.loads(row[-1] or "[]")))) for row in rows}
 
     def calls_since(self, part: int, number: int, last: int = GREATEST) -> List[StoredCall]:
         """The calls of a part after the call with this number, up to the last one, except those that were set aside."""
-        rows = "SELECT id, part, line, words FROM calls WHERE part = ? AND id > ? AND id <= ? AND id NOT IN (SELECT id FROM aside) ORDER BY id"
-        with self._read_errors():
-            return [StoredCall(*row) for row in self._database.execute(rows, (part, number, last))]
+        query = "SELECT id, part, line, words FROM calls WHERE part = ? AND id > ? AND id <= ? AND id NOT IN (SELECT id FROM aside) ORDER BY id"
+        return [StoredCall(*row) for row in self._read(query, part, number, last)]
 
     def last_moment(self) -> int:
         """The greatest stored moment. After a save there may be no calls, so the figures have a moment too."""
-        moments = [0, int(self.figures().get("moment", 0)), *(generation.start for generation in self.generations().values())]
-        for (line,) in self._database.execute("SELECT line FROM calls ORDER BY id DESC"):
-            call = read_call(line)
-            if isinstance(call, (Take, Abandon)):
-                moments.append(call.now)
-                break
-        return max(moments)
+        # The moment is the last member of these calls.
+        lines = self._read("""SELECT line FROM calls WHERE line LIKE '["take",%' OR line LIKE '["abandon",%' ORDER BY id DESC LIMIT 1""")
+        starts = [generation.start for generation in self.generations().values()]
+        return max([0, int(self.figures().get("moment", 0)), *starts, *(int(json.loads(line)[-1]) for (line,) in lines)])
 
     def switches(self) -> Dict[str, bool]:
-        return {name: bool(on) for name, on in self._database.execute("SELECT name, is_on FROM switches")}
+        return {name: bool(on) for name, on in self._read("SELECT name, is_on FROM switches")}
 
     def waiting_results(self) -> List[StoredResult]:
-        return [StoredResult(*row) for row in self._database.execute("SELECT id, name, code, words FROM passive ORDER BY id")]
+        return [StoredResult(*row) for row in self._read("SELECT id, name, code, words FROM passive ORDER BY id")]
 
     def requests(self) -> Dict[str, str]:
         """The answers to requests that had numbers."""
-        return dict(self._database.execute("SELECT number, answer FROM requests ORDER BY id"))
+        return dict(self._read("SELECT number, answer FROM requests ORDER BY id"))
 
     def outbox(self) -> List[Tuple[int, str]]:
         """The documents that the command for changes hasn't accepted, the oldest first."""
-        with self._read_errors():
-            return list(self._database.execute("SELECT id, document FROM outbox ORDER BY id"))
+        return self._read("SELECT id, document FROM outbox ORDER BY id")
 
     def waiting_changes(self) -> Tuple[int, Optional[float]]:
         """The number of documents that the command for changes hasn't accepted, and the time of the first."""
-        with self._read_errors():
-            count, first = self._database.execute("SELECT count(*), (SELECT document FROM outbox ORDER BY id LIMIT 1) FROM outbox").fetchone()
+        ((count, first),) = self._read("SELECT count(*), (SELECT document FROM outbox ORDER BY id LIMIT 1) FROM outbox")
         return count, None if first is None else float(json.loads(first)["time"])
 
     def changes_after(self, number: int) -> Set[int]:
         """The numbers of the stored changes after the call with this number."""
-        return {each for (each,) in self._database.execute("SELECT id FROM changes WHERE id > ?", (number,))}
+        return {each for (each,) in self._read("SELECT id FROM changes WHERE id > ?", number)}
 
     def figures(self) -> Dict[str, float]:
-        return {name: float(value) for name, value in self._database.execute("SELECT name, value FROM figures")}
+        return {name: float(value) for name, value in self._read("SELECT name, value FROM figures")}
 
     def standings(self) -> List[StoredStanding]:
-        """The stored standings."""
-        with self._read_errors():
-            return [StoredStanding(*cells) for cells in self._database.execute(f"SELECT {', '.join(StoredStanding._fields)} FROM standings")]
+        return [StoredStanding(*cells) for cells in self._read(f"SELECT {', '.join(StoredStanding._fields)} FROM standings")]
 
     def last_changes(self, name: str) -> Optional[StateHistory]:
         """When an object's last state began, and its last hard one, from the stored changes; None if it has none."""
-        with self._read_errors():
-            rows = self._database.execute("SELECT * FROM changes WHERE name = ? ORDER BY id", (name,)).fetchall()
         past = StateHistory()
-        for _, time, _, state, kind, *_ in self._sound_rows("changes", rows):
+        for _, time, _, state, kind, *_ in self._sound_rows("changes", self._read("SELECT * FROM changes WHERE name = ? ORDER BY id", name)):
             past.note(str(state), str(kind), float(str(time)))
         return past if past.state else None
 

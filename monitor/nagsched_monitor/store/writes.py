@@ -1,7 +1,8 @@
 """Writes to the database of a site. Each function returns a write that is carried out together with others, or not at all."""
+import json
 from typing import Iterable, Mapping, Optional, Sequence, Tuple
 
-from .rows import Cell, Generation, StoredChange, StoredStanding, names_text, row_number
+from .rows import Cell, Generation, StoredChange, StoredStanding, row_number
 from .store import Store, Write
 
 # The number of stored answers to numbered requests.
@@ -50,7 +51,7 @@ def begin_generation(generation: Generation) -> Write:
     """A scheduler that is opened: earlier rows of its part aren't needed any more."""
     gone = [delete(table, "part = ? AND id <= ?", generation.part, generation.last_call) for table in ("calls", "aside")]
     old = [delete(table, "part = ?", generation.part) for table in ("generations", "mirrors")]
-    mirrors = [insert("mirrors", None, generation.part, names_text(generation.mirrors))] if generation.mirrors else []
+    mirrors = [insert("mirrors", None, generation.part, json.dumps(sorted(generation.mirrors), ensure_ascii=False))] if generation.mirrors else []
     cells = (generation.part, generation.setup, generation.start, generation.saved, generation.last_call)
     return all_of([*gone, *old, insert("generations", None, *cells), *mirrors])
 
