@@ -10,6 +10,7 @@ MOST_REQUESTS = 1_000
 
 
 def insert(table: str, number: Optional[int], *cells: Cell) -> Write:
+    """A row, which replaces the one with the same number or the same unique name."""
     return lambda store: store.insert(table, number, cells)
 
 
@@ -25,11 +26,6 @@ def all_of(writes: Iterable[Write]) -> Write:
             write(store)
 
     return carry_out
-
-
-def replace(table: str, name: str, value: Cell) -> Write:
-    """A row that replaces the one with the same name."""
-    return all_of([delete(table, "name = ?", name), insert(table, None, name, value)])
 
 
 def store_calls(calls: Sequence[Tuple[int, str, Optional[str]]]) -> Write:
@@ -63,7 +59,7 @@ def end_generation(part: int) -> Write:
 
 def set_switch(name: str, on: Optional[bool]) -> Write:
     """An operator's switch; None removes it."""
-    return delete("switches", "name = ?", name) if on is None else replace("switches", name, int(on))
+    return delete("switches", "name = ?", name) if on is None else insert("switches", None, name, int(on))
 
 
 def store_result(name: str, code: int, words: str, number: Optional[int] = None) -> Write:
@@ -105,4 +101,4 @@ def drop_standings(names: Sequence[str]) -> Write:
 
 def store_figures(values: Mapping[str, float]) -> Write:
     """The figures of the monitor itself."""
-    return all_of(replace("figures", name, float(value)) for name, value in values.items())
+    return all_of(insert("figures", None, name, float(value)) for name, value in values.items())
