@@ -1,6 +1,5 @@
 """The schedulers of a site and their answers: calls are first stored together, then made together, and then their answers are applied."""
 import json
-from dataclasses import replace
 from typing import AbstractSet, Callable, List, Mapping, NamedTuple, Optional, Sequence
 
 from ..outputs import changes
@@ -137,7 +136,7 @@ class Scheduling:
         changed = [line for part in sorted(others) if states for line in migration.carry_over(self._program, site, part, begun[part])]
         generations = {
             part: Generation(part, setup, moment, begun.get(part), last_call, site.mirrors.get(part, frozenset()))
-            if part in others else replace(self.schedulers.parts[part].generation, saved=states[part], last_call=last_call)
+            if part in others else self.schedulers.parts[part].generation._replace(saved=states[part], last_call=last_call)
             for part, setup in enumerate(site.setups)
         }
         self._begin(generations)
@@ -241,8 +240,8 @@ class Scheduling:
             for name in self._read_state(part, state):
                 self._log(f"{name}: its scheduler has it otherwise than the monitor had; the scheduler counts")
         self._standings.write_soon()
-        generations = {part: scheduler.generation for part, scheduler in self.schedulers.parts.items()}
-        self._begin({part: replace(generations[part], saved=state, last_call=self._store.last_call) for part, state in states.items()})
+        parts, last_call = self.schedulers.parts, self._store.last_call
+        self._begin({part: parts[part].generation._replace(saved=state, last_call=last_call) for part, state in states.items()})
 
     def process_ids(self) -> List[int]:
         return self.schedulers.process_ids()

@@ -30,8 +30,7 @@ INSERTS: Dict[str, str] = {
 }
 
 
-@dataclass(frozen=True)
-class Generation:
+class Generation(NamedTuple):
     """How the scheduler of a part was opened last."""
 
     part: int
@@ -53,8 +52,7 @@ class StoredCall(NamedTuple):
     words: Optional[str]
 
 
-@dataclass(frozen=True)
-class StoredResult:
+class StoredResult(NamedTuple):
     """A passive result that waits."""
 
     id: int
@@ -63,8 +61,7 @@ class StoredResult:
     words: str
 
 
-@dataclass(frozen=True)
-class StoredChange:
+class StoredChange(NamedTuple):
     """A change of state: the number of its call, and the object's state since then."""
 
     id: int
