@@ -13,11 +13,6 @@ MIRROR_FIRST, RESULT_FIRST, HOST_FIRST = 0, 1, 2
 FIRST_TIME = 3
 
 
-def due_time(due: Optional[int]) -> Optional[int]:
-    """The time at which a check was due; None if it was asked for at once."""
-    return due if due is not None and due >= FIRST_TIME else None
-
-
 def spread_times(overdue: Sequence[Tuple[str, int]], now: int) -> List[int]:
     """The times of checks that are overdue, in the order in which they were due: each has its name and its interval in milliseconds."""
     count = len(overdue)

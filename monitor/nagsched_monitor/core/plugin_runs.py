@@ -12,7 +12,7 @@ from .clock import Clock
 from .mirroring import PlannedCall
 from .object_state import ObjectState
 from .plan import Plan
-from .phases import due_time
+from .phases import FIRST_TIME
 from .run_table import Owner, Run
 from .verdict import verdict
 
@@ -49,10 +49,9 @@ class PluginRuns:
         if left is not None:
             self._assign(run, left)
             return
-        time = due_time(obj.last_due)
         late = 0
-        if time is not None:
-            late = self._clock.moment() - time
+        if obj.last_due is not None and obj.last_due >= FIRST_TIME:
+            late = self._clock.moment() - obj.last_due
             self.latest_start = max(self.latest_start, late)
             self._counters.count_start(late)
         obj.history.late = max(0, late) / 1000
