@@ -31,7 +31,7 @@ class PassiveResults(SiteTest):
     def test_one_that_comes_while_the_object_is_out_waits(self) -> None:
         monitor = self.site()
         monitor.run(1)
-        self.assertIn("web;http", monitor.engine.objects_with_plugins())
+        self.assertIn("web;http", monitor.objects_with_plugins())
         monitor.add_result("web;http", 1, "slow")
         monitor.run(0.5)
         self.assertEqual(len(monitor.store.waiting_results()), 1)

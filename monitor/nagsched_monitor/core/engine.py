@@ -5,7 +5,7 @@ simulate a day in seconds.
 """
 import collections
 from functools import partial
-from typing import Callable, Deque, Dict, List, Optional, Set
+from typing import Callable, Deque, Dict, List, Optional
 
 from ..faults import ConversationEnded, NotStored
 from ..inputs.requests import Request, Requests
@@ -56,7 +56,6 @@ class Engine:
         self._last_turn: Optional[int] = None
         self._save_at, self._saved_call = self._now + SAVE_AFTER, store.last_call
         self.is_stuck = False
-        self.result_count = 0
         self._await_results(min(clock.wall(), figures.get("written_at", 0.0)))
 
     def _await_results(self, until: float) -> None:
@@ -169,7 +168,6 @@ class Engine:
         elif isinstance(call, Abandon) and isinstance(answer, Freed):
             self.counters.count_result("given_up")
         elif isinstance(call, Report) and isinstance(answer, Standing):
-            self.result_count += 1
             self.counters.count_result(answer.state)
             obj.last_result = self._now
             self.checks.apply_result(obj, object_answer.before, answer, self._now)
@@ -198,14 +196,7 @@ class Engine:
         else:
             self._log(f"{obj.name} has no command: no check of it is made")
 
-    # ---- for requests and tests
-
-    def running_plugin_count(self) -> int:
-        return len(self.scheduling.states.running.plugins())
-
-    def objects_with_plugins(self) -> Set[str]:
-        """The objects whose plugins run."""
-        return {run.key[1] for run in self.scheduling.states.running.owned_by(Owner.PLUGIN)}
+    # ---- for requests
 
     def time_since_turn(self) -> int:
         """The milliseconds since the beginning of the last turn that stored everything it had to."""

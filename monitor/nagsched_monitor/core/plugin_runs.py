@@ -39,7 +39,6 @@ class PluginRuns:
         self._losses: Counter[str] = collections.Counter()
         self._delays: Counter[str] = collections.Counter()
         self._last_sweep = clock.moment()
-        self.latest_start = 0
 
     # ---- the beginning
 
@@ -52,7 +51,6 @@ class PluginRuns:
         late = 0
         if obj.last_due is not None and obj.last_due >= FIRST_TIME:
             late = self._clock.moment() - obj.last_due
-            self.latest_start = max(self.latest_start, late)
             self._counters.count_start(late)
         obj.history.late = max(0, late) / 1000
         job = Job(obj.name, run.number, command.arguments, command.limit, obj.definition.runner)

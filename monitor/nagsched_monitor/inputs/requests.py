@@ -170,7 +170,7 @@ class Requests:
         return RequestPlan(answer={
             "turn": wall - engine.time_since_turn() / 1000, "is_stuck": engine.is_stuck, "passive_waiting": engine.passive.count, "changes_waiting": changes,
             "oldest_change": 0.0 if first is None else max(0.0, wall - first), "runners": engine.runners.process_counts(),
-            "out": engine.running_plugin_count(), "made": engine.result_count, "latest_start": engine.plugins.latest_start,
+            "out": len(engine.scheduling.states.running.plugins()), "made": engine.counters.result_count, "latest_start": engine.counters.latest_start,
         })
 
     def _plan_reschedule(self, members: Members, request: Request) -> RequestPlan:
