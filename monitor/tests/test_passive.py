@@ -191,6 +191,18 @@ class PassiveResults(SiteTest):
         monitor.run(100)
         self.assertEqual(monitor.changes, [])
 
+    def test_results_of_an_object_that_is_gone_at_a_start(self) -> None:
+        self.write_site([host("web")], [service("web", "http")])
+        monitor = self.monitor(lambda name, moment: (30_000, 0, "fine"))
+        monitor.run(10)
+        monitor.add_result("web;http", 2, "of last spring")
+        monitor.close()
+        self.write_site([host("web")], [])
+        after = self.monitor(fine, monitor.clock)
+        after.run(100)
+        self.assertEqual(after.store.waiting_results(), [])
+        self.assertIn("web;http: its passive results are dropped, since it isn't part of the site any more", after.lines)
+
     def test_freshness_of_an_object_that_a_reload_brings(self) -> None:
         """It is awaited from then on, no matter how long the monitor has run."""
         self.write_site([host("web")], [])

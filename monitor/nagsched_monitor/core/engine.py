@@ -56,6 +56,7 @@ class Engine:
         self._last_turn: Optional[int] = None
         self._save_at, self._saved_call = self._now + SAVE_AFTER, store.last_call
         self.is_stuck = False
+        self._drop_results()
         self._await_results(min(clock.wall(), figures.get("written_at", 0.0)))
 
     def _await_results(self, until: float) -> None:
@@ -225,11 +226,15 @@ class Engine:
         """Takes over another site; running checks continue. If it is refused, nothing has changed. Returns the changes of objects that stay."""
         changed = self.scheduling.reload(site)
         self.checks.recheck_periods()
-        gone = self.passive.drop_others(site.objects)
+        self._drop_results()
+        return changed
+
+    def _drop_results(self) -> None:
+        """Drops the passive results of objects that aren't part of the site."""
+        gone = self.passive.drop_others(self.objects)
         for name in sorted({result.name for result in gone}):
             self._log(f"{name}: its passive results are dropped, since it isn't part of the site any more")
         try:
             self.store.write(*(drop_result(result.id) for result in gone))
         except NotStored as fault:
             self._log(f"results of objects that are gone stay stored: {fault}")
-        return changed
