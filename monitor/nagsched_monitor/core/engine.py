@@ -232,6 +232,8 @@ class Engine:
     def _drop_results(self) -> None:
         """Drops the passive results of objects that aren't part of the site."""
         gone = self.passive.drop_others(self.objects)
+        if not gone:
+            return
         for name in sorted({result.name for result in gone}):
             self._log(f"{name}: its passive results are dropped, since it isn't part of the site any more")
         try:
