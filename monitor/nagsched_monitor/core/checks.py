@@ -67,13 +67,8 @@ class Checks:
         changed = [obj for obj in self._objects.values() if obj.on != self.is_to_be_enabled(obj.definition)]
         opened = [obj for obj in changed if self._scheduling.is_open(obj.definition.part)]
         plan.calls += [(obj.definition.part, Enable(obj.name, not obj.on), None) for obj in opened]
-        begun = [obj.name for obj in changed if not obj.on]
-
-        def switched() -> None:
-            self._minute = minute if len(opened) == len(changed) else None
-            self._to_spread += begun
-
-        plan.then.append(switched)
+        plan.then.append(partial(setattr, self, "_minute", minute if len(opened) == len(changed) else None))
+        plan.then.append(partial(self._to_spread.extend, [obj.name for obj in changed if not obj.on]))
 
     def switch_calls(self, obj: ObjectState, on: bool) -> List[Call]:
         """The calls that set an operator's switch."""
@@ -132,7 +127,7 @@ class Checks:
         for (_, _, obj), time in zip(overdue, times):
             self.plan_check(obj, time, obj.forced)
             obj.phase = time if obj.phase is None else obj.phase
-        self._to_spread = []
+        self._to_spread.clear()
 
     # ---- due checks
 

@@ -24,10 +24,6 @@ class Mirrors:
                 self._parts.setdefault(name, []).append(part)
         self._expected: Set[ObjectKey] = set()
 
-    def names_of(self, part: int) -> AbstractSet[str]:
-        """The names of a part's mirrors."""
-        return self.names.get(part, frozenset())
-
     def parts_of(self, name: str) -> Sequence[int]:
         """The parts in which an object has mirrors."""
         return self._parts.get(name, ())
@@ -37,7 +33,7 @@ class Mirrors:
     def apply_answer(self, part: int, call: Call, answer: Answer) -> bool:
         """Whether an answer is about a mirror, which is then updated."""
         name = object_name(call, answer)
-        if name not in self.names_of(part):
+        if name not in self.names.get(part, ()):
             return False
         if isinstance(answer, Taken):
             self._running.begin(Run((part, name), answer.run, Owner.ORIGINAL))
@@ -50,13 +46,11 @@ class Mirrors:
 
     def apply_saved(self, part: int, members: Sequence[Mapping[str, Any]]) -> List[Mapping[str, Any]]:
         """Takes in the runs of mirrors among the objects of a part, from its scheduler's saved state; returns the other objects."""
-        own = []
+        names = self.names.get(part, ())
         for it in members:
-            if it["name"] not in self.names_of(part):
-                own.append(it)
-            elif it["run"] is not None:
+            if it["name"] in names and it["run"] is not None:
                 self._running.begin(Run((part, it["name"]), it["run"]["number"], Owner.ORIGINAL))
-        return own
+        return [it for it in members if it["name"] not in names]
 
     def change_site(self, names: Mapping[int, AbstractSet[str]], others: AbstractSet[int]) -> "Mirrors":
         """The mirrors of another site, in which these parts are others."""

@@ -58,7 +58,7 @@ class PartScheduler:
 
     def begin(self) -> None:
         """Sends pending calls, if the scheduler runs and may get several of them together."""
-        if self.conversation is not None and self.pending and self.pending[0].id > self._alone_until:
+        if self.conversation is not None and self.pending[0].id > self._alone_until:
             self._send(self.conversation)
 
     def _send(self, conversation: Conversation) -> None:
