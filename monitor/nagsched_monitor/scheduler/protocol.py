@@ -7,37 +7,12 @@ GREATEST = 2**60
 GREATEST_CODE = 3
 
 
-class Take(NamedTuple):
-    now: int
-
-
-class Report(NamedTuple):
-    name: str
-    run: int
-    code: int
-
-
-class Abandon(NamedTuple):
-    name: str
-    run: int
-    now: int
-
-
-class Reschedule(NamedTuple):
-    name: str
-    time: int
-    forced: bool
-
-
-class Enable(NamedTuple):
-    name: str
-    on: bool
-
-
-class Status(NamedTuple):
-    name: str
-
-
+Take = NamedTuple("Take", [("now", int)])
+Report = NamedTuple("Report", [("name", str), ("run", int), ("code", int)])
+Abandon = NamedTuple("Abandon", [("name", str), ("run", int), ("now", int)])
+Reschedule = NamedTuple("Reschedule", [("name", str), ("time", int), ("forced", bool)])
+Enable = NamedTuple("Enable", [("name", str), ("on", bool)])
+Status = NamedTuple("Status", [("name", str)])
 Call = Union[Take, Report, Abandon, Reschedule, Enable, Status]
 KINDS = {"take": Take, "report": Report, "abandon": Abandon, "reschedule": Reschedule, "enable": Enable, "status": Status}
 WORDS = {kind: word for word, kind in KINDS.items()}
@@ -65,14 +40,10 @@ def is_readable(call: Call) -> bool:
 # ---- answers
 
 
-class Taken(NamedTuple):
-    run: int
-    name: str
-
-
-class PutOff(NamedTuple):
-    next: Optional[int]
-    name: str
+Taken = NamedTuple("Taken", [("run", int), ("name", str)])
+PutOff = NamedTuple("PutOff", [("next", Optional[int]), ("name", str)])
+Freed = NamedTuple("Freed", [("next", int), ("name", str)])
+Done = NamedTuple("Done", [("name", str)])
 
 
 class Idle(NamedTuple):
@@ -93,15 +64,6 @@ class Standing(NamedTuple):
 
     def is_soft_problem(self) -> bool:
         return self.is_problem() and self.kind == "SOFT"
-
-
-class Freed(NamedTuple):
-    next: int
-    name: str
-
-
-class Done(NamedTuple):
-    name: str
 
 
 class Refused(NamedTuple):
