@@ -16,8 +16,6 @@ from .phases import HOST_FIRST, RESULT_FIRST
 
 
 class Checks:
-    """The times of a site's checks."""
-
     def __init__(self, scheduling: Scheduling, passive: PassiveResults, operator: Mapping[str, bool], clock: Clock, log: Callable[[str], None]) -> None:
         self._scheduling, self._passive, self._clock, self._log = scheduling, passive, clock, log
         # The operators' switches.
@@ -71,7 +69,6 @@ class Checks:
         plan.then.append(partial(self._to_spread.extend, [obj.name for obj in changed if not obj.on]))
 
     def switch_calls(self, obj: ObjectState, on: bool) -> List[Call]:
-        """The calls that set an operator's switch."""
         wanted = self.is_to_be_enabled(obj.definition, on)
         return [Enable(obj.name, wanted)] if obj.on != wanted else []
 

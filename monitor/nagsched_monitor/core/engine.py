@@ -39,8 +39,6 @@ SAVE_AGAIN = 10_000
 
 
 class Engine:
-    """A site as it is monitored."""
-
     def __init__(self, scheduling: Scheduling, runners: Runners, store: Store, clock: Clock, log: Callable[[str], None]) -> None:
         self.scheduling, self.store, self.runners, self._clock, self._log = scheduling, store, runners, clock, log
         self._now = clock.moment()
@@ -139,7 +137,6 @@ class Engine:
         return plan
 
     def add_request(self, request: Request) -> None:
-        """Takes a request, which is obeyed and answered in the next turn."""
         self._requests.append(request)
 
     def _plan_requests(self, plan: Plan) -> None:
@@ -157,7 +154,6 @@ class Engine:
     # ---- answers
 
     def _apply(self, object_answer: ObjectAnswer) -> None:
-        """Acts on an answer."""
         call, answer, obj = object_answer.call, object_answer.answer, object_answer.object
         if obj is None:
             if isinstance(answer, Refused):
@@ -212,7 +208,6 @@ class Engine:
                 self._save_at, self._saved_call = self._now + SAVE_AGAIN, self.store.last_call
 
     def save(self) -> None:
-        """Saves the state."""
         self.scheduling.save()
         self._save_at, self._saved_call = self._clock.moment() + SAVE_AFTER, self.store.last_call
         self.counters.count_save()

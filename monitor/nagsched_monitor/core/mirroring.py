@@ -25,7 +25,6 @@ class Mirrors:
         self._expected: Set[ObjectKey] = set()
 
     def parts_of(self, name: str) -> Sequence[int]:
-        """The parts in which an object has mirrors."""
         return self._parts.get(name, ())
 
     # ---- answers
@@ -68,7 +67,6 @@ class Mirrors:
     # ---- calls
 
     def take_calls(self, moment: int) -> List[PlannedCall]:
-        """The calls that take the mirrors that aren't running."""
         places = [(part, name) for part, names in self.names.items() for name in sorted(names) if self._running.get((part, name)) is None]
         return [call for part, name in places for call in forced_take(part, name, MIRROR_FIRST, moment)]
 

@@ -44,7 +44,6 @@ class ObjectState:
 
     @property
     def run(self) -> Optional[Run]:
-        """Its running check."""
         return self.running.get((self.definition.part, self.name))
 
     def due_time(self) -> Optional[int]:
@@ -68,7 +67,6 @@ class DueQueue:
     _due: Set[str] = field(default_factory=set)
 
     def set_time(self, name: str, time: Optional[int]) -> None:
-        """Sets the time for which an object waits, or None."""
         if time is not None and self._times.get(name) == time:
             return
         self._due.discard(name)
@@ -79,7 +77,6 @@ class DueQueue:
             heapq.heappush(self._heap, (time, name))
 
     def due_names(self, moment: int) -> Set[str]:
-        """The objects whose time has come."""
         while self._heap and self._heap[0][0] <= moment:
             time, name = heapq.heappop(self._heap)
             if self._times.get(name) == time:
@@ -100,8 +97,6 @@ class DueQueue:
 
 
 class ObjectStates:
-    """The known state of all objects of a site."""
-
     def __init__(self) -> None:
         self.objects: Dict[str, ObjectState] = {}
         self.running = RunTable()
@@ -119,7 +114,6 @@ class ObjectStates:
             self._set_due(obj)
 
     def _state_in_new_site(self, earlier: ObjectState, definition: ObjectDefinition, now: int) -> ObjectState:
-        """The state of an object that stays."""
         if earlier.definition.part != definition.part:
             self.end_run(earlier)
         on = earlier.on if earlier.definition.enabled == definition.enabled else definition.enabled
@@ -158,7 +152,6 @@ class ObjectStates:
         self.due.set_time(obj.name, obj.due_time())
 
     def apply_answer(self, obj: ObjectState, call: Call, answer: Answer) -> None:
-        """Takes in an answer about an object."""
         if isinstance(answer, Taken):
             self.running.begin(Run(obj.key, answer.run, forced=obj.forced))
             obj.last_due, obj.next, obj.forced = obj.next, None, False

@@ -28,8 +28,6 @@ SWEEP = 1_000
 
 
 class PluginRuns:
-    """The plugins of a site, and the events of their ends."""
-
     def __init__(self, scheduling: Scheduling, runners: Runners, clock: Clock, log: Callable[[str], None], counters: Counters) -> None:
         self._scheduling, self._runners, self._clock, self._log, self._counters = scheduling, runners, clock, log, counters
         self._events: List[Event] = []
@@ -150,7 +148,6 @@ class PluginRuns:
         return isinstance(event, JobLost) and (event.is_local or self._losses[name] == MOST_LOST and self._scheduling.states.objects[name].definition.is_host())
 
     def _count_losses(self, event: Event) -> None:
-        """Counts how often in a row a check was lost, and couldn't be run here."""
         name = event.job.name
         if self._is_delayed(event):
             self._delays[name] += 1

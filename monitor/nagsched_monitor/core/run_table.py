@@ -63,7 +63,6 @@ class RunTable:
         return iter(list(self._runs.values()))
 
     def plugins(self) -> List[Job]:
-        """The plugins that run."""
         return [run.job for run in self.owned_by(Owner.PLUGIN) if run.job is not None] + list(self.leftover_jobs.values())
 
     def owned_by(self, owner: Owner) -> List[Run]:

@@ -20,7 +20,6 @@ class Conversation:
     """A scheduler over one setup."""
 
     def __init__(self, program: str, setup: bytes, start: int, saved: Optional[bytes] = None) -> None:
-        """Over this setup, from its start on, or from the saved state."""
         words = [program, "live", *([] if saved is None else ["--resume"]), "--start", str(start)]
         try:
             # In a session of its own: a Ctrl-C in the terminal is for the monitor, which saves the state before it ends.
@@ -74,7 +73,6 @@ class Conversation:
         return lines.decode(errors="replace").split("\n")[:-1]
 
     def save(self) -> bytes:
-        """The state of the scheduler as text."""
         word, _, state = self.ask_lines(['["save"]'])[0].partition(" ")
         if word != "saved":
             raise ConversationEnded(f"the scheduler answered {word} {state} to a save")

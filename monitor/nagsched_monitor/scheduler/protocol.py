@@ -6,7 +6,6 @@ from typing import Callable, Dict, NamedTuple, Optional, Union
 GREATEST = 2**60
 GREATEST_CODE = 3
 
-
 Take = NamedTuple("Take", [("now", int)])
 Report = NamedTuple("Report", [("name", str), ("run", int), ("code", int)])
 Abandon = NamedTuple("Abandon", [("name", str), ("run", int), ("now", int)])
@@ -24,7 +23,6 @@ def call_line(call: Call) -> str:
 
 
 def read_call(line: str) -> Call:
-    """The call in a stored line."""
     word, *members = json.loads(line)
     call: Call = KINDS[word](*members)
     return call
@@ -38,7 +36,6 @@ def is_readable(call: Call) -> bool:
 
 
 # ---- answers
-
 
 Taken = NamedTuple("Taken", [("run", int), ("name", str)])
 PutOff = NamedTuple("PutOff", [("next", Optional[int]), ("name", str)])

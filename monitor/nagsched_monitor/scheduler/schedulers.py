@@ -29,7 +29,6 @@ AnsweredCall = Tuple[StoredCall, Answer]
 
 
 def read_answers(replies: Sequence[str], lines: Sequence[str]) -> List[Answer]:
-    """The answers of a scheduler to these lines."""
     answers: List[Answer] = []
     for each, line in zip(replies, lines):
         answer = read_answer(each)
@@ -69,7 +68,6 @@ class PartScheduler:
         conversation.begin(self._sent)
 
     def finish(self) -> List[AnsweredCall]:
-        """The answers to pending calls."""
         answered: List[AnsweredCall] = []
         if self.conversation is None and self._clock.moment() < self._not_before:
             return answered
@@ -151,8 +149,6 @@ class PartScheduler:
 
 
 class Schedulers:
-    """One scheduler for each part of a site."""
-
     def __init__(self, program: str, store: Store, clock: Clock, log: Callable[[str], None], converse: ConversationFactory = Conversation) -> None:
         self._program, self._store, self._clock, self._log, self._converse = program, store, clock, log, converse
         self.parts: Dict[int, PartScheduler] = {}

@@ -32,8 +32,6 @@ class ObjectAnswer(NamedTuple):
 
 
 class Scheduling:
-    """All schedulers of a site."""
-
     def __init__(
         self, program: str, site: Site, store: Store, clock: Clock, log: Callable[[str], None], notified: bool, converse: ConversationFactory = Conversation
     ) -> None:
@@ -68,7 +66,6 @@ class Scheduling:
         self._standings.settle(self.states.objects)
 
     def _resume(self) -> None:
-        """Makes the stored calls again."""
         for number, part in self.schedulers.parts.items():
             part.pending.extend(self._store.calls_since(number, part.last_answered))
             if part.generation.saved is not None:
@@ -144,7 +141,6 @@ class Scheduling:
         return changed
 
     def _begin(self, generations: Mapping[int, Generation]) -> None:
-        """Stores these generations, and continues with them."""
         gone = [part for part in self.schedulers.parts if part not in generations]
         self._write(*map(end_generation, gone), *map(begin_generation, generations.values()))
         self.schedulers.open(generations)
@@ -228,7 +224,6 @@ class Scheduling:
         return printed
 
     def has_more(self) -> bool:
-        """Whether something waits to be written."""
         return bool(self._pending_writes) or self._standings.is_overdue()
 
     # ---- saving and ending

@@ -34,8 +34,6 @@ RESTORED = tuple(f"checks.{result}" for result in RESULTS) + BUCKETS + ("late.su
 
 
 class Counters:
-    """The figures of a running monitor, in memory."""
-
     def __init__(self, stored: Mapping[str, float], clock: Clock) -> None:
         self._clock = clock
         self._values: DefaultDict[str, float] = collections.defaultdict(float, {name: stored[name] for name in RESTORED if name in stored})
@@ -55,7 +53,6 @@ class Counters:
             self.result_count += 1
 
     def count_fault(self) -> None:
-        """A turn ended with a fault of the monitor's own."""
         self._values["faults"] += 1
 
     def count_start(self, late: int) -> None:
@@ -66,14 +63,12 @@ class Counters:
         self.latest_start, self._latest_lately = max(self.latest_start, late), max(self._latest_lately, late)
 
     def count_save(self) -> None:
-        """The state was saved."""
         self._values["saves"] += 1
         self._values["saved_at"] = self._clock.wall()
 
     # ---- writing
 
     def are_due(self, now: int) -> bool:
-        """Whether it is time to write the figures: every five seconds."""
         return self._written_at is None or now - self._written_at >= EVERY
 
     def changed_figures(self, calls: int) -> Dict[str, float]:
@@ -82,7 +77,6 @@ class Counters:
         return {name: value for name, value in values.items() if self._written.get(name) != value}
 
     def set_written(self, figures: Mapping[str, float]) -> None:
-        """These figures were written."""
         self._written_at = self._clock.moment()
         self._written.update(figures)
 

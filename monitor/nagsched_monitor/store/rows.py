@@ -53,8 +53,6 @@ class StoredCall(NamedTuple):
 
 
 class StoredResult(NamedTuple):
-    """A passive result that waits."""
-
     id: int
     name: str
     code: int
@@ -134,7 +132,6 @@ class StateHistory:
     late: Optional[float] = None
 
     def note(self, state: str, kind: str, time: float) -> None:
-        """Notes a state that the object has at a time."""
         if state != self.state:
             self.state, self.since = state, time
         if kind == "HARD" and state != self.hard_state:

@@ -20,8 +20,6 @@ LONGEST = 1_000
 
 
 class StandingTable:
-    """The standings of a site, as its database has them."""
-
     def __init__(self, store: Store, clock: Clock) -> None:
         self._store, self._clock = store, clock
         self._marked: Dict[str, ObjectState] = {}
@@ -32,7 +30,6 @@ class StandingTable:
     # ---- at a start and after a reload
 
     def read(self, objects: Mapping[str, ObjectState]) -> None:
-        """Takes in the stored states of these objects."""
         for row in self._store.standings():
             if row.name in objects:
                 obj = objects[row.name]
@@ -85,7 +82,6 @@ class StandingTable:
         return [drop_standings(self._dropped), store_standings([row_of(obj, wall, ahead) for obj in self._marked.values()])]
 
     def clear_marks(self) -> None:
-        """The marked objects were written."""
         self._marked.clear()
         self._dropped = []
         self._marked_at = None

@@ -125,7 +125,6 @@ class Store:
         return int(greatest or 0)
 
     def generations(self) -> Dict[int, Generation]:
-        """The last generation of each part."""
         rows = self._read("SELECT part, setup, start, saved, last_call, names FROM generations LEFT JOIN mirrors USING (part) ORDER BY generations.id")
         return {row[0]: Generation(*(*row[:-1], frozenset(json.loads(row[-1] or "[]")))) for row in rows}
 
@@ -148,7 +147,6 @@ class Store:
         return [StoredResult(*row) for row in self._read("SELECT id, name, code, words FROM passive ORDER BY id")]
 
     def requests(self) -> Dict[str, str]:
-        """The answers to requests that had numbers."""
         return dict(self._read("SELECT number, answer FROM requests ORDER BY id"))
 
     def outbox(self) -> List[Tuple[int, str]]:
@@ -200,12 +198,10 @@ class Store:
         self.insert_all(table, [(number, cells)])
 
     def insert_calls(self, calls: Sequence[Tuple[int, str, Optional[str]]]) -> None:
-        """Writes calls, with the next numbers."""
         self.insert_all("calls", list(enumerate(calls, self.last_call + 1)))
         self.last_call += len(calls)
 
     def insert_all(self, table: str, rows: Sequence[Tuple[int, Sequence[Cell]]]) -> None:
-        """Writes rows, each with its number."""
         if rows:
             self._database.executemany(INSERTS[table], [(number, *cells, checksum_of(table, number, cells)) for number, cells in rows])
 

@@ -89,7 +89,6 @@ def drop_changes_before(time: float) -> Write:
 
 
 def store_standings(standings: Sequence[StoredStanding]) -> Write:
-    """The states of objects."""
     rows = [(row_number(standing.name), (*standing[:4], int(standing.flapping), *standing[5:9], int(standing.is_on), *standing[10:])) for standing in standings]
     return lambda store: store.insert_all("standings", rows)
 
@@ -100,5 +99,4 @@ def drop_standings(names: Sequence[str]) -> Write:
 
 
 def store_figures(values: Mapping[str, float]) -> Write:
-    """The figures of the monitor itself."""
     return all_of(insert("figures", None, name, float(value)) for name, value in values.items())
