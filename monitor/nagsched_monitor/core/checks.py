@@ -12,7 +12,7 @@ from .hosts import hosts_to_check
 from .object_state import ObjectState
 from .passive import PassiveResults
 from .plan import Plan
-from .phases import HOST_FIRST, RESULT_FIRST
+from .phases import HOST_FIRST, RESULT_FIRST, WINDOW
 
 
 class Checks:
@@ -120,8 +120,8 @@ class Checks:
             if never or due is not None and due < now:
                 overdue.append((now if due is None else due, obj.name, obj))
         overdue.sort(key=lambda each: each[:2])
-        times = phases.spread_times([(name, obj.definition.check_interval) for _, name, obj in overdue], now)
-        for (_, _, obj), time in zip(overdue, times):
+        for place, (_, _, obj) in enumerate(overdue):
+            time = now + min(obj.definition.check_interval or WINDOW, WINDOW) * place // len(overdue)
             self.plan_check(obj, time, obj.forced)
             obj.phase = time if obj.phase is None else obj.phase
         self._to_spread.clear()

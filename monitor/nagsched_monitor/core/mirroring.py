@@ -70,10 +70,6 @@ class Mirrors:
         places = [(part, name) for part, names in self.names.items() for name in sorted(names) if self._running.get((part, name)) is None]
         return [call for part, name in places for call in forced_take(part, name, MIRROR_FIRST, moment)]
 
-    def are_running(self, name: str) -> bool:
-        """Whether a result of this object can be reported to all of its mirrors."""
-        return all(self._running.get((part, name)) is not None for part in self.parts_of(name))
-
     def report_calls(self, original: int, report: Report, words: str, moment: int) -> List[PlannedCall]:
         """The calls that report a result to an object, in its part, and to its mirrors, which are taken again after that."""
         whole: List[PlannedCall] = [(original, report, words)]

@@ -90,17 +90,12 @@ class PluginRuns:
             if id(job) not in ended and id(job) not in there:
                 del running.leftover_jobs[name]
 
-    def _run_of(self, event: Event) -> Optional[Run]:
-        """The run that ends with a plugin."""
-        obj = self._scheduling.states.objects.get(event.job.name)
-        run = None if obj is None else obj.run
-        return run if run is not None and run.job is event.job else None
-
     def plan(self, plan: Plan, now: int) -> None:
         """Reports the results of plugins. Events that can't be reported now stay."""
         left: List[Event] = []
+        runs = {id(run.job): run for run in self._scheduling.states.running}
         for event in self._events:
-            run = self._run_of(event)
+            run = runs.get(id(event.job))
             if isinstance(event, StuckJobEnded) or run is None:
                 plan.then.append(partial(self._drop_event, event))
             elif self._scheduling.is_reportable(run.key):

@@ -163,10 +163,11 @@ class Scheduling:
         """Whether calls of a part can be made now: its scheduler has answered all earlier ones."""
         return not self.schedulers.parts[part].pending
 
-    def is_reportable(self, place: ObjectKey) -> bool:
+    def is_reportable(self, key: ObjectKey) -> bool:
         """Whether a result of an object can be reported now, to it and to its mirrors."""
-        part, name = place
-        return self.is_open(part) and self.mirrors.are_running(name) and all(self.is_open(other) for other in self.mirrors.parts_of(name))
+        part, name = key
+        mirrors = self.mirrors.parts_of(name)
+        return all(map(self.is_open, [part, *mirrors])) and all(self.states.running.get((other, name)) is not None for other in mirrors)
 
     def store_calls(self, planned: Sequence[PlannedCall], writes: Sequence[Write] = ()) -> None:
         """Stores these calls with the other writes; the next `make_calls` makes them. If something can't be stored, nothing is, and `NotStored` is raised."""

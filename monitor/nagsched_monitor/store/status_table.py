@@ -103,9 +103,7 @@ def history_of(row: StoredStanding) -> StateHistory:
 def row_of(obj: ObjectState, wall: float, ahead: float) -> StoredStanding:
     """The row of an object. Moments are `ahead` seconds ahead of the wall clock."""
     standing, past = obj.standing, obj.history
-    state, kind, attempt, flapping = (None, None, None, False)
-    if standing is not None:
-        state, kind, attempt, flapping = standing.state, standing.kind, standing.attempt, standing.flapping
+    state, kind, attempt, flapping = (None, None, None, False) if standing is None else (standing.state, standing.kind, standing.attempt, standing.flapping)
     next_check = None if obj.next is None else wall if obj.next < FIRST_TIME else obj.next / 1000 - ahead
     return StoredStanding(
         obj.name, state, kind, attempt, flapping, past.since, past.hard_since, past.last_check, next_check, obj.on,
