@@ -2,6 +2,8 @@
 import json
 from typing import Callable, Dict, NamedTuple, Optional, Union
 
+from ..faults import ConversationEnded
+
 # The greatest moment and run number of a scheduler, and the greatest code of a plugin.
 GREATEST = 2**60
 GREATEST_CODE = 3
@@ -94,11 +96,13 @@ READERS: Dict[str, Callable[[str, str, str], Answer]] = {
 }
 
 
-def read_answer(line: str) -> Optional[Answer]:
-    """An answer; None if it isn't an answer to a call."""
-    word, _, rest = line.partition(" ")
+def read_answer(reply: str, line: str) -> Answer:
+    """The answer to a line. Raises `ConversationEnded` if it isn't one."""
+    word, _, rest = reply.partition(" ")
+    if word not in READERS:
+        raise ConversationEnded(f"the scheduler answered {reply!r} to {line}")
     first, _, name = rest.partition(" ")
-    return READERS[word](rest, first, name) if word in READERS else None
+    return READERS[word](rest, first, name)
 
 
 def object_name(call: Call, answer: Answer) -> str:

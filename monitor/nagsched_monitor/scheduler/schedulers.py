@@ -28,16 +28,6 @@ Value = TypeVar("Value")
 AnsweredCall = Tuple[StoredCall, Answer]
 
 
-def read_answers(replies: Sequence[str], lines: Sequence[str]) -> List[Answer]:
-    answers: List[Answer] = []
-    for each, line in zip(replies, lines):
-        answer = read_answer(each)
-        if answer is None:
-            raise ConversationEnded(f"the scheduler answered {each!r} to {line}")
-        answers.append(answer)
-    return answers
-
-
 class PartScheduler:
     """The scheduler of a part: its process, and the calls that it hasn't answered."""
 
@@ -90,7 +80,7 @@ class PartScheduler:
     def _read_answers(self, conversation: Conversation) -> List[AnsweredCall]:
         if not self._sent:
             self._send(conversation)
-        answers = read_answers(conversation.finish(), self._sent)
+        answers = [read_answer(reply, line) for reply, line in zip(conversation.finish(), self._sent)]
         answered = [(self.pending.popleft(), answer) for answer in answers]
         self.last_answered, self._sent = answered[-1][0].id, []
         return answered
@@ -98,9 +88,9 @@ class PartScheduler:
     def _open_conversation(self) -> Conversation:
         """The scheduler. If it doesn't run, it is started, and makes the answered calls again."""
         if self.conversation is None:
-            generation = self.generation
-            self.conversation, self._sent = self._start(generation), []
-            self.conversation.ask_lines([each.line for each in self._store.calls_since(generation.part, generation.last_call, self.last_answered)])
+            calls = self._store.calls_since(self.generation.part, self.generation.last_call, self.last_answered)
+            self.conversation, self._sent = self._start(self.generation), []
+            self.conversation.ask_lines([each.line for each in calls])
         return self.conversation
 
     def _handle_end(self, why: str) -> List[AnsweredCall]:
@@ -179,7 +169,7 @@ class Schedulers:
     def query(self, number: int, calls: Sequence[Call]) -> List[Answer]:
         """The answers to calls that change nothing, and aren't stored."""
         lines = [call_line(call) for call in calls]
-        return self.parts[number].run_query(lambda conversation: read_answers(conversation.ask_lines(lines), lines))
+        return self.parts[number].run_query(lambda conversation: [read_answer(*each) for each in zip(conversation.ask_lines(lines), lines)])
 
     def states(self) -> Dict[int, bytes]:
         """The state of each scheduler. Raises `ConversationEnded` if one hasn't answered all calls, or can't be started."""
