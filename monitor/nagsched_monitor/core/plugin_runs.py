@@ -1,7 +1,7 @@
 """Runs of plugins: their beginning, their end, and the handling of those that don't end."""
 import collections
 from functools import partial
-from typing import Callable, Counter, Dict, List, Optional
+from typing import Callable, Counter, Dict, List, Union
 
 from ..run.jobs import Event, Job, JobFinished, JobLost, Runners, StuckJobEnded
 from ..scheduler.protocol import Abandon, Report, Reschedule
@@ -121,7 +121,7 @@ class PluginRuns:
                 del left[name]
             self._log(f"{name}: the result of run {event.job.run} is dropped: it was given up, or the object isn't part of the site any more")
 
-    def _ending_calls(self, run: Run, event: Event, now: int) -> List[PlannedCall]:
+    def _ending_calls(self, run: Run, event: Union[JobFinished, JobLost], now: int) -> List[PlannedCall]:
         """The calls that end a run. A lost check is made again; a service's check whose runner ended is UNKNOWN the third time."""
         part, name = run.key
         obj = self._scheduling.states.objects[name]
@@ -130,21 +130,20 @@ class PluginRuns:
             return self._scheduling.mirrors.report_calls(part, Report(name, run.number, code), words, now)
         if self._is_delayed(event):
             again = min(LONGEST_RETRY, RETRY << min(self._delays[name], 16))
-            why = event.why if isinstance(event, JobLost) else ""
-            self._log(f"{name}: its plugin can't be run now, and is tried again in {again / 1000:g} seconds: {why}")
+            self._log(f"{name}: its plugin can't be run now, and is tried again in {again / 1000:g} seconds: {event.why}")
             return [(part, Abandon(name, run.number, now), None), (part, Reschedule(name, now + again, run.forced), None)]
-        if isinstance(event, JobLost) and self._losses[name] == MOST_LOST:
+        if self._losses[name] == MOST_LOST:
             return self._scheduling.mirrors.report_calls(part, Report(name, run.number, UNKNOWN), f"{event.why} {MOST_LOST + 1} times", now)
         return abandon_calls(run, now)
 
-    def _is_delayed(self, event: Event) -> bool:
+    def _is_delayed(self, event: JobLost) -> bool:
         """Whether a lost check says nothing about its object, and is made again after a pause: a host is never DOWN because of its runners."""
         name = event.job.name
-        return isinstance(event, JobLost) and (event.is_local or self._losses[name] == MOST_LOST and self._scheduling.states.objects[name].definition.is_host())
+        return event.is_local or self._losses[name] == MOST_LOST and self._scheduling.states.objects[name].definition.is_host()
 
     def _count_losses(self, event: Event) -> None:
         name = event.job.name
-        if self._is_delayed(event):
+        if isinstance(event, JobLost) and self._is_delayed(event):
             self._delays[name] += 1
             self._counters.count_result("not_started")
             return

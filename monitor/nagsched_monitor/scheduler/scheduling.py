@@ -114,7 +114,7 @@ class Scheduling:
         opened = {part: (scheduler.generation.setup, scheduler.generation.mirrors) for part, scheduler in self.schedulers.parts.items()}
         wanted = {part: (setup, site.mirrors.get(part, frozenset())) for part, setup in enumerate(site.setups)}
         others = {part for part, setup in wanted.items() if opened.get(part) != setup}
-        changed = self._begin_parts(site, others) if opened != wanted else []
+        changed = self._begin_parts(site, others, self.schedulers.states()) if opened != wanted else []
         self.site = site
         self.states.change_site(site.objects, self._clock.moment())
         for part in sorted(others):
@@ -126,24 +126,21 @@ class Scheduling:
                 obj.standing = None
         return changed
 
-    def _begin_parts(self, site: Site, others: AbstractSet[int]) -> List[str]:
-        """Begins these parts of a site from scratch. The states of all parts are stored together, and all earlier calls are dropped."""
-        states, moment, last_call = self.schedulers.states(), self._clock.moment(), self._store.last_call
-        begun = migration.merge_states(states, self.mirrors.names, site, moment) if states else {}
-        changed = [line for part in sorted(others) if states for line in migration.carry_over(self._program, site, part, begun[part])]
+    def _begin_parts(self, site: Site, others: AbstractSet[int], states: Mapping[int, bytes]) -> List[str]:
+        """Begins these parts of a site from scratch, from the combined states; the others continue from theirs. All earlier calls are dropped."""
+        moment, last_call = self._clock.moment(), self._store.last_call
+        begun = migration.merge_states(states, self.mirrors.names, site, moment) if states and others else {}
+        changed = [line for part in sorted(begun.keys() & others) for line in migration.carry_over(self._program, site, part, begun[part])]
         generations = {
             part: Generation(part, setup, moment, begun.get(part), last_call, site.mirrors.get(part, frozenset()))
             if part in others else self.schedulers.parts[part].generation._replace(saved=states[part], last_call=last_call)
             for part, setup in enumerate(site.setups)
         }
-        self._begin(generations)
-        self.mirrors = self.mirrors.change_site(site.mirrors, others)
-        return changed
-
-    def _begin(self, generations: Mapping[int, Generation]) -> None:
         gone = [part for part in self.schedulers.parts if part not in generations]
         self._write(*map(end_generation, gone), *map(begin_generation, generations.values()))
+        self.mirrors = self.mirrors.change_site(site.mirrors, others)
         self.schedulers.open(generations)
+        return changed
 
     def _write(self, *writes: Write) -> None:
         """Writes these, with all that waits to be written."""
@@ -236,8 +233,7 @@ class Scheduling:
             for name in self._read_state(part, state):
                 self._log(f"{name}: its scheduler has it otherwise than the monitor had; the scheduler counts")
         self._standings.write_soon()
-        parts, last_call = self.schedulers.parts, self._store.last_call
-        self._begin({part: parts[part].generation._replace(saved=state, last_call=last_call) for part, state in states.items()})
+        self._begin_parts(self.site, frozenset(), states)
 
     def process_ids(self) -> List[int]:
         return self.schedulers.process_ids()
