@@ -18,7 +18,6 @@ from .phases import HOST_FIRST, RESULT_FIRST, WINDOW
 class Checks:
     def __init__(self, scheduling: Scheduling, passive: PassiveResults, operator: Mapping[str, bool], clock: Clock, log: Callable[[str], None]) -> None:
         self._scheduling, self._passive, self._clock, self._log = scheduling, passive, clock, log
-        # The operators' switches.
         self._operator_switches: Dict[str, bool] = dict(operator)
         # The next checks that wait to be set, and the objects that were switched on.
         self._planned_checks: Dict[str, Reschedule] = {}
@@ -126,8 +125,6 @@ class Checks:
             obj.phase = time if obj.phase is None else obj.phase
         self._to_spread.clear()
 
-    # ---- due checks
-
     def plan_takes(self, plan: Plan, now: int) -> None:
         """A take for each check that is due and has a free slot."""
         states = self._scheduling.states
@@ -138,8 +135,6 @@ class Checks:
                 taken = max(0, min(count, free))
                 plan.calls += [(part, Take(now), None)] * taken
                 free -= taken
-
-    # ---- consequences of a result
 
     def apply_result(self, obj: ObjectState, before: Optional[Standing], standing: Standing, now: int) -> None:
         """The object returns to its phase, and hosts may matter."""

@@ -193,8 +193,6 @@ class Engine:
         else:
             self._log(f"{obj.name} has no command: no check of it is made")
 
-    # ---- for requests
-
     def time_since_turn(self) -> int:
         """The milliseconds since the beginning of the last turn that stored everything it had to."""
         return self._clock.moment() - (self._now if self._last_turn is None else self._last_turn)

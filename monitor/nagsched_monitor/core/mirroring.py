@@ -27,8 +27,6 @@ class Mirrors:
     def parts_of(self, name: str) -> Sequence[int]:
         return self._parts.get(name, ())
 
-    # ---- answers
-
     def apply_answer(self, part: int, call: Call, answer: Answer) -> bool:
         """Whether an answer is about a mirror, which is then updated."""
         name = object_name(call, answer)
@@ -63,8 +61,6 @@ class Mirrors:
         """The mirrors that should have been taken since the last call, and weren't. The list is empty unless another object came before them."""
         left, self._expected = sorted(self._expected), set()
         return left
-
-    # ---- calls
 
     def take_calls(self, moment: int) -> List[PlannedCall]:
         places = [(part, name) for part, names in self.names.items() for name in sorted(names) if self._running.get((part, name)) is None]

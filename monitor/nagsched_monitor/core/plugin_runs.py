@@ -38,8 +38,6 @@ class PluginRuns:
         self._delays: Counter[str] = collections.Counter()
         self._last_sweep = clock.moment()
 
-    # ---- the beginning
-
     def start(self, obj: ObjectState, run: Run, command: Command) -> None:
         """Runs the plugin of a check that was taken. If the plugin of an earlier run still runs, this run ends."""
         left = self._scheduling.states.running.leftover_jobs.pop(obj.name, None)
@@ -62,8 +60,6 @@ class PluginRuns:
         remote = None if job.runner is None else self._scheduling.site.runners.get(job.runner)
         wait = 0 if remote is None else round(2 * remote.wait * 1000) + MARGIN  # for the runner, and for the queue after it
         run.owner, run.job, run.deadline = Owner.PLUGIN, job, self._clock.moment() + round(job.limit * 1000) + wait + MARGIN
-
-    # ---- the end
 
     def collect_events(self, now: int) -> None:
         """Takes in the events of runners, and looks over all runs every second."""

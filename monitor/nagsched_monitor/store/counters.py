@@ -66,8 +66,6 @@ class Counters:
         self._values["saves"] += 1
         self._values["saved_at"] = self._clock.wall()
 
-    # ---- writing
-
     def are_due(self, now: int) -> bool:
         return self._written_at is None or now - self._written_at >= EVERY
 

@@ -27,8 +27,6 @@ class StandingTable:
         # Rows of objects that aren't part of the site any more.
         self._dropped: List[str] = []
 
-    # ---- at a start and after a reload
-
     def read(self, objects: Mapping[str, ObjectState]) -> None:
         for row in self._store.standings():
             if row.name in objects:
@@ -48,8 +46,6 @@ class StandingTable:
                 past.hard_since = stored.hard_since
         self._marked = dict(objects)
         self.write_soon()
-
-    # ---- while it works
 
     def apply_answer(self, obj: ObjectState, call: Call, answer: Answer, ended: Optional[Run]) -> None:
         """Takes in the changes of an object from an answer, and marks the object. `ended` is its run before."""
