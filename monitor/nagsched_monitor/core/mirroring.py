@@ -3,7 +3,7 @@
 Every mirror is running all the time: after each of its results it is taken again, by a check that is forced and comes before all others. So a result and
 those of its mirrors are calls of one turn, which are stored together.
 """
-from typing import AbstractSet, Any, Dict, List, Mapping, Optional, Sequence, Set, Tuple
+from typing import AbstractSet, Any, List, Mapping, Optional, Sequence, Set, Tuple
 
 from ..scheduler.protocol import Answer, Call, Report, Reschedule, Take, Taken, object_name
 from .phases import MIRROR_FIRST
@@ -18,14 +18,10 @@ class Mirrors:
 
     def __init__(self, names: Mapping[int, AbstractSet[str]], running: RunTable) -> None:
         self.names, self._running = names, running
-        self._parts: Dict[str, List[int]] = {}
-        for part in sorted(names):
-            for name in names[part]:
-                self._parts.setdefault(name, []).append(part)
         self._expected: Set[ObjectKey] = set()
 
     def parts_of(self, name: str) -> Sequence[int]:
-        return self._parts.get(name, ())
+        return [part for part, names in self.names.items() if name in names]
 
     def apply_answer(self, part: int, call: Call, answer: Answer) -> bool:
         """Whether an answer is about a mirror, which is then updated."""

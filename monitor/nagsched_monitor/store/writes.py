@@ -45,16 +45,13 @@ def store_request(number: str, answer: str) -> Write:
 
 def begin_generation(generation: Generation) -> Write:
     """A scheduler that is opened: earlier rows of its part aren't needed any more."""
-    gone = [delete(table, "part = ? AND id <= ?", generation.part, generation.last_call) for table in ("calls", "aside")]
-    old = [delete(table, "part = ?", generation.part) for table in ("generations", "mirrors")]
     mirrors = [insert("mirrors", None, generation.part, json.dumps(sorted(generation.mirrors), ensure_ascii=False))] if generation.mirrors else []
-    cells = (generation.part, generation.setup, generation.start, generation.saved, generation.last_call)
-    return all_of([*gone, *old, insert("generations", None, *cells), *mirrors])
+    return all_of([end_generation(generation.part), insert("generations", None, *generation[:-1]), *mirrors])
 
 
 def end_generation(part: int) -> Write:
-    """A part that the site no longer has."""
-    return all_of(delete(table, "part = ?", part) for table in ("generations", "mirrors", "calls"))
+    """A part that the site no longer has, or that begins from its saved state: its calls are part of that."""
+    return all_of(delete(table, "part = ?", part) for table in ("generations", "mirrors", "calls", "aside"))
 
 
 def set_switch(name: str, on: Optional[bool]) -> Write:
