@@ -30,13 +30,6 @@ def read_call(line: str) -> Call:
     return call
 
 
-def is_readable(call: Call) -> bool:
-    """Whether a scheduler can read a call: its code is a plugin's, and its numbers are within their limits."""
-    if isinstance(call, Report) and not 0 <= call.code <= GREATEST_CODE:
-        return False
-    return all(0 <= value <= GREATEST for value in call if isinstance(value, int))
-
-
 # ---- answers
 
 Taken = NamedTuple("Taken", [("run", int), ("name", str)])

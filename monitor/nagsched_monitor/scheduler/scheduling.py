@@ -17,7 +17,7 @@ from ..store.store import Store, Write
 from ..store.writes import begin_generation, end_generation, store_calls, store_change
 from . import migration
 from .live_process import Conversation
-from .protocol import Answer, Call, Report, Standing, Status, call_line, is_readable, object_name, read_call
+from .protocol import Answer, Call, Report, Standing, Status, call_line, object_name, read_call
 from .schedulers import AnsweredCall, ConversationFactory, Schedulers
 
 
@@ -168,9 +168,6 @@ class Scheduling:
 
     def store_calls(self, planned: Sequence[PlannedCall], writes: Sequence[Write] = ()) -> None:
         """Stores these calls with the other writes; the next `make_calls` makes them. If something can't be stored, nothing is, and `NotStored` is raised."""
-        bad = [call for _, call, _ in planned if not is_readable(call)]
-        if bad:
-            raise ValueError(f"no scheduler reads these calls: {bad}")
         if planned or writes or self.has_more():
             number = self._store.last_call + 1
             calls = [(part, call_line(call), words) for part, call, words in planned]
