@@ -138,7 +138,7 @@ class SimulatedMonitor:
 
     @property
     def site(self) -> Site:
-        return self.engine.site
+        return self.scheduling.site
 
     def take_changes(self) -> None:
         self.changes += [(self.clock.now, change) for change in self.scheduling.pop_changes()]

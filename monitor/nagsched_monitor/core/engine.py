@@ -65,10 +65,6 @@ class Engine:
             obj.awaited_since = starts.get(obj.definition.part, self._now) if last is None else self._now - round(max(0.0, until - last) * 1000)
 
     @property
-    def site(self) -> Site:
-        return self.scheduling.site
-
-    @property
     def objects(self) -> Dict[str, ObjectState]:
         return self.scheduling.states.objects
 

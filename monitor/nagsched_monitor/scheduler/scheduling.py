@@ -32,9 +32,8 @@ class ObjectAnswer(NamedTuple):
 
 
 class Scheduling:
-    def __init__(
-        self, program: str, site: Site, store: Store, clock: Clock, log: Callable[[str], None], notified: bool, converse: ConversationFactory = Conversation
-    ) -> None:
+    def __init__(self, program: str, site: Site, store: Store, clock: Clock, log: Callable[[str], None], notified: bool,
+                 converse: ConversationFactory = Conversation) -> None:
         self._program, self._store, self._clock, self._log, self._has_command = program, store, clock, log, notified
         self.site = site
         self.states = ObjectStates()
