@@ -20,18 +20,15 @@ class ObjectState:
     on: bool
     next: Optional[int] = None
     forced: bool = False
-    # The time for which its last run waited.
-    last_due: Optional[int] = None
+    last_due: Optional[int] = None  # the time for which its last run waited
     standing: Optional[Standing] = None
-    # A moment in its phase: its other checks are whole intervals away.
-    phase: Optional[int] = None
+    phase: Optional[int] = None  # a moment in its phase: its other checks are whole intervals away
     # The time to which an operator set its next check, and whether it is forced, until that check is made.
     operator_check: Optional[Tuple[int, bool]] = None
     # The moment of its last result, and the output of that result.
     last_result: Optional[int] = None
     output: str = ""
-    # The moment since which a result is awaited, if none came while this monitor runs.
-    awaited_since: int = 0
+    awaited_since: int = 0  # the moment since which a result is awaited, if none came while this monitor runs
     history: StateHistory = field(default_factory=StateHistory)
     name: str = field(init=False)
 

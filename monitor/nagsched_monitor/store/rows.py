@@ -37,10 +37,8 @@ class Generation(NamedTuple):
     setup: bytes
     start: int
     saved: Optional[bytes]
-    # The number of the last call that is part of the saved state.
-    last_call: int
-    # The objects of the setup that are mirrors.
-    mirrors: AbstractSet[str] = frozenset()
+    last_call: int  # the number of the last call that is part of the saved state
+    mirrors: AbstractSet[str] = frozenset()  # the objects of the setup that are mirrors
 
 
 class StoredCall(NamedTuple):
@@ -83,18 +81,15 @@ class StoredStanding(NamedTuple):
     # The last change of its state, and of its hard one.
     since: Optional[float]
     hard_since: Optional[float]
-    # When the last check that gave a result began.
-    last_check: Optional[float]
+    last_check: Optional[float]  # when the last check that gave a result began
     next_check: Optional[float]
     is_on: bool
-    # Since when a check of it runs.
-    out_since: Optional[float]
+    out_since: Optional[float]  # since when a check of it runs
     # How long the last check took, and how late the last one began, in seconds.
     took: Optional[float]
     late: Optional[float]
     words: str
-    # A moment of its own phase.
-    phase: Optional[int] = None
+    phase: Optional[int] = None  # a moment of its own phase
 
     def is_host(self) -> bool:
         return ";" not in self.name
