@@ -9,6 +9,7 @@ from dataclasses import dataclass, field
 from typing import Any, Callable, Dict, List, Optional, Set, Tuple
 
 from nagsched_monitor.core.engine import Engine
+from nagsched_monitor.core.run_table import Owner
 from nagsched_monitor.inputs.requests import Request
 from nagsched_monitor.program.loop import Loop
 from nagsched_monitor.program.turn_timer import TurnTimer
@@ -137,7 +138,7 @@ class SimulatedMonitor:
 
     @property
     def site(self) -> Site:
-        return self.engine.site
+        return self.scheduling.site
 
     def take_changes(self) -> None:
         self.changes += [(self.clock.now, change) for change in self.scheduling.pop_changes()]
@@ -181,6 +182,10 @@ class SimulatedMonitor:
         self.store.last_result += 1
         self.store.write(store_result(name, code, words, self.store.last_result))
         self.engine.passive.add(StoredResult(self.store.last_result, name, code, words))
+
+    def objects_with_plugins(self) -> Set[str]:
+        """The objects whose plugins run."""
+        return {run.key[1] for run in self.scheduling.states.running.owned_by(Owner.PLUGIN)}
 
     def starts(self) -> Dict[str, List[int]]:
         """When each object's plugin was started, in milliseconds from the beginning."""

@@ -25,12 +25,12 @@ class Figures(SiteTest):
         monitor.run(60)
         monitor.engine.close()
         figures = figures_of(monitor)
-        self.assertEqual((figures["checks.UP"], figures["checks.DOWN"]), (monitor.engine.result_count - figures["checks.DOWN"], figures["checks.DOWN"]))
+        self.assertEqual(figures["checks.UP"] + figures["checks.DOWN"], monitor.engine.counters.result_count)
         self.assertGreater(figures["checks.DOWN"], 50)
         self.assertAlmostEqual(late_of(figures), len(monitor.runners.started), delta=10)
         self.assertEqual((figures["calls"], figures["saves"]), (monitor.store.last_call, 1))
         self.assertAlmostEqual(figures["checks_a_second"], 10, delta=1)
-        self.assertEqual(figures["latest_start"], monitor.engine.plugins.latest_start / 1000)
+        self.assertEqual(figures["latest_start"], monitor.engine.counters.latest_start / 1000)
 
     def test_they_are_written_every_five_seconds(self) -> None:
         """A site with nothing to do writes only them, and never sooner."""
@@ -55,8 +55,8 @@ class Figures(SiteTest):
         monitor.run(30)
         monitor.engine.close()
         after = figures_of(monitor)
-        self.assertAlmostEqual(after["checks.UP"] - before["checks.UP"], monitor.engine.result_count)
-        self.assertGreater(monitor.engine.result_count, 25)
+        self.assertAlmostEqual(after["checks.UP"] - before["checks.UP"], monitor.engine.counters.result_count)
+        self.assertGreater(monitor.engine.counters.result_count, 25)
         self.assertEqual((before["saves"], after["saves"]), (1, 2))
         self.assertGreater(after["calls"], before["calls"] + 50)
         self.assertGreater(after["begun_at"], before["begun_at"])
@@ -73,7 +73,7 @@ class Figures(SiteTest):
         monitor.store._database.execute("PRAGMA max_page_count = 1000000")
         monitor.run(10)
         monitor.engine.close()
-        self.assertEqual(figures_of(monitor)["checks.UP"], monitor.engine.result_count)
+        self.assertEqual(figures_of(monitor)["checks.UP"], monitor.engine.counters.result_count)
 
 
 class Histogram(SiteTest):

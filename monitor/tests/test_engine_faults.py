@@ -43,14 +43,14 @@ class Faults(SiteTest):
         self.write_site([host("web")], [service("web", "http")])
         monitor = self.monitor(lambda name, moment: (20_000, 0, "fine"))
         monitor.run(70)
-        self.assertEqual(monitor.engine.objects_with_plugins(), {"web", "web;http"})
+        self.assertEqual(monitor.objects_with_plugins(), {"web", "web;http"})
         os.kill(monitor.scheduling.process_ids()[0], signal.SIGKILL)
         monitor.run(5)
         monitor.ask(do="reschedule", name="web", at=monitor.clock.wall() + 100)
         monitor.run(5)
-        self.assertEqual((monitor.engine.objects_with_plugins(), len(monitor.runners.started)), ({"web", "web;http"}, 4))
+        self.assertEqual((monitor.objects_with_plugins(), len(monitor.runners.started)), ({"web", "web;http"}, 4))
         monitor.run(10)
-        self.assertEqual((monitor.engine.result_count, monitor.engine.objects_with_plugins()), (4, set()))
+        self.assertEqual((monitor.engine.counters.result_count, monitor.objects_with_plugins()), (4, set()))
         self.assertEqual(len([line for line in monitor.lines if "it is started again" in line]), 1)
 
     def test_a_scheduler_that_cant_be_had_for_a_while(self) -> None:
@@ -65,7 +65,7 @@ class Faults(SiteTest):
             self.assertLessEqual(len(monitor.starts()["web"]), 3)
         monitor.run(200)
         self.assertGreaterEqual(len(monitor.starts()["web"]), 5)
-        self.assertEqual(monitor.engine.result_count, len(monitor.runners.started))
+        self.assertEqual(monitor.engine.counters.result_count, len(monitor.runners.started))
 
     def test_a_scheduler_that_cant_be_had_at_a_reload(self) -> None:
         """The site is taken over as a whole, and new objects are checked as soon as their scheduler runs."""
@@ -102,7 +102,7 @@ class Faults(SiteTest):
         after = self.monitor(fine, monitor.clock, converse=Poisoned)
         after.run(100)
         self.assertFalse([line for line in after.lines if "started again" in line])
-        self.assertGreaterEqual(after.engine.result_count, 2)
+        self.assertGreaterEqual(after.engine.counters.result_count, 2)
 
     def test_runners_that_end(self) -> None:
         """A check whose runner ended is abandoned and made again; the third time it is UNKNOWN."""
@@ -126,9 +126,9 @@ class Faults(SiteTest):
         self.write_site([host("web", check_interval=600)], [])
         monitor = self.monitor(lambda name, moment: (10**9 if moment < BEGIN + 10_000 else 10, 0, "fine"))
         monitor.run(70)
-        self.assertEqual((len(monitor.runners.started), monitor.engine.objects_with_plugins()), (1, {"web"}))
+        self.assertEqual((len(monitor.runners.started), monitor.objects_with_plugins()), (1, {"web"}))
         monitor.run(20)
-        self.assertEqual((monitor.engine.result_count, monitor.engine.objects_with_plugins(), len(monitor.runners.started)), (1, set(), 2))
+        self.assertEqual((monitor.engine.counters.result_count, monitor.objects_with_plugins(), len(monitor.runners.started)), (1, set(), 2))
         self.assertIn("web: run 1 gave no result in time", monitor.lines)
 
     def test_a_job_that_no_runner_has(self) -> None:
@@ -137,7 +137,7 @@ class Faults(SiteTest):
         monitor.run(2)
         monitor.runners._ends.clear()
         monitor.run(10)
-        self.assertEqual((monitor.engine.result_count, len(monitor.runners.started)), (1, 2))
+        self.assertEqual((monitor.engine.counters.result_count, len(monitor.runners.started)), (1, 2))
         self.assertIn("web: no runner has run 1", monitor.lines)
 
     def test_what_this_machine_lacks(self) -> None:
@@ -148,11 +148,11 @@ class Faults(SiteTest):
         setattr(monitor.runners, "events", lambda: [JobLost(event.job, "too many open files", True) for event in events()])
         monitor.ask(do="reschedule", name="off", force=True)
         monitor.run(100)
-        self.assertEqual((monitor.changes, monitor.engine.result_count), ([], 0))
+        self.assertEqual((monitor.changes, monitor.engine.counters.result_count), ([], 0))
         self.assertTrue(all(6 <= len(starts) <= 8 for starts in monitor.starts().values()), monitor.starts())
         setattr(monitor.runners, "events", events)
         monitor.run(70)
-        self.assertEqual(monitor.engine.result_count, 2)
+        self.assertEqual(monitor.engine.counters.result_count, 2)
         monitor.engine.close()
         self.assertEqual(monitor.store.figures()["checks.not_started"], len(monitor.runners.started) - 2)
 
@@ -171,7 +171,7 @@ class Faults(SiteTest):
         setattr(monitor.runners, "events", told)
         monitor.run(70)
         self.assertEqual((len(monitor.runners.started), len(stuck)), (1, 1))
-        self.assertGreaterEqual(monitor.engine.result_count, 4)
+        self.assertGreaterEqual(monitor.engine.counters.result_count, 4)
         setattr(monitor.runners, "events", lambda: [StuckJobEnded(stuck.pop())] if stuck else events())
         monitor.run(35)
         self.assertEqual(len(monitor.runners.started), 3)

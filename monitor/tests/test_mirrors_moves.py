@@ -30,17 +30,17 @@ class Reloads(PartedSiteTest):
         self.assertEqual((before["b"], before["c"][0]), (("DOWN", "HARD", 3), "DOWN"))
         monitor.ask(do="reschedule", name="b")
         monitor.run(1)
-        self.assertEqual(monitor.engine.objects_with_plugins(), {"b"})
+        self.assertEqual(monitor.objects_with_plugins(), {"b"})
         self.write_two(["a", "c"], ["b"], ["d"])
         self.assertEqual(self.reload(monitor), [])
         self.assertEqual({name: state for name, state in self.states(monitor).items() if name != "d"}, before)
-        started, made = len(monitor.runners.started), monitor.engine.result_count
+        started, made = len(monitor.runners.started), monitor.engine.counters.result_count
         monitor.run(3.5)
-        self.assertEqual((monitor.engine.objects_with_plugins(), monitor.runners.running()), ({"b"}, ["b"]))
+        self.assertEqual((monitor.objects_with_plugins(), monitor.runners.running()), ({"b"}, ["b"]))
         monitor.run(1)
-        self.assertEqual(monitor.engine.objects_with_plugins(), set())
+        self.assertEqual(monitor.objects_with_plugins(), set())
         names = [job.name for _, job in monitor.runners.started[started:]]
-        self.assertEqual((names.count("b"), monitor.engine.result_count - made), (0, len(names) + 1))
+        self.assertEqual((names.count("b"), monitor.engine.counters.result_count - made), (0, len(names) + 1))
         self.assertFalse([line for line in monitor.lines if "late" in line or "dropped" in line])
 
     def test_runs_that_are_out_stay_where_nothing_moves(self) -> None:

@@ -129,7 +129,7 @@ class Outage(SiteTest):
         for _ in range(80):
             monitor.run(3)
             # No check is taken for more than a second, so that the table agrees with the monitor.
-            if monitor.engine.running_plugin_count() or monitor.scheduling._standings._marked:
+            if monitor.scheduling.states.running.plugins() or monitor.scheduling._standings._marked:
                 continue
             files.write()
             blocks = objects_of((self.folder / "nagios/status.dat").read_bytes())

@@ -31,7 +31,7 @@ class PassiveResults(SiteTest):
     def test_one_that_comes_while_the_object_is_out_waits(self) -> None:
         monitor = self.site()
         monitor.run(1)
-        self.assertIn("web;http", monitor.engine.objects_with_plugins())
+        self.assertIn("web;http", monitor.objects_with_plugins())
         monitor.add_result("web;http", 1, "slow")
         monitor.run(0.5)
         self.assertEqual(len(monitor.store.waiting_results()), 1)
@@ -190,6 +190,18 @@ class PassiveResults(SiteTest):
         monitor.engine.reload(read_site(self.folder, PROGRAM))
         monitor.run(100)
         self.assertEqual(monitor.changes, [])
+
+    def test_results_of_an_object_that_is_gone_at_a_start(self) -> None:
+        self.write_site([host("web")], [service("web", "http")])
+        monitor = self.monitor(lambda name, moment: (30_000, 0, "fine"))
+        monitor.run(10)
+        monitor.add_result("web;http", 2, "of last spring")
+        monitor.close()
+        self.write_site([host("web")], [])
+        after = self.monitor(fine, monitor.clock)
+        after.run(100)
+        self.assertEqual(after.store.waiting_results(), [])
+        self.assertIn("web;http: its passive results are dropped, since it isn't part of the site any more", after.lines)
 
     def test_freshness_of_an_object_that_a_reload_brings(self) -> None:
         """It is awaited from then on, no matter how long the monitor has run."""

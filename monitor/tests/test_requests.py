@@ -65,7 +65,7 @@ class Words(SiteTest):
         self.monitored.close()
         monitor = self.monitor(lambda name, moment: (3_000, 0, "fine"), self.monitored.clock)
         monitor.run(31)
-        self.assertEqual(monitor.engine.objects_with_plugins(), {"web"})
+        self.assertEqual(monitor.objects_with_plugins(), {"web"})
         monitor.ask(do="reschedule", name="web", force=True)
         monitor.run(20)
         self.assertEqual([start // 1000 for start in monitor.starts()["web"]], [60, 63])

@@ -1,4 +1,5 @@
 """The times of checks: switches, periods, freshness, phases and operators set them."""
+import collections
 from functools import partial
 from typing import Callable, Dict, List, Mapping, Optional, Tuple
 
@@ -11,15 +12,12 @@ from .hosts import hosts_to_check
 from .object_state import ObjectState
 from .passive import PassiveResults
 from .plan import Plan
-from .phases import HOST_FIRST, RESULT_FIRST
+from .phases import HOST_FIRST, RESULT_FIRST, WINDOW
 
 
 class Checks:
-    """The times of a site's checks."""
-
     def __init__(self, scheduling: Scheduling, passive: PassiveResults, operator: Mapping[str, bool], clock: Clock, log: Callable[[str], None]) -> None:
         self._scheduling, self._passive, self._clock, self._log = scheduling, passive, clock, log
-        # The operators' switches.
         self._operator_switches: Dict[str, bool] = dict(operator)
         # The next checks that wait to be set, and the objects that were switched on.
         self._planned_checks: Dict[str, Reschedule] = {}
@@ -34,7 +32,8 @@ class Checks:
 
     def has_more(self) -> bool:
         """Whether something has to be planned at once."""
-        return bool(self._to_spread) or any(self._scheduling.is_object_open(self._objects[name]) for name in self._planned_checks if name in self._objects)
+        planned = [self._objects[name] for name in self._planned_checks if name in self._objects]
+        return bool(self._to_spread) or any(self._scheduling.is_open(obj.definition.part) for obj in planned)
 
     def plan(self, plan: Plan, now: int, is_after_pause: bool) -> None:
         """Plans next checks, after requests have set theirs."""
@@ -63,18 +62,12 @@ class Checks:
             return
         self._periods = self._scheduling.site.periods.active_by_name(wall)
         changed = [obj for obj in self._objects.values() if obj.on != self.is_to_be_enabled(obj.definition)]
-        opened = [obj for obj in changed if self._scheduling.is_object_open(obj)]
+        opened = [obj for obj in changed if self._scheduling.is_open(obj.definition.part)]
         plan.calls += [(obj.definition.part, Enable(obj.name, not obj.on), None) for obj in opened]
-        begun = [obj.name for obj in changed if not obj.on]
-
-        def switched() -> None:
-            self._minute = minute if len(opened) == len(changed) else None
-            self._to_spread += begun
-
-        plan.then.append(switched)
+        plan.then.append(partial(setattr, self, "_minute", minute if len(opened) == len(changed) else None))
+        plan.then.append(partial(self._to_spread.extend, [obj.name for obj in changed if not obj.on]))
 
     def switch_calls(self, obj: ObjectState, on: bool) -> List[Call]:
-        """The calls that set an operator's switch."""
         wanted = self.is_to_be_enabled(obj.definition, on)
         return [Enable(obj.name, wanted)] if obj.on != wanted else []
 
@@ -98,27 +91,21 @@ class Checks:
         self._planned_checks.pop(name, None)
 
     def _plan_planned_checks(self, plan: Plan, now: int) -> None:
-        done = []
+        left: Dict[str, Reschedule] = {}
         for name, call in self._planned_checks.items():
             obj = self._objects.get(name)
-            if obj is not None and not self._scheduling.is_object_open(obj):
-                continue
-            done.append(call)
-            if obj is not None and obj.run is None:
+            if obj is not None and not self._scheduling.is_open(obj.definition.part):
+                left[name] = call
+            elif obj is not None and obj.run is None:
                 plan.calls.append((obj.definition.part, call, None))
                 (plan.at_once if call.time <= now else plan.later).add(name)
-        plan.then.append(partial(self._drop_made, done))
-
-    def _drop_made(self, done: List[Reschedule]) -> None:
-        for call in done:
-            if self._planned_checks.get(call.name) is call:
-                del self._planned_checks[call.name]
+        plan.then.append(partial(setattr, self, "_planned_checks", left))
 
     def _plan_freshness(self, now: int) -> None:
         """Asks for a check of each object that had no result within its freshness, which runs its command."""
         for name in self._scheduling.site.with_freshness:
             obj = self._objects[name]
-            if obj.is_stale(now) and name not in self._passive and self._scheduling.is_object_open(obj) and self._is_in_period(obj.definition):
+            if obj.is_stale(now) and name not in self._passive and self._scheduling.is_open(obj.definition.part) and self._is_in_period(obj.definition):
                 self._log(f"{name}: no result for {(obj.definition.freshness or 0) / 1000:g} seconds; its command is run")
                 self.plan_check(obj, now, True)
 
@@ -132,28 +119,22 @@ class Checks:
             if never or due is not None and due < now:
                 overdue.append((now if due is None else due, obj.name, obj))
         overdue.sort(key=lambda each: each[:2])
-        times = phases.spread_times([(name, obj.definition.check_interval) for _, name, obj in overdue], now)
-        for (_, _, obj), time in zip(overdue, times):
+        for place, (_, _, obj) in enumerate(overdue):
+            time = now + min(obj.definition.check_interval or WINDOW, WINDOW) * place // len(overdue)
             self.plan_check(obj, time, obj.forced)
             obj.phase = time if obj.phase is None else obj.phase
-        self._to_spread = []
-
-    # ---- due checks
+        self._to_spread.clear()
 
     def plan_takes(self, plan: Plan, now: int) -> None:
         """A take for each check that is due and has a free slot."""
-        obj = self._scheduling.states
-        free = self._scheduling.site.options.slots - obj.running.local_plugin_count() + plan.freed
-        due = {part: names - plan.later for part, names in obj.due_by_part(now).items()}
-        for name in plan.at_once:
-            due.setdefault(obj.objects[name].definition.part, set()).add(name)
-        for part, names in due.items():
+        states = self._scheduling.states
+        free = self._scheduling.site.options.slots - sum(job.runner is None for job in states.running.plugins()) + plan.freed
+        due = collections.Counter(self._objects[name].definition.part for name in (states.due.due_names(now) - plan.later) | plan.at_once)
+        for part, count in sorted(due.items()):
             if self._scheduling.is_open(part):
-                count = max(0, min(len(names), free))
-                plan.calls += [(part, Take(now), None)] * count
-                free -= count
-
-    # ---- consequences of a result
+                taken = max(0, min(count, free))
+                plan.calls += [(part, Take(now), None)] * taken
+                free -= taken
 
     def apply_result(self, obj: ObjectState, before: Optional[Standing], standing: Standing, now: int) -> None:
         """The object returns to its phase, and hosts may matter."""

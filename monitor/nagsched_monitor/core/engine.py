@@ -5,7 +5,7 @@ simulate a day in seconds.
 """
 import collections
 from functools import partial
-from typing import Callable, Deque, Dict, List, Optional, Set
+from typing import Callable, Deque, Dict, List, Optional
 
 from ..faults import ConversationEnded, NotStored
 from ..inputs.requests import Request, Requests
@@ -39,8 +39,6 @@ SAVE_AGAIN = 10_000
 
 
 class Engine:
-    """A site as it is monitored."""
-
     def __init__(self, scheduling: Scheduling, runners: Runners, store: Store, clock: Clock, log: Callable[[str], None]) -> None:
         self.scheduling, self.store, self.runners, self._clock, self._log = scheduling, store, runners, clock, log
         self._now = clock.moment()
@@ -55,9 +53,8 @@ class Engine:
         self._answers: Deque[ObjectAnswer] = collections.deque()
         self._last_turn: Optional[int] = None
         self._save_at, self._saved_call = self._now + SAVE_AFTER, store.last_call
-        self._can_save = True
         self.is_stuck = False
-        self.result_count = 0
+        self._drop_results()
         self._await_results(min(clock.wall(), figures.get("written_at", 0.0)))
 
     def _await_results(self, until: float) -> None:
@@ -66,10 +63,6 @@ class Engine:
         for obj in self.objects.values():
             last = obj.history.last_check
             obj.awaited_since = starts.get(obj.definition.part, self._now) if last is None else self._now - round(max(0.0, until - last) * 1000)
-
-    @property
-    def site(self) -> Site:
-        return self.scheduling.site
 
     @property
     def objects(self) -> Dict[str, ObjectState]:
@@ -118,14 +111,14 @@ class Engine:
         has_run = any(self.scheduling.is_open(run.key[0]) for owner in (Owner.RESULT, Owner.NOBODY) for run in running.owned_by(owner))
         if has_run or self.checks.has_more() or self.passive.is_deliverable():
             return NO_REST
-        first = self.scheduling.states.first_time()
+        first = self.scheduling.states.due.first_time()
         latest = now + (CHANGES_WAIT if self.scheduling.has_more() else LONGEST_WAIT)
         return latest if first is None else min(first, latest)
 
     def _make_plan(self, now: int) -> Plan:
         """All the work of this turn, in the order in which schedulers get it."""
         plan = Plan()
-        plan.calls += self.scheduling.mirror_take_calls(now)
+        plan.calls += [each for each in self.scheduling.mirrors.take_calls(now) if self.scheduling.is_open(each[0])]
         self.plugins.plan(plan, now)
         self.passive.plan_reports(plan, now)
         self.checks.plan_periods(plan)
@@ -140,7 +133,6 @@ class Engine:
         return plan
 
     def add_request(self, request: Request) -> None:
-        """Takes a request, which is obeyed and answered in the next turn."""
         self._requests.append(request)
 
     def _plan_requests(self, plan: Plan) -> None:
@@ -158,7 +150,6 @@ class Engine:
     # ---- answers
 
     def _apply(self, object_answer: ObjectAnswer) -> None:
-        """Acts on an answer."""
         call, answer, obj = object_answer.call, object_answer.answer, object_answer.object
         if obj is None:
             if isinstance(answer, Refused):
@@ -170,7 +161,6 @@ class Engine:
         elif isinstance(call, Abandon) and isinstance(answer, Freed):
             self.counters.count_result("given_up")
         elif isinstance(call, Report) and isinstance(answer, Standing):
-            self.result_count += 1
             self.counters.count_result(answer.state)
             obj.last_result = self._now
             self.checks.apply_result(obj, object_answer.before, answer, self._now)
@@ -199,35 +189,22 @@ class Engine:
         else:
             self._log(f"{obj.name} has no command: no check of it is made")
 
-    # ---- for requests and tests
-
-    def running_plugin_count(self) -> int:
-        """The number of running plugins."""
-        return self.scheduling.states.running.plugin_count()
-
-    def objects_with_plugins(self) -> Set[str]:
-        """The objects whose plugins run."""
-        return {run.key[1] for run in self.scheduling.states.running.owned_by(Owner.PLUGIN)}
-
     def time_since_turn(self) -> int:
         """The milliseconds since the beginning of the last turn that stored everything it had to."""
         return self._clock.moment() - (self._now if self._last_turn is None else self._last_turn)
 
     def _save_when_due(self) -> None:
-        if self._can_save and (self._now >= self._save_at or self.store.last_call - self._saved_call >= SAVE_CALLS):
+        if self._now >= self._save_at or self.store.last_call - self._saved_call >= SAVE_CALLS:
             try:
                 self.save()
             except (NotStored, ConversationEnded) as fault:
                 self._log(f"the state isn't saved: {fault}")
                 self._save_at, self._saved_call = self._now + SAVE_AGAIN, self.store.last_call
 
-    def save(self) -> bool:
-        """Saves the state, if the program can."""
-        self._can_save = self.scheduling.save()
+    def save(self) -> None:
+        self.scheduling.save()
         self._save_at, self._saved_call = self._clock.moment() + SAVE_AFTER, self.store.last_call
-        if self._can_save:
-            self.counters.count_save()
-        return self._can_save
+        self.counters.count_save()
 
     def close(self) -> None:
         """Saves the state and the figures."""
@@ -238,11 +215,17 @@ class Engine:
         """Takes over another site; running checks continue. If it is refused, nothing has changed. Returns the changes of objects that stay."""
         changed = self.scheduling.reload(site)
         self.checks.recheck_periods()
-        gone = self.passive.drop_others(site.objects)
+        self._drop_results()
+        return changed
+
+    def _drop_results(self) -> None:
+        """Drops the passive results of objects that aren't part of the site."""
+        gone = self.passive.drop_others(self.objects)
+        if not gone:
+            return
         for name in sorted({result.name for result in gone}):
             self._log(f"{name}: its passive results are dropped, since it isn't part of the site any more")
         try:
             self.store.write(*(drop_result(result.id) for result in gone))
         except NotStored as fault:
             self._log(f"results of objects that are gone stay stored: {fault}")
-        return changed

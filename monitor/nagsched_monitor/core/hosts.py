@@ -14,25 +14,22 @@ def state_of(standing: Optional[Standing]) -> str:
 def hosts_to_check(obj: ObjectState, before: Optional[Standing], now: Standing, objects: Mapping[str, ObjectState],
                    children: Sequence[str]) -> List[ObjectState]:
     """The hosts that have to be checked after a result of an object; `children` are the hosts that have it as a parent."""
-    was, host = state_of(before), obj.definition.host
-    if host is None:
-        parents = [objects[name] for name in obj.definition.parents if name in objects]
-        return relatives_to_check(was in UP_STATES, now, parents, [objects[name] for name in children])
-    of_service = objects.get(host)
-    return [of_service] if of_service is not None and is_host_check_needed(was, now, state_of(of_service.standing)) else []
+    if obj.definition.host is None:
+        return relatives_to_check(state_of(before) in UP_STATES, now, [objects[name] for name in obj.definition.parents if name in objects],
+                                  [objects[name] for name in children])
+    host = objects.get(obj.definition.host)
+    return [host] if host is not None and is_host_check_needed(state_of(before), now, state_of(host.standing)) else []
 
 
 def is_host_check_needed(was: str, now: Standing, host: str) -> bool:
     """Whether a service's result asks for its host: a new or other problem while the host is up or was never checked, or an OK while it isn't up."""
-    if now.is_problem():
-        return now.state != was and host in UP_STATES
-    return host != "UP"
+    return now.state != was and host in UP_STATES if now.is_problem() else host != "UP"
 
 
 def relatives_to_check(was_well: bool, now: Standing, parents: Sequence[ObjectState], children: Sequence[ObjectState]) -> List[ObjectState]:
     """The parents and children that a host's result affects. A host that was never checked counts as up."""
-    if was_well == (not now.is_problem()):
+    if was_well != now.is_problem():
         return []
-    if now.is_problem():
-        return [each for each in parents if state_of(each.standing) not in UP_STATES] + [each for each in children if state_of(each.standing) != "UNREACHABLE"]
-    return [each for each in parents if state_of(each.standing) in UP_STATES] + [each for each in children if state_of(each.standing) not in UP_STATES]
+    expected = ("UNREACHABLE",) if now.is_problem() else UP_STATES
+    odd_parents = [each for each in parents if (state_of(each.standing) in UP_STATES) != now.is_problem()]
+    return odd_parents + [each for each in children if state_of(each.standing) not in expected]

@@ -3,9 +3,9 @@
 Every mirror is running all the time: after each of its results it is taken again, by a check that is forced and comes before all others. So a result and
 those of its mirrors are calls of one turn, which are stored together.
 """
-from typing import AbstractSet, Any, Dict, List, Mapping, Optional, Sequence, Set, Tuple
+from typing import AbstractSet, Any, List, Mapping, Optional, Sequence, Set, Tuple
 
-from ..scheduler.protocol import Answer, Call, PutOff, Report, Reschedule, Take, Taken
+from ..scheduler.protocol import Answer, Call, Report, Reschedule, Take, Taken, object_name
 from .phases import MIRROR_FIRST
 from .run_table import ObjectKey, Owner, Run, RunTable
 
@@ -18,29 +18,15 @@ class Mirrors:
 
     def __init__(self, names: Mapping[int, AbstractSet[str]], running: RunTable) -> None:
         self.names, self._running = names, running
-        self._parts: Dict[str, List[int]] = {}
-        for part in sorted(names):
-            for name in names[part]:
-                self._parts.setdefault(name, []).append(part)
         self._expected: Set[ObjectKey] = set()
 
-    def names_of(self, part: int) -> AbstractSet[str]:
-        """The names of a part's mirrors."""
-        return self.names.get(part, frozenset())
-
     def parts_of(self, name: str) -> Sequence[int]:
-        """The parts in which an object has mirrors."""
-        return self._parts.get(name, ())
-
-    # ---- answers
+        return [part for part, names in self.names.items() if name in names]
 
     def apply_answer(self, part: int, call: Call, answer: Answer) -> bool:
         """Whether an answer is about a mirror, which is then updated."""
-        names = self.names.get(part)
-        if not names:
-            return False
-        name: str = answer.name if isinstance(answer, (Taken, PutOff)) else getattr(call, "name", "")
-        if name not in names:
+        name = object_name(call, answer)
+        if name not in self.names.get(part, ()):
             return False
         if isinstance(answer, Taken):
             self._running.begin(Run((part, name), answer.run, Owner.ORIGINAL))
@@ -53,13 +39,11 @@ class Mirrors:
 
     def apply_saved(self, part: int, members: Sequence[Mapping[str, Any]]) -> List[Mapping[str, Any]]:
         """Takes in the runs of mirrors among the objects of a part, from its scheduler's saved state; returns the other objects."""
-        own = []
+        names = self.names.get(part, ())
         for it in members:
-            if it["name"] not in self.names_of(part):
-                own.append(it)
-            elif it["run"] is not None:
+            if it["name"] in names and it["run"] is not None:
                 self._running.begin(Run((part, it["name"]), it["run"]["number"], Owner.ORIGINAL))
-        return own
+        return [it for it in members if it["name"] not in names]
 
     def change_site(self, names: Mapping[int, AbstractSet[str]], others: AbstractSet[int]) -> "Mirrors":
         """The mirrors of another site, in which these parts are others."""
@@ -74,27 +58,20 @@ class Mirrors:
         left, self._expected = sorted(self._expected), set()
         return left
 
-    # ---- calls
-
     def take_calls(self, moment: int) -> List[PlannedCall]:
-        """The calls that take the mirrors that aren't running."""
         places = [(part, name) for part, names in self.names.items() for name in sorted(names) if self._running.get((part, name)) is None]
-        return [call for place in places for call in retake_calls(place, moment)]
+        return [call for part, name in places for call in forced_take(part, name, MIRROR_FIRST, moment)]
 
-    def are_running(self, name: str) -> bool:
-        """Whether a result of this object can be reported to all of its mirrors."""
-        return all(self._running.get((part, name)) is not None for part in self.parts_of(name))
-
-    def report_calls(self, report: Report, moment: int) -> List[PlannedCall]:
-        """The reports to the mirrors of an object whose result is reported; they are taken again after them."""
-        whole: List[PlannedCall] = []
+    def report_calls(self, original: int, report: Report, words: str, moment: int) -> List[PlannedCall]:
+        """The calls that report a result to an object, in its part, and to its mirrors, which are taken again after that."""
+        whole: List[PlannedCall] = [(original, report, words)]
         for part in self.parts_of(report.name):
             run = self._running.get((part, report.name))
             assert run is not None
-            whole += [(part, Report(report.name, run.number, report.code), None), *retake_calls((part, report.name), moment)]
+            whole += [(part, Report(report.name, run.number, report.code), None), *forced_take(part, report.name, MIRROR_FIRST, moment)]
         return whole
 
 
-def retake_calls(place: ObjectKey, moment: int) -> List[PlannedCall]:
-    part, name = place
-    return [(part, Reschedule(name, MIRROR_FIRST, True), None), (part, Take(moment), None)]
+def forced_take(part: int, name: str, time: int, now: int) -> List[PlannedCall]:
+    """The calls that take an object before all that are due; the time decides about the order of such objects."""
+    return [(part, Reschedule(name, time, True), None), (part, Take(now), None)]

@@ -3,25 +3,11 @@ import heapq
 from dataclasses import dataclass, field, replace
 from typing import Any, Dict, Iterable, List, Mapping, Optional, Set, Tuple
 
-from ..scheduler.protocol import Abandon, Answer, Call, Done, Enable, Freed, PutOff, Refused, Report, Reschedule, Standing, Take, Taken
+from ..scheduler.protocol import Abandon, Answer, Call, Done, Enable, Freed, PutOff, Report, Reschedule, Standing, Taken
 from ..site.site import ObjectDefinition
+from ..store.rows import StateHistory
 from . import phases
 from .run_table import ObjectKey, Run, RunTable
-
-
-@dataclass
-class StateHistory:
-    """How long an object has been in its state, in seconds since 1970 of the wall clock; None if that isn't known."""
-
-    # The state that it has had since then, and the hard one.
-    state: Optional[str] = None
-    since: Optional[float] = None
-    hard_state: Optional[str] = None
-    hard_since: Optional[float] = None
-    last_check: Optional[float] = None
-    # How many seconds its last check took, and how late the last one began.
-    took: Optional[float] = None
-    late: Optional[float] = None
 
 
 @dataclass
@@ -34,18 +20,15 @@ class ObjectState:
     on: bool
     next: Optional[int] = None
     forced: bool = False
-    # The time for which its last run waited.
-    last_due: Optional[int] = None
+    last_due: Optional[int] = None  # the time for which its last run waited
     standing: Optional[Standing] = None
-    # A moment in its phase: its other checks are whole intervals away.
-    phase: Optional[int] = None
+    phase: Optional[int] = None  # a moment in its phase: its other checks are whole intervals away
     # The time to which an operator set its next check, and whether it is forced, until that check is made.
     operator_check: Optional[Tuple[int, bool]] = None
     # The moment of its last result, and the output of that result.
     last_result: Optional[int] = None
     output: str = ""
-    # The moment since which a result is awaited, if none came while this monitor runs.
-    awaited_since: int = 0
+    awaited_since: int = 0  # the moment since which a result is awaited, if none came while this monitor runs
     history: StateHistory = field(default_factory=StateHistory)
     name: str = field(init=False)
 
@@ -58,7 +41,6 @@ class ObjectState:
 
     @property
     def run(self) -> Optional[Run]:
-        """Its running check."""
         return self.running.get((self.definition.part, self.name))
 
     def due_time(self) -> Optional[int]:
@@ -72,20 +54,16 @@ class ObjectState:
             return False
         return now - (self.awaited_since if self.last_result is None else self.last_result) >= freshness
 
-    def is_problem(self) -> bool:
-        return self.standing is not None and self.standing.is_problem()
-
 
 @dataclass
 class DueQueue:
-    """The objects of a part by the times for which they wait."""
+    """Objects by the times for which they wait."""
 
     _times: Dict[str, int] = field(default_factory=dict)
     _heap: List[Tuple[int, str]] = field(default_factory=list)
     _due: Set[str] = field(default_factory=set)
 
     def set_time(self, name: str, time: Optional[int]) -> None:
-        """Sets the time for which an object waits, or None."""
         if time is not None and self._times.get(name) == time:
             return
         self._due.discard(name)
@@ -96,7 +74,6 @@ class DueQueue:
             heapq.heappush(self._heap, (time, name))
 
     def due_names(self, moment: int) -> Set[str]:
-        """The objects whose time has come."""
         while self._heap and self._heap[0][0] <= moment:
             time, name = heapq.heappop(self._heap)
             if self._times.get(name) == time:
@@ -111,39 +88,29 @@ class DueQueue:
 
     def second_time(self) -> Optional[int]:
         """The time after the first one, if it is known without a search."""
+        self.first_time()
         times = [time for time, name in self._heap[1:3] if self._times.get(name) == time]
         return min(times) if times else None
 
 
 class ObjectStates:
-    """The known state of all objects of a site."""
-
     def __init__(self) -> None:
         self.objects: Dict[str, ObjectState] = {}
         self.running = RunTable()
-        self._due_queues: Dict[int, DueQueue] = {}
-
-    def add(self, definition: ObjectDefinition, on: bool) -> None:
-        self.objects[definition.name] = ObjectState(definition, self.running, on)
-        self._due_queues.setdefault(definition.part, DueQueue())
+        self.due = DueQueue()
 
     def change_site(self, objects: Mapping[str, ObjectDefinition], now: int) -> None:
         """Takes over another site, and keeps the state of the objects that stay. A check of an object that moves to another part is abandoned there."""
-        before, self.objects, self._due_queues = self.objects, {}, {}
-        for definition in objects.values():
-            earlier = before.pop(definition.name, None)
-            self.add(definition, definition.enabled)
-            if earlier is None:
-                self.objects[definition.name].awaited_since = now
-            else:
-                self.objects[definition.name] = self._state_in_new_site(earlier, definition, now)
+        before, self.objects, self.due = self.objects, {}, DueQueue()
+        for name, definition in objects.items():
+            earlier = before.pop(name, None) or ObjectState(definition, self.running, definition.enabled, awaited_since=now)
+            self.objects[name] = self._state_in_new_site(earlier, definition, now)
         for obj in before.values():
             self.end_run(obj)
         for obj in self.objects.values():
             self._set_due(obj)
 
     def _state_in_new_site(self, earlier: ObjectState, definition: ObjectDefinition, now: int) -> ObjectState:
-        """The state of an object that stays."""
         if earlier.definition.part != definition.part:
             self.end_run(earlier)
         on = earlier.on if earlier.definition.enabled == definition.enabled else definition.enabled
@@ -179,41 +146,9 @@ class ObjectStates:
         return others
 
     def _set_due(self, obj: ObjectState) -> None:
-        self._due_queues[obj.definition.part].set_time(obj.name, obj.due_time())
+        self.due.set_time(obj.name, obj.due_time())
 
-    def due_by_part(self, moment: int) -> Dict[int, Set[str]]:
-        """The objects whose time has come, by their parts."""
-        all_due: Dict[int, Set[str]] = {}
-        for part, due in self._due_queues.items():
-            names = due.due_names(moment)
-            if names:
-                all_due[part] = names
-        return all_due
-
-    def first_time(self) -> Optional[int]:
-        """The earliest time for which an object waits that isn't due yet."""
-        first: Optional[int] = None
-        for due in self._due_queues.values():
-            time = due.first_time()
-            if time is not None and (first is None or time < first):
-                first = time
-        return first
-
-    def second_time(self) -> Optional[int]:
-        """The time after the first one, if it is known without a search."""
-        times = [time for due in self._due_queues.values() for time in (due.first_time(), due.second_time()) if time is not None]
-        return sorted(times)[1] if len(times) > 1 else None
-
-    def apply_answer(self, call: Call, answer: Answer) -> Optional[ObjectState]:
-        """Takes in an answer; returns the object that it is about, if it is one of these."""
-        if not isinstance(call, Take):
-            obj = self.objects.get(call.name)
-        elif isinstance(answer, (Taken, PutOff)):
-            obj = self.objects.get(answer.name)
-        else:
-            return None
-        if obj is None or isinstance(answer, Refused):
-            return obj
+    def apply_answer(self, obj: ObjectState, call: Call, answer: Answer) -> None:
         if isinstance(answer, Taken):
             self.running.begin(Run(obj.key, answer.run, forced=obj.forced))
             obj.last_due, obj.next, obj.forced = obj.next, None, False
@@ -230,5 +165,4 @@ class ObjectStates:
             obj.next, obj.forced = call.time, call.forced
         elif isinstance(answer, Done) and isinstance(call, Enable):
             obj.on = call.on
-        self._due_queues[obj.definition.part].set_time(obj.name, obj.due_time())
-        return obj
+        self._set_due(obj)

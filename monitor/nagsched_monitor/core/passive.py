@@ -3,12 +3,11 @@ import collections
 from functools import partial
 from typing import Container, Deque, Dict, Iterable, List
 
-from ..scheduler.protocol import Report, Reschedule, Take
+from ..scheduler.protocol import Report, Take
 from ..scheduler.scheduling import Scheduling
 from ..store.rows import StoredResult
 from ..store.writes import drop_result
-from .mirroring import PlannedCall
-from .object_state import ObjectState
+from .mirroring import forced_take
 from .plan import Plan
 from .phases import RESULT_FIRST
 from .run_table import Owner
@@ -43,15 +42,15 @@ class PassiveResults:
 
     def _is_takeable(self, name: str) -> bool:
         obj = self._scheduling.states.objects.get(name)
-        return obj is not None and obj.run is None and obj.next != RESULT_FIRST and self._scheduling.is_object_open(obj)
+        return obj is not None and obj.run is None and obj.next != RESULT_FIRST and self._scheduling.is_open(obj.definition.part)
 
     def plan_takes(self, plan: Plan, now: int) -> None:
         """Takes each object that has a result and isn't running."""
         for name in self._results:
             obj = self._scheduling.states.objects[name]
             if self._is_takeable(name):
-                plan.calls += calls_for_result(obj, now)
-            elif obj.next == RESULT_FIRST and obj.run is None and self._scheduling.is_object_open(obj):
+                plan.calls += forced_take(obj.definition.part, name, RESULT_FIRST, now)
+            elif obj.next == RESULT_FIRST and obj.run is None and self._scheduling.is_open(obj.definition.part):
                 plan.calls.append((obj.definition.part, Take(now), None))  # the limit of running checks was reached when it had to be taken
                 plan.later.add(name)
 
@@ -62,11 +61,11 @@ class PassiveResults:
             obj, result = self._scheduling.states.objects.get(name), run.result
             if result is None or obj is None or not self._scheduling.is_reportable(run.key):
                 continue
-            plan.calls += self._scheduling.report_calls(part, Report(name, run.number, result.code), result.words, now)
+            plan.calls += self._scheduling.mirrors.report_calls(part, Report(name, run.number, result.code), result.words, now)
             plan.writes.append(drop_result(result.id))
             plan.then.append(partial(self._remove_first, result))
             if len(self._results[name]) > 1:
-                plan.calls += calls_for_result(obj, now)
+                plan.calls += forced_take(obj.definition.part, name, RESULT_FIRST, now)
 
     def _remove_first(self, result: StoredResult) -> None:
         results = self._results[result.name]
@@ -82,8 +81,3 @@ class PassiveResults:
         self._results = {name: results for name, results in self._results.items() if name in names}
         self.count -= len(gone)
         return gone
-
-
-def calls_for_result(obj: ObjectState, now: int) -> List[PlannedCall]:
-    part = obj.definition.part
-    return [(part, Reschedule(obj.name, RESULT_FIRST, True), None), (part, Take(now), None)]

@@ -1,6 +1,6 @@
 """The rhythm of an object's checks: its phase, to which it returns after any early or late check."""
 import zlib
-from typing import List, Optional, Sequence, Tuple
+from typing import Optional
 
 # The time within which overdue checks are made, in milliseconds, unless their interval is shorter.
 WINDOW = 15_000
@@ -11,17 +11,6 @@ TOLERANCE = 250
 MIRROR_FIRST, RESULT_FIRST, HOST_FIRST = 0, 1, 2
 # Any time from this one on is a time by the clock.
 FIRST_TIME = 3
-
-
-def due_time(due: Optional[int]) -> Optional[int]:
-    """The time at which a check was due; None if it was asked for at once."""
-    return due if due is not None and due >= FIRST_TIME else None
-
-
-def spread_times(overdue: Sequence[Tuple[str, int]], now: int) -> List[int]:
-    """The times of checks that are overdue, in the order in which they were due: each has its name and its interval in milliseconds."""
-    count = len(overdue)
-    return [now + min(interval or WINDOW, WINDOW) * place // count for place, (_, interval) in enumerate(overdue)]
 
 
 def next_in_phase(phase: int, interval: int, now: int) -> int:

@@ -1,7 +1,7 @@
 """Runs of plugins: their beginning, their end, and the handling of those that don't end."""
 import collections
 from functools import partial
-from typing import Callable, Counter, Deque, Dict, List, Optional
+from typing import Callable, Counter, Dict, List, Union
 
 from ..run.jobs import Event, Job, JobFinished, JobLost, Runners, StuckJobEnded
 from ..scheduler.protocol import Abandon, Report, Reschedule
@@ -12,7 +12,7 @@ from .clock import Clock
 from .mirroring import PlannedCall
 from .object_state import ObjectState
 from .plan import Plan
-from .phases import due_time
+from .phases import FIRST_TIME
 from .run_table import Owner, Run
 from .verdict import verdict
 
@@ -28,20 +28,15 @@ SWEEP = 1_000
 
 
 class PluginRuns:
-    """The plugins of a site, and the events of their ends."""
-
     def __init__(self, scheduling: Scheduling, runners: Runners, clock: Clock, log: Callable[[str], None], counters: Counters) -> None:
         self._scheduling, self._runners, self._clock, self._log, self._counters = scheduling, runners, clock, log, counters
-        self._events: Deque[Event] = collections.deque()
+        self._events: List[Event] = []
         # Plugins that were killed and haven't ended, by the names of their objects.
         self._stuck: Dict[str, Job] = {}
         # How often in a row the check of an object was lost, and couldn't be run here.
         self._losses: Counter[str] = collections.Counter()
         self._delays: Counter[str] = collections.Counter()
         self._last_sweep = clock.moment()
-        self.latest_start = 0
-
-    # ---- the beginning
 
     def start(self, obj: ObjectState, run: Run, command: Command) -> None:
         """Runs the plugin of a check that was taken. If the plugin of an earlier run still runs, this run ends."""
@@ -49,11 +44,9 @@ class PluginRuns:
         if left is not None:
             self._assign(run, left)
             return
-        time = due_time(obj.last_due)
         late = 0
-        if time is not None:
-            late = self._clock.moment() - time
-            self.latest_start = max(self.latest_start, late)
+        if obj.last_due is not None and obj.last_due >= FIRST_TIME:
+            late = self._clock.moment() - obj.last_due
             self._counters.count_start(late)
         obj.history.late = max(0, late) / 1000
         job = Job(obj.name, run.number, command.arguments, command.limit, obj.definition.runner)
@@ -67,8 +60,6 @@ class PluginRuns:
         remote = None if job.runner is None else self._scheduling.site.runners.get(job.runner)
         wait = 0 if remote is None else round(2 * remote.wait * 1000) + MARGIN  # for the runner, and for the queue after it
         run.owner, run.job, run.deadline = Owner.PLUGIN, job, self._clock.moment() + round(job.limit * 1000) + wait + MARGIN
-
-    # ---- the end
 
     def collect_events(self, now: int) -> None:
         """Takes in the events of runners, and looks over all runs every second."""
@@ -95,17 +86,12 @@ class PluginRuns:
             if id(job) not in ended and id(job) not in there:
                 del running.leftover_jobs[name]
 
-    def _run_of(self, event: Event) -> Optional[Run]:
-        """The run that ends with a plugin."""
-        obj = self._scheduling.states.objects.get(event.job.name)
-        run = None if obj is None else obj.run
-        return run if run is not None and run.job is event.job else None
-
     def plan(self, plan: Plan, now: int) -> None:
         """Reports the results of plugins. Events that can't be reported now stay."""
-        left: Deque[Event] = collections.deque()
+        left: List[Event] = []
+        runs = {id(run.job): run for run in self._scheduling.states.running}
         for event in self._events:
-            run = self._run_of(event)
+            run = runs.get(id(event.job))
             if isinstance(event, StuckJobEnded) or run is None:
                 plan.then.append(partial(self._drop_event, event))
             elif self._scheduling.is_reportable(run.key):
@@ -118,12 +104,7 @@ class PluginRuns:
             if self._scheduling.is_open(run.key[0]):
                 plan.calls += abandon_calls(run, now)
                 plan.then.append(partial(self._log, f"given up: run {run.number} of {run.key[1]}"))
-        plan.then.append(partial(self._drop_planned, len(self._events), left))
-
-    def _drop_planned(self, count: int, left: Deque[Event]) -> None:
-        for _ in range(count):
-            self._events.popleft()
-        self._events.extendleft(reversed(left))
+        plan.then.append(partial(setattr, self, "_events", left))
 
     def _drop_event(self, event: Event) -> None:
         """A plugin has ended that no run waits for."""
@@ -136,31 +117,29 @@ class PluginRuns:
                 del left[name]
             self._log(f"{name}: the result of run {event.job.run} is dropped: it was given up, or the object isn't part of the site any more")
 
-    def _ending_calls(self, run: Run, event: Event, now: int) -> List[PlannedCall]:
+    def _ending_calls(self, run: Run, event: Union[JobFinished, JobLost], now: int) -> List[PlannedCall]:
         """The calls that end a run. A lost check is made again; a service's check whose runner ended is UNKNOWN the third time."""
         part, name = run.key
         obj = self._scheduling.states.objects[name]
         if isinstance(event, JobFinished):
             code, words = verdict(event, obj.definition.is_host(), self._scheduling.site.options.timeout_code)
-            return self._scheduling.report_calls(part, Report(name, run.number, code), words, now)
+            return self._scheduling.mirrors.report_calls(part, Report(name, run.number, code), words, now)
         if self._is_delayed(event):
             again = min(LONGEST_RETRY, RETRY << min(self._delays[name], 16))
-            why = event.why if isinstance(event, JobLost) else ""
-            self._log(f"{name}: its plugin can't be run now, and is tried again in {again / 1000:g} seconds: {why}")
+            self._log(f"{name}: its plugin can't be run now, and is tried again in {again / 1000:g} seconds: {event.why}")
             return [(part, Abandon(name, run.number, now), None), (part, Reschedule(name, now + again, run.forced), None)]
-        if isinstance(event, JobLost) and self._losses[name] == MOST_LOST:
-            return self._scheduling.report_calls(part, Report(name, run.number, UNKNOWN), f"{event.why} {MOST_LOST + 1} times", now)
+        if self._losses[name] == MOST_LOST:
+            return self._scheduling.mirrors.report_calls(part, Report(name, run.number, UNKNOWN), f"{event.why} {MOST_LOST + 1} times", now)
         return abandon_calls(run, now)
 
-    def _is_delayed(self, event: Event) -> bool:
+    def _is_delayed(self, event: JobLost) -> bool:
         """Whether a lost check says nothing about its object, and is made again after a pause: a host is never DOWN because of its runners."""
         name = event.job.name
-        return isinstance(event, JobLost) and (event.is_local or self._losses[name] == MOST_LOST and self._scheduling.states.objects[name].definition.is_host())
+        return event.is_local or self._losses[name] == MOST_LOST and self._scheduling.states.objects[name].definition.is_host()
 
     def _count_losses(self, event: Event) -> None:
-        """Counts how often in a row a check was lost, and couldn't be run here."""
         name = event.job.name
-        if self._is_delayed(event):
+        if isinstance(event, JobLost) and self._is_delayed(event):
             self._delays[name] += 1
             self._counters.count_result("not_started")
             return

@@ -13,14 +13,10 @@ ObjectKey = Tuple[int, str]
 class Owner(enum.Enum):
     """The component that will end a run."""
 
-    # Nobody: it was taken before this monitor started, or its owner is lost. It is abandoned.
-    NOBODY = "nobody"
-    # A plugin, here or in a worker.
-    PLUGIN = "plugin"
-    # A passive result, which is reported in the next turn.
-    RESULT = "result"
-    # The original of a mirror, whose next result is reported to it too.
-    ORIGINAL = "original"
+    NOBODY = "nobody"  # it was taken before this monitor started, or its owner is lost: it is abandoned
+    PLUGIN = "plugin"  # a plugin, here or in a worker
+    RESULT = "result"  # a passive result, which is reported in the next turn
+    ORIGINAL = "original"  # the original of a mirror, whose next result is reported to it too
 
 
 @dataclass
@@ -34,12 +30,9 @@ class Run:
     deadline: Optional[int] = None
     job: Optional[Job] = None
     result: Optional[StoredResult] = None
-    # Whether the check was forced, as the next try then is.
-    forced: bool = False
-    # The moment at which its check is made again if it is abandoned; None for at once.
-    retry_at: Optional[int] = None
-    # When it was taken, in seconds since 1970 of the wall clock.
-    began_at: Optional[float] = None
+    forced: bool = False  # as the next try then is
+    retry_at: Optional[int] = None  # the moment at which its check is made again if it is abandoned; None for at once
+    began_at: Optional[float] = None  # when it was taken, in seconds since 1970 of the wall clock
 
 
 class RunTable:
@@ -62,18 +55,8 @@ class RunTable:
     def __iter__(self) -> Iterator[Run]:
         return iter(list(self._runs.values()))
 
-    def plugin_count(self) -> int:
-        """The number of running plugins."""
-        return sum(run.owner is Owner.PLUGIN for run in self._runs.values()) + len(self.leftover_jobs)
-
-    def local_plugin_count(self) -> int:
-        """The number of plugins that run on this machine."""
-        jobs = [run.job for run in self._runs.values() if run.owner is Owner.PLUGIN] + list(self.leftover_jobs.values())
-        return sum(job is not None and job.runner is None for job in jobs)
+    def plugins(self) -> List[Job]:
+        return [run.job for run in self.owned_by(Owner.PLUGIN) if run.job is not None] + list(self.leftover_jobs.values())
 
     def owned_by(self, owner: Owner) -> List[Run]:
         return [run for run in self._runs.values() if run.owner is owner]
-
-    def overdue(self, now: int) -> List[Run]:
-        """The runs whose deadline has passed."""
-        return [run for run in self._runs.values() if run.deadline is not None and run.deadline < now]

@@ -153,7 +153,7 @@ class Requests:
 
     def _find_open_object(self, members: Members) -> ObjectState:
         obj = self._find_object(members)
-        if not self.engine.scheduling.is_object_open(obj):
+        if not self.engine.scheduling.is_open(obj.definition.part):
             raise AskAgain("the scheduler of this object is being started again")
         return obj
 
@@ -170,7 +170,7 @@ class Requests:
         return RequestPlan(answer={
             "turn": wall - engine.time_since_turn() / 1000, "is_stuck": engine.is_stuck, "passive_waiting": engine.passive.count, "changes_waiting": changes,
             "oldest_change": 0.0 if first is None else max(0.0, wall - first), "runners": engine.runners.process_counts(),
-            "out": engine.running_plugin_count(), "made": engine.result_count, "latest_start": engine.plugins.latest_start,
+            "out": len(engine.scheduling.states.running.plugins()), "made": engine.counters.result_count, "latest_start": engine.counters.latest_start,
         })
 
     def _plan_reschedule(self, members: Members, request: Request) -> RequestPlan:
@@ -240,7 +240,8 @@ class Requests:
 
     def _save_now(self, request: Request) -> None:
         try:
-            request.answer = {"done": "save"} if self.engine.save() else {"error": "this nagsched saves no states; all calls are kept"}
+            self.engine.save()
+            request.answer = {"done": "save"}
         except (NotStored, ConversationEnded, MonitorFault) as fault:
             request.answer = {"error": str(fault), "again": True}
 

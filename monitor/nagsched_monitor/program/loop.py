@@ -46,7 +46,7 @@ class Loop:
             wanted = begun + AFTER_FAULT
             self._handle_fault(error)
         if self.status is None:
-            second = self._engine.scheduling.states.second_time()
+            second = self._engine.scheduling.states.due.second_time()
             self._timer.wait(begun, wanted, second)
 
     def _turn(self, begun: int) -> int:

@@ -63,7 +63,7 @@ class Monitor:
 
     @property
     def site(self) -> Site:
-        return self.engine.site
+        return self.scheduling.site
 
     def _connect_parts(self) -> None:
         requests = self.engine.requests

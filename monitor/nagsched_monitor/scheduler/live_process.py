@@ -12,13 +12,14 @@ READ_BYTES = 65_536
 # read, then for any other answer. And the limit for its end.
 OPENING, SILENCE = 30.0, 15.0
 GRACE = 5.0
+# The most lines that are sent together.
+AT_ONCE = 4_096
 
 
 class Conversation:
     """A scheduler over one setup."""
 
     def __init__(self, program: str, setup: bytes, start: int, saved: Optional[bytes] = None) -> None:
-        """Over this setup, from its start on, or from the saved state."""
         words = [program, "live", *([] if saved is None else ["--resume"]), "--start", str(start)]
         try:
             # In a session of its own: a Ctrl-C in the terminal is for the monitor, which saves the state before it ends.
@@ -34,9 +35,12 @@ class Conversation:
         self._patience = OPENING
 
     def ask_lines(self, lines: Sequence[str]) -> List[str]:
-        """Sends these lines, and returns the lines that answer them."""
-        self.begin(lines)
-        return self.finish()
+        """Sends these lines, a number of them together, and returns the lines that answer them."""
+        answers: List[str] = []
+        for first in range(0, len(lines), AT_ONCE):
+            self.begin(lines[first : first + AT_ONCE])
+            answers += self.finish()
+        return answers
 
     def begin(self, lines: Sequence[str]) -> None:
         """Sends as much of these lines as there is room for now."""
@@ -68,10 +72,11 @@ class Conversation:
             raise ConversationEnded(f"the scheduler answered more than it was asked: {lines[-READ_BYTES:].decode(errors='replace')!r}")
         return lines.decode(errors="replace").split("\n")[:-1]
 
-    def save(self) -> Optional[bytes]:
-        """The state of the scheduler as text; None if the program doesn't have that command."""
-        (line,) = self.ask_lines(['["save"]'])
-        return line[len("saved ") :].encode() if line.startswith("saved ") else None
+    def save(self) -> bytes:
+        word, _, state = self.ask_lines(['["save"]'])[0].partition(" ")
+        if word != "saved":
+            raise ConversationEnded(f"the scheduler answered {word} {state} to a save")
+        return state.encode()
 
     def process_id(self) -> int:
         return self._process.pid

@@ -30,7 +30,8 @@ def merge_states(states: States, mirrored: Mapping[int, AbstractSet[str]], site:
             members[definition.part].append(member if part == definition.part else without_run(member, moment))
     for part, names in site.mirrors.items():
         members[part].extend(as_mirror(found[name][1]) for name in sorted(names) if name in found)
-    return {part: state_text(of_part, runs, moment) for part, of_part in members.items()}
+    documents = {part: {"format": 1, "objects": of_part, "runs": runs, "start": moment} for part, of_part in members.items()}
+    return {part: json.dumps(document, ensure_ascii=False, separators=(",", ":")).encode() for part, document in documents.items()}
 
 
 def without_run(member: Member, moment: int) -> Member:
@@ -43,11 +44,6 @@ def without_run(member: Member, moment: int) -> Member:
 def as_mirror(member: Member) -> Member:
     """An object as its mirror has it: in the same state, and never checked."""
     return {**member, "run": None, "forced": False, "next_check": None, "enabled": False, "enabled_in_setup": False, "check_interval": 0}
-
-
-def state_text(members: List[Member], runs: int, start: int) -> bytes:
-    """The state of a scheduler with these objects."""
-    return json.dumps({"format": 1, "objects": members, "runs": runs, "start": start}, ensure_ascii=False, separators=(",", ":")).encode()
 
 
 def carry_over(program: str, site: Site, part: int, state: bytes) -> List[str]:

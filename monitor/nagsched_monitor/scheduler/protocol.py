@@ -1,43 +1,19 @@
 """The calls to the scheduler, each a line of JSON, and its answers, each a line of words."""
 import json
-from typing import NamedTuple, Optional, Union
+from typing import Callable, Dict, NamedTuple, Optional, Union
+
+from ..faults import ConversationEnded
 
 # The greatest moment and run number of a scheduler, and the greatest code of a plugin.
 GREATEST = 2**60
 GREATEST_CODE = 3
 
-
-class Take(NamedTuple):
-    now: int
-
-
-class Report(NamedTuple):
-    name: str
-    run: int
-    code: int
-
-
-class Abandon(NamedTuple):
-    name: str
-    run: int
-    now: int
-
-
-class Reschedule(NamedTuple):
-    name: str
-    time: int
-    forced: bool
-
-
-class Enable(NamedTuple):
-    name: str
-    on: bool
-
-
-class Status(NamedTuple):
-    name: str
-
-
+Take = NamedTuple("Take", [("now", int)])
+Report = NamedTuple("Report", [("name", str), ("run", int), ("code", int)])
+Abandon = NamedTuple("Abandon", [("name", str), ("run", int), ("now", int)])
+Reschedule = NamedTuple("Reschedule", [("name", str), ("time", int), ("forced", bool)])
+Enable = NamedTuple("Enable", [("name", str), ("on", bool)])
+Status = NamedTuple("Status", [("name", str)])
 Call = Union[Take, Report, Abandon, Reschedule, Enable, Status]
 KINDS = {"take": Take, "report": Report, "abandon": Abandon, "reschedule": Reschedule, "enable": Enable, "status": Status}
 WORDS = {kind: word for word, kind in KINDS.items()}
@@ -49,38 +25,21 @@ def call_line(call: Call) -> str:
 
 
 def read_call(line: str) -> Call:
-    """The call in a stored line."""
     word, *members = json.loads(line)
     call: Call = KINDS[word](*members)
     return call
 
 
-def is_readable(call: Call) -> bool:
-    """Whether a scheduler can read a call: its code is a plugin's, and its numbers are within their limits."""
-    if isinstance(call, Report) and not 0 <= call.code <= GREATEST_CODE:
-        return False
-    return all(0 <= value <= GREATEST for value in call if isinstance(value, int))
-
-
 # ---- answers
 
-
-class Taken(NamedTuple):
-    run: int
-    name: str
-
-
-class PutOff(NamedTuple):
-    next: Optional[int]
-    name: str
+Taken = NamedTuple("Taken", [("run", int), ("name", str)])
+PutOff = NamedTuple("PutOff", [("next", Optional[int]), ("name", str)])
+Freed = NamedTuple("Freed", [("next", int), ("name", str)])
+Done = NamedTuple("Done", [("name", str)])
 
 
 class Idle(NamedTuple):
-    next: Optional[int]
-
-
-class AtLimit(NamedTuple):
-    pass
+    """No check begins: none is due, or as many run as may."""
 
 
 class Standing(NamedTuple):
@@ -99,47 +58,47 @@ class Standing(NamedTuple):
         return self.is_problem() and self.kind == "SOFT"
 
 
-class Freed(NamedTuple):
-    next: int
-    name: str
-
-
-class Done(NamedTuple):
-    name: str
-
-
 class Refused(NamedTuple):
     """The call was refused and changed nothing: for example, its result comes too late, or the scheduler couldn't read it."""
 
     why: str
 
 
-Answer = Union[Taken, PutOff, Idle, AtLimit, Standing, Freed, Done, Refused]
+Answer = Union[Taken, PutOff, Idle, Standing, Freed, Done, Refused]
 
 
 def read_time(word: str) -> Optional[int]:
     return None if word == "none" else int(word)
 
 
-def read_answer(line: str) -> Optional[Answer]:
-    """An answer; None if it isn't an answer to a call."""
-    word, _, rest = line.partition(" ")
-    if word == "standing":
-        state, kind, attempt, changed, flapping, time, name = rest.split(" ", 6)
-        return Standing(state, kind, int(attempt), changed == "yes", flapping == "FLAPPING", None if time == "none" else int(time), name)
+def read_standing(rest: str) -> Standing:
+    state, kind, attempt, changed, flapping, time, name = rest.split(" ", 6)
+    return Standing(state, kind, int(attempt), changed == "yes", flapping == "FLAPPING", read_time(time), name)
+
+
+# An answer by its first word, from the rest of its line, the first word of this rest, and the name after that.
+READERS: Dict[str, Callable[[str, str, str], Answer]] = {
+    "taken": lambda rest, first, name: Taken(int(first), name),
+    "putoff": lambda rest, first, name: PutOff(read_time(first), name),
+    "idle": lambda rest, first, name: Idle(),
+    "atlimit": lambda rest, first, name: Idle(),
+    "standing": lambda rest, first, name: read_standing(rest),
+    "freed": lambda rest, first, name: Freed(int(first), name),
+    "done": lambda rest, first, name: Done(rest),
+    "refused": lambda rest, first, name: Refused(rest),
+}
+
+
+def read_answer(reply: str, line: str) -> Answer:
+    """The answer to a line. Raises `ConversationEnded` if it isn't one."""
+    word, _, rest = reply.partition(" ")
+    if word not in READERS:
+        raise ConversationEnded(f"the scheduler answered {reply!r} to {line}")
     first, _, name = rest.partition(" ")
-    if word == "taken":
-        return Taken(int(first), name)
-    if word == "putoff":
-        return PutOff(read_time(first), name)
-    if word == "idle":
-        return Idle(read_time(rest))
-    if word == "atlimit":
-        return AtLimit()
-    if word == "freed":
-        return Freed(int(first), name)
-    if word == "done":
-        return Done(rest)
-    if word == "refused":
-        return Refused(rest)
-    return None
+    return READERS[word](rest, first, name)
+
+
+def object_name(call: Call, answer: Answer) -> str:
+    """The name of the object that an answer is about; empty if it is about none."""
+    name: str = getattr(answer, "name", "") or getattr(call, "name", "")
+    return name

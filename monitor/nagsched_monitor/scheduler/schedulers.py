@@ -4,18 +4,17 @@ A call is made once: it waits until its scheduler has answered it. A scheduler t
 same runs. A call after which a scheduler ends twice, if it is the only one that was sent, is set aside.
 """
 import collections
-from typing import Callable, Deque, Dict, List, Mapping, NamedTuple, Optional, Sequence, Tuple, TypeVar
+from typing import Callable, Deque, Dict, List, Mapping, Optional, Sequence, Tuple, TypeVar
 
 from ..core.clock import Clock
 from ..faults import ConversationEnded, NotStored
-from ..store.rows import Generation
+from ..store.rows import Generation, StoredCall
 from ..store.store import Store
 from ..store.writes import set_aside
-from .live_process import GRACE, Conversation
-from .protocol import Answer, Call, Refused, call_line, read_answer, read_call
+from .live_process import AT_ONCE, GRACE, Conversation
+from .protocol import Answer, Call, Refused, call_line, read_answer
 
-# The most calls that are made together; how often a scheduler is restarted in one exchange, and the pause before the next exchange does so, in milliseconds.
-AT_ONCE = 4_096
+# How often a scheduler is restarted in one exchange, and the pause before the next exchange does so, in milliseconds.
 TRIES = 3
 PAUSE = 1_000
 # The time between two messages that a scheduler can't be started, in milliseconds, and how often one may end after a call.
@@ -26,39 +25,17 @@ PING = '["ping"]'
 
 ConversationFactory = Callable[[str, bytes, int, Optional[bytes]], Conversation]
 Value = TypeVar("Value")
-
-
-class PendingCall(NamedTuple):
-    """A stored call: its number and part, and the plugin's output if it reports one."""
-
-    number: int
-    part: int
-    call: Call
-    output: Optional[str]
-
-
-AnsweredCall = Tuple[PendingCall, Answer]
-
-
-def read_answers(replies: Sequence[str], lines: Sequence[str]) -> List[Answer]:
-    """The answers of a scheduler to these lines."""
-    answers: List[Answer] = []
-    for each, line in zip(replies, lines):
-        answer = read_answer(each)
-        if answer is None:
-            raise ConversationEnded(f"the scheduler answered {each!r} to {line}")
-        answers.append(answer)
-    return answers
+AnsweredCall = Tuple[StoredCall, Answer]
 
 
 class PartScheduler:
     """The scheduler of a part: its process, and the calls that it hasn't answered."""
 
-    def __init__(self, generation: Generation, program: str, store: Store, clock: Clock, log: Callable[[str], None], converse: ConversationFactory) -> None:
-        self.generation, self._program, self._store, self._clock, self._log, self._converse = generation, program, store, clock, log, converse
-        # The number of the last call that was answered.
+    def __init__(self, generation: Generation, store: Store, clock: Clock, log: Callable[[str], None], start: Callable[[Generation], Conversation]) -> None:
+        self.generation, self._store, self._clock, self._log, self._start = generation, store, clock, log, start
+        # The number of the last call that was answered, and the calls after it.
         self.last_answered = generation.last_call
-        self.pending: Deque[PendingCall] = collections.deque()
+        self.pending: Deque[StoredCall] = collections.deque()
         self.conversation: Optional[Conversation] = None
         # Its fault, when the fault was last logged, and the moment before which it isn't started again.
         self.trouble: Optional[str] = None
@@ -70,18 +47,17 @@ class PartScheduler:
 
     def begin(self) -> None:
         """Sends pending calls, if the scheduler runs and may get several of them together."""
-        if self.conversation is not None and self.pending and self.pending[0].number > self._alone_until:
+        if self.conversation is not None and self.pending[0].id > self._alone_until:
             self._send(self.conversation)
 
     def _send(self, conversation: Conversation) -> None:
-        is_alone = self.pending[0].number <= self._alone_until
+        is_alone = self.pending[0].id <= self._alone_until
         if is_alone:
             conversation.ask_lines([PING])
-        self._sent = [call_line(self.pending[place].call) for place in range(1 if is_alone else min(len(self.pending), AT_ONCE))]
+        self._sent = [self.pending[place].line for place in range(1 if is_alone else min(len(self.pending), AT_ONCE))]
         conversation.begin(self._sent)
 
     def finish(self) -> List[AnsweredCall]:
-        """The answers to pending calls."""
         answered: List[AnsweredCall] = []
         if self.conversation is None and self._clock.moment() < self._not_before:
             return answered
@@ -104,19 +80,17 @@ class PartScheduler:
     def _read_answers(self, conversation: Conversation) -> List[AnsweredCall]:
         if not self._sent:
             self._send(conversation)
-        answers = read_answers(conversation.finish(), self._sent)
+        answers = [read_answer(reply, line) for reply, line in zip(conversation.finish(), self._sent)]
         answered = [(self.pending.popleft(), answer) for answer in answers]
-        self.last_answered, self._sent = answered[-1][0].number, []
+        self.last_answered, self._sent = answered[-1][0].id, []
         return answered
 
     def _open_conversation(self) -> Conversation:
         """The scheduler. If it doesn't run, it is started, and makes the answered calls again."""
         if self.conversation is None:
-            generation = self.generation
-            self.conversation, self._sent = self._converse(self._program, generation.setup, generation.start, generation.saved), []
-            lines = [each.line for each in self._store.calls_between(generation.part, generation.last_call, self.last_answered)]
-            for first in range(0, len(lines), AT_ONCE):
-                self.conversation.ask_lines(lines[first : first + AT_ONCE])
+            calls = self._store.calls_since(self.generation.part, self.generation.last_call, self.last_answered)
+            self.conversation, self._sent = self._start(self.generation), []
+            self.conversation.ask_lines([each.line for each in calls])
         return self.conversation
 
     def _handle_end(self, why: str) -> List[AnsweredCall]:
@@ -130,22 +104,21 @@ class PartScheduler:
         if not sent or not self.pending:
             return []
         first = self.pending[0]
-        if sent > 1 or first.number > self._alone_until:
-            self._alone_until = self.pending[sent - 1].number
+        if sent > 1 or first.id > self._alone_until:
+            self._alone_until = self.pending[sent - 1].id
             return []
-        self._suspect, self._end_count = first.number, 1 + (self._end_count if first.number == self._suspect else 0)
+        self._suspect, self._end_count = first.id, 1 + (self._end_count if first.id == self._suspect else 0)
         return self._set_aside(first) if self._end_count >= MOST_ENDS else []
 
-    def _set_aside(self, pending_call: PendingCall) -> List[AnsweredCall]:
-        line = call_line(pending_call.call)
+    def _set_aside(self, stored: StoredCall) -> List[AnsweredCall]:
         try:
-            self._store.write(set_aside(pending_call.number, pending_call.part, line))
+            self._store.write(set_aside(stored.id, stored.part, stored.line))
         except NotStored:
             return []
         self.pending.popleft()
-        self.last_answered = pending_call.number
-        self._log(f"call {pending_call.number} is set aside, since the scheduler of part {pending_call.part + 1} ends after it: {line}")
-        return [(pending_call, Refused("it was set aside"))]
+        self.last_answered = stored.id
+        self._log(f"call {stored.id} is set aside, since the scheduler of part {stored.part + 1} ends after it: {stored.line}")
+        return [(stored, Refused("it was set aside"))]
 
     def run_query(self, what: Callable[[Conversation], Value]) -> Value:
         """Carries out an action that changes nothing and isn't stored. Raises `ConversationEnded` if no scheduler can be started for it."""
@@ -166,15 +139,12 @@ class PartScheduler:
 
 
 class Schedulers:
-    """One scheduler for each part of a site."""
-
     def __init__(self, program: str, store: Store, clock: Clock, log: Callable[[str], None], converse: ConversationFactory = Conversation) -> None:
-        self._converse = converse
-        self._make_part: Callable[[Generation], PartScheduler] = lambda generation: PartScheduler(
-            generation, program, store, clock, log, lambda *arguments: self._converse(*arguments)
-        )
-        self._store = store
+        self._program, self._store, self._clock, self._log, self._converse = program, store, clock, log, converse
         self.parts: Dict[int, PartScheduler] = {}
+
+    def _start(self, generation: Generation) -> Conversation:
+        return self._converse(self._program, generation.setup, generation.start, generation.saved)
 
     def open(self, generations: Mapping[int, Generation]) -> None:
         """Continues with these generations. A part with the same setup stays open."""
@@ -185,26 +155,9 @@ class Schedulers:
                 part.generation = generation
                 self.parts[number] = before.pop(number)
             else:
-                self.parts[number] = self._make_part(generation)
+                self.parts[number] = PartScheduler(generation, self._store, self._clock, self._log, self._start)
         for part in before.values():
             part.close_conversation()
-
-    def load_pending(self, number: int) -> None:
-        """Takes in the stored calls of a part that were made before this monitor started, which are answered again."""
-        stored = self._store.calls_since(number, self.parts[number].last_answered)
-        self.parts[number].pending.extend(PendingCall(each.id, each.part, read_call(each.line), each.words) for each in stored)
-
-    def is_down(self, number: int) -> bool:
-        """Whether a part has calls that its scheduler couldn't answer."""
-        return bool(self.parts[number].pending)
-
-    def are_all_up(self) -> bool:
-        return not any(part.pending for part in self.parts.values())
-
-    def add_calls(self, calls: Sequence[PendingCall]) -> None:
-        """These calls were stored. The next exchange makes them."""
-        for call in calls:
-            self.parts[call.part].pending.append(call)
 
     def exchange(self) -> List[AnsweredCall]:
         """Makes the waiting calls, and returns their answers. Calls of a scheduler that can't be started now continue to wait."""
@@ -216,24 +169,14 @@ class Schedulers:
     def query(self, number: int, calls: Sequence[Call]) -> List[Answer]:
         """The answers to calls that change nothing, and aren't stored."""
         lines = [call_line(call) for call in calls]
+        return self.parts[number].run_query(lambda conversation: [read_answer(*each) for each in zip(conversation.ask_lines(lines), lines)])
 
-        def asked(conversation: Conversation) -> List[Answer]:
-            several = [lines[first : first + AT_ONCE] for first in range(0, len(lines), AT_ONCE)]
-            return [answer for some in several for answer in read_answers(conversation.ask_lines(some), some)]
-
-        return self.parts[number].run_query(asked)
-
-    def states(self) -> Optional[Dict[int, bytes]]:
-        """The state of each scheduler; None if the program has no saved states. Raises `ConversationEnded` if a scheduler can't be started."""
-        states: Dict[int, bytes] = {}
+    def states(self) -> Dict[int, bytes]:
+        """The state of each scheduler. Raises `ConversationEnded` if one hasn't answered all calls, or can't be started."""
         for number, part in self.parts.items():
             if part.pending:
                 raise ConversationEnded(part.trouble or f"the scheduler of part {number + 1} hasn't answered all calls")
-            state = part.run_query(lambda conversation: conversation.save())
-            if state is None:
-                return None
-            states[number] = state
-        return states
+        return {number: part.run_query(lambda conversation: conversation.save()) for number, part in self.parts.items()}
 
     def process_ids(self) -> List[int]:
         return [part.conversation.process_id() for part in self.parts.values() if part.conversation is not None]

@@ -1,7 +1,6 @@
 """The schedulers of a site and their answers: calls are first stored together, then made together, and then their answers are applied."""
 import json
-from dataclasses import replace
-from typing import AbstractSet, Callable, List, NamedTuple, Optional, Sequence
+from typing import AbstractSet, Callable, List, Mapping, NamedTuple, Optional, Sequence
 
 from ..outputs import changes
 
@@ -10,16 +9,16 @@ from ..core.mirroring import Mirrors, PlannedCall
 from ..core.object_state import ObjectState, ObjectStates
 from ..core.phases import FIRST_TIME
 from ..core.run_table import ObjectKey, Run
-from ..faults import ConversationEnded, MonitorFault
+from ..faults import ConversationEnded
 from ..site.site import Site, objects_of
-from ..store.rows import Generation, StoredChange
+from ..store.rows import Generation, StoredCall, StoredChange
 from ..store.status_table import StandingTable
 from ..store.store import Store, Write
 from ..store.writes import begin_generation, end_generation, store_calls, store_change
 from . import migration
 from .live_process import Conversation
-from .protocol import Answer, Call, Report, Standing, Status, call_line, is_readable
-from .schedulers import AnsweredCall, ConversationFactory, PendingCall, Schedulers
+from .protocol import Answer, Call, Report, Standing, Status, call_line, object_name, read_call
+from .schedulers import AnsweredCall, ConversationFactory, Schedulers
 
 
 class ObjectAnswer(NamedTuple):
@@ -33,11 +32,8 @@ class ObjectAnswer(NamedTuple):
 
 
 class Scheduling:
-    """All schedulers of a site."""
-
-    def __init__(
-        self, program: str, site: Site, store: Store, clock: Clock, log: Callable[[str], None], notified: bool, converse: ConversationFactory = Conversation
-    ) -> None:
+    def __init__(self, program: str, site: Site, store: Store, clock: Clock, log: Callable[[str], None], notified: bool,
+                 converse: ConversationFactory = Conversation) -> None:
         self._program, self._store, self._clock, self._log, self._has_command = program, store, clock, log, notified
         self.site = site
         self.states = ObjectStates()
@@ -57,31 +53,29 @@ class Scheduling:
     def open(self) -> None:
         """Opens the scheduler of each part, with its stored calls."""
         generations = self._store.generations()
-        for definition in self.site.objects.values():
-            self.states.add(definition, definition.enabled)
+        self.states.change_site(self.site.objects, self._clock.moment())
         self._standings.read(self.states.objects)
         self.mirrors = Mirrors({part: generation.mirrors for part, generation in generations.items()}, self.states.running)
         self._stored_changes = self._store.changes_after(min((generation.last_call for generation in generations.values()), default=0))
         self.schedulers.open(generations)
-        # Parts that the site no longer has come first, so that an object's own part decides.
-        for part in sorted(generations, key=lambda part: part < len(self.site.setups)):
-            self._resume(generations[part])
+        self._resume()
         for line in self._change_site(self.site):
             self._log(line)
         self._query_unknown()
         self._standings.settle(self.states.objects)
 
-    def _resume(self, generation: Generation) -> None:
-        """Makes the stored calls of a part again."""
-        part = generation.part
-        if generation.saved is not None:
-            self._read_state(part, generation.saved)
-            # The states of objects are known before calls are made again: a result with the same state isn't a change.
-            self._query_standings(part, [it.name for it in objects_of(json.loads(generation.setup), part) if it.name not in self.mirrors.names_of(part)])
-        self.schedulers.load_pending(part)
+    def _resume(self) -> None:
+        for number, part in self.schedulers.parts.items():
+            part.pending.extend(self._store.calls_since(number, part.last_answered))
+            if part.generation.saved is not None:
+                self._read_state(number, part.generation.saved)
+                # The states of objects are known before calls are made again: a result with the same state isn't a change.
+                own = [it.name for it in objects_of(json.loads(part.generation.setup), number) if it.name not in part.generation.mirrors]
+                self._query_standings(number, own)
         self._apply_answers(self.schedulers.exchange(), is_again=True)
-        if self.schedulers.is_down(part):
-            raise ConversationEnded(f"the scheduler of part {part + 1} can't be opened: {self.schedulers.parts[part].trouble}")
+        for number, part in self.schedulers.parts.items():
+            if part.pending:
+                raise ConversationEnded(f"the scheduler of part {number + 1} can't be opened: {part.trouble}")
 
     def _query_unknown(self) -> None:
         """Asks for the standing of each object whose standing isn't known yet, and takes its first time as its phase."""
@@ -96,14 +90,14 @@ class Scheduling:
         calls = [Status(name) for name in names if name in self.states.objects and self.states.objects[name].standing is None]
         if calls:
             for call, answer in zip(calls, self.schedulers.query(part, calls)):
-                self.states.apply_answer(call, answer)
+                self.states.apply_answer(self.states.objects[call.name], call, answer)
 
     def reload(self, site: Site) -> List[str]:
         """Takes over another site; if it is refused, nothing has changed. Returns the changes of objects that stay, a line each."""
         changed = self._change_site(site)
         self._has_unknown = True
         self._query_new()
-        self._standings.change_site(self.states.objects)
+        self._standings.settle(self.states.objects)
         return changed
 
     def _query_new(self) -> None:
@@ -116,113 +110,99 @@ class Scheduling:
 
     def _change_site(self, site: Site) -> List[str]:
         """Takes over a site. Parts with another setup begin from the combined states of all parts."""
-        open_parts = {part: scheduler.generation for part, scheduler in self.schedulers.parts.items()}
-        others = {
-            part for part, setup in enumerate(site.setups)
-            if part not in open_parts or (open_parts[part].setup, open_parts[part].mirrors) != (setup, site.mirrors.get(part, frozenset()))
-        }
-        changed: List[str] = []
-        if others or len(open_parts) > len(site.setups):
-            changed = self._begin_parts(site, others)
+        opened = {part: (scheduler.generation.setup, scheduler.generation.mirrors) for part, scheduler in self.schedulers.parts.items()}
+        wanted = {part: (setup, site.mirrors.get(part, frozenset())) for part, setup in enumerate(site.setups)}
+        others = {part for part, setup in wanted.items() if opened.get(part) != setup}
+        changed = self._begin_parts(site, others, self.schedulers.states()) if opened != wanted else []
         self.site = site
         self.states.change_site(site.objects, self._clock.moment())
         for part in sorted(others):
             saved = self.schedulers.parts[part].generation.saved
             if saved is not None:
                 self._read_state(part, saved)
+        for obj in self.states.objects.values():
+            if obj.definition.part in others:
+                obj.standing = None
         return changed
 
-    def _begin_parts(self, site: Site, others: AbstractSet[int]) -> List[str]:
-        """Begins these parts of a site from scratch. The states of all parts are stored together, and all earlier calls are dropped."""
-        states, moment, last_call = self.schedulers.states(), self._clock.moment(), self._store.last_call
-        if states is None:
-            raise MonitorFault("another setup is taken over from a saved state, and this nagsched saves none: stop, and move monitor.db away to begin again")
-        begun = migration.merge_states(states, self.mirrors.names, site, moment) if states else {}
-        changed = [line for part in sorted(others) if states for line in migration.carry_over(self._program, site, part, begun[part])]
+    def _begin_parts(self, site: Site, others: AbstractSet[int], states: Mapping[int, bytes]) -> List[str]:
+        """Begins these parts of a site from scratch, from the combined states; the others continue from theirs. All earlier calls are dropped."""
+        moment, last_call = self._clock.moment(), self._store.last_call
+        begun = migration.merge_states(states, self.mirrors.names, site, moment) if states and others else {}
+        changed = [line for part in sorted(begun.keys() & others) for line in migration.carry_over(self._program, site, part, begun[part])]
         generations = {
             part: Generation(part, setup, moment, begun.get(part), last_call, site.mirrors.get(part, frozenset()))
-            if part in others else replace(self.schedulers.parts[part].generation, saved=states[part], last_call=last_call)
+            if part in others else self.schedulers.parts[part].generation._replace(saved=states[part], last_call=last_call)
             for part, setup in enumerate(site.setups)
         }
         gone = [part for part in self.schedulers.parts if part not in generations]
-        self._store.write(*self._pending_writes, *map(end_generation, gone), *map(begin_generation, generations.values()))
-        self._pending_writes = []
+        self._write(*map(end_generation, gone), *map(begin_generation, generations.values()))
         self.mirrors = self.mirrors.change_site(site.mirrors, others)
         self.schedulers.open(generations)
         return changed
 
-    def _read_state(self, part: int, state: bytes) -> None:
-        """Reads the facts in a scheduler's state that its answers don't have: switches, forced marks and runs."""
-        members = self.mirrors.apply_saved(part, json.loads(state)["objects"])
-        self.states.apply_saved(members)
-        for it in members:
-            if it["name"] in self.states.objects:
-                self.states.objects[it["name"]].standing = None
+    def _write(self, *writes: Write) -> None:
+        """Writes these, with all that waits to be written."""
+        standings = self._standings.writes()
+        self._store.write(*self._pending_writes, *standings, *writes)
+        self._pending_writes = []
+        if standings:
+            self._standings.clear_marks()
+
+    def _read_state(self, part: int, state: bytes) -> List[str]:
+        """Reads a scheduler's state, which counts. Returns the names of the objects whose known switch, forced mark, next check or run was different."""
+        return self.states.apply_saved(self.mirrors.apply_saved(part, json.loads(state)["objects"]))
 
     # ---- calls
 
     def is_open(self, part: int) -> bool:
         """Whether calls of a part can be made now: its scheduler has answered all earlier ones."""
-        return not self.schedulers.is_down(part)
+        return not self.schedulers.parts[part].pending
 
-    def is_object_open(self, obj: ObjectState) -> bool:
-        return not self.schedulers.is_down(obj.definition.part)
-
-    def is_reportable(self, place: ObjectKey) -> bool:
+    def is_reportable(self, key: ObjectKey) -> bool:
         """Whether a result of an object can be reported now, to it and to its mirrors."""
-        part, name = place
-        return self.is_open(part) and self.mirrors.are_running(name) and all(self.is_open(other) for other in self.mirrors.parts_of(name))
-
-    def report_calls(self, part: int, report: Report, words: str, moment: int) -> List[PlannedCall]:
-        """The calls that report a result to an object and to its mirrors."""
-        return [(part, report, words), *self.mirrors.report_calls(report, moment)]
-
-    def mirror_take_calls(self, moment: int) -> List[PlannedCall]:
-        """The calls that take the mirrors that aren't running."""
-        return [each for each in self.mirrors.take_calls(moment) if self.is_open(each[0])] if self.mirrors.names else []
+        part, name = key
+        mirrors = self.mirrors.parts_of(name)
+        return all(map(self.is_open, [part, *mirrors])) and all(self.states.running.get((other, name)) is not None for other in mirrors)
 
     def store_calls(self, planned: Sequence[PlannedCall], writes: Sequence[Write] = ()) -> None:
         """Stores these calls with the other writes; the next `make_calls` makes them. If something can't be stored, nothing is, and `NotStored` is raised."""
-        bad = [call for _, call, _ in planned if not is_readable(call)]
-        if bad:
-            raise ValueError(f"no scheduler reads these calls: {bad}")
         if planned or writes or self.has_more():
-            standings, number = self._standings.writes(), self._store.last_call
+            number = self._store.last_call + 1
             calls = [(part, call_line(call), words) for part, call, words in planned]
-            self._store.write(*self._pending_writes, *writes, *standings, *([store_calls(calls)] if calls else []))
-            self._pending_writes = []
-            if standings:
-                self._standings.clear_marks()
-            self.schedulers.add_calls([PendingCall(number + place, *each) for place, each in enumerate(planned, 1)])
+            self._write(*writes, store_calls(calls))
+            for call_number, each in enumerate(calls, number):
+                self.schedulers.parts[each[0]].pending.append(StoredCall(call_number, *each))
 
     def make_calls(self) -> List[ObjectAnswer]:
         """Makes the stored calls, and returns the answers. Calls of a scheduler that can't be started now are made later."""
-        if self._has_unknown and self.schedulers.are_all_up():
+        if self._has_unknown and all(map(self.is_open, self.schedulers.parts)):
             self._query_new()
         return self._apply_answers(self.schedulers.exchange())
 
     def _apply_answers(self, answered: Sequence[AnsweredCall], is_again: bool = False) -> List[ObjectAnswer]:
         """Takes in answers, and returns all but those of mirrors. Answers that an earlier monitor got change no times."""
         answers: List[ObjectAnswer] = []
-        for pending_call, answer in answered:
-            if not self.mirrors.names or not self.mirrors.apply_answer(pending_call.part, pending_call.call, answer):
-                answers.append(self._apply_answer(pending_call, answer, is_again))
-        for part, name in self.mirrors.take_missing() if self.mirrors.names else ():
+        for stored, answer in answered:
+            call = read_call(stored.line)
+            if not self.mirrors.apply_answer(stored.part, call, answer):
+                answers.append(self._apply_answer(stored, call, answer, is_again))
+        for part, name in self.mirrors.take_missing():
             self._log(f"the scheduler of part {part + 1} took another object than the mirror of {name}; it is tried again")
         return answers
 
-    def _apply_answer(self, pending_call: PendingCall, answer: Answer, is_again: bool) -> ObjectAnswer:
-        name = getattr(answer, "name", None) or getattr(pending_call.call, "name", None)
-        obj = self.states.objects.get(str(name))
-        before, run = (None, None) if obj is None else (obj.standing, obj.run)
-        self.states.apply_answer(pending_call.call, answer)
-        if obj is not None:
-            if isinstance(pending_call.call, Report) and isinstance(answer, Standing):
-                obj.output = pending_call.output or ""
-                self._note_change(pending_call.number, obj, before, answer)
-            if not is_again:
-                self._standings.apply_answer(obj, pending_call.call, answer, run)
-        return ObjectAnswer(pending_call.call, answer, obj, before, run)
+    def _apply_answer(self, stored: StoredCall, call: Call, answer: Answer, is_again: bool) -> ObjectAnswer:
+        obj = self.states.objects.get(object_name(call, answer))
+        if obj is None:
+            return ObjectAnswer(call, answer, None, None, None)
+        before, run = obj.standing, obj.run
+        self.states.apply_answer(obj, call, answer)
+        if isinstance(call, Report) and isinstance(answer, Standing):
+            obj.output = stored.words or ""
+            self._note_change(stored.id, obj, before, answer)
+        if not is_again:
+            self._standings.apply_answer(obj, call, answer, run)
+        return ObjectAnswer(call, answer, obj, before, run)
 
     def _note_change(self, number: int, obj: ObjectState, before: Optional[Standing], answer: Standing) -> None:
         if number in self._stored_changes or not changes.is_change(before, answer):
@@ -238,31 +218,18 @@ class Scheduling:
         return printed
 
     def has_more(self) -> bool:
-        """Whether something waits to be written."""
         return bool(self._pending_writes) or self._standings.is_overdue()
 
     # ---- saving and ending
 
-    def save(self) -> bool:
-        """Saves the state of each scheduler, and drops the calls before it. Returns False if the program has no saved states."""
+    def save(self) -> None:
+        """Saves the state of each scheduler, and drops the calls before it."""
         states = self.schedulers.states()
-        if states is None:
-            return False
-        self._correct_states(states)
-        self._standings.write_soon()
-        standings, last_call = self._standings.writes(), self._store.last_call
-        opened = {part: replace(self.schedulers.parts[part].generation, saved=state, last_call=last_call) for part, state in states.items()}
-        self._store.write(*self._pending_writes, *standings, *map(begin_generation, opened.values()))
-        self._pending_writes = []
-        self._standings.clear_marks()
-        self.schedulers.open(opened)
-        return True
-
-    def _correct_states(self, states: "migration.States") -> None:
-        """Compares the known state of each object with its scheduler's, which counts."""
         for part, state in states.items():
-            for name in self.states.apply_saved(self.mirrors.apply_saved(part, json.loads(state)["objects"])):
+            for name in self._read_state(part, state):
                 self._log(f"{name}: its scheduler has it otherwise than the monitor had; the scheduler counts")
+        self._standings.write_soon()
+        self._begin_parts(self.site, frozenset(), states)
 
     def process_ids(self) -> List[int]:
         return self.schedulers.process_ids()

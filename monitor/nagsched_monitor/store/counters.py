@@ -13,9 +13,9 @@ The names of the stored figures, and their meanings:
     saved_at              when the state was saved last, in seconds since 1970
     moment                the moment at which these were written
     begun_at, written_at  when this monitor began, and when it wrote its figures last
-    checks_a_second       results per second, over the last minute
+    checks_a_second       results per second, over the last minute or since this monitor began
     latest_start          the most seconds by which a check was late, since this monitor began
-    latest_start_lately   the same of the last minute or two
+    latest_start_lately   the same of the last minute
 """
 import bisect
 import collections
@@ -34,28 +34,25 @@ RESTORED = tuple(f"checks.{result}" for result in RESULTS) + BUCKETS + ("late.su
 
 
 class Counters:
-    """The figures of a running monitor, in memory."""
-
     def __init__(self, stored: Mapping[str, float], clock: Clock) -> None:
         self._clock = clock
         self._values: DefaultDict[str, float] = collections.defaultdict(float, {name: stored[name] for name in RESTORED if name in stored})
         self._started_at = clock.wall()
-        self._result_count = 0
-        self._latest = 0
+        # Since this monitor began: the number of results, and the most milliseconds by which a check was late.
+        self.result_count = self.latest_start = 0
         self._written: Dict[str, float] = {}
         self._written_at: Optional[int] = None
-        # The number of results at moments of the last minute; the latest start of the current minute, and of the one before.
-        self._moments: Deque[Tuple[int, int]] = collections.deque([(clock.moment(), 0)])
-        self._minute, self._latest_this_minute, self._latest_last_minute = clock.moment(), 0, 0
+        # At moments of the last minute: the number of results until then, and the latest start since the moment before.
+        self._moments: Deque[Tuple[int, int, int]] = collections.deque([(clock.moment(), 0, 0)])
+        self._latest_lately = 0
 
     def count_result(self, result: str) -> None:
         """A result was reported: the state in which it left its object, `given_up` or `refused`."""
         self._values[f"checks.{result}"] += 1
         if result not in ("given_up", "refused", "not_started"):
-            self._result_count += 1
+            self.result_count += 1
 
     def count_fault(self) -> None:
-        """A turn ended with a fault of the monitor's own."""
         self._values["faults"] += 1
 
     def count_start(self, late: int) -> None:
@@ -63,17 +60,13 @@ class Counters:
         seconds = max(0, late) / 1000
         self._values[BUCKETS[bisect.bisect_left(BOUNDS, seconds)]] += 1
         self._values["late.sum"] += seconds
-        self._latest, self._latest_this_minute = max(self._latest, late), max(self._latest_this_minute, late)
+        self.latest_start, self._latest_lately = max(self.latest_start, late), max(self._latest_lately, late)
 
     def count_save(self) -> None:
-        """The state was saved."""
         self._values["saves"] += 1
         self._values["saved_at"] = self._clock.wall()
 
-    # ---- writing
-
     def are_due(self, now: int) -> bool:
-        """Whether it is time to write the figures: every five seconds."""
         return self._written_at is None or now - self._written_at >= EVERY
 
     def changed_figures(self, calls: int) -> Dict[str, float]:
@@ -82,25 +75,16 @@ class Counters:
         return {name: value for name, value in values.items() if self._written.get(name) != value}
 
     def set_written(self, figures: Mapping[str, float]) -> None:
-        """These figures were written."""
         self._written_at = self._clock.moment()
         self._written.update(figures)
 
     def _all_figures(self, now: int, calls: int) -> Dict[str, float]:
-        lately = self._latest_lately(now)
-        of_this_run = {"calls": calls, "begun_at": self._started_at, "written_at": self._clock.wall(), "checks_a_second": self._rate(now), "moment": now}
-        return {**self._values, **of_this_run, "latest_start": self._latest / 1000, "latest_start_lately": lately / 1000}
-
-    def _rate(self, now: int) -> float:
-        """Results per second, over the last minute or since the monitor began."""
-        self._moments.append((now, self._result_count))
+        self._moments.append((now, self.result_count, self._latest_lately))
+        self._latest_lately = 0
         while len(self._moments) > 2 and self._moments[1][0] <= now - MINUTE:
             self._moments.popleft()
-        first, count = self._moments[0]
-        return round((self._result_count - count) * 1000 / (now - first), 3) if now > first else 0.0
-
-    def _latest_lately(self, now: int) -> int:
-        if now - self._minute >= MINUTE:
-            self._latest_last_minute = self._latest_this_minute if now - self._minute < 2 * MINUTE else 0
-            self._minute, self._latest_this_minute = now, 0
-        return max(self._latest_this_minute, self._latest_last_minute)
+        first, count, _ = self._moments[0]
+        rate = round((self.result_count - count) * 1000 / (now - first), 3) if now > first else 0.0
+        lately = max(latest for _, _, latest in self._moments)
+        of_this_run = {"calls": calls, "begun_at": self._started_at, "written_at": self._clock.wall(), "checks_a_second": rate, "moment": now}
+        return {**self._values, **of_this_run, "latest_start": self.latest_start / 1000, "latest_start_lately": lately / 1000}

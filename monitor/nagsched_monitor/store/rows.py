@@ -1,6 +1,5 @@
 """The rows of a site's database: its tables, the content of a row, and its checksum."""
 import hashlib
-import json
 from dataclasses import dataclass
 from typing import AbstractSet, Dict, NamedTuple, Optional, Sequence, Union
 
@@ -29,26 +28,20 @@ VERSION = 2
 INSERTS: Dict[str, str] = {
     table: f"INSERT OR REPLACE INTO {table} VALUES ({','.join('?' * (len(members.split(',')) + 2))})" for table, members in TABLES.items()
 }
-# The last generation of each part is the last of these.
-GENERATIONS = "SELECT part, setup, start, saved, last_call, names FROM generations LEFT JOIN mirrors USING (part) ORDER BY generations.id"
 
 
-@dataclass(frozen=True)
-class Generation:
+class Generation(NamedTuple):
     """How the scheduler of a part was opened last."""
 
     part: int
     setup: bytes
     start: int
     saved: Optional[bytes]
-    # The number of the last call that is part of the saved state.
-    last_call: int
-    # The objects of the setup that are mirrors.
-    mirrors: AbstractSet[str] = frozenset()
+    last_call: int  # the number of the last call that is part of the saved state
+    mirrors: AbstractSet[str] = frozenset()  # the objects of the setup that are mirrors
 
 
-@dataclass(frozen=True)
-class StoredCall:
+class StoredCall(NamedTuple):
     """A stored call: its number, part and line, and the output of the plugin that it reports."""
 
     id: int
@@ -57,18 +50,14 @@ class StoredCall:
     words: Optional[str]
 
 
-@dataclass(frozen=True)
-class StoredResult:
-    """A passive result that waits."""
-
+class StoredResult(NamedTuple):
     id: int
     name: str
     code: int
     words: str
 
 
-@dataclass(frozen=True)
-class StoredChange:
+class StoredChange(NamedTuple):
     """A change of state: the number of its call, and the object's state since then."""
 
     id: int
@@ -92,18 +81,15 @@ class StoredStanding(NamedTuple):
     # The last change of its state, and of its hard one.
     since: Optional[float]
     hard_since: Optional[float]
-    # When the last check that gave a result began.
-    last_check: Optional[float]
+    last_check: Optional[float]  # when the last check that gave a result began
     next_check: Optional[float]
     is_on: bool
-    # Since when a check of it runs.
-    out_since: Optional[float]
+    out_since: Optional[float]  # since when a check of it runs
     # How long the last check took, and how late the last one began, in seconds.
     took: Optional[float]
     late: Optional[float]
     words: str
-    # A moment of its own phase.
-    phase: Optional[int] = None
+    phase: Optional[int] = None  # a moment of its own phase
 
     def is_host(self) -> bool:
         return ";" not in self.name
@@ -127,13 +113,24 @@ class StoredStanding(NamedTuple):
 
 
 @dataclass
-class LastChanges:
-    """The stored changes of an object: its last state and its last hard one, each with the time at which it began."""
+class StateHistory:
+    """How long an object has been in its state, in seconds since 1970 of the wall clock; None if that isn't known."""
 
-    state: str
-    since: float
+    # The state that it has had since then, and the hard one.
+    state: Optional[str] = None
+    since: Optional[float] = None
     hard_state: Optional[str] = None
     hard_since: Optional[float] = None
+    last_check: Optional[float] = None
+    # How many seconds its last check took, and how late the last one began.
+    took: Optional[float] = None
+    late: Optional[float] = None
+
+    def note(self, state: str, kind: str, time: float) -> None:
+        if state != self.state:
+            self.state, self.since = state, time
+        if kind == "HARD" and state != self.hard_state:
+            self.hard_state, self.hard_since = state, time
 
 
 def checksum_of(table: str, number: int, cells: Sequence[Cell]) -> str:
@@ -143,13 +140,3 @@ def checksum_of(table: str, number: int, cells: Sequence[Cell]) -> str:
 def row_number(name: str) -> int:
     """The number of an object's row, computed from its name, so that it is always the same."""
     return int.from_bytes(hashlib.blake2b(name.encode(errors="replace"), digest_size=7).digest(), "big")
-
-
-def names_text(names: AbstractSet[str]) -> str:
-    """Names as one cell."""
-    return json.dumps(sorted(names), ensure_ascii=False)
-
-
-def names_in(text: Optional[str]) -> AbstractSet[str]:
-    """The names in a cell; an empty set if the cell is empty."""
-    return frozenset() if text is None else frozenset(json.loads(text))

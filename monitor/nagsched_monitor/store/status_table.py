@@ -6,11 +6,11 @@ more than a second is written alone. Times in the table are seconds since 1970 o
 from typing import Dict, List, Mapping, Optional, Sequence
 
 from ..core.clock import Clock
-from ..core.object_state import ObjectState, StateHistory
+from ..core.object_state import ObjectState
 from ..core.phases import FIRST_TIME
 from ..core.run_table import Run
 from ..scheduler.protocol import Answer, Call, Report, Standing, Taken
-from .rows import StoredStanding
+from .rows import StateHistory, StoredStanding
 from .store import Store, Write
 from .writes import drop_standings, store_standings
 
@@ -20,49 +20,32 @@ LONGEST = 1_000
 
 
 class StandingTable:
-    """The standings of a site, as its database has them."""
-
     def __init__(self, store: Store, clock: Clock) -> None:
         self._store, self._clock = store, clock
         self._marked: Dict[str, ObjectState] = {}
         self._marked_at: Optional[int] = None
+        # Rows of objects that aren't part of the site any more.
         self._dropped: List[str] = []
-        self._is_settled = False
-
-    # ---- at a start and after a reload
 
     def read(self, objects: Mapping[str, ObjectState]) -> None:
-        """Takes in the stored states of these objects; the states of others are dropped. Nothing is written before `settle`."""
-        self._is_settled = False
-        self._marked.clear()
-        rows = self._store.standings()
-        for row in rows:
+        for row in self._store.standings():
             if row.name in objects:
                 obj = objects[row.name]
                 obj.output, obj.phase, obj.history = row.words, row.phase, history_of(row)
-        self._dropped = [row.name for row in rows if row.name not in objects]
 
     def settle(self, objects: Mapping[str, ObjectState]) -> None:
-        """The states of the objects are known now. If the table had another state, the stored changes show when the new one began."""
-        for obj in [obj for obj in objects.values() if not is_settled(obj)]:
-            since = self._store.last_changes(obj.name)
-            assert obj.standing is not None
-            now = self._clock.wall()
-            note_state(obj.history, obj.standing, since.since if since and since.state == obj.standing.state else now)
-            if since and since.hard_state == obj.history.hard_state and since.hard_since is not None:
-                obj.history.hard_since = since.hard_since
-        self._is_settled = True
+        """The states of all objects are known now, and are written. If the table had another state, the stored changes show when the new one began."""
+        self._dropped = [row.name for row in self._store.standings() if row.name not in objects]
         for obj in objects.values():
-            self._marked[obj.name] = obj
+            standing, past = obj.standing, obj.history
+            if standing is None or is_settled(standing, past):
+                continue
+            stored = self._store.last_changes(obj.name) or StateHistory()
+            past.note(standing.state, standing.kind, stored.since if stored.since and stored.state == standing.state else self._clock.wall())
+            if stored.hard_since is not None and stored.hard_state == past.hard_state:
+                past.hard_since = stored.hard_since
+        self._marked = dict(objects)
         self.write_soon()
-
-    def change_site(self, objects: Mapping[str, ObjectState]) -> None:
-        """Another site is monitored: the rows of removed objects are deleted."""
-        self._marked.clear()
-        self._dropped += [row.name for row in self._store.standings() if row.name not in objects]
-        self.settle(objects)
-
-    # ---- while it works
 
     def apply_answer(self, obj: ObjectState, call: Call, answer: Answer, ended: Optional[Run]) -> None:
         """Takes in the changes of an object from an answer, and marks the object. `ended` is its run before."""
@@ -73,54 +56,36 @@ class StandingTable:
             now = self._clock.wall()
             begun = now if ended is None or ended.began_at is None else ended.began_at
             past.last_check, past.took = begun, max(0.0, now - begun)
-            note_state(past, answer, now)
-        self.mark(obj)
-
-    def mark(self, obj: ObjectState) -> None:
-        """Has an object written with the next calls."""
+            past.note(answer.state, answer.kind, now)
         self._marked[obj.name] = obj
         if self._marked_at is None:
             self._marked_at = self._clock.moment()
 
     def write_soon(self) -> None:
-        """Has marked objects written with the next flush."""
-        if self._marked or self._dropped:
-            self._marked_at = self._clock.moment() - LONGEST - 1
+        """Has marked objects written with the next calls, without waiting for others."""
+        self._marked_at = self._clock.moment() - LONGEST - 1
 
     def is_overdue(self) -> bool:
         """Whether a marked object has waited too long for calls to be written with."""
-        return self._marked_at is not None and self._is_settled and self._clock.moment() - self._marked_at > LONGEST
+        return self._marked_at is not None and self._clock.moment() - self._marked_at > LONGEST
 
     def writes(self) -> Sequence[Write]:
         """The writes for the next calls."""
-        if self._marked_at is None or not self._is_settled or self._clock.moment() - self._marked_at < TOGETHER:
+        if self._marked_at is None or self._clock.moment() - self._marked_at < TOGETHER:
             return ()
         wall = self._clock.wall()
         ahead = self._clock.moment() / 1000 - wall
-        dropped = [drop_standings(self._dropped)] if self._dropped else []
-        return [*dropped, store_standings([row_of(obj, wall, ahead) for obj in self._marked.values()])]
+        return [drop_standings(self._dropped), store_standings([row_of(obj, wall, ahead) for obj in self._marked.values()])]
 
     def clear_marks(self) -> None:
-        """The marked objects were written."""
         self._marked.clear()
         self._dropped = []
         self._marked_at = None
 
 
-def is_settled(obj: ObjectState) -> bool:
+def is_settled(standing: Standing, past: StateHistory) -> bool:
     """Whether the known past of an object agrees with its state."""
-    standing, past = obj.standing, obj.history
-    if standing is None or standing.state == "PENDING":
-        return True
-    return standing.state == past.state and (standing.kind == "SOFT" or standing.state == past.hard_state)
-
-
-def note_state(past: StateHistory, standing: Standing, time: float) -> None:
-    """Notes a state, and a hard one, that began at a time."""
-    if standing.state != past.state:
-        past.state, past.since = standing.state, time
-    if standing.kind == "HARD" and standing.state != past.hard_state:
-        past.hard_state, past.hard_since = standing.state, time
+    return standing.state == "PENDING" or standing.state == past.state and (standing.kind == "SOFT" or standing.state == past.hard_state)
 
 
 def history_of(row: StoredStanding) -> StateHistory:
@@ -134,9 +99,7 @@ def history_of(row: StoredStanding) -> StateHistory:
 def row_of(obj: ObjectState, wall: float, ahead: float) -> StoredStanding:
     """The row of an object. Moments are `ahead` seconds ahead of the wall clock."""
     standing, past = obj.standing, obj.history
-    state, kind, attempt, flapping = (None, None, None, False)
-    if standing is not None:
-        state, kind, attempt, flapping = standing.state, standing.kind, standing.attempt, standing.flapping
+    state, kind, attempt, flapping = (None, None, None, False) if standing is None else (standing.state, standing.kind, standing.attempt, standing.flapping)
     next_check = None if obj.next is None else wall if obj.next < FIRST_TIME else obj.next / 1000 - ahead
     return StoredStanding(
         obj.name, state, kind, attempt, flapping, past.since, past.hard_since, past.last_check, next_check, obj.on,

@@ -21,13 +21,11 @@ import json
 import os
 import pathlib
 import sqlite3
-from typing import Callable, Dict, Iterator, List, Optional, Sequence, Set, Tuple
+from typing import Any, Callable, Dict, List, Optional, Sequence, Set, Tuple
 
 from ..faults import DamagedRow, MonitorFault, NotStored
-from ..scheduler.protocol import Abandon, Take, read_call
-from .rows import (
-    FOR_PEOPLE, GENERATIONS, INDEXES, INSERTS, TABLES, VERSION, Cell, Generation, StoredCall, StoredResult, StoredStanding, LastChanges, checksum_of, names_in,
-)
+from ..scheduler.protocol import GREATEST
+from .rows import FOR_PEOPLE, INDEXES, INSERTS, TABLES, VERSION, Cell, Generation, StateHistory, StoredCall, StoredResult, StoredStanding, checksum_of
 
 # A write that is carried out together with others, or not at all.
 Write = Callable[["Store"], object]
@@ -40,7 +38,7 @@ class Store:
         self.path, self._log = folder / "monitor.db", log
         self._lock: Optional[int] = lock_site(folder)
         try:
-            self._database = self._open_database()
+            self._open_database()
             self._verify()
         except sqlite3.Error as error:
             self.close()
@@ -51,24 +49,19 @@ class Store:
         self.last_call = max(self._greatest("calls"), self._greatest("generations", "last_call"))
         self.last_result = self._greatest("passive")
 
-    def _open_database(self) -> sqlite3.Connection:
-        """The database, for its owner only, with a table for everything."""
+    def _open_database(self) -> None:
+        """Opens the database, which is for its owner only, and has a table for everything."""
         os.close(os.open(self.path, os.O_RDWR | os.O_CREAT | os.O_CLOEXEC, 0o600))
-        database = sqlite3.connect(self.path, isolation_level=None, timeout=5)
-        try:
-            for setting in ("journal_mode=WAL", "synchronous=FULL", "wal_autocheckpoint=1000"):
-                database.execute(f"PRAGMA {setting}")
-            database.execute("BEGIN IMMEDIATE")
-            self._migrate(database)
-            for table, members in TABLES.items():
-                database.execute(f"CREATE TABLE IF NOT EXISTS {table} (id INTEGER PRIMARY KEY, {members}, checksum TEXT)")
-            for index in INDEXES:
-                database.execute(f"CREATE INDEX IF NOT EXISTS {index}")
-            database.execute("COMMIT")
-        except (sqlite3.Error, MonitorFault):
-            database.close()
-            raise
-        return database
+        self._database = database = sqlite3.connect(self.path, isolation_level=None, timeout=5)
+        for setting in ("journal_mode=WAL", "synchronous=FULL", "wal_autocheckpoint=1000"):
+            database.execute(f"PRAGMA {setting}")
+        database.execute("BEGIN IMMEDIATE")
+        self._migrate(database)
+        for table, members in TABLES.items():
+            database.execute(f"CREATE TABLE IF NOT EXISTS {table} (id INTEGER PRIMARY KEY, {members}, checksum TEXT)")
+        for index in INDEXES:
+            database.execute(f"CREATE INDEX IF NOT EXISTS {index}")
+        database.execute("COMMIT")
 
     def _migrate(self, database: sqlite3.Connection) -> None:
         """Takes over a database of the version before: its standings had no phases."""
@@ -120,11 +113,10 @@ class Store:
                 self.delete(table, "id = ?", number)
         return sound
 
-    @contextlib.contextmanager
-    def _read_errors(self) -> Iterator[None]:
-        """A failed read raises `NotStored`, as a failed write does."""
+    def _read(self, query: str, *cells: Cell) -> List[Any]:
+        """The rows of a query. A failed read raises `NotStored`, as a failed write does."""
         try:
-            yield
+            return self._database.execute(query, cells).fetchall()
         except sqlite3.Error as error:
             raise NotStored(f"{self.path}: {error}") from None
 
@@ -133,73 +125,55 @@ class Store:
         return int(greatest or 0)
 
     def generations(self) -> Dict[int, Generation]:
-        """The last generation of each part."""
-        return {row[0]: Generation(*(*row[:-1], names_in(row[-1]))) for row in self._database.execute(GENERATIONS)}
+        rows = self._read("SELECT part, setup, start, saved, last_call, names FROM generations LEFT JOIN mirrors USING (part) ORDER BY generations.id")
+        return {row[0]: Generation(*(*row[:-1], frozenset(json.loads(row[-1] or "[]")))) for row in rows}
 
-    def calls_since(self, part: int, number: int) -> List[StoredCall]:
-        """The calls of a part after the call with this number, except those that were set aside."""
-        return self.calls_between(part, number, self.last_call)
-
-    def calls_between(self, part: int, number: int, last: int) -> List[StoredCall]:
-        """Those of these calls up to the call with the number `last`."""
-        rows = "SELECT id, part, line, words FROM calls WHERE part = ? AND id > ? AND id <= ? AND id NOT IN (SELECT id FROM aside) ORDER BY id"
-        with self._read_errors():
-            return [StoredCall(*row) for row in self._database.execute(rows, (part, number, last))]
+    def calls_since(self, part: int, number: int, last: int = GREATEST) -> List[StoredCall]:
+        """The calls of a part after the call with this number, up to the last one, except those that were set aside."""
+        query = "SELECT id, part, line, words FROM calls WHERE part = ? AND id > ? AND id <= ? AND id NOT IN (SELECT id FROM aside) ORDER BY id"
+        return [StoredCall(*row) for row in self._read(query, part, number, last)]
 
     def last_moment(self) -> int:
         """The greatest stored moment. After a save there may be no calls, so the figures have a moment too."""
-        moments = [0, int(self.figures().get("moment", 0)), *(generation.start for generation in self.generations().values())]
-        for (line,) in self._database.execute("SELECT line FROM calls ORDER BY id DESC"):
-            call = read_call(line)
-            if isinstance(call, (Take, Abandon)):
-                moments.append(call.now)
-                break
-        return max(moments)
+        # The moment is the last member of these calls.
+        lines = self._read("""SELECT line FROM calls WHERE line LIKE '["take",%' OR line LIKE '["abandon",%' ORDER BY id DESC LIMIT 1""")
+        starts = [generation.start for generation in self.generations().values()]
+        return max([0, int(self.figures().get("moment", 0)), *starts, *(int(json.loads(line)[-1]) for (line,) in lines)])
 
     def switches(self) -> Dict[str, bool]:
-        return {name: bool(on) for name, on in self._database.execute("SELECT name, is_on FROM switches")}
+        return {name: bool(on) for name, on in self._read("SELECT name, is_on FROM switches")}
 
     def waiting_results(self) -> List[StoredResult]:
-        return [StoredResult(*row) for row in self._database.execute("SELECT id, name, code, words FROM passive ORDER BY id")]
+        return [StoredResult(*row) for row in self._read("SELECT id, name, code, words FROM passive ORDER BY id")]
 
     def requests(self) -> Dict[str, str]:
-        """The answers to requests that had numbers."""
-        return dict(self._database.execute("SELECT number, answer FROM requests ORDER BY id"))
+        return dict(self._read("SELECT number, answer FROM requests ORDER BY id"))
 
     def outbox(self) -> List[Tuple[int, str]]:
         """The documents that the command for changes hasn't accepted, the oldest first."""
-        with self._read_errors():
-            return list(self._database.execute("SELECT id, document FROM outbox ORDER BY id"))
+        return self._read("SELECT id, document FROM outbox ORDER BY id")
 
     def waiting_changes(self) -> Tuple[int, Optional[float]]:
         """The number of documents that the command for changes hasn't accepted, and the time of the first."""
-        with self._read_errors():
-            count, first = self._database.execute("SELECT count(*), (SELECT document FROM outbox ORDER BY id LIMIT 1) FROM outbox").fetchone()
+        ((count, first),) = self._read("SELECT count(*), (SELECT document FROM outbox ORDER BY id LIMIT 1) FROM outbox")
         return count, None if first is None else float(json.loads(first)["time"])
 
     def changes_after(self, number: int) -> Set[int]:
         """The numbers of the stored changes after the call with this number."""
-        return {each for (each,) in self._database.execute("SELECT id FROM changes WHERE id > ?", (number,))}
+        return {each for (each,) in self._read("SELECT id FROM changes WHERE id > ?", number)}
 
     def figures(self) -> Dict[str, float]:
-        return {name: float(value) for name, value in self._database.execute("SELECT name, value FROM figures")}
+        return {name: float(value) for name, value in self._read("SELECT name, value FROM figures")}
 
     def standings(self) -> List[StoredStanding]:
-        """The stored standings."""
-        with self._read_errors():
-            return [StoredStanding(*cells) for cells in self._database.execute(f"SELECT {', '.join(StoredStanding._fields)} FROM standings")]
+        return [StoredStanding(*cells) for cells in self._read(f"SELECT {', '.join(StoredStanding._fields)} FROM standings")]
 
-    def last_changes(self, name: str) -> Optional[LastChanges]:
+    def last_changes(self, name: str) -> Optional[StateHistory]:
         """When an object's last state began, and its last hard one, from the stored changes; None if it has none."""
-        last: Optional[LastChanges] = None
-        with self._read_errors():
-            rows = self._database.execute("SELECT * FROM changes WHERE name = ? ORDER BY id", (name,)).fetchall()
-        for _, time, _, state, kind, *_ in self._sound_rows("changes", rows):
-            if last is None or last.state != state:
-                last = LastChanges(str(state), float(str(time)), *((None, None) if last is None else (last.hard_state, last.hard_since)))
-            if kind == "HARD" and last.hard_state != state:
-                last.hard_state, last.hard_since = str(state), float(str(time))
-        return last
+        past = StateHistory()
+        for _, time, _, state, kind, *_ in self._sound_rows("changes", self._read("SELECT * FROM changes WHERE name = ? ORDER BY id", name)):
+            past.note(str(state), str(kind), float(str(time)))
+        return past if past.state else None
 
     # ---- writing
 
@@ -224,12 +198,10 @@ class Store:
         self.insert_all(table, [(number, cells)])
 
     def insert_calls(self, calls: Sequence[Tuple[int, str, Optional[str]]]) -> None:
-        """Writes calls, with the next numbers."""
         self.insert_all("calls", list(enumerate(calls, self.last_call + 1)))
         self.last_call += len(calls)
 
     def insert_all(self, table: str, rows: Sequence[Tuple[int, Sequence[Cell]]]) -> None:
-        """Writes rows, each with its number."""
         if rows:
             self._database.executemany(INSERTS[table], [(number, *cells, checksum_of(table, number, cells)) for number, cells in rows])
 

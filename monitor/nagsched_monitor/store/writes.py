@@ -1,7 +1,8 @@
 """Writes to the database of a site. Each function returns a write that is carried out together with others, or not at all."""
+import json
 from typing import Iterable, Mapping, Optional, Sequence, Tuple
 
-from .rows import Cell, Generation, StoredChange, StoredStanding, names_text, row_number
+from .rows import Cell, Generation, StoredChange, StoredStanding, row_number
 from .store import Store, Write
 
 # The number of stored answers to numbered requests.
@@ -9,6 +10,7 @@ MOST_REQUESTS = 1_000
 
 
 def insert(table: str, number: Optional[int], *cells: Cell) -> Write:
+    """A row, which replaces the one with the same number or the same unique name."""
     return lambda store: store.insert(table, number, cells)
 
 
@@ -24,11 +26,6 @@ def all_of(writes: Iterable[Write]) -> Write:
             write(store)
 
     return carry_out
-
-
-def replace(table: str, name: str, value: Cell) -> Write:
-    """A row that replaces the one with the same name."""
-    return all_of([delete(table, "name = ?", name), insert(table, None, name, value)])
 
 
 def store_calls(calls: Sequence[Tuple[int, str, Optional[str]]]) -> Write:
@@ -48,21 +45,18 @@ def store_request(number: str, answer: str) -> Write:
 
 def begin_generation(generation: Generation) -> Write:
     """A scheduler that is opened: earlier rows of its part aren't needed any more."""
-    gone = [delete(table, "part = ? AND id <= ?", generation.part, generation.last_call) for table in ("calls", "aside")]
-    old = [delete(table, "part = ?", generation.part) for table in ("generations", "mirrors")]
-    mirrors = [insert("mirrors", None, generation.part, names_text(generation.mirrors))] if generation.mirrors else []
-    cells = (generation.part, generation.setup, generation.start, generation.saved, generation.last_call)
-    return all_of([*gone, *old, insert("generations", None, *cells), *mirrors])
+    mirrors = [insert("mirrors", None, generation.part, json.dumps(sorted(generation.mirrors), ensure_ascii=False))] if generation.mirrors else []
+    return all_of([end_generation(generation.part), insert("generations", None, *generation[:-1]), *mirrors])
 
 
 def end_generation(part: int) -> Write:
-    """A part that the site no longer has."""
-    return all_of(delete(table, "part = ?", part) for table in ("generations", "mirrors", "calls"))
+    """A part that the site no longer has, or that begins from its saved state: its calls are part of that."""
+    return all_of(delete(table, "part = ?", part) for table in ("generations", "mirrors", "calls", "aside"))
 
 
 def set_switch(name: str, on: Optional[bool]) -> Write:
     """An operator's switch; None removes it."""
-    return delete("switches", "name = ?", name) if on is None else replace("switches", name, int(on))
+    return delete("switches", "name = ?", name) if on is None else insert("switches", None, name, int(on))
 
 
 def store_result(name: str, code: int, words: str, number: Optional[int] = None) -> Write:
@@ -92,7 +86,6 @@ def drop_changes_before(time: float) -> Write:
 
 
 def store_standings(standings: Sequence[StoredStanding]) -> Write:
-    """The states of objects."""
     rows = [(row_number(standing.name), (*standing[:4], int(standing.flapping), *standing[5:9], int(standing.is_on), *standing[10:])) for standing in standings]
     return lambda store: store.insert_all("standings", rows)
 
@@ -103,5 +96,4 @@ def drop_standings(names: Sequence[str]) -> Write:
 
 
 def store_figures(values: Mapping[str, float]) -> Write:
-    """The figures of the monitor itself."""
-    return all_of(replace("figures", name, float(value)) for name, value in values.items())
+    return all_of(insert("figures", None, name, float(value)) for name, value in values.items())
