@@ -5,12 +5,13 @@
 in `mirrors.json` means that these two objects of `part-2.json` are mirrors of those of `part-1.json`. A mirror is never checked: it is off, and its
 intervals are 0. Each result of its original is reported to it too.
 """
+import collections
 import pathlib
 from dataclasses import dataclass
-from typing import AbstractSet, Any, Dict, FrozenSet, Mapping, Sequence, Tuple
+from typing import AbstractSet, Any, Dict, FrozenSet, Mapping, Sequence, Set, Tuple
 
 from ..faults import SiteFault
-from .json_files import members_of, read_object
+from .json_files import members_by_name, members_of, read_object
 
 FILE = "mirrors.json"
 NEVER = {"enabled": False, "check_interval": 0, "retry_interval": 0}
@@ -31,9 +32,9 @@ class Part:
     stem: str
     options: Mapping[str, Any]
     objects: Mapping[str, Mapping[str, Any]]
-    dependencies: Mapping[str, FrozenSet[Dependency]]
+    dependencies: Mapping[str, AbstractSet[Dependency]]
     # The masters whose own dependencies count too.
-    inherited_masters: FrozenSet[str]
+    inherited_masters: AbstractSet[str]
 
     def difference(self, name: str, other: "Part") -> str:
         """The first difference of an object between two parts; nothing if results are judged in the same way."""
@@ -49,21 +50,17 @@ class Part:
 
 def part_of(stem: str, setup: Mapping[str, Any]) -> Part:
     """A part with its setup, which was found to be good."""
-    objects = {host["name"]: host for host in setup.get("hosts", ())} | {f"{it['host']};{it['description']}": it for it in setup.get("services", ())}
-    dependencies: Dict[str, FrozenSet[Dependency]] = {}
-    handing_on = set()
-    for it in (*setup.get("service_dependencies", ()), *setup.get("host_dependencies", ())):
-        inherits = it.get("inherits_parent", False)
-        dependency = (it["master"], frozenset(it["criteria"].split(",")), inherits)
-        dependencies[it["dependent"]] = dependencies.get(it["dependent"], frozenset()) | {dependency}
-        if inherits:
-            handing_on.add(it["master"])
-    return Part(stem, setup.get("options", {}), objects, dependencies, frozenset(handing_on))
+    listed = [*setup.get("service_dependencies", ()), *setup.get("host_dependencies", ())]
+    dependencies: Dict[str, Set[Dependency]] = collections.defaultdict(set)
+    for it in listed:
+        dependencies[it["dependent"]].add((it["master"], frozenset(it["criteria"].split(",")), it.get("inherits_parent", False)))
+    inherited = {it["master"] for it in listed if it.get("inherits_parent", False)}
+    return Part(stem, setup.get("options", {}), members_by_name(setup), dependencies, inherited)
 
 
 def read_mirrors(folder: pathlib.Path, setups: Mapping[str, Mapping[str, Any]]) -> Dict[int, AbstractSet[str]]:
     """The names of the mirrors of each part that has some, by its number. The keys of the setups are the names of their files, without the ending."""
-    document = read_object(folder, FILE, required=False)
+    document = read_object(folder, FILE)
     for stem, homes in document.items():
         if stem not in setups:
             raise SiteFault(f"{FILE}: {stem}: there is no {stem}.json")
