@@ -1,6 +1,10 @@
-"""Reading the JSON files of a site: an error in one is a `SiteFault` that names the place."""
+"""Reading the JSON files of a site: an error in one is a `SiteFault` that names the place. nagsched-from-nagios replaces them together."""
+import contextlib
+import fcntl
 import json
+import os
 import pathlib
+import time
 from typing import Any, Container, Dict, Iterator, Mapping, Optional, Sequence, Tuple
 
 from ..faults import SiteFault
@@ -8,6 +12,30 @@ from ..faults import SiteFault
 MOST_SECONDS = 86_400
 # The longest freshness of a result: a year.
 MOST_FRESH = 31_536_000
+# The longest wait for files that are being written, in seconds.
+PATIENCE = 10.0
+
+
+@contextlib.contextmanager
+def lock_for_reading(folder: pathlib.Path) -> Iterator[None]:
+    """While no file of the site is replaced. Raises `SiteFault` if the wait is too long."""
+    try:
+        lock = os.open(folder, os.O_RDONLY)
+    except OSError as error:
+        raise SiteFault(f"{folder}: {error.strerror}") from None
+    end = time.monotonic() + PATIENCE
+    try:
+        while True:
+            try:
+                fcntl.flock(lock, fcntl.LOCK_SH | fcntl.LOCK_NB)
+                break
+            except BlockingIOError:
+                if time.monotonic() >= end:
+                    raise SiteFault(f"{folder}: its files are being replaced") from None
+                time.sleep(0.02)
+        yield
+    finally:
+        os.close(lock)
 
 
 def read_object(folder: pathlib.Path, name: str, required: bool = False) -> Dict[str, Any]:

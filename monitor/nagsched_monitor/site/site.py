@@ -20,11 +20,10 @@ from typing import AbstractSet, Any, Dict, List, Mapping, Optional, Sequence, Tu
 from ..faults import SiteFault
 from .command_lines import Command, read_commands
 from .groups_file import read_groups
-from .json_files import MOST_FRESH, MOST_SECONDS, known_members, members_by_name, members_of, read_by_name, read_object, read_seconds, read_whole
+from .json_files import MOST_FRESH, MOST_SECONDS, known_members, lock_for_reading, members_by_name, members_of, read_by_name, read_object, read_seconds, read_whole
 from .mirror_file import read_mirrors
 from .periods import Periods, read_periods
 from .runner_file import Remote, read_runners
-from .site_lock import lock_for_reading
 
 # The limit for the test of a setup, in seconds.
 LIMIT = 300.0
@@ -88,20 +87,16 @@ class Site:
 def read_site(folder: pathlib.Path, program: str) -> Site:
     """The site of a folder. Raises a `SiteFault` that names the file and the error."""
     with lock_for_reading(folder):
-        return read_files(folder, program)
-
-
-def read_files(folder: pathlib.Path, program: str) -> Site:
-    paths = setup_files(folder)
-    setups = [setup_line(path, program) for path in paths]
-    documents = {path.stem: json.loads(setup) for path, setup in zip(paths, setups)}
-    mirrors = read_mirrors(folder, documents)
-    objects = originals_of(documents, mirrors)
-    options, zone = read_options(folder)
-    runners, runner_of = read_runners(folder, objects, read_groups(folder, objects))
-    commands = read_commands(folder, objects, runner_of)
-    periods, period_of = read_period_file(folder, objects, zone)
-    passive = read_passive(folder, objects)
+        paths = setup_files(folder)
+        setups = [setup_line(path, program) for path in paths]
+        documents = {path.stem: json.loads(setup) for path, setup in zip(paths, setups)}
+        mirrors = read_mirrors(folder, documents)
+        objects = originals_of(documents, mirrors)
+        options, zone = read_options(folder)
+        runners, runner_of = read_runners(folder, objects, read_groups(folder, objects))
+        commands = read_commands(folder, objects, runner_of)
+        periods, period_of = read_period_file(folder, objects, zone)
+        passive = read_passive(folder, objects)
     for name, definition in objects.items():
         only, freshness = passive.get(name, (False, None))
         command, period, runner = commands.get(name), period_of.get(name), runner_of.get(name)
