@@ -1,11 +1,15 @@
-"""Signed messages between the monitor and its workers: a document, preceded by its HMAC-SHA256 with a key from a file that both have."""
+"""Signed messages between the monitor and its workers, and which jobs a worker accepts.
+
+A message is a document, preceded by its HMAC-SHA256 with a key from a file that both have.
+"""
 import hashlib
 import hmac
 import json
 import os
 import pathlib
 import stat
-from typing import Any, Dict, Optional
+import time
+from typing import Any, Callable, Dict, List, Optional, Sequence, Tuple
 
 from ..faults import MonitorFault
 
@@ -13,6 +17,8 @@ from ..faults import MonitorFault
 JOB, RESULT = b"nagsched job\0", b"nagsched result\0"
 LEAST_KEY, MOST_BYTES = 16, 1 << 20
 SIZE = hashlib.sha256().digest_size * 2
+# In seconds: the longest limit of a job, and the largest difference between the clocks of the two machines.
+LONGEST, SKEW = 86_400.0, 60.0
 
 
 def read_key(path: pathlib.Path) -> bytes:
@@ -68,3 +74,50 @@ def read_signer(key: Optional[pathlib.Path], unsigned: bool) -> Signer:
         raise MonitorFault("say --key FILE, or --unsigned: one of the two")
     return Signer(None if key is None else read_key(key))
 
+
+class Refusal(Exception):
+    """Why a job isn't accepted."""
+
+
+class JobPolicy:
+    """Which jobs a worker accepts. If it has a key: those of its queues that are signed with the key, in their time, and each once."""
+
+    def __init__(self, signer: Signer, queues: Sequence[str], clock: Callable[[], float] = time.time) -> None:
+        self._signer, self._queues, self._clock = signer, queues, clock
+        # The accepted jobs, each with the time from which it is refused anyway.
+        self._accepted: Dict[str, float] = {}
+        self._last_sweep = clock()
+
+    def job_of(self, document: Dict[str, Any]) -> Tuple[List[str], float]:
+        """The command line and the limit of the job that a document describes. Raises `Refusal` if it isn't accepted."""
+        arguments, limit = document.get("words"), number_in(document, "limit")
+        if not isinstance(arguments, list) or not arguments or not all(isinstance(word, str) and "\0" not in word for word in arguments):
+            raise Refusal("it has no command")
+        if not 0 < limit <= LONGEST:
+            raise Refusal("it has no limit")
+        if self._signer.is_signing():
+            self._accept_once(document)
+        return arguments, limit
+
+    def _accept_once(self, document: Dict[str, Any]) -> None:
+        number, begin, end, now = document.get("job"), number_in(document, "time"), number_in(document, "until"), self._clock()
+        if not isinstance(number, str) or not begin <= end <= begin + LONGEST:
+            raise Refusal("it has no number or no time")
+        if document.get("queue") not in self._queues:
+            raise Refusal("it is of another queue")
+        if not begin - SKEW <= now <= end + SKEW:
+            raise Refusal(f"its time is {now - begin:.0f} seconds from this machine's")
+        if now - self._last_sweep >= SKEW:
+            self._accepted = {each: until for each, until in self._accepted.items() if until >= now}
+            self._last_sweep = now
+        if number in self._accepted:
+            raise Refusal("it was taken before")
+        self._accepted[number] = end + SKEW
+
+
+def number_in(document: Dict[str, Any], member: str) -> float:
+    """A number in a document. Raises `Refusal` if it isn't a number of reasonable size."""
+    value = document.get(member)
+    if isinstance(value, bool) or not isinstance(value, (int, float)) or not abs(value) < 1e12:
+        raise Refusal(f"its {member} is no number")
+    return float(value)

@@ -12,8 +12,7 @@ from ..faults import MonitorFault
 from ..program.addresses import parse_address
 from ..program.turn_timer import FilePoller
 from .gearman import Code, Connection, Packet, ServerFault
-from .gearman_policy import JobPolicy, Refusal
-from .gearman_signing import JOB, RESULT, Signer, read_signer
+from .gearman_signing import JOB, RESULT, JobPolicy, Refusal, Signer, read_signer
 from .jobs import Event, Job, JobFinished, StuckJobEnded
 from .pool import RunnerPool
 from .runner_program import runner_command
