@@ -4,11 +4,13 @@ import enum
 import socket
 import struct
 from dataclasses import dataclass
-from typing import Deque, Dict, List, NamedTuple, Protocol, Tuple
+from typing import Callable, Deque, Dict, Generic, List, NamedTuple, Optional, Protocol, Sequence, Tuple, TypeVar
 
 READ_BYTES = 262_144
 # The longest packet, in bytes; a longer one ends the connection.
 LONGEST_PACKET = 4 * 1024 * 1024
+# The pause before a lost server is tried again, in seconds.
+RETRY = 1.0
 HEADER = struct.Struct(">4sII")
 REQUEST, RESPONSE = b"\0REQ", b"\0RES"
 
@@ -160,3 +162,38 @@ class ServerClient:
 
     def close(self) -> None:
         self._connection.close()
+
+
+C = TypeVar("C", Connection, Client)
+
+
+class ServerUser(Generic[C]):
+    """The user of a connection, which is made again when it is lost. The log says when the server isn't reached, and when it is reached again."""
+
+    def __init__(self, connect: Callable[[], C], log: Callable[[str], None]) -> None:
+        self._connect: Callable[[], C] = connect
+        self._log = log
+        self.connection: Optional[C] = None
+        # Why the server can't be reached, and when it is tried again.
+        self._trouble: Optional[str] = None
+        self._not_before = 0.0
+
+    def _run_steps(self, now: float, steps: Sequence[Callable[[float], None]]) -> None:
+        for step in steps:
+            try:
+                step(now)
+            except (ServerFault, OSError) as fault:  # there may be no room for a socket
+                if self._trouble is None:
+                    self._log(f"the server isn't reached: {fault}")
+                self._trouble, self._not_before = str(fault), now + RETRY
+                self.disconnect()
+
+    def _note_answer(self) -> None:
+        if self._trouble is not None:
+            self._log("the server is reached again")
+        self._trouble = None
+
+    def disconnect(self) -> None:
+        if self.connection is not None:
+            self.connection.close()
+        self.connection = None

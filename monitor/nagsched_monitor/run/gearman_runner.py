@@ -47,7 +47,7 @@ class GearmanRunner:
                 self._read_jobs()
             self._queue.work(time.monotonic())
             self._write()
-        self._queue.close()
+        self._queue.disconnect()
 
     def _read_jobs(self) -> None:
         data = os.read(self._jobs, READ_BYTES)

@@ -20,7 +20,8 @@ from typing import AbstractSet, Any, Dict, List, Mapping, Optional, Sequence, Tu
 from ..faults import SiteFault
 from .command_lines import Command, read_commands
 from .groups_file import read_groups
-from .json_files import MOST_FRESH, MOST_SECONDS, known_members, lock_for_reading, members_by_name, members_of, read_by_name, read_object, read_seconds, read_whole
+from .json_files import MOST_FRESH, MOST_SECONDS, known_members, lock_for_reading, members_by_name, members_of
+from .json_files import read_by_name, read_object, read_seconds, read_whole
 from .mirror_file import read_mirrors
 from .periods import Periods, read_periods
 from .runner_file import Remote, read_runners
