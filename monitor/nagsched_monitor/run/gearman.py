@@ -132,25 +132,25 @@ class Client(Protocol):
     def close(self) -> None: ...
 
 
-class ServerClient:
+class ServerClient(Connection):
     """A client of a real server."""
 
     KINDS = {Code.WORK_STATUS: JobEventKind.TAKEN, Code.WORK_COMPLETE: JobEventKind.COMPLETE, Code.WORK_FAIL: JobEventKind.FAILED}
 
     def __init__(self, place: Tuple[str, int]) -> None:
-        self._connection = Connection(place)
+        super().__init__(place)
         # The jobs that wait for their names from the server, in their order, and the others by these names.
         self._submitted: Deque[int] = collections.deque()
         self._numbers: Dict[bytes, int] = {}
 
     def submit(self, number: int, queue: str, workload: bytes) -> None:
         self._submitted.append(number)
-        self._connection.send(Code.SUBMIT_JOB, queue.encode(), b"", workload)
+        self.send(Code.SUBMIT_JOB, queue.encode(), b"", workload)
 
     def work(self) -> List[JobEvent]:
         came: List[JobEvent] = []
-        self._connection.flush()
-        for code, parts in self._connection.read():
+        self.flush()
+        for code, parts in self.read():
             if code == Code.JOB_CREATED and self._submitted:
                 number = self._numbers[parts[0]] = self._submitted.popleft()
                 came.append(JobEvent(JobEventKind.KNOWN, number))
@@ -159,9 +159,6 @@ class ServerClient:
                 number = self._numbers[parts[0]] if kind is JobEventKind.TAKEN else self._numbers.pop(parts[0])
                 came.append(JobEvent(kind, number, parts[1] if kind is JobEventKind.COMPLETE else b""))
         return came
-
-    def close(self) -> None:
-        self._connection.close()
 
 
 C = TypeVar("C", Connection, Client)
@@ -174,24 +171,23 @@ class ServerUser(Generic[C]):
         self._connect: Callable[[], C] = connect
         self._log = log
         self.connection: Optional[C] = None
-        # Why the server can't be reached, and when it is tried again.
-        self._trouble: Optional[str] = None
-        self._not_before = 0.0
+        # Whether the server is lost, and when it is tried again.
+        self._is_lost, self._not_before = False, 0.0
 
     def _run_steps(self, now: float, steps: Sequence[Callable[[float], None]]) -> None:
         for step in steps:
             try:
                 step(now)
             except (ServerFault, OSError) as fault:  # there may be no room for a socket
-                if self._trouble is None:
+                if not self._is_lost:
                     self._log(f"the server isn't reached: {fault}")
-                self._trouble, self._not_before = str(fault), now + RETRY
+                self._is_lost, self._not_before = True, now + RETRY
                 self.disconnect()
 
     def _note_answer(self) -> None:
-        if self._trouble is not None:
+        if self._is_lost:
             self._log("the server is reached again")
-        self._trouble = None
+        self._is_lost = False
 
     def disconnect(self) -> None:
         if self.connection is not None:

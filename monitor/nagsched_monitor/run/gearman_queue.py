@@ -8,7 +8,7 @@ from typing import Any, Callable, Dict, List, Optional
 
 from .gearman import Client, JobEvent, JobEventKind, ServerFault, ServerUser
 from .gearman_signing import JOB, RESULT, Signer
-from .jobs import ENDS
+from .jobs import Job, event_members, read_event
 
 # In seconds: the limit for the server to confirm a job, and the delay of a result after its limit.
 SILENCE, GRACE = 10.0, 15.0
@@ -108,7 +108,7 @@ class Queue(ServerUser[Client]):
             now - job.received_at >= self._wait if job.taken_at is None else now - job.taken_at >= job.limit + GRACE)]
         for number in late:
             job = self._pending.pop(number)
-            nobody = f"no worker took it from the queue {self.name}" if self._trouble is None else f"the server of the queue {self.name} wasn't reached"
+            nobody = f"the server of the queue {self.name} wasn't reached" if self._is_lost else f"no worker took it from the queue {self.name}"
             self._answer({"job": job.number, "lost": nobody if job.taken_at is None else "its worker gave no result"})
         if late and not any(job.taken_at is not None for job in self._pending.values()):
             self.disconnect()
@@ -116,13 +116,7 @@ class Queue(ServerUser[Client]):
 
 def read_result(document: Dict[str, Any], mark: str) -> Optional[Dict[str, Any]]:
     """A worker's answer to the job of this mark, or None if it is no result of that job."""
-    if document.get("job") != mark:
+    try:
+        return event_members(read_event(Job(mark, 0, (), 0.0), document)) if document.get("job") == mark else None
+    except ValueError:
         return None
-    if isinstance(document.get("lost"), str):
-        return {"lost": document["lost"]}
-    code, output, errors = document.get("code"), document.get("output"), document.get("stderr", "")
-    if document.get("end") not in ENDS or isinstance(code, bool) or not isinstance(code, int) or not 0 <= code <= 255:
-        return None
-    if not isinstance(output, str) or not isinstance(errors, str):
-        return None
-    return {"code": code, "end": document["end"], "output": output, "stderr": errors}

@@ -13,7 +13,7 @@ from ..program.addresses import parse_address
 from ..program.turn_timer import FilePoller
 from .gearman import Code, Connection, Packet, ServerFault, ServerUser
 from .gearman_signing import JOB, RESULT, JobPolicy, Refusal, Signer, read_signer
-from .jobs import Event, Job, JobFinished, StuckJobEnded
+from .jobs import Event, Job, JobFinished, StuckJobEnded, event_members
 from .pool import RunnerPool
 from .runner_program import runner_command
 from .runners import raise_file_limit
@@ -147,16 +147,12 @@ class Worker(ServerUser[Connection]):
         if isinstance(event, StuckJobEnded):
             self._stuck.pop(id(event.job), None)
             return
+        if isinstance(event, JobFinished) and event.is_stuck:
+            self._stuck[id(event.job)] = event.job.arguments
         running = self._running.pop(id(event.job))
-        if isinstance(event, JobFinished):
-            result: Dict[str, Any] = {"end": event.end, "code": event.code, "output": event.output, "stderr": event.stderr}
-            if event.is_stuck:
-                self._stuck[id(event.job)] = event.job.arguments
-        else:
-            result = {"lost": event.why}
         self._wanted = max(1, self._wanted)
         if running.connection is self.connection:
-            self.connection.send(Code.WORK_COMPLETE, running.handle, self._signed_answer(running.number, result))
+            self.connection.send(Code.WORK_COMPLETE, running.handle, self._signed_answer(running.number, event_members(event)))
 
     def _log_refusal(self, why: str) -> None:
         """Logs once a minute the number of refused jobs."""

@@ -67,7 +67,14 @@ def job_members(arguments: Tuple[str, ...], limit: float) -> bytes:
     return json.dumps({"words": arguments, "limit": limit})[1:].encode()
 
 
-def read_event(job: Job, members: Dict[str, Any]) -> Event:
+def event_members(event: Union[JobFinished, JobLost]) -> Dict[str, Any]:
+    """The members of a result, after its number."""
+    if isinstance(event, JobLost):
+        return {"lost": event.why}
+    return {"end": event.end, "code": event.code, "output": event.output, "stderr": event.stderr}
+
+
+def read_event(job: Job, members: Dict[str, Any]) -> Union[JobFinished, JobLost]:
     """The event in a runner's line. `ValueError` says why it isn't one."""
     if "lost" in members:
         return JobLost(job, plain_text(read_text(members, "lost")), job.runner is None)
