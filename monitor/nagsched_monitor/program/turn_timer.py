@@ -1,4 +1,9 @@
-"""When the next turn of a monitor begins. A turn costs far more than one more check in it, so events that come close together share one."""
+"""Files that don't block, and when the next turn of a monitor begins.
+
+A turn costs far more than one more check in it, so events that come close together share one.
+"""
+import contextlib
+import os
 import select
 import time
 from typing import Callable, Dict, Optional, Protocol
@@ -14,6 +19,13 @@ SECOND = 1_000
 
 # Calls a reader when a file can be read.
 Watch = Callable[[int, Callable[[int], None]], None]
+
+
+def write_ready(file: int, unsent: bytearray) -> None:
+    """Writes as much as there is room for; the rest stays unsent."""
+    with contextlib.suppress(BlockingIOError):
+        while unsent:
+            del unsent[: os.write(file, unsent)]
 
 
 class Poller(Protocol):

@@ -6,6 +6,8 @@ import struct
 from dataclasses import dataclass
 from typing import Callable, Deque, Dict, Generic, List, NamedTuple, Optional, Protocol, Sequence, Tuple, TypeVar
 
+from ..program.turn_timer import write_ready
+
 READ_BYTES = 262_144
 # The longest packet, in bytes; a longer one ends the connection.
 LONGEST_PACKET = 4 * 1024 * 1024
@@ -65,10 +67,7 @@ class Connection:
     def flush(self) -> None:
         """Sends as much as there is room for."""
         try:
-            while self._unsent:
-                del self._unsent[: self._socket.send(self._unsent)]
-        except BlockingIOError:
-            pass
+            write_ready(self.fileno(), self._unsent)
         except OSError as error:
             raise ServerFault(error.strerror or str(error)) from None
 

@@ -15,6 +15,7 @@ from typing import Any, Dict
 
 from ..faults import MonitorFault
 from ..program.addresses import parse_address
+from ..program.turn_timer import write_ready
 from .gearman import ServerClient
 from .gearman_queue import Queue
 from .gearman_signing import read_signer
@@ -46,7 +47,7 @@ class GearmanRunner:
             if select.select([self._jobs], [], [], BUSY if self._unsent or self._queue.is_busy() else IDLE)[0]:
                 self._read_jobs()
             self._queue.work(time.monotonic())
-            self._write()
+            write_ready(self._results, self._unsent)  # results are written while the monitor reads them; the others wait
         self._queue.disconnect()
 
     def _read_jobs(self) -> None:
@@ -64,14 +65,6 @@ class GearmanRunner:
 
     def _answer(self, result: Dict[str, Any]) -> None:
         self._unsent += json.dumps(result).encode() + b"\n"
-
-    def _write(self) -> None:
-        """Writes results while the monitor reads them; the others wait."""
-        try:
-            while self._unsent:
-                del self._unsent[: os.write(self._results, self._unsent)]
-        except BlockingIOError:
-            pass
 
 
 def log(line: str) -> None:

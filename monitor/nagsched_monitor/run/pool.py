@@ -6,7 +6,7 @@ from dataclasses import dataclass, field
 from typing import Callable, Deque, Dict, List, Optional, Sequence, Tuple
 
 from ..core.text import plain_text
-from ..program.turn_timer import Watch
+from ..program.turn_timer import Watch, write_ready
 from .jobs import Event, Job, JobFinished, JobLost, StuckJobEnded, job_members, read_event, read_line, read_number
 
 READ_BYTES = 65_536
@@ -106,10 +106,7 @@ class RunnerPool:
             self._add_lost(JobLost(self._waiting.popleft()[0], f"the runner {self.name} didn't take it"))
         for process in list(self.processes.values()):
             try:
-                while process.unsent:
-                    del process.unsent[: os.write(process.reads_from, process.unsent)]
-            except BlockingIOError:
-                pass  # the rest follows next time
+                write_ready(process.reads_from, process.unsent)
             except OSError:
                 self._restart(process)
 
