@@ -90,7 +90,7 @@ class Requests:
             request.answer = {"error": str(fault), **({"again": True} if isinstance(fault, AskAgain) else {})}
             return Plan()
         except Exception as error:  # any exception: one request doesn't hold up the others
-            for line in traceback.format_exception(type(error), error, error.__traceback__):
+            for line in traceback.format_exc().rstrip().split("\n"):
                 self.log(f"fault: {line}")
             request.answer = {"error": f"the monitor has a fault: {type(error).__name__}: {error}"}
             return Plan()

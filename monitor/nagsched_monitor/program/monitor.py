@@ -51,7 +51,7 @@ class Monitor:
         self.clock: Clock = SystemClock(self.store.last_moment())
         self._notifier = Notifier(arguments.on_change, self.store, self.log)
         self.scheduling = self._open_scheduling(site)
-        self.runners = RunnerPools(processor_count(), self.log, watch, unwatch)
+        self.runners = RunnerPools(len(os.sched_getaffinity(0)), self.log, watch, unwatch)
         self.runners.set_remotes(site.runners)
         self.engine = Engine(self.scheduling, self.runners, self.store, self.clock, self.log)
         self.control = control.ControlSocket(self._folder, self.engine.add_request, watch, unwatch)
@@ -211,8 +211,3 @@ class Monitor:
         self.log("ends")
         self.scheduling.close()
         self.store.close()
-
-
-def processor_count() -> int:
-    """The number of processors that this process may use."""
-    return max(1, len(os.sched_getaffinity(0)))
