@@ -1,5 +1,6 @@
 """The runner processes of one name: those of this machine, or the one that reaches a runner elsewhere. A process that ends is started again."""
 import collections
+import contextlib
 import os
 import subprocess
 from dataclasses import dataclass, field
@@ -36,16 +37,15 @@ class RunnerProcess:
         assert self.process.stdin is not None and self.process.stdout is not None
         self.reads_from, self.writes_to = self.process.stdin.fileno(), self.process.stdout.fileno()
 
-    def end(self, grace: float = GRACE) -> object:
+    def end(self) -> object:
         """Its exit status. If it doesn't end, nobody waits for it. Its pipes are closed."""
         for pipe in (self.process.stdin, self.process.stdout):
             if pipe is not None:
                 pipe.close()
-        for seconds in (grace, GRACE):
-            try:
-                return self.process.wait(timeout=seconds)
-            except subprocess.TimeoutExpired:
-                self.process.kill()
+        for _ in range(2):
+            with contextlib.suppress(subprocess.TimeoutExpired):
+                return self.process.wait(timeout=GRACE)
+            self.process.kill()
         return "unknown"
 
 
@@ -54,7 +54,7 @@ class RunnerPool:
 
     def __init__(self, name: str, arguments: Sequence[str], count: int, slots: Optional[int], wait: float, log: Callable[[str], None],
                  watch: Watch, unwatch: Callable[[int], None], clock: Callable[[], float]) -> None:
-        self.name, self.arguments, self._count, self.slots, self.wait = name, tuple(arguments), count, slots, wait
+        self._name, self._arguments, self._count, self._slots, self._wait = name, arguments, count, slots, wait
         self._log, self._watch, self._unwatch, self._clock = log, watch, unwatch, clock
         self._title = "a runner" if slots is None else f"the runner {name}"
         self._events: List[Event] = []
@@ -63,7 +63,7 @@ class RunnerPool:
         self.processes: Dict[int, RunnerProcess] = {}
         # The jobs that no process has got yet, each with the time at which it came.
         self._waiting: Deque[Tuple[Job, float]] = collections.deque()
-        self._trouble = ""
+        self._cannot_start = False
         self._pause, self._not_before = PAUSE, 0.0
         self._start_missing()
 
@@ -73,18 +73,17 @@ class RunnerPool:
             return
         try:
             while len(self.processes) < self._count:
-                started = subprocess.Popen(self.arguments, stdin=subprocess.PIPE, stdout=subprocess.PIPE, bufsize=0, start_new_session=True)
+                started = subprocess.Popen(self._arguments, stdin=subprocess.PIPE, stdout=subprocess.PIPE, bufsize=0, start_new_session=True)
                 process = RunnerProcess(started, self._clock())
                 os.set_blocking(process.writes_to, False)
                 os.set_blocking(process.reads_from, False)  # bytes that it doesn't read at once don't hold up the monitor
                 self.processes[process.writes_to] = process
                 self._watch(process.writes_to, self.read)
-            self._trouble = ""
+            self._cannot_start = False
         except OSError as error:
-            if not self._trouble:
+            if not self._cannot_start:
                 self._log(f"{self._title} can't be started: {error}; it is tried again")
-            self._trouble = str(error)
-            self._not_before = self._clock() + PAUSE
+            self._cannot_start, self._not_before = True, self._clock() + PAUSE
 
     # ---- jobs
 
@@ -99,11 +98,11 @@ class RunnerPool:
         while self._waiting and process is not None:
             job, _ = self._waiting.popleft()
             self._number += 1
-            process.jobs[self._number] = job, now + job.limit + LATE + (0.0 if self.slots is None else self.wait)
+            process.jobs[self._number] = job, now + job.limit + LATE + (0.0 if self._slots is None else self._wait)
             process.unsent += b'{"job":%d,%s\n' % (self._number, job_members(tuple(job.arguments), job.limit))
             process = self._least_busy()
-        while self.slots is not None and self._waiting and now - self._waiting[0][1] >= self.wait:
-            self._add_lost(JobLost(self._waiting.popleft()[0], f"the runner {self.name} didn't take it"))
+        while self._slots is not None and self._waiting and now - self._waiting[0][1] >= self._wait:
+            self._add_lost(JobLost(self._waiting.popleft()[0], f"the runner {self._name} didn't take it"))
         for process in list(self.processes.values()):
             try:
                 write_ready(process.reads_from, process.unsent)
@@ -113,7 +112,7 @@ class RunnerPool:
     def _least_busy(self) -> Optional[RunnerProcess]:
         """The process that has the fewest jobs, if it has room for one more."""
         least = min(self.processes.values(), key=lambda process: len(process.jobs), default=None)
-        return least if least is None or self.slots is None or len(least.jobs) < self.slots else None
+        return least if least is None or self._slots is None or len(least.jobs) < self._slots else None
 
     def _add_lost(self, event: JobLost) -> None:
         if not event.is_local:
@@ -151,27 +150,22 @@ class RunnerPool:
             self._apply_result(process, number, members)
         except (ValueError, RecursionError) as error:
             self._log(f"a line of {self._title} is no result: {error}: {plain_text(line[:200].decode(errors='replace'))!r}")
-            job, _ = process.jobs.pop(number, (None, 0.0))
-            if job is not None:
-                self._events.append(JobLost(job, "its runner gave no result"))
+            if number in process.jobs:
+                self._events.append(JobLost(process.jobs.pop(number)[0], "its runner gave no result"))
 
     def _apply_result(self, process: RunnerProcess, number: int, members: Dict[str, object]) -> None:
         if members.get("gone") is True:
-            gone = process.stuck.pop(number, None)
-            if gone is not None:
-                self._events.append(StuckJobEnded(gone))
-            return
-        job, _ = process.jobs.get(number, (None, 0.0))
-        if job is None:
-            return
-        event = read_event(job, members)
-        del process.jobs[number]
-        if isinstance(event, JobFinished) and event.is_stuck:
-            process.stuck[number] = job
-        if isinstance(event, JobLost):
-            self._add_lost(event)
-        else:
-            self._events.append(event)
+            if number in process.stuck:
+                self._events.append(StuckJobEnded(process.stuck.pop(number)))
+        elif number in process.jobs:
+            event = read_event(process.jobs[number][0], members)
+            job, _ = process.jobs.pop(number)
+            if isinstance(event, JobLost):
+                self._add_lost(event)
+            else:
+                self._events.append(event)
+                if event.is_stuck:
+                    process.stuck[number] = job
 
     # ---- ends
 
@@ -200,7 +194,7 @@ class RunnerPool:
 
     def kill(self, job: Job) -> bool:
         """Kills the process that has this job, since it gives no answer. A job that no process has yet is lost. Returns False if it isn't here."""
-        for process in list(self.processes.values()):
+        for process in self.processes.values():
             if any(job is each for each, _ in process.jobs.values()):
                 self._log(f"{self._title} gave no result in time: it is killed, and {len(process.jobs)} checks with it")
                 self._close_process(process)

@@ -25,17 +25,17 @@ class RunnerPools:
                  clock: Callable[[], float] = time.monotonic) -> None:
         self._pool = partial(RunnerPool, log=log, watch=watch, unwatch=unwatch, clock=clock)
         self._pools: Dict[str, RunnerPool] = {LOCAL: self._pool(LOCAL, runner_command(), count, None, 0.0)}
+        self._remotes: Dict[str, Remote] = {}
         # The last events of pools that were removed.
         self._events: List[Event] = []
 
     def set_remotes(self, remotes: Mapping[str, Remote]) -> None:
         """Has these runners elsewhere from now on; jobs at others are lost."""
-        for name, pool in list(self._pools.items()):
-            remote = remotes.get(name)
-            if name != LOCAL and (remote is None or (pool.arguments, pool.slots, pool.wait) != (remote.arguments, remote.slots, remote.wait)):
-                pool.close()
-                self._events += pool.events()
-                del self._pools[name]
+        for name in [name for name, remote in self._remotes.items() if remotes.get(name) != remote]:
+            pool = self._pools.pop(name)
+            pool.close()
+            self._events += pool.events()
+        self._remotes = dict(remotes)
         for name, remote in remotes.items():
             if name not in self._pools:
                 self._pools[name] = self._pool(name, remote.arguments, 1, remote.slots, remote.wait)
