@@ -12,19 +12,13 @@ from typing import List, Optional, Tuple, Union
 
 from ..faults import MonitorFault
 from ..inputs.requests import Request
-from ..run.runner_program import FOLDER
+from ..run.runner_program import module_command
 from ..site.site import Site, read_site
 
 # The limit for reading a site, in seconds.
 LIMIT = 300.0
 
 ReadResult = Union[Site, str]
-
-
-def module_command(module: str, arguments: List[str]) -> List[str]:
-    """The command that runs a module of this package as a separate process. No variable and no folder of its caller decides what it imports."""
-    code = f"import sys; sys.path.insert(0, {str(FOLDER)!r}); import nagsched_monitor.{module} as it; sys.exit(it.main())"
-    return [sys.executable, "-I", "-c", code, *arguments]
 
 
 class SiteReader:

@@ -1,6 +1,5 @@
 """The runner processes of one name: those of this machine, or the one that reaches a runner elsewhere. A process that ends is started again."""
 import collections
-import contextlib
 import os
 import subprocess
 from dataclasses import dataclass, field
@@ -9,14 +8,15 @@ from typing import Callable, Deque, Dict, List, Optional, Sequence, Tuple
 from ..core.text import plain_text
 from ..program.turn_timer import Watch, write_ready
 from .jobs import Event, Job, JobFinished, JobLost, StuckJobEnded, job_members, read_event, read_line, read_number
+from .runner_program import end_process
 
 READ_BYTES = 65_536
 # The longest line of a runner, in bytes. A longer line ends its runner.
 LONGEST_LINE = 1_048_576
 # The least time from one start of a runner to the next, in seconds. It doubles up to the longest. After a runner that ran that long, it is the first again.
 PAUSE, LONGEST_PAUSE = 1.0, 60.0
-# In seconds: the limit for a runner's end, and the longest delay of a plugin's result after its limit.
-GRACE, LATE = 5.0, 10.0
+# The longest delay of a plugin's result after its limit, in seconds.
+LATE = 10.0
 
 
 @dataclass
@@ -36,17 +36,6 @@ class RunnerProcess:
     def __post_init__(self) -> None:
         assert self.process.stdin is not None and self.process.stdout is not None
         self.reads_from, self.writes_to = self.process.stdin.fileno(), self.process.stdout.fileno()
-
-    def end(self) -> object:
-        """Its exit status. If it doesn't end, nobody waits for it. Its pipes are closed."""
-        for pipe in (self.process.stdin, self.process.stdout):
-            if pipe is not None:
-                pipe.close()
-        for _ in range(2):
-            with contextlib.suppress(subprocess.TimeoutExpired):
-                return self.process.wait(timeout=GRACE)
-            self.process.kill()
-        return "unknown"
 
 
 class RunnerPool:
@@ -190,7 +179,7 @@ class RunnerPool:
         self._events.extend(JobLost(job) for job, _ in process.jobs.values())
         self._events.extend(StuckJobEnded(job) for job in process.stuck.values())
         process.process.kill()
-        return process.end()
+        return end_process(process.process)
 
     def kill(self, job: Job) -> bool:
         """Kills the process that has this job, since it gives no answer. A job that no process has yet is lost. Returns False if it isn't here."""

@@ -8,7 +8,7 @@ from ..program.turn_timer import Watch
 from ..site.runner_file import LOCAL, Remote
 from .jobs import Event, Job, JobLost
 from .pool import RunnerPool
-from .runner_program import runner_command
+from .runner_program import end_process, runner_command
 
 
 def raise_file_limit() -> int:
@@ -70,9 +70,9 @@ class RunnerPools:
 
     def close(self) -> None:
         """Ends the runners, which kill the running plugins."""
-        processes = [process for pool in self._pools.values() for process in pool.processes.values()]
+        processes = [process.process for pool in self._pools.values() for process in pool.processes.values()]
         for process in processes:
-            assert process.process.stdin is not None
-            process.process.stdin.close()
+            assert process.stdin is not None
+            process.stdin.close()
         for process in processes:
-            process.end()
+            end_process(process)
