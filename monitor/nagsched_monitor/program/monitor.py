@@ -39,38 +39,35 @@ class Monitor:
     """A monitor of one site, while it runs."""
 
     def __init__(self, arguments: argparse.Namespace, log: Optional[Log] = None) -> None:
-        self._folder, self._program = arguments.folder, arguments.program
+        folder, self._program = arguments.folder, arguments.program
         self.log = Log() if log is None else log
         self._service_manager = ServiceManager()
         self._file_limit = raise_file_limit()
         self._poller = FilePoller()
         watch, unwatch = self._poller.watch, self._poller.unwatch
-        site = read_site(self._folder, self._program)
+        site = read_site(folder, self._program)
         self._test_slots(site)
-        self.store = Store(self._folder, self.log)
+        self.store = Store(folder, self.log)
         self.clock: Clock = SystemClock(self.store.last_moment())
         self._notifier = Notifier(arguments.on_change, self.store, self.log)
         self.scheduling = self._open_scheduling(site)
         self.runners = RunnerPools(len(os.sched_getaffinity(0)), self.log, watch, unwatch)
         self.runners.set_remotes(site.runners)
         self.engine = Engine(self.scheduling, self.runners, self.store, self.clock, self.log)
-        self.control = control.ControlSocket(self._folder, self.engine.add_request, watch, unwatch)
-        self._site_reader = SiteReader(self._folder, self._program)
+        self.control = control.ControlSocket(folder, self.engine.add_request, watch, unwatch)
+        self._site_reader = SiteReader(folder, self._program)
         self.loop = Loop(self.engine, TurnTimer(self.clock, self._poller), self.clock, self.log)
         self._helpers = self._make_helpers(arguments)
         self._dropped_at = self.clock.wall()
-        self._connect_parts()
+        requests = self.engine.requests
+        requests.log, requests.stop, requests.reload = self.log, self.loop.stop, self._site_reader.add_request
+        self.loop.before = [self._serve_clients]
+        self.loop.after = [self._log_changes, self._apply_reload, self._serve_clients]
+        self.loop.chores = [self._drop_old_changes, self._service_manager.notify_alive, *(process.work for process in self._helpers)]
 
     @property
     def site(self) -> Site:
         return self.engine.site
-
-    def _connect_parts(self) -> None:
-        requests = self.engine.requests
-        requests.log, requests.stop, requests.reload = self.log, self.loop.stop, self._site_reader.add_request
-        self.loop.before = [self._read_requests]
-        self.loop.after = [self._log_changes, self._apply_reload, self._send_answers]
-        self.loop.chores = [self._drop_old_changes, self._service_manager.notify_alive, *(process.work for process in self._helpers)]
 
     def _make_helpers(self, arguments: argparse.Namespace) -> List[HelperProcess]:
         """The processes next to the monitor that its options ask for."""
@@ -119,12 +116,8 @@ class Monitor:
         self._service_manager.notify_ready(f"{len(self.site.objects)} objects")
         return self.loop.run()
 
-    def _read_requests(self) -> Optional[int]:
-        """Takes in the requests that have come."""
-        return 0 if self.control.work() else None
-
-    def _send_answers(self) -> Optional[int]:
-        """Sends the answers of the turn."""
+    def _serve_clients(self) -> Optional[int]:
+        """Takes in the requests that have come, and sends answers."""
         has_more = self.control.work()
         return 0 if has_more else self.clock.moment() + BUSY_WAIT if self.control.is_sending() else None
 
@@ -135,17 +128,13 @@ class Monitor:
         self._notifier.work()
         return self.clock.moment() + BUSY_WAIT if self._notifier.is_busy() else None
 
-    def _clear_signal(self, file: int) -> None:
-        """Handles a signal."""
-        self._signals[0].recv(4_096)
-
     def _install_signal_handlers(self) -> None:
-        there, back = socket.socketpair()
+        """Each signal ends the waiting for files, by a byte that comes."""
+        self._signals = there, back = socket.socketpair()
         there.setblocking(False)
         back.setblocking(False)
         signal.set_wakeup_fd(back.fileno(), warn_on_full_buffer=False)
-        self._signals = (there, back)
-        self._poller.watch(there.fileno(), self._clear_signal)
+        self._poller.watch(there.fileno(), lambda _: there.recv(4_096))
         for number in (signal.SIGINT, signal.SIGTERM):
             signal.signal(number, lambda *_: self.loop.stop())
         signal.signal(signal.SIGHUP, lambda *_: self._site_reader.add_request(None))

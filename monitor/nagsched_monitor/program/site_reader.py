@@ -54,16 +54,14 @@ class SiteReader:
     def _run(self) -> None:
         try:
             self._process = subprocess.Popen(self._command, stdin=subprocess.DEVNULL, stdout=subprocess.PIPE, start_new_session=True)
-            with self._process as process:
-                try:
-                    self._result = pickle.loads(process.communicate(timeout=LIMIT)[0])
-                except subprocess.TimeoutExpired:
-                    process.kill()
-                    self._result = f"the site wasn't read within {LIMIT:g} seconds"
+            self._result = pickle.loads(self._process.communicate(timeout=LIMIT)[0])
+        except subprocess.TimeoutExpired:
+            self._result = f"the site wasn't read within {LIMIT:g} seconds"
         except OSError as error:
             self._result = f"the site can't be read: {error}"
         except Exception:  # the process ended in the middle of the output
             self._result = "the site can't be read"
+        self.close()
 
     def close(self) -> None:
         if self._process is not None:

@@ -40,9 +40,9 @@ class FilePoller:
 
     def __init__(self) -> None:
         self._poll = select.epoll()
-        self._readers: Dict[int, Callable[[int], None]] = {}
+        self._readers: Dict[int, Callable[[int], object]] = {}
 
-    def watch(self, file: int, read: Callable[[int], None]) -> None:
+    def watch(self, file: int, read: Callable[[int], object]) -> None:
         self._poll.register(file, select.EPOLLIN)
         self._readers[file] = read
 

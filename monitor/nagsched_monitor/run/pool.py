@@ -7,7 +7,7 @@ from typing import Callable, Deque, Dict, List, Optional, Sequence, Tuple
 
 from ..core.text import plain_text
 from ..program.turn_timer import Watch, write_ready
-from .jobs import Event, Job, JobFinished, JobLost, StuckJobEnded, job_members, read_event, read_line, read_number
+from .jobs import Event, Job, JobLost, StuckJobEnded, job_members, read_event, read_line, read_number
 from .runner_program import end_process
 
 READ_BYTES = 65_536
