@@ -68,8 +68,8 @@ class Requests:
             "disable": (partial(self._plan_switch, on=False), ("name",)),
             "default": (partial(self._plan_switch, on=None), ("name",)),
             "result": (self._plan_result, ("name", "code", "output")),
-            "reload": (self._plan_reload, ()),
-            "save": (self._plan_save, ()),
+            "reload": (lambda _, request: Plan(then=[partial(self.reload, request)]), ()),
+            "save": (lambda _, request: Plan(last=[partial(self._save_now, request)]), ()),
             "stop": (self._plan_stop, ()),
         }
 
@@ -228,12 +228,6 @@ class Requests:
     def _add_result(self, result: StoredResult) -> None:
         self.engine.store.last_result = max(self.engine.store.last_result, result.id)
         self.engine.passive.add(result)
-
-    def _plan_reload(self, members: Members, request: Request) -> Plan:
-        return Plan(then=[partial(self.reload, request)])
-
-    def _plan_save(self, members: Members, request: Request) -> Plan:
-        return Plan(last=[partial(self._save_now, request)])
 
     def _save_now(self, request: Request) -> None:
         try:

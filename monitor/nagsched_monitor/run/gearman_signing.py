@@ -21,21 +21,6 @@ SIZE = hashlib.sha256().digest_size * 2
 LONGEST, SKEW = 86_400.0, 60.0
 
 
-def read_key(path: pathlib.Path) -> bytes:
-    """The key in a file: its bytes without the space around them. Raises `MonitorFault` if others may read it, or if it is too short."""
-    try:
-        with path.open("rb") as file:
-            mode = os.fstat(file.fileno()).st_mode
-            key = file.read(MOST_BYTES).strip()
-    except OSError as error:
-        raise MonitorFault(f"the key {path}: {error.strerror}") from None
-    if mode & (stat.S_IRWXG | stat.S_IRWXO):
-        raise MonitorFault(f"the key {path}: others may read it; chmod 600 makes it its owner's alone")
-    if len(key) < LEAST_KEY:
-        raise MonitorFault(f"the key {path}: it has to have {LEAST_KEY} bytes or more")
-    return key
-
-
 class Signer:
     """Signs documents and opens signed ones, with a key; without a key they stay unchanged."""
 
@@ -68,11 +53,25 @@ class Signer:
         return hmac.new(key, purpose + body, hashlib.sha256).hexdigest().encode()
 
 
-def read_signer(key: Optional[pathlib.Path], unsigned: bool) -> Signer:
-    """The signer of a key file, or no signatures if the site says so. Raises `MonitorFault` unless it says one of the two."""
-    if (key is not None) == unsigned:
+def read_signer(path: Optional[pathlib.Path], unsigned: bool) -> Signer:
+    """The signer with the key in a file, which is its bytes without the space around them, or no signatures if the site says so.
+
+    Raises `MonitorFault` unless it says one of the two, and if others may read the key or it is too short."""
+    if (path is not None) == unsigned:
         raise MonitorFault("say --key FILE, or --unsigned: one of the two")
-    return Signer(None if key is None else read_key(key))
+    if path is None:
+        return Signer(None)
+    try:
+        with path.open("rb") as file:
+            mode = os.fstat(file.fileno()).st_mode
+            key = file.read(MOST_BYTES).strip()
+    except OSError as error:
+        raise MonitorFault(f"the key {path}: {error.strerror}") from None
+    if mode & (stat.S_IRWXG | stat.S_IRWXO):
+        raise MonitorFault(f"the key {path}: others may read it; chmod 600 makes it its owner's alone")
+    if len(key) < LEAST_KEY:
+        raise MonitorFault(f"the key {path}: it has to have {LEAST_KEY} bytes or more")
+    return Signer(key)
 
 
 class Refusal(Exception):

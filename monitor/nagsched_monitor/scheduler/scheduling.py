@@ -11,7 +11,8 @@ from ..core.object_state import ObjectState, ObjectStates
 from ..core.phases import FIRST_TIME
 from ..core.run_table import ObjectKey, Run
 from ..faults import ConversationEnded, MonitorFault
-from ..site.site import Site, objects_of
+from ..site.json_files import members_by_name
+from ..site.site import Site
 from ..store.rows import Generation, StoredChange
 from ..store.status_table import StandingTable
 from ..store.store import Store, Write
@@ -77,7 +78,7 @@ class Scheduling:
         if generation.saved is not None:
             self._read_state(part, generation.saved)
             # The states of objects are known before calls are made again: a result with the same state isn't a change.
-            self._query_standings(part, [it.name for it in objects_of(json.loads(generation.setup), part) if it.name not in self.mirrors.names_of(part)])
+            self._query_standings(part, [name for name in members_by_name(json.loads(generation.setup)) if name not in self.mirrors.names_of(part)])
         self.schedulers.load_pending(part)
         self._apply_answers(self.schedulers.exchange(), is_again=True)
         if self.schedulers.is_down(part):

@@ -36,17 +36,6 @@ class Part:
     # The masters whose own dependencies count too.
     inherited_masters: AbstractSet[str]
 
-    def difference(self, name: str, other: "Part") -> str:
-        """The first difference of an object between two parts; nothing if results are judged in the same way."""
-        here, there = self.objects[name], other.objects[name]
-        if here["max_check_attempts"] != there["max_check_attempts"]:
-            return "max_check_attempts"
-        if set(here.get("parents", ())) != set(there.get("parents", ())):
-            return "parents"
-        if name in self.inherited_masters and self.dependencies.get(name) != other.dependencies.get(name):
-            return "dependencies, which count here for those that depend on it,"
-        return ""
-
 
 def part_of(stem: str, setup: Mapping[str, Any]) -> Part:
     """A part with its setup, which was found to be good."""
@@ -88,9 +77,15 @@ def test_mirror(name: str, part: Part, home: object, parts: Mapping[str, Part], 
         raise SiteFault(f"{place}: {home} has a mirror of it too, and not the original")
     if any(part.objects[name].get(member) != value for member, value in NEVER.items()):
         raise SiteFault(f'{place}: a mirror has "enabled":false, "check_interval":0 and "retry_interval":0')
-    differs = part.difference(name, parts[home])
-    if differs:
-        raise SiteFault(f"{place}: {differs} aren't those of its original in {home}.json")
+    here, there = part.objects[name], parts[home].objects[name]
+    has_other_masters = name in part.inherited_masters and part.dependencies.get(name) != parts[home].dependencies.get(name)
+    for differs, what in (
+        (here["max_check_attempts"] != there["max_check_attempts"], "max_check_attempts"),
+        (set(here.get("parents", ())) != set(there.get("parents", ())), "parents"),
+        (has_other_masters, "dependencies, which count here for those that depend on it,"),
+    ):
+        if differs:
+            raise SiteFault(f"{place}: {what} aren't those of its original in {home}.json")
 
 
 def test_options(part: Part, homes: Sequence[Part]) -> None:

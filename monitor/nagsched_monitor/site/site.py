@@ -143,23 +143,18 @@ def setup_line(path: pathlib.Path, program: str) -> bytes:
 
 
 def originals_of(documents: Mapping[str, Mapping[str, Any]], mirrors: Mapping[int, AbstractSet[str]]) -> Dict[str, ObjectDefinition]:
-    """The objects of all parts, each once: mirrors aren't among them."""
+    """The objects of all parts, each once: mirrors aren't among them. Intervals become milliseconds."""
     objects: Dict[str, ObjectDefinition] = {}
     for part, (stem, setup) in enumerate(documents.items()):
-        for definition in objects_of(setup, part):
-            if definition.name in mirrors.get(part, ()):
+        unit = setup.get("options", {}).get("interval_length", 60) * 1000
+        for name, it in members_by_name(setup).items():
+            if name in mirrors.get(part, ()):
                 continue
-            if definition.name in objects:
-                raise SiteFault(f"{stem}.json: {definition.name} is in another part already, and mirrors.json doesn't name it")
-            objects[definition.name] = definition
+            if name in objects:
+                raise SiteFault(f"{stem}.json: {name} is in another part already, and mirrors.json doesn't name it")
+            interval = it.get("check_interval", 5) * unit
+            objects[name] = ObjectDefinition(name, part, it.get("host"), tuple(it.get("parents", ())), interval, it.get("enabled", True))
     return objects
-
-
-def objects_of(setup: Mapping[str, Any], part: int) -> List[ObjectDefinition]:
-    """The hosts and services of a good setup. Intervals become milliseconds."""
-    unit = setup.get("options", {}).get("interval_length", 60) * 1000
-    return [ObjectDefinition(name, part, it.get("host"), tuple(it.get("parents", ())), it.get("check_interval", 5) * unit, it.get("enabled", True))
-            for name, it in members_by_name(setup).items()]
 
 
 def children_of(objects: Mapping[str, ObjectDefinition]) -> Dict[str, List[str]]:
