@@ -25,8 +25,6 @@ def is_ended(seconds: Optional[float]) -> bool:
 
 
 class HelperProcess:
-    """One process next to the monitor."""
-
     def __init__(self, module: str, arguments: Sequence[str], log: Callable[[str], None], clock: Callable[[], float] = time.monotonic) -> None:
         self._module, self._arguments, self._log, self._clock = module, arguments, log, clock
         self._name = module.rpartition(".")[2]
@@ -57,7 +55,6 @@ class HelperProcess:
         return None if self._process is None else self._process.pid
 
     def close(self) -> None:
-        """Ends the process."""
         process, self._process = self._process, None
         if process is not None:
             end_process(process)

@@ -84,7 +84,6 @@ def parse_arguments(given: Optional[List[str]]) -> argparse.Namespace:
 
 
 def request_members(arguments: argparse.Namespace) -> Dict[str, Any]:
-    """The request that the arguments describe."""
     given = {member: getattr(arguments, member, None) for member in ("name", "at", "force", "code", "output")}
     return {"do": arguments.command, **{member: value for member, value in given.items() if value is not None}}
 

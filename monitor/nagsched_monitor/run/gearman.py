@@ -22,8 +22,6 @@ class ServerFault(Exception):
 
 
 class Code(enum.IntEnum):
-    """The purpose of a packet."""
-
     CAN_DO, PRE_SLEEP, NOOP, SUBMIT_JOB, JOB_CREATED, GRAB_JOB, NO_JOB, JOB_ASSIGN = 1, 4, 6, 7, 8, 9, 10, 11
     WORK_STATUS, WORK_COMPLETE, WORK_FAIL, ECHO_REQ, ECHO_RES, ERROR = 12, 13, 14, 16, 17, 19
 
@@ -38,8 +36,6 @@ class Packet(NamedTuple):
 
 
 class Connection:
-    """A connection to a server."""
-
     def __init__(self, place: Tuple[str, int]) -> None:
         self._socket = socket.socket(socket.AF_INET6 if ":" in place[0] else socket.AF_INET)
         self._socket.setblocking(False)
@@ -108,8 +104,6 @@ class Connection:
 
 
 class JobEventKind(enum.Enum):
-    """An event of a job."""
-
     KNOWN = "the server has it"
     TAKEN = "a worker has it"
     COMPLETE = "a worker has answered"
@@ -132,8 +126,6 @@ class Client(Protocol):
 
 
 class ServerClient(Connection):
-    """A client of a real server."""
-
     KINDS = {Code.WORK_STATUS: JobEventKind.TAKEN, Code.WORK_COMPLETE: JobEventKind.COMPLETE, Code.WORK_FAIL: JobEventKind.FAILED}
 
     def __init__(self, place: Tuple[str, int]) -> None:

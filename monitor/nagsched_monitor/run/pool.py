@@ -7,7 +7,7 @@ from typing import Callable, Deque, Dict, List, Optional, Sequence, Tuple
 
 from ..core.text import plain_text
 from ..program.turn_timer import Watch, write_ready
-from .jobs import Event, Job, JobLost, StuckJobEnded, job_members, read_event, read_line, read_number
+from .jobs import Event, Job, JobLost, StuckJobEnded, job_members, read_event, read_line
 from .runner_program import end_process
 
 READ_BYTES = 65_536
@@ -111,7 +111,6 @@ class RunnerPool:
     # ---- results
 
     def read(self, file: int) -> None:
-        """Reads the results of a process."""
         process = self.processes[file]
         try:
             data = os.read(file, READ_BYTES)
@@ -131,12 +130,11 @@ class RunnerPool:
         """One line of a runner. A faulty line is logged, and the run that it is about is lost, if that can be read."""
         number = -1
         try:
-            members = read_line(line)
+            number, members = read_line(line)
             if "error" in members:
                 self._log(f"{self._title}: {plain_text(str(members['error']))}")
-                return
-            number = read_number(members)
-            self._apply_result(process, number, members)
+            else:
+                self._apply_result(process, number, members)
         except (ValueError, RecursionError) as error:
             self._log(f"a line of {self._title} is no result: {error}: {plain_text(line[:200].decode(errors='replace'))!r}")
             if number in process.jobs:

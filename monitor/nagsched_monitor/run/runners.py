@@ -48,7 +48,6 @@ class RunnerPools:
             pool.start(job)
 
     def flush(self) -> None:
-        """Passes on the jobs that were started."""
         for pool in self._pools.values():
             pool.flush()
 

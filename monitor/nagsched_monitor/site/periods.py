@@ -43,8 +43,6 @@ class Dates:
 
 @dataclass(frozen=True)
 class Period:
-    """One time period."""
-
     name: str
     weekdays: Mapping[int, Sequence[Minutes]]
     dates: Sequence[Dates]
@@ -59,14 +57,11 @@ class Period:
 
 
 class Periods:
-    """All periods of a site."""
-
     def __init__(self, periods: Mapping[str, Period], zone: Optional[datetime.tzinfo]) -> None:
         self._periods = periods
         self._zone = zone
 
     def includes(self, name: str, wall: float) -> bool:
-        """Whether a period includes a time of the wall clock."""
         moment = datetime.datetime.fromtimestamp(wall, self._zone)
         return self._includes(name, moment.date(), moment.hour * 60 + moment.minute)
 

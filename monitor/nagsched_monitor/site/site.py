@@ -57,8 +57,6 @@ class ObjectDefinition:
 
 @dataclass(frozen=True)
 class Options:
-    """The options of the monitor."""
-
     slots: int = 64
     cached_host_check_horizon: int = 15
     timeout_code: int = 2
