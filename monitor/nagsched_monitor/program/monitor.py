@@ -177,10 +177,7 @@ class Monitor:
         changed = self.engine.reload(site)
         self.runners.set_remotes(site.runners)
         new, dropped = sorted(set(site.objects) - before), sorted(before - set(site.objects))
-        for word, names in (("new", new), ("dropped", dropped)):
-            for name in names:
-                self.log(f"{word}: {name}")
-        for line in changed:
+        for line in (*(f"new: {name}" for name in new), *(f"dropped: {name}" for name in dropped), *changed):
             self.log(line)
         return {"done": "reload", "new": new, "dropped": dropped, "changed": changed}
 

@@ -4,7 +4,7 @@ import enum
 import socket
 import struct
 from dataclasses import dataclass
-from typing import Callable, Deque, Dict, Generic, List, NamedTuple, Optional, Protocol, Sequence, Tuple, TypeVar
+from typing import Callable, Deque, Dict, Generic, Iterator, List, NamedTuple, Optional, Protocol, Sequence, Tuple, TypeVar
 
 from ..program.turn_timer import write_ready
 
@@ -39,7 +39,7 @@ class Connection:
     def __init__(self, place: Tuple[str, int]) -> None:
         self._socket = socket.socket(socket.AF_INET6 if ":" in place[0] else socket.AF_INET)
         self._socket.setblocking(False)
-        self._unread = b""
+        self._unread = bytearray()
         self._unsent = bytearray()
         try:
             self._socket.setsockopt(socket.IPPROTO_TCP, socket.TCP_NODELAY, 1)
@@ -78,26 +78,22 @@ class Connection:
         if not data:
             raise ServerFault("lost connection")
         self._unread += data
-        return self._packets()
+        return list(self._packets())
 
-    def _packets(self) -> List[Packet]:
-        packets: List[Packet] = []
-        at = 0
-        while len(self._unread) - at >= HEADER.size:
-            magic, code, size = HEADER.unpack_from(self._unread, at)
+    def _packets(self) -> Iterator[Packet]:
+        while len(self._unread) >= HEADER.size:
+            magic, code, size = HEADER.unpack_from(self._unread)
             if magic != RESPONSE or size > LONGEST_PACKET:
                 raise ServerFault("it isn't a Gearman server")
-            end = at + HEADER.size + size
-            if len(self._unread) < end:
-                break
-            body, at = self._unread[at + HEADER.size : end], end
+            if len(self._unread) < HEADER.size + size:
+                return
+            body = bytes(self._unread[HEADER.size : HEADER.size + size])
+            del self._unread[: HEADER.size + size]
             count = PARTS.get(code, 1)
             parts = body.split(b"\0", count - 1)
             if code == Code.ERROR or len(parts) != count:
                 raise ServerFault(body.replace(b"\0", b" ").decode(errors="replace"))
-            packets.append(Packet(code, parts))
-        self._unread = self._unread[at:]
-        return packets
+            yield Packet(code, parts)
 
     def close(self) -> None:
         self._socket.close()

@@ -11,6 +11,7 @@ from dataclasses import dataclass
 from typing import Dict, List, Mapping, Optional, Sequence, Tuple
 
 from ..faults import SiteFault
+from .json_files import known_members
 
 WEEKDAYS = ("monday", "tuesday", "wednesday", "thursday", "friday", "saturday", "sunday")
 CLOCK_TIMES = re.compile(r"(\d\d):(\d\d)-(\d\d):(\d\d)")
@@ -94,13 +95,12 @@ def read_periods(document: Mapping[str, object], file: str) -> Dict[str, Period]
 
 
 def read_period(name: str, members: object, place: str) -> Period:
-    if not isinstance(members, dict) or not set(members) <= {"weekdays", "dates", "exclude"}:
-        raise SiteFault(f"{place}: it has the members weekdays, dates and exclude and no other")
-    weekdays = members.get("weekdays", {})
+    document = known_members(members, ("weekdays", "dates", "exclude"), place)
+    weekdays = document.get("weekdays", {})
     if not isinstance(weekdays, dict) or not set(weekdays) <= set(WEEKDAYS):
         raise SiteFault(f"{place}: weekdays has the members monday to sunday and no other")
     times = {WEEKDAYS.index(day): read_times(texts, f"{place}: {day}") for day, texts in weekdays.items()}
-    dates, excluded = members.get("dates", []), members.get("exclude", [])
+    dates, excluded = document.get("dates", []), document.get("exclude", [])
     if not isinstance(dates, list) or not isinstance(excluded, list) or not all(isinstance(other, str) for other in excluded):
         raise SiteFault(f"{place}: dates and exclude are lists")
     read = [read_dates(each, f"{place}: date {index}") for index, each in enumerate(dates)]
