@@ -7,8 +7,7 @@ from typing import Any, Callable, Dict, List, Optional, Tuple
 
 from nagsched_monitor.program.turn_timer import FilePoller
 from nagsched_monitor.run.gearman import Code, Packet
-from nagsched_monitor.run.gearman_policy import JobPolicy
-from nagsched_monitor.run.gearman_signing import JOB, RESULT, Signer
+from nagsched_monitor.run.gearman_signing import JOB, RESULT, JobPolicy, Signer
 from nagsched_monitor.run.gearman_worker import Worker
 from nagsched_monitor.run.pool import RunnerPool
 

@@ -12,8 +12,8 @@ from typing import Any, Dict, List, Optional
 from unittest import mock
 
 from nagsched_monitor.faults import SiteFault
-from nagsched_monitor.site import site_lock
-from nagsched_monitor.site.site_lock import lock_for_reading
+from nagsched_monitor.site import json_files
+from nagsched_monitor.site.json_files import lock_for_reading
 
 from .waiting import LONG
 
@@ -230,7 +230,7 @@ class TakingOver(unittest.TestCase):
         lock = os.open(self.site, os.O_RDONLY)
         self.addCleanup(os.close, lock)
         fcntl.flock(lock, fcntl.LOCK_EX)
-        with mock.patch.object(site_lock, "PATIENCE", 0.1), self.assertRaises(SiteFault):
+        with mock.patch.object(json_files, "PATIENCE", 0.1), self.assertRaises(SiteFault):
             with lock_for_reading(self.site):
                 pass
         with self.assertRaises(SiteFault), lock_for_reading(self.folder / "none"):

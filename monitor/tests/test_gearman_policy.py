@@ -5,8 +5,7 @@ import time
 from typing import Any, Callable, Dict, List, Optional
 from unittest import mock
 
-from nagsched_monitor.run.gearman_policy import SKEW, JobPolicy, Refusal
-from nagsched_monitor.run.gearman_signing import JOB, RESULT, Signer
+from nagsched_monitor.run.gearman_signing import JOB, RESULT, SKEW, JobPolicy, Refusal, Signer
 from nagsched_monitor.run.gearman_worker import LOG_REFUSALS_EVERY, NOT_SIGNED, Worker
 from nagsched_monitor.run.jobs import Event, Job, JobFinished
 

@@ -4,8 +4,8 @@ import random
 import unittest
 from typing import Any, Dict, List
 
-from nagsched_monitor.run.gearman import JobEvent, JobEventKind
-from nagsched_monitor.run.gearman_queue import GRACE, RETRY, SILENCE, Queue
+from nagsched_monitor.run.gearman import RETRY, JobEvent, JobEventKind
+from nagsched_monitor.run.gearman_queue import GRACE, SILENCE, Queue
 from nagsched_monitor.run.gearman_signing import JOB, RESULT, Signer
 
 from .gearman_server import ServedJob, StandInServer

@@ -11,9 +11,9 @@ from unittest import mock
 
 from nagsched_monitor.run import gearman_worker
 
-from nagsched_monitor.run.gearman import Code, ServerFault
+from nagsched_monitor.run.gearman import RETRY, Code, ServerFault
 from nagsched_monitor.run.gearman_queue import read_result
-from nagsched_monitor.run.gearman_worker import ECHO_EVERY, GRACE, NOT_SIGNED, RETRY
+from nagsched_monitor.run.gearman_worker import ECHO_EVERY, GRACE, NOT_SIGNED
 from nagsched_monitor.run.jobs import JobFinished
 from nagsched_monitor.run.pool import RunnerPool
 

@@ -7,12 +7,12 @@ import os
 import pathlib
 import socket
 import time
-from dataclasses import dataclass
+from dataclasses import dataclass, field
 from functools import partial
 from typing import Callable, Dict, List, Sequence
 
 from ..faults import MonitorFault
-from ..program.turn_timer import Watch
+from ..program.turn_timer import Watch, write_ready
 from .requests import Request
 
 NAME = "monitor.socket"
@@ -31,7 +31,7 @@ class Client:
 
     connection: socket.socket
     unread: bytes = b""
-    unsent: bytes = b""
+    unsent: bytearray = field(default_factory=bytearray)
     # The requests without an answer, the time of its last line, and whether it sends no more.
     unanswered: int = 0
     last_line_at: float = 0.0
@@ -131,12 +131,9 @@ class ControlSocket:
     def _send(self, file: int, client: Client) -> None:
         """Sends as much as its reader accepts now."""
         try:
-            while client.unsent:
-                client.unsent = client.unsent[client.connection.send(client.unsent) :]
-        except BlockingIOError:
-            pass
+            write_ready(file, client.unsent)
         except OSError:
-            client.unsent = b""  # the client reads no more
+            client.unsent.clear()  # the client reads no more
             self._stop_reading(file, client)
 
     def _drop_client(self, file: int) -> None:

@@ -112,20 +112,17 @@ def command_requests(rest: str, services: Services, do: str, of: int, members: S
         raise ValueError(f"it has {total} words after it, and no {len(words)}")
     name = ";".join(words[:count])
     if do == "result":
-        return [{"do": do, "name": name, **result_members(words[count], words[count + 1], of == HOST)}]
+        code = read_number(words[count])
+        if of == HOST and code > 2:
+            raise ValueError(f"no state of a host: {words[count]}")
+        # A host's code is a state here, which the scheduler turns into DOWN or UNREACHABLE. The pipe has two letters for each line feed of the output.
+        return [{"do": do, "name": name, "code": 2 if of == HOST and code else code, "output": words[count + 1].replace("\\n", "\n")}]
     if do != "reschedule":
         return [{"do": do, "name": name}]
     if of == SERVICES and name not in services:
         raise ValueError(f"there is no host {name[:SHOWN]!r}")
     names = [f"{name};{description}" for description in services[name]] if of == SERVICES else [name]
     return [{"do": do, "name": each, "at": read_number(words[count]), "force": forced} for each in names]
-
-
-def result_members(code: str, output: str, is_host: bool) -> Request:
-    """A host's code is a state here, which the scheduler turns into DOWN or UNREACHABLE. The pipe has two letters for each line feed of the output."""
-    if is_host and read_number(code) > 2:
-        raise ValueError(f"no state of a host: {code}")
-    return {"code": (2 if read_number(code) else 0) if is_host else read_number(code), "output": output.replace("\\n", "\n")}
 
 
 def read_number(word: str) -> int:

@@ -14,10 +14,11 @@ import json
 import traceback
 from dataclasses import dataclass
 from functools import partial
-from typing import TYPE_CHECKING, Any, Callable, Dict, Mapping, Optional, Sequence, Set
+from typing import TYPE_CHECKING, Any, Callable, Dict, List, Mapping, Optional, Sequence, Set, Tuple
 
 from ..core.clock import Clock
 from ..core.object_state import ObjectState
+from ..core.mirroring import PlannedCall
 from ..core.passive import MOST_WAITING
 from ..core.plan import Plan
 from ..core.phases import FIRST_TIME
@@ -47,15 +48,6 @@ class Request:
     only_reads: bool = False
 
 
-@dataclass
-class RequestPlan(Plan):
-    """The part of a turn's plan that a request adds."""
-
-    answer: Optional[Dict[str, Any]] = None
-    # The line of the log, if something changes.
-    log_text: str = ""
-
-
 class Requests:
     """Plans the work of requests, and answers them when it is done."""
 
@@ -68,46 +60,42 @@ class Requests:
         self._numbers = engine.store.requests()
         self._planned: Set[str] = set()
         self._results = 0
-        self._planners: Dict[str, Callable[[Members, Request], RequestPlan]] = {
-            "signs": self._plan_signs,
-            "reschedule": self._plan_reschedule,
-            "enable": partial(self._plan_switch, on=True),
-            "disable": partial(self._plan_switch, on=False),
-            "default": partial(self._plan_switch, on=None),
-            "result": self._plan_result,
-            "reload": self._plan_reload,
-            "save": self._plan_save,
-            "stop": self._plan_stop,
+        # The planner of each word, and the other members that its request may have.
+        self._planners: Dict[str, Tuple[Callable[[Members, Request], Plan], Sequence[str]]] = {
+            "signs": (self._plan_signs, ()),
+            "reschedule": (self._plan_reschedule, ("name", "at", "force")),
+            "enable": (partial(self._plan_switch, on=True), ("name",)),
+            "disable": (partial(self._plan_switch, on=False), ("name",)),
+            "default": (partial(self._plan_switch, on=None), ("name",)),
+            "result": (self._plan_result, ("name", "code", "output")),
+            "reload": (lambda _, request: Plan(then=[partial(self.reload, request)]), ()),
+            "save": (lambda _, request: Plan(last=[partial(self._save_now, request)]), ()),
+            "stop": (self._plan_stop, ()),
         }
 
     def begin_turn(self) -> None:
         self._planned.clear()
         self._results = 0
 
-    def plan(self, request: Request) -> RequestPlan:
+    def plan(self, request: Request) -> Plan:
         """The step of a request. A refused request has an empty step and its answer."""
         try:
-            members = read_request(request.line, self._planners)
+            members = self._read_request(request.line)
             number = members.pop("number", None)
-            if number is not None:
-                earlier = self._earlier_answer(number)
-                if earlier is not None:
-                    request.answer = earlier
-                    return RequestPlan()
-            step = self._planners[members["do"]](members, request)
+            request.answer = None if number is None else self._earlier_answer(number)
+            if request.answer is not None:
+                return Plan()
+            step = self._planners[members["do"]][0](members, request)
         except RequestFault as fault:
             request.answer = {"error": str(fault), **({"again": True} if isinstance(fault, AskAgain) else {})}
-            return RequestPlan()
+            return Plan()
         except Exception as error:  # any exception: one request doesn't hold up the others
-            for line in traceback.format_exception(type(error), error, error.__traceback__):
+            for line in traceback.format_exc().rstrip().split("\n"):
                 self.log(f"fault: {line}")
             request.answer = {"error": f"the monitor has a fault: {type(error).__name__}: {error}"}
-            return RequestPlan()
-        request.answer = step.answer
-        if step.log_text:
-            step.then.append(partial(self.log, f"asked: {step.log_text}"))
-        if number is not None and step.answer is not None and (step.calls or step.writes):
-            answer = json.dumps(step.answer, ensure_ascii=False)
+            return Plan()
+        if number is not None and request.answer is not None and (step.calls or step.writes):
+            answer = json.dumps(request.answer, ensure_ascii=False)
             step.writes.append(store_request(number, answer))
             step.then.append(partial(self._remember, number, answer))
             self._planned.add(number)
@@ -137,10 +125,27 @@ class Requests:
     def refuse(self, asked: Sequence[Request], why: str) -> None:
         """Nothing of a turn was stored."""
         for request in asked:
-            is_known = request.answer is not None and ("error" in request.answer or request.only_reads)
-            request.reply(encode_answer(request.answer if is_known and request.answer is not None else {"error": why, "again": True}))
+            if request.answer is None or not ("error" in request.answer or request.only_reads):
+                request.answer = {"error": why, "again": True}
+        self.answer(asked)
 
     # ---- reading a request
+
+    def _read_request(self, line: bytes) -> Dict[str, Any]:
+        """The members of a request that has a known word and no unknown member."""
+        try:
+            members = json.loads(line)
+        except (ValueError, RecursionError) as error:
+            raise RequestFault(f"no JSON: {error}") from None
+        if not isinstance(members, dict):
+            raise RequestFault("a request is an object")
+        word = members.get("do")
+        if not isinstance(word, str) or word not in self._planners:
+            raise RequestFault(f"no request: {word!r}")
+        for member in members:
+            if member not in ("do", "number", *self._planners[word][1]):
+                raise RequestFault(f"a member {member!r} isn't known here")
+        return members
 
     def _find_object(self, members: Members) -> ObjectState:
         name = members.get("name")
@@ -157,24 +162,27 @@ class Requests:
             raise AskAgain("the scheduler of this object is being started again")
         return obj
 
+    def _log_line(self, text: str) -> Callable[[], None]:
+        """The action that logs a request."""
+        return partial(self.log, f"asked: {text}")
+
     # ---- the words
 
-    def _plan_signs(self, members: Members, request: Request) -> RequestPlan:
-        check_members(members)
+    def _plan_signs(self, members: Members, request: Request) -> Plan:
         request.only_reads = True
         engine, wall = self.engine, self._clock.wall()
         try:
             changes, first = engine.store.waiting_changes()
         except NotStored:
             changes, first = 0, None
-        return RequestPlan(answer={
+        request.answer = {
             "turn": wall - engine.time_since_turn() / 1000, "is_stuck": engine.is_stuck, "passive_waiting": engine.passive.count, "changes_waiting": changes,
             "oldest_change": 0.0 if first is None else max(0.0, wall - first), "runners": engine.runners.process_counts(),
             "out": len(engine.scheduling.states.running.plugins()), "made": engine.counters.result_count, "latest_start": engine.counters.latest_start,
-        })
+        }
+        return Plan()
 
-    def _plan_reschedule(self, members: Members, request: Request) -> RequestPlan:
-        check_members(members, "name", "at", "force")
+    def _plan_reschedule(self, members: Members, request: Request) -> Plan:
         obj = self._find_open_object(members)
         now, wall = self._clock.moment(), self._clock.wall()
         at, forced = members.get("at", wall), members.get("force", False)
@@ -187,28 +195,22 @@ class Requests:
             raise RequestFault(f"{obj.name} has no command")
         time = max(time, now)  # a time that is past means now
         wall_time = round(wall + (time - now) / 1000, 3)
-        answer = {"done": "reschedule", "name": obj.name, "at": wall_time, "on": obj.on or forced}
+        request.answer = {"done": "reschedule", "name": obj.name, "at": wall_time, "on": obj.on or forced}
+        then = partial(setattr, obj, "operator_check", (time, forced))
         log_text = f"reschedule {obj.name} at {wall_time:.0f}{' forced' * forced}"
-        step = RequestPlan([(obj.definition.part, Reschedule(obj.name, time, forced), None)], answer=answer, log_text=log_text)
-        if time <= now:
-            step.at_once.add(obj.name)
-        step.then.append(partial(setattr, obj, "operator_check", (time, forced)))
-        return step
+        calls: List[PlannedCall] = [(obj.definition.part, Reschedule(obj.name, time, forced), None)]
+        return Plan(calls, then=[then, self._log_line(log_text)], at_once={obj.name} if time <= now else set())
 
-    def _plan_switch(self, members: Members, request: Request, on: Optional[bool]) -> RequestPlan:
-        check_members(members, "name")
-        obj = self._find_open_object(members)
+    def _plan_switch(self, members: Members, request: Request, on: Optional[bool]) -> Plan:
+        obj, checks = self._find_open_object(members), self.engine.checks
         if on and obj.definition.command is None:
             raise RequestFault(f"{obj.name} has no command")
         word, will_be = members["do"], obj.definition.enabled if on is None else on
-        calls = self.engine.checks.switch_calls(obj, will_be)
-        answer = {"done": word, "name": obj.name, "on": self.engine.checks.is_to_be_enabled(obj.definition, will_be)}
-        step = RequestPlan([(obj.definition.part, call, None) for call in calls], [set_switch(obj.name, on)], answer=answer, log_text=f"{word} {obj.name}")
-        step.then.append(partial(self.engine.checks.apply_switch, obj, on))
-        return step
+        request.answer = {"done": word, "name": obj.name, "on": checks.is_to_be_enabled(obj.definition, will_be)}
+        calls: List[PlannedCall] = [(obj.definition.part, call, None) for call in checks.switch_calls(obj, will_be)]
+        return Plan(calls, [set_switch(obj.name, on)], [partial(checks.apply_switch, obj, on), self._log_line(f"{word} {obj.name}")])
 
-    def _plan_result(self, members: Members, request: Request) -> RequestPlan:
-        check_members(members, "name", "code", "output")
+    def _plan_result(self, members: Members, request: Request) -> Plan:
         obj = self._find_object(members)
         code, output = members.get("code"), members.get("output", "")
         if isinstance(code, bool) or not isinstance(code, int) or not 0 <= code <= 3:
@@ -218,25 +220,14 @@ class Requests:
         if self.engine.passive.count + self._results >= MOST_WAITING:
             raise AskAgain(f"{MOST_WAITING} results wait to be reported")
         self._results += 1
-        words = plain_text(output, MOST_OUTPUT_BYTES)
-        number = self.engine.store.last_result + self._results
-        result = StoredResult(number, obj.name, code, words)
-        writes, answer = [store_result(obj.name, code, words, number)], {"done": "result", "name": obj.name}
-        step = RequestPlan(writes=writes, answer=answer, log_text=f"result {obj.name} {code}")
-        step.then.append(partial(self._add_result, result))
-        return step
+        result = StoredResult(self.engine.store.last_result + self._results, obj.name, code, plain_text(output, MOST_OUTPUT_BYTES))
+        request.answer = {"done": "result", "name": obj.name}
+        write = store_result(obj.name, code, result.words, result.id)
+        return Plan(writes=[write], then=[partial(self._add_result, result), self._log_line(f"result {obj.name} {code}")])
 
     def _add_result(self, result: StoredResult) -> None:
         self.engine.store.last_result = max(self.engine.store.last_result, result.id)
         self.engine.passive.add(result)
-
-    def _plan_reload(self, members: Members, request: Request) -> RequestPlan:
-        check_members(members)
-        return RequestPlan(then=[partial(self.reload, request)])
-
-    def _plan_save(self, members: Members, request: Request) -> RequestPlan:
-        check_members(members)
-        return RequestPlan(last=[partial(self._save_now, request)])
 
     def _save_now(self, request: Request) -> None:
         try:
@@ -245,29 +236,9 @@ class Requests:
         except (NotStored, ConversationEnded, MonitorFault) as fault:
             request.answer = {"error": str(fault), "again": True}
 
-    def _plan_stop(self, members: Members, request: Request) -> RequestPlan:
-        check_members(members)
-        return RequestPlan(then=[self.stop], answer={"done": "stop"}, log_text="stop")
-
-
-def read_request(line: bytes, words: Mapping[str, Any]) -> Dict[str, Any]:
-    """The members of a request whose word is one of these."""
-    try:
-        members = json.loads(line)
-    except (ValueError, RecursionError) as error:
-        raise RequestFault(f"no JSON: {error}") from None
-    if not isinstance(members, dict):
-        raise RequestFault("a request is an object")
-    word = members.get("do")
-    if not isinstance(word, str) or word not in words:
-        raise RequestFault(f"no request: {word!r}")
-    return members
-
-
-def check_members(members: Members, *names: str) -> None:
-    for member in members:
-        if member != "do" and member not in names:
-            raise RequestFault(f"a member {member!r} isn't known here")
+    def _plan_stop(self, members: Members, request: Request) -> Plan:
+        request.answer = {"done": "stop"}
+        return Plan(then=[self.stop, self._log_line("stop")])
 
 
 def encode_answer(answer: Mapping[str, Any]) -> bytes:

@@ -1,5 +1,4 @@
 """A process next to the monitor, which starts it, restarts it if it ends, and ends with it. It ends when its standard input does."""
-import contextlib
 import os
 import select
 import signal
@@ -8,12 +7,10 @@ import sys
 import time
 from typing import Callable, Optional, Sequence
 
-from .site_reader import module_command
+from ..run.runner_program import end_process, module_command
 
-# The least time from one start to the next, and the limit for the end of a process, in seconds. The pause doubles each time, up to the longest. After a
-# process that ran for the longest pause, the pause is the first one again.
+# The least time from one start to the next, in seconds. It doubles each time, up to the longest. After a process that ran that long, it is the first again.
 PAUSE, LONGEST_PAUSE = 5.0, 60.0
-GRACE = 5.0
 
 
 def ignore_signals() -> None:
@@ -28,8 +25,6 @@ def is_ended(seconds: Optional[float]) -> bool:
 
 
 class HelperProcess:
-    """One process next to the monitor."""
-
     def __init__(self, module: str, arguments: Sequence[str], log: Callable[[str], None], clock: Callable[[], float] = time.monotonic) -> None:
         self._module, self._arguments, self._log, self._clock = module, arguments, log, clock
         self._name = module.rpartition(".")[2]
@@ -47,7 +42,7 @@ class HelperProcess:
             self._not_before = self._started_at + self._pause
             self._pause = min(LONGEST_PAUSE, 2 * self._pause)
             self._log(f"{self._name} ended with status {status}; it is begun again")
-            self._close_input()
+            self.close()
         if self._clock() >= self._not_before:
             self._started_at = self._clock()
             try:
@@ -56,23 +51,10 @@ class HelperProcess:
                 self._not_before = self._started_at + LONGEST_PAUSE
                 self._log(f"{self._name} can't be begun: {error}; it is tried again")
 
-    def _close_input(self) -> None:
-        if self._process is not None and self._process.stdin is not None:
-            self._process.stdin.close()
-        self._process = None
-
     def process_id(self) -> Optional[int]:
         return None if self._process is None else self._process.pid
 
     def close(self) -> None:
-        """Ends the process."""
-        process = self._process
-        self._close_input()
-        if process is None:
-            return
-        try:
-            process.wait(timeout=GRACE)
-        except subprocess.TimeoutExpired:
-            process.kill()
-            with contextlib.suppress(subprocess.TimeoutExpired):
-                process.wait(timeout=GRACE)
+        process, self._process = self._process, None
+        if process is not None:
+            end_process(process)

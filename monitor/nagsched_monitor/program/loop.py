@@ -1,6 +1,6 @@
 """The loop of a monitor: one turn after another, the chores of every second, and the handling of a turn's exceptions."""
 import traceback
-from typing import Callable, List, Optional, Sequence
+from typing import Callable, List, Optional
 
 from ..core.clock import Clock
 from ..core.engine import Engine
@@ -42,12 +42,11 @@ class Loop:
         try:
             wanted = self._turn(begun)
             self._faults = 0
-        except Exception as error:  # any exception: monitoring continues
+        except Exception:  # any exception: monitoring continues
             wanted = begun + AFTER_FAULT
-            self._handle_fault(error)
+            self._handle_fault()
         if self.status is None:
-            second = self._engine.scheduling.states.due.second_time()
-            self._timer.wait(begun, wanted, second)
+            self._timer.wait(begun, wanted, self._engine.scheduling.states.due.second_time())
 
     def _turn(self, begun: int) -> int:
         wanted = [each() for each in self.before]
@@ -60,16 +59,11 @@ class Loop:
                 chore()
         return min(moment for moment in wanted if moment is not None)
 
-    def _handle_fault(self, error: Exception) -> None:
+    def _handle_fault(self) -> None:
         self._faults += 1
         self._engine.counters.count_fault()
-        for line in traceback_lines(traceback.format_exception(type(error), error, error.__traceback__)):
-            self._log(line)
+        for line in traceback.format_exc().rstrip().split("\n"):
+            self._log(f"fault: {line}")
         if self._faults >= MOST_FAULTS:
             self._log(f"{MOST_FAULTS} turns in a row ended like this: the monitor ends with status {BROKEN}")
             self.status = BROKEN
-
-
-def traceback_lines(traced: Sequence[str]) -> List[str]:
-    """The lines of a traceback."""
-    return [f"fault: {line}" for each in traced for line in each.rstrip().split("\n")]

@@ -84,11 +84,8 @@ def parse_arguments(given: Optional[List[str]]) -> argparse.Namespace:
 
 
 def request_members(arguments: argparse.Namespace) -> Dict[str, Any]:
-    """The request that the arguments describe."""
-    members = {"name": ("reschedule", "enable", "disable", "default", "result"), "at": ("reschedule",), "force": ("reschedule",)}
-    members |= {"code": ("result",), "output": ("result",)}
-    asked = {member: getattr(arguments, member) for member, of in members.items() if arguments.command in of}
-    return {"do": arguments.command, **{member: value for member, value in asked.items() if value is not None}}
+    given = {member: getattr(arguments, member, None) for member in ("name", "at", "force", "code", "output")}
+    return {"do": arguments.command, **{member: value for member, value in given.items() if value is not None}}
 
 
 def clock_time(seconds: float) -> str:

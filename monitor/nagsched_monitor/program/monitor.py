@@ -39,37 +39,30 @@ class Monitor:
     """A monitor of one site, while it runs."""
 
     def __init__(self, arguments: argparse.Namespace, log: Optional[Log] = None) -> None:
-        self._folder, self._program = arguments.folder, arguments.program
+        folder, self._program = arguments.folder, arguments.program
         self.log = Log() if log is None else log
         self._service_manager = ServiceManager()
         self._file_limit = raise_file_limit()
         self._poller = FilePoller()
         watch, unwatch = self._poller.watch, self._poller.unwatch
-        site = read_site(self._folder, self._program)
+        site = read_site(folder, self._program)
         self._test_slots(site)
-        self.store = Store(self._folder, self.log)
+        self.store = Store(folder, self.log)
         self.clock: Clock = SystemClock(self.store.last_moment())
         self._notifier = Notifier(arguments.on_change, self.store, self.log)
         self.scheduling = self._open_scheduling(site)
-        self.runners = RunnerPools(processor_count(), self.log, watch, unwatch)
+        self.runners = RunnerPools(len(os.sched_getaffinity(0)), self.log, watch, unwatch)
         self.runners.set_remotes(site.runners)
         self.engine = Engine(self.scheduling, self.runners, self.store, self.clock, self.log)
-        self.control = control.ControlSocket(self._folder, self.engine.add_request, watch, unwatch)
-        self._site_reader = SiteReader(self._folder, self._program)
+        self.control = control.ControlSocket(folder, self.engine.add_request, watch, unwatch)
+        self._site_reader = SiteReader(folder, self._program)
         self.loop = Loop(self.engine, TurnTimer(self.clock, self._poller), self.clock, self.log)
         self._helpers = self._make_helpers(arguments)
         self._dropped_at = self.clock.wall()
-        self._connect_parts()
-
-    @property
-    def site(self) -> Site:
-        return self.scheduling.site
-
-    def _connect_parts(self) -> None:
         requests = self.engine.requests
         requests.log, requests.stop, requests.reload = self.log, self.loop.stop, self._site_reader.add_request
-        self.loop.before = [self._read_requests]
-        self.loop.after = [self._log_changes, self._apply_reload, self._send_answers]
+        self.loop.before = [self._serve_clients]
+        self.loop.after = [self._log_changes, self._apply_reload, self._serve_clients]
         self.loop.chores = [self._drop_old_changes, self._service_manager.notify_alive, *(process.work for process in self._helpers)]
 
     def _make_helpers(self, arguments: argparse.Namespace) -> List[HelperProcess]:
@@ -113,39 +106,31 @@ class Monitor:
     def run(self) -> int:
         """Works until it is asked to stop; returns the exit status."""
         self._install_signal_handlers()
-        self.log(f"begins: {len(self.site.objects)} objects, {len(self.site.setups)} parts")
+        self.log(f"begins: {len(self.engine.site.objects)} objects, {len(self.engine.site.setups)} parts")
         for line in changes.problem_lines([(obj.name, obj.standing) for obj in self.engine.objects.values() if obj.standing]):
             self.log(f"at the start {line}")
-        self._service_manager.notify_ready(f"{len(self.site.objects)} objects")
+        self._service_manager.notify_ready(f"{len(self.engine.site.objects)} objects")
         return self.loop.run()
 
-    def _read_requests(self) -> Optional[int]:
-        """Takes in the requests that have come."""
-        return 0 if self.control.work() else None
-
-    def _send_answers(self) -> Optional[int]:
-        """Sends the answers of the turn."""
+    def _serve_clients(self) -> Optional[int]:
+        """Takes in the requests that have come, and sends answers."""
         has_more = self.control.work()
         return 0 if has_more else self.clock.moment() + BUSY_WAIT if self.control.is_sending() else None
 
     def _log_changes(self) -> Optional[int]:
         """Logs the changes of the turn, and has the command run for them."""
         for change in self.scheduling.pop_changes():
-            self.log(changes.change_line(change, self.site.zone))
+            self.log(changes.change_line(change, self.engine.site.zone))
         self._notifier.work()
         return self.clock.moment() + BUSY_WAIT if self._notifier.is_busy() else None
 
-    def _clear_signal(self, file: int) -> None:
-        """Handles a signal."""
-        self._signals[0].recv(4_096)
-
     def _install_signal_handlers(self) -> None:
-        there, back = socket.socketpair()
+        """Each signal ends the waiting for files, by a byte that comes."""
+        self._signals = there, back = socket.socketpair()
         there.setblocking(False)
         back.setblocking(False)
         signal.set_wakeup_fd(back.fileno(), warn_on_full_buffer=False)
-        self._signals = (there, back)
-        self._poller.watch(there.fileno(), self._clear_signal)
+        self._poller.watch(there.fileno(), lambda _: there.recv(4_096))
         for number in (signal.SIGINT, signal.SIGTERM):
             signal.signal(number, lambda *_: self.loop.stop())
         signal.signal(signal.SIGHUP, lambda *_: self._site_reader.add_request(None))
@@ -158,7 +143,7 @@ class Monitor:
         self._dropped_at = now
         if 0 <= since < DAY:
             try:
-                self.store.write(drop_changes_before(now - self.site.options.keep_days * DAY))
+                self.store.write(drop_changes_before(now - self.engine.site.options.keep_days * DAY))
             except NotStored as fault:
                 self.log(str(fault))
 
@@ -188,10 +173,7 @@ class Monitor:
         changed = self.engine.reload(site)
         self.runners.set_remotes(site.runners)
         new, dropped = sorted(set(site.objects) - before), sorted(before - set(site.objects))
-        for word, names in (("new", new), ("dropped", dropped)):
-            for name in names:
-                self.log(f"{word}: {name}")
-        for line in changed:
+        for line in (*(f"new: {name}" for name in new), *(f"dropped: {name}" for name in dropped), *changed):
             self.log(line)
         return {"done": "reload", "new": new, "dropped": dropped, "changed": changed}
 
@@ -211,8 +193,3 @@ class Monitor:
         self.log("ends")
         self.scheduling.close()
         self.store.close()
-
-
-def processor_count() -> int:
-    """The number of processors that this process may use."""
-    return max(1, len(os.sched_getaffinity(0)))

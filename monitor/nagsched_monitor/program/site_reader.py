@@ -12,19 +12,13 @@ from typing import List, Optional, Tuple, Union
 
 from ..faults import MonitorFault
 from ..inputs.requests import Request
-from ..run.runner_program import FOLDER
+from ..run.runner_program import module_command
 from ..site.site import Site, read_site
 
 # The limit for reading a site, in seconds.
 LIMIT = 300.0
 
 ReadResult = Union[Site, str]
-
-
-def module_command(module: str, arguments: List[str]) -> List[str]:
-    """The command that runs a module of this package as a separate process. No variable and no folder of its caller decides what it imports."""
-    code = f"import sys; sys.path.insert(0, {str(FOLDER)!r}); import nagsched_monitor.{module} as it; sys.exit(it.main())"
-    return [sys.executable, "-I", "-c", code, *arguments]
 
 
 class SiteReader:
@@ -60,16 +54,14 @@ class SiteReader:
     def _run(self) -> None:
         try:
             self._process = subprocess.Popen(self._command, stdin=subprocess.DEVNULL, stdout=subprocess.PIPE, start_new_session=True)
-            with self._process as process:
-                try:
-                    self._result = pickle.loads(process.communicate(timeout=LIMIT)[0])
-                except subprocess.TimeoutExpired:
-                    process.kill()
-                    self._result = f"the site wasn't read within {LIMIT:g} seconds"
+            self._result = pickle.loads(self._process.communicate(timeout=LIMIT)[0])
+        except subprocess.TimeoutExpired:
+            self._result = f"the site wasn't read within {LIMIT:g} seconds"
         except OSError as error:
             self._result = f"the site can't be read: {error}"
         except Exception:  # the process ended in the middle of the output
             self._result = "the site can't be read"
+        self.close()
 
     def close(self) -> None:
         if self._process is not None:

@@ -1,4 +1,9 @@
-"""When the next turn of a monitor begins. A turn costs far more than one more check in it, so events that come close together share one."""
+"""Files that don't block, and when the next turn of a monitor begins.
+
+A turn costs far more than one more check in it, so events that come close together share one.
+"""
+import contextlib
+import os
 import select
 import time
 from typing import Callable, Dict, Optional, Protocol
@@ -16,6 +21,13 @@ SECOND = 1_000
 Watch = Callable[[int, Callable[[int], None]], None]
 
 
+def write_ready(file: int, unsent: bytearray) -> None:
+    """Writes as much as there is room for; the rest stays unsent."""
+    with contextlib.suppress(BlockingIOError):
+        while unsent:
+            del unsent[: os.write(file, unsent)]
+
+
 class Poller(Protocol):
     """Waits for files, and for time to pass."""
 
@@ -28,9 +40,9 @@ class FilePoller:
 
     def __init__(self) -> None:
         self._poll = select.epoll()
-        self._readers: Dict[int, Callable[[int], None]] = {}
+        self._readers: Dict[int, Callable[[int], object]] = {}
 
-    def watch(self, file: int, read: Callable[[int], None]) -> None:
+    def watch(self, file: int, read: Callable[[int], object]) -> None:
         self._poll.register(file, select.EPOLLIN)
         self._readers[file] = read
 

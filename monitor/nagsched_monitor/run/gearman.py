@@ -4,11 +4,15 @@ import enum
 import socket
 import struct
 from dataclasses import dataclass
-from typing import Deque, Dict, List, NamedTuple, Protocol, Tuple
+from typing import Callable, Deque, Dict, Generic, Iterator, List, NamedTuple, Optional, Protocol, Sequence, Tuple, TypeVar
+
+from ..program.turn_timer import write_ready
 
 READ_BYTES = 262_144
 # The longest packet, in bytes; a longer one ends the connection.
 LONGEST_PACKET = 4 * 1024 * 1024
+# The pause before a lost server is tried again, in seconds.
+RETRY = 1.0
 HEADER = struct.Struct(">4sII")
 REQUEST, RESPONSE = b"\0REQ", b"\0RES"
 
@@ -18,8 +22,6 @@ class ServerFault(Exception):
 
 
 class Code(enum.IntEnum):
-    """The purpose of a packet."""
-
     CAN_DO, PRE_SLEEP, NOOP, SUBMIT_JOB, JOB_CREATED, GRAB_JOB, NO_JOB, JOB_ASSIGN = 1, 4, 6, 7, 8, 9, 10, 11
     WORK_STATUS, WORK_COMPLETE, WORK_FAIL, ECHO_REQ, ECHO_RES, ERROR = 12, 13, 14, 16, 17, 19
 
@@ -34,12 +36,10 @@ class Packet(NamedTuple):
 
 
 class Connection:
-    """A connection to a server."""
-
     def __init__(self, place: Tuple[str, int]) -> None:
         self._socket = socket.socket(socket.AF_INET6 if ":" in place[0] else socket.AF_INET)
         self._socket.setblocking(False)
-        self._unread = b""
+        self._unread = bytearray()
         self._unsent = bytearray()
         try:
             self._socket.setsockopt(socket.IPPROTO_TCP, socket.TCP_NODELAY, 1)
@@ -63,10 +63,7 @@ class Connection:
     def flush(self) -> None:
         """Sends as much as there is room for."""
         try:
-            while self._unsent:
-                del self._unsent[: self._socket.send(self._unsent)]
-        except BlockingIOError:
-            pass
+            write_ready(self.fileno(), self._unsent)
         except OSError as error:
             raise ServerFault(error.strerror or str(error)) from None
 
@@ -81,34 +78,28 @@ class Connection:
         if not data:
             raise ServerFault("lost connection")
         self._unread += data
-        return self._packets()
+        return list(self._packets())
 
-    def _packets(self) -> List[Packet]:
-        packets: List[Packet] = []
-        at = 0
-        while len(self._unread) - at >= HEADER.size:
-            magic, code, size = HEADER.unpack_from(self._unread, at)
+    def _packets(self) -> Iterator[Packet]:
+        while len(self._unread) >= HEADER.size:
+            magic, code, size = HEADER.unpack_from(self._unread)
             if magic != RESPONSE or size > LONGEST_PACKET:
                 raise ServerFault("it isn't a Gearman server")
-            end = at + HEADER.size + size
-            if len(self._unread) < end:
-                break
-            body, at = self._unread[at + HEADER.size : end], end
+            if len(self._unread) < HEADER.size + size:
+                return
+            body = bytes(self._unread[HEADER.size : HEADER.size + size])
+            del self._unread[: HEADER.size + size]
             count = PARTS.get(code, 1)
             parts = body.split(b"\0", count - 1)
             if code == Code.ERROR or len(parts) != count:
                 raise ServerFault(body.replace(b"\0", b" ").decode(errors="replace"))
-            packets.append(Packet(code, parts))
-        self._unread = self._unread[at:]
-        return packets
+            yield Packet(code, parts)
 
     def close(self) -> None:
         self._socket.close()
 
 
 class JobEventKind(enum.Enum):
-    """An event of a job."""
-
     KNOWN = "the server has it"
     TAKEN = "a worker has it"
     COMPLETE = "a worker has answered"
@@ -130,25 +121,23 @@ class Client(Protocol):
     def close(self) -> None: ...
 
 
-class ServerClient:
-    """A client of a real server."""
-
+class ServerClient(Connection):
     KINDS = {Code.WORK_STATUS: JobEventKind.TAKEN, Code.WORK_COMPLETE: JobEventKind.COMPLETE, Code.WORK_FAIL: JobEventKind.FAILED}
 
     def __init__(self, place: Tuple[str, int]) -> None:
-        self._connection = Connection(place)
+        super().__init__(place)
         # The jobs that wait for their names from the server, in their order, and the others by these names.
         self._submitted: Deque[int] = collections.deque()
         self._numbers: Dict[bytes, int] = {}
 
     def submit(self, number: int, queue: str, workload: bytes) -> None:
         self._submitted.append(number)
-        self._connection.send(Code.SUBMIT_JOB, queue.encode(), b"", workload)
+        self.send(Code.SUBMIT_JOB, queue.encode(), b"", workload)
 
     def work(self) -> List[JobEvent]:
         came: List[JobEvent] = []
-        self._connection.flush()
-        for code, parts in self._connection.read():
+        self.flush()
+        for code, parts in self.read():
             if code == Code.JOB_CREATED and self._submitted:
                 number = self._numbers[parts[0]] = self._submitted.popleft()
                 came.append(JobEvent(JobEventKind.KNOWN, number))
@@ -158,5 +147,36 @@ class ServerClient:
                 came.append(JobEvent(kind, number, parts[1] if kind is JobEventKind.COMPLETE else b""))
         return came
 
-    def close(self) -> None:
-        self._connection.close()
+
+C = TypeVar("C", Connection, Client)
+
+
+class ServerUser(Generic[C]):
+    """The user of a connection, which is made again when it is lost. The log says when the server isn't reached, and when it is reached again."""
+
+    def __init__(self, connect: Callable[[], C], log: Callable[[str], None]) -> None:
+        self._connect: Callable[[], C] = connect
+        self._log = log
+        self.connection: Optional[C] = None
+        # Whether the server is lost, and when it is tried again.
+        self._is_lost, self._not_before = False, 0.0
+
+    def _run_steps(self, now: float, steps: Sequence[Callable[[float], None]]) -> None:
+        for step in steps:
+            try:
+                step(now)
+            except (ServerFault, OSError) as fault:  # there may be no room for a socket
+                if not self._is_lost:
+                    self._log(f"the server isn't reached: {fault}")
+                self._is_lost, self._not_before = True, now + RETRY
+                self.disconnect()
+
+    def _note_answer(self) -> None:
+        if self._is_lost:
+            self._log("the server is reached again")
+        self._is_lost = False
+
+    def disconnect(self) -> None:
+        if self.connection is not None:
+            self.connection.close()
+        self.connection = None

@@ -6,12 +6,12 @@ import time
 from dataclasses import dataclass
 from typing import Any, Callable, Dict, List, Optional
 
-from .gearman import Client, JobEvent, JobEventKind, ServerFault
+from .gearman import Client, JobEvent, JobEventKind, ServerFault, ServerUser
 from .gearman_signing import JOB, RESULT, Signer
-from .jobs import ENDS
+from .jobs import Job, event_members, read_event
 
-# In seconds: the limit for the server to confirm a job, the pause before a lost server is tried again, and the delay of a result after its limit.
-SILENCE, RETRY, GRACE = 10.0, 1.0, 15.0
+# In seconds: the limit for the server to confirm a job, and the delay of a result after its limit.
+SILENCE, GRACE = 10.0, 15.0
 
 Answer = Callable[[Dict[str, Any]], None]
 
@@ -30,101 +30,77 @@ class PendingJob:
     taken_at: Optional[float] = None
 
 
-class Queue:
+class Queue(ServerUser[Client]):
     """One queue, over a connection of its own. Its `mark` distinguishes its jobs from those of every other runner."""
 
     def __init__(self, name: str, mark: str, wait: float, connect: Callable[[], Client], answer: Answer, log: Callable[[str], None], signer: Signer) -> None:
-        self.name, self._mark, self._wait, self._signer = name, mark, wait, signer
-        self._connect, self._answer, self._log = connect, answer, log
-        self._client: Optional[Client] = None
-        self._not_before = 0.0
+        super().__init__(connect, lambda line: log(f"queue {name}: {line}"))
+        self.name, self._mark, self._wait, self._answer, self._signer = name, mark, wait, answer, signer
         # The jobs without an answer, by the numbers under which they were submitted last.
         self._pending: Dict[int, PendingJob] = {}
         self._last = 0
-        # Why the server can't be reached.
-        self._trouble: Optional[str] = None
 
     def is_busy(self) -> bool:
         """Whether a job waits for its answer."""
         return bool(self._pending)
 
-    def add(self, number: int, arguments: List[str], limit: float, now: float) -> None:
-        """Takes a job."""
-        self._enqueue(PendingJob(number, arguments, limit, now))
-
-    def _enqueue(self, job: PendingJob) -> None:
+    def add(self, number: int, arguments: List[str], limit: float, received_at: float) -> None:
+        """Takes a job, which came at this time."""
         self._last += 1
-        self._pending[self._last] = job
+        self._pending[self._last] = PendingJob(number, arguments, limit, received_at)
 
     def work(self, now: float) -> None:
         """Handles answers, abandons late jobs, and submits new ones."""
-        for step in (self._read, self._abandon_late, self._submit_jobs):
-            try:
-                step(now)
-            except (ServerFault, OSError) as fault:  # there may be no room for a socket
-                self._handle_connection_loss(str(fault), now)
+        self._run_steps(now, (self._read, self._abandon_late, self._submit_jobs))
 
     def _read(self, now: float) -> None:
-        for happening in [] if self._client is None else self._client.work():
+        for happening in [] if self.connection is None else self.connection.work():
             self._handle_event(happening, now)
         if any(job.submitted_at is not None and not job.is_acknowledged and now - job.submitted_at >= SILENCE for job in self._pending.values()):
             raise ServerFault("it gives no answer")
 
     def _submit_jobs(self, now: float) -> None:
         new = [number for number, job in self._pending.items() if job.submitted_at is None]
-        if not new or self._client is None and now < self._not_before:
+        if not new or self.connection is None and now < self._not_before:
             return
-        if self._client is None:
-            self._client = self._connect()
+        if self.connection is None:
+            self.connection = self._connect()
         for number in new:
             self._pending[number].submitted_at = now
-            self._client.submit(number, self.name, self._signer.sign(JOB, self._workload(number, self._pending[number])))
+            self.connection.submit(number, self.name, self._signer.sign(JOB, self._workload(number, self._pending[number])))
 
     def _workload(self, number: int, job: PendingJob) -> Dict[str, Any]:
         """The message to a worker: the job, its queue, and the time for which it is valid, by the wall clock."""
         begin = time.time()
         return {"job": f"{self._mark}-{number}", "words": job.arguments, "limit": job.limit, "queue": self.name, "time": begin, "until": begin + self._wait}
 
-    def _handle_connection_loss(self, why: str, now: float) -> None:
-        """Handles the loss of the connection."""
-        if self._trouble is None:
-            self._log(f"queue {self.name}: the server isn't reached: {why}")
-        self._trouble = why
-        self._not_before = now + RETRY
-        self._disconnect()
-
-    def _disconnect(self) -> None:
+    def disconnect(self) -> None:
         """Ends the connection: the server forgets the jobs that no worker has taken, and they are submitted over the next one."""
-        self.close()
+        super().disconnect()
         again, self._pending = self._pending, {}
         for job in again.values():
-            self._enqueue(PendingJob(job.number, job.arguments, job.limit, job.received_at))
+            self.add(job.number, job.arguments, job.limit, job.received_at)
 
     def _handle_event(self, happening: JobEvent, now: float) -> None:
         job = self._pending.get(happening.number)
         if job is None:
             return  # it was answered
-        if self._trouble is not None:
-            self._log(f"queue {self.name}: the server is reached again")
-            self._trouble = None
+        self._note_answer()
         job.is_acknowledged = True
         if happening.kind is JobEventKind.TAKEN:
             job.taken_at = now if job.taken_at is None else job.taken_at
         elif happening.kind is not JobEventKind.KNOWN:
             del self._pending[happening.number]
-            self._answer_job(job, happening)
+            self._answer({**self._result_of(happening), "job": job.number})
 
-    def _answer_job(self, job: PendingJob, happening: JobEvent) -> None:
-        """Answers a job that a worker has answered or that failed."""
-        document = self._signer.verified_document(RESULT, happening.data) if happening.kind is JobEventKind.COMPLETE else None
-        result = None if document is None else read_result(document, f"{self._mark}-{happening.number}")
-        if result is not None:
-            self._answer({**result, "job": job.number})
-        elif happening.kind is JobEventKind.FAILED:
-            self._answer_lost(job, "its worker failed")
-        else:
-            is_unsigned = document is None and self._signer.is_signing()
-            self._answer_lost(job, "its worker's answer isn't signed with this site's key" if is_unsigned else "its worker's answer was no result")
+    def _result_of(self, happening: JobEvent) -> Dict[str, Any]:
+        """The result of a job that a worker has answered or that failed."""
+        if happening.kind is JobEventKind.FAILED:
+            return {"lost": "its worker failed"}
+        document = self._signer.verified_document(RESULT, happening.data)
+        if document is None and self._signer.is_signing():
+            return {"lost": "its worker's answer isn't signed with this site's key"}
+        return read_result(document or {}, f"{self._mark}-{happening.number}") or {"lost": "its worker's answer was no result"}
 
     def _abandon_late(self, now: float) -> None:
         """Abandons the jobs whose results are late, and those that no worker took in time."""
@@ -132,29 +108,15 @@ class Queue:
             now - job.received_at >= self._wait if job.taken_at is None else now - job.taken_at >= job.limit + GRACE)]
         for number in late:
             job = self._pending.pop(number)
-            nobody = f"no worker took it from the queue {self.name}" if self._trouble is None else f"the server of the queue {self.name} wasn't reached"
-            self._answer_lost(job, nobody if job.taken_at is None else "its worker gave no result")
+            nobody = f"the server of the queue {self.name} wasn't reached" if self._is_lost else f"no worker took it from the queue {self.name}"
+            self._answer({"job": job.number, "lost": nobody if job.taken_at is None else "its worker gave no result"})
         if late and not any(job.taken_at is not None for job in self._pending.values()):
-            self._disconnect()
-
-    def _answer_lost(self, job: PendingJob, why: str) -> None:
-        self._answer({"job": job.number, "lost": why})
-
-    def close(self) -> None:
-        if self._client is not None:
-            self._client.close()
-        self._client = None
+            self.disconnect()
 
 
 def read_result(document: Dict[str, Any], mark: str) -> Optional[Dict[str, Any]]:
     """A worker's answer to the job of this mark, or None if it is no result of that job."""
-    if document.get("job") != mark:
+    try:
+        return event_members(read_event(Job(mark, 0, (), 0.0), document)) if document.get("job") == mark else None
+    except ValueError:
         return None
-    if isinstance(document.get("lost"), str):
-        return {"lost": document["lost"]}
-    code, output, errors = document.get("code"), document.get("output"), document.get("stderr", "")
-    if document.get("end") not in ENDS or isinstance(code, bool) or not isinstance(code, int) or not 0 <= code <= 255:
-        return None
-    if not isinstance(output, str) or not isinstance(errors, str):
-        return None
-    return {"code": code, "end": document["end"], "output": output, "stderr": errors}

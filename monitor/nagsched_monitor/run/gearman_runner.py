@@ -15,8 +15,9 @@ from typing import Any, Dict
 
 from ..faults import MonitorFault
 from ..program.addresses import parse_address
+from ..program.turn_timer import write_ready
 from .gearman import ServerClient
-from .gearman_queue import Queue
+from .gearman_queue import Answer, Queue
 from .gearman_signing import read_signer
 
 READ_BYTES = 65_536
@@ -26,52 +27,40 @@ WAIT, BUSY, IDLE = 30.0, 0.01, 1.0
 STUCK = 30
 
 
-class GearmanRunner:
-    """One queue, and the lines in both directions."""
+def run(arguments: argparse.Namespace, jobs: int, results: int) -> None:
+    """Hands jobs from one file to the queue, and writes results to the other one, until no more jobs come."""
+    place, signer = parse_address(arguments.server, "server"), read_signer(arguments.key, arguments.unsigned)
+    unread, unsent = b"", bytearray()
 
-    def __init__(self, arguments: argparse.Namespace, jobs: int, results: int) -> None:
-        place, signer = parse_address(arguments.server, "server"), read_signer(arguments.key, arguments.unsigned)
-        self._jobs, self._results = jobs, results
-        self._queue = Queue(arguments.queue, secrets.token_hex(16), arguments.wait, lambda: ServerClient(place), self._answer, log, signer)
-        self._unread = b""
-        self._unsent = bytearray()
-        self._is_ended = False
+    def answer(result: Dict[str, Any]) -> None:
+        unsent.extend(json.dumps(result).encode() + b"\n")
 
-    def run(self) -> None:
-        """Works until no more jobs come."""
-        os.set_blocking(self._jobs, False)
-        os.set_blocking(self._results, False)
-        while not self._is_ended:
-            signal.alarm(STUCK)
-            if select.select([self._jobs], [], [], BUSY if self._unsent or self._queue.is_busy() else IDLE)[0]:
-                self._read_jobs()
-            self._queue.work(time.monotonic())
-            self._write()
-        self._queue.close()
+    queue = Queue(arguments.queue, secrets.token_hex(16), arguments.wait, lambda: ServerClient(place), answer, log, signer)
+    os.set_blocking(jobs, False)
+    os.set_blocking(results, False)
+    is_ended = False
+    while not is_ended:
+        signal.alarm(STUCK)
+        if select.select([jobs], [], [], BUSY if unsent or queue.is_busy() else IDLE)[0]:
+            data = os.read(jobs, READ_BYTES)
+            is_ended = not data
+            *lines, unread = (unread + data).split(b"\n")
+            for line in lines:
+                add_job(queue, line, answer)
+        queue.work(time.monotonic())
+        write_ready(results, unsent)  # results are written while the monitor reads them; the others wait
+    queue.disconnect()
 
-    def _read_jobs(self) -> None:
-        data = os.read(self._jobs, READ_BYTES)
-        self._is_ended = not data
-        *lines, self._unread = (self._unread + data).split(b"\n")
-        for line in lines:
-            try:
-                job = json.loads(line)
-                number, arguments, limit = int(job["job"]), list(map(str, job["words"])), float(job["limit"])
-            except (ValueError, KeyError, TypeError, OverflowError, RecursionError):
-                self._answer({"error": "the line is no job"})
-            else:
-                self._queue.add(number, arguments, limit, time.monotonic())
 
-    def _answer(self, result: Dict[str, Any]) -> None:
-        self._unsent += json.dumps(result).encode() + b"\n"
-
-    def _write(self) -> None:
-        """Writes results while the monitor reads them; the others wait."""
-        try:
-            while self._unsent:
-                del self._unsent[: os.write(self._results, self._unsent)]
-        except BlockingIOError:
-            pass
+def add_job(queue: Queue, line: bytes, answer: Answer) -> None:
+    """Gives the job of a line to the queue."""
+    try:
+        job = json.loads(line)
+        number, arguments, limit = int(job["job"]), list(map(str, job["words"])), float(job["limit"])
+    except (ValueError, KeyError, TypeError, OverflowError, RecursionError):
+        answer({"error": "the line is no job"})
+    else:
+        queue.add(number, arguments, limit, time.monotonic())
 
 
 def log(line: str) -> None:
@@ -89,7 +78,7 @@ def main() -> int:
     signal.signal(signal.SIGINT, signal.SIG_IGN)
     signal.signal(signal.SIGTERM, signal.SIG_IGN)
     try:
-        GearmanRunner(arguments, sys.stdin.fileno(), sys.stdout.fileno()).run()
+        run(arguments, sys.stdin.fileno(), sys.stdout.fileno())
     except MonitorFault as fault:
         log(f"nagsched-gearman-runner: {fault}")
         return 1

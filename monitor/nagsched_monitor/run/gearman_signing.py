@@ -1,11 +1,15 @@
-"""Signed messages between the monitor and its workers: a document, preceded by its HMAC-SHA256 with a key from a file that both have."""
+"""Signed messages between the monitor and its workers, and which jobs a worker accepts.
+
+A message is a document, preceded by its HMAC-SHA256 with a key from a file that both have.
+"""
 import hashlib
 import hmac
 import json
 import os
 import pathlib
 import stat
-from typing import Any, Dict, Optional
+import time
+from typing import Any, Callable, Dict, List, Optional, Sequence, Tuple
 
 from ..faults import MonitorFault
 
@@ -13,21 +17,8 @@ from ..faults import MonitorFault
 JOB, RESULT = b"nagsched job\0", b"nagsched result\0"
 LEAST_KEY, MOST_BYTES = 16, 1 << 20
 SIZE = hashlib.sha256().digest_size * 2
-
-
-def read_key(path: pathlib.Path) -> bytes:
-    """The key in a file: its bytes without the space around them. Raises `MonitorFault` if others may read it, or if it is too short."""
-    try:
-        with path.open("rb") as file:
-            mode = os.fstat(file.fileno()).st_mode
-            key = file.read(MOST_BYTES).strip()
-    except OSError as error:
-        raise MonitorFault(f"the key {path}: {error.strerror}") from None
-    if mode & (stat.S_IRWXG | stat.S_IRWXO):
-        raise MonitorFault(f"the key {path}: others may read it; chmod 600 makes it its owner's alone")
-    if len(key) < LEAST_KEY:
-        raise MonitorFault(f"the key {path}: it has to have {LEAST_KEY} bytes or more")
-    return key
+# In seconds: the longest limit of a job, and the largest difference between the clocks of the two machines.
+LONGEST, SKEW = 86_400.0, 60.0
 
 
 class Signer:
@@ -62,9 +53,70 @@ class Signer:
         return hmac.new(key, purpose + body, hashlib.sha256).hexdigest().encode()
 
 
-def read_signer(key: Optional[pathlib.Path], unsigned: bool) -> Signer:
-    """The signer of a key file, or no signatures if the site says so. Raises `MonitorFault` unless it says one of the two."""
-    if (key is not None) == unsigned:
-        raise MonitorFault("say --key FILE, or --unsigned: one of the two")
-    return Signer(None if key is None else read_key(key))
+def read_signer(path: Optional[pathlib.Path], unsigned: bool) -> Signer:
+    """The signer with the key in a file, which is its bytes without the space around them, or no signatures if the site says so.
 
+    Raises `MonitorFault` unless it says one of the two, and if others may read the key or it is too short."""
+    if (path is not None) == unsigned:
+        raise MonitorFault("say --key FILE, or --unsigned: one of the two")
+    if path is None:
+        return Signer(None)
+    try:
+        with path.open("rb") as file:
+            mode = os.fstat(file.fileno()).st_mode
+            key = file.read(MOST_BYTES).strip()
+    except OSError as error:
+        raise MonitorFault(f"the key {path}: {error.strerror}") from None
+    if mode & (stat.S_IRWXG | stat.S_IRWXO):
+        raise MonitorFault(f"the key {path}: others may read it; chmod 600 makes it its owner's alone")
+    if len(key) < LEAST_KEY:
+        raise MonitorFault(f"the key {path}: it has to have {LEAST_KEY} bytes or more")
+    return Signer(key)
+
+
+class Refusal(Exception):
+    """Why a job isn't accepted."""
+
+
+class JobPolicy:
+    """Which jobs a worker accepts. If it has a key: those of its queues that are signed with the key, in their time, and each once."""
+
+    def __init__(self, signer: Signer, queues: Sequence[str], clock: Callable[[], float] = time.time) -> None:
+        self._signer, self._queues, self._clock = signer, queues, clock
+        # The accepted jobs, each with the time from which it is refused anyway.
+        self._accepted: Dict[str, float] = {}
+        self._last_sweep = clock()
+
+    def job_of(self, document: Dict[str, Any]) -> Tuple[List[str], float]:
+        """The command line and the limit of the job that a document describes. Raises `Refusal` if it isn't accepted."""
+        arguments, limit = document.get("words"), number_in(document, "limit")
+        if not isinstance(arguments, list) or not arguments or not all(isinstance(word, str) and "\0" not in word for word in arguments):
+            raise Refusal("it has no command")
+        if not 0 < limit <= LONGEST:
+            raise Refusal("it has no limit")
+        if self._signer.is_signing():
+            self._accept_once(document)
+        return arguments, limit
+
+    def _accept_once(self, document: Dict[str, Any]) -> None:
+        number, begin, end, now = document.get("job"), number_in(document, "time"), number_in(document, "until"), self._clock()
+        if not isinstance(number, str) or not begin <= end <= begin + LONGEST:
+            raise Refusal("it has no number or no time")
+        if document.get("queue") not in self._queues:
+            raise Refusal("it is of another queue")
+        if not begin - SKEW <= now <= end + SKEW:
+            raise Refusal(f"its time is {now - begin:.0f} seconds from this machine's")
+        if now - self._last_sweep >= SKEW:
+            self._accepted = {each: until for each, until in self._accepted.items() if until >= now}
+            self._last_sweep = now
+        if number in self._accepted:
+            raise Refusal("it was taken before")
+        self._accepted[number] = end + SKEW
+
+
+def number_in(document: Dict[str, Any], member: str) -> float:
+    """A number in a document. Raises `Refusal` if it isn't a number of reasonable size."""
+    value = document.get(member)
+    if isinstance(value, bool) or not isinstance(value, (int, float)) or not abs(value) < 1e12:
+        raise Refusal(f"its {member} is no number")
+    return float(value)

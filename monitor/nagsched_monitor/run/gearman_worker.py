@@ -11,17 +11,16 @@ from typing import Any, Callable, Dict, List, NamedTuple, Optional, Sequence
 from ..faults import MonitorFault
 from ..program.addresses import parse_address
 from ..program.turn_timer import FilePoller
-from .gearman import Code, Connection, Packet, ServerFault
-from .gearman_policy import JobPolicy, Refusal
-from .gearman_signing import JOB, RESULT, Signer, read_signer
-from .jobs import Event, Job, JobFinished, StuckJobEnded
+from .gearman import Code, Connection, Packet, ServerFault, ServerUser
+from .gearman_signing import JOB, RESULT, JobPolicy, Refusal, Signer, read_signer
+from .jobs import Event, Job, JobFinished, StuckJobEnded, event_members
 from .pool import RunnerPool
 from .runner_program import runner_command
 from .runners import raise_file_limit
 
-# In seconds: the pause before a lost server is tried again, and the time between two signs of life of it. Then the delay after its limit at which a result is
-# late, and the time that running plugins have to end when the worker stops.
-RETRY, ECHO_EVERY, GRACE, STOPPING = 1.0, 10.0, 10.0, 10.0
+# In seconds: the time between two signs of life of the server, the delay after its limit at which a result is late, and the time that running plugins have
+# to end when the worker stops.
+ECHO_EVERY, GRACE, STOPPING = 10.0, 10.0, 10.0
 # The time between two log lines about refused jobs, in seconds, and the longest time from one turn to the next, in milliseconds.
 LOG_REFUSALS_EVERY, TURN = 60.0, 500
 SLOTS, MOST_SLOTS = 32, 1_000
@@ -38,16 +37,13 @@ class RunningJob(NamedTuple):
     late: float
 
 
-class Worker:
-    """One connection, which has at most one job for each slot. Its runner is a parameter."""
+class Worker(ServerUser[Connection]):
+    """At most one job for each slot. When the connection is lost, another worker gets the jobs from the server, and what runs here ends without an answer."""
 
     def __init__(self, connect: Callable[[], Connection], queues: Sequence[str], slots: int, signer: Signer, policy: JobPolicy, runner: RunnerPool,
                  log: Callable[[str], None], clock: Callable[[], float] = time.monotonic) -> None:
-        self._connect, self._queues, self._slots, self._signer, self._policy, self._runner = connect, queues, slots, signer, policy, runner
-        self._log, self._clock = log, clock
-        self.connection: Optional[Connection] = None
-        self._not_before = 0.0
-        self._trouble: Optional[str] = None
+        super().__init__(connect, log)
+        self._queues, self._slots, self._signer, self._policy, self._runner, self._clock = queues, slots, signer, policy, runner, clock
         # When the server was asked for a sign of life, whether it has answered, the number of jobs requested from it, and the number still to request.
         self._last_echo, self._is_alive, self._grabbing, self._wanted = 0.0, True, 0, 0
         self._running: Dict[int, RunningJob] = {}
@@ -61,12 +57,7 @@ class Worker:
 
     def turn(self) -> None:
         """Does all the work that is due now."""
-        now = self._clock()
-        for step in (self._receive, self._end_jobs, self._ask_for_jobs):
-            try:
-                step(now)
-            except (ServerFault, OSError) as fault:  # there may be no room for a socket
-                self._handle_connection_loss(str(fault), now)
+        self._run_steps(self._clock(), (self._receive, self._end_jobs, self._ask_for_jobs))
         self._runner.flush()
 
     # ---- the server
@@ -99,9 +90,7 @@ class Worker:
     def _handle_packet(self, connection: Connection, packet: Packet) -> None:
         if packet.code == Code.ECHO_RES:
             self._is_alive = True
-            if self._trouble is not None:
-                self._log("the server is reached again")
-            self._trouble = None
+            self._note_answer()
         elif packet.code == Code.NOOP:
             self._wanted = max(1, self._wanted)
         elif packet.code == Code.NO_JOB:
@@ -117,15 +106,6 @@ class Worker:
             answer = self.start_job(connection, handle, workload)
             if answer is not None:
                 connection.send(Code.WORK_COMPLETE, handle, answer)
-
-    def _handle_connection_loss(self, why: str, now: float) -> None:
-        """The server gives this worker's jobs to another one; what runs here ends without an answer."""
-        if self._trouble is None:
-            self._log(f"the server isn't reached: {why}")
-        self._trouble = why
-        if self.connection is not None:
-            self.connection.close()
-        self.connection, self._not_before = None, now + RETRY
 
     # ---- jobs
 
@@ -167,16 +147,12 @@ class Worker:
         if isinstance(event, StuckJobEnded):
             self._stuck.pop(id(event.job), None)
             return
+        if isinstance(event, JobFinished) and event.is_stuck:
+            self._stuck[id(event.job)] = event.job.arguments
         running = self._running.pop(id(event.job))
-        if isinstance(event, JobFinished):
-            result: Dict[str, Any] = {"end": event.end, "code": event.code, "output": event.output, "stderr": event.stderr}
-            if event.is_stuck:
-                self._stuck[id(event.job)] = event.job.arguments
-        else:
-            result = {"lost": event.why}
         self._wanted = max(1, self._wanted)
         if running.connection is self.connection:
-            self.connection.send(Code.WORK_COMPLETE, running.handle, self._signed_answer(running.number, result))
+            self.connection.send(Code.WORK_COMPLETE, running.handle, self._signed_answer(running.number, event_members(event)))
 
     def _log_refusal(self, why: str) -> None:
         """Logs once a minute the number of refused jobs."""

@@ -67,7 +67,14 @@ def job_members(arguments: Tuple[str, ...], limit: float) -> bytes:
     return json.dumps({"words": arguments, "limit": limit})[1:].encode()
 
 
-def read_event(job: Job, members: Dict[str, Any]) -> Event:
+def event_members(event: Union[JobFinished, JobLost]) -> Dict[str, Any]:
+    """The members of a result, after its number."""
+    if isinstance(event, JobLost):
+        return {"lost": event.why}
+    return {"end": event.end, "code": event.code, "output": event.output, "stderr": event.stderr}
+
+
+def read_event(job: Job, members: Dict[str, Any]) -> Union[JobFinished, JobLost]:
     """The event in a runner's line. `ValueError` says why it isn't one."""
     if "lost" in members:
         return JobLost(job, plain_text(read_text(members, "lost")), job.runner is None)
@@ -86,16 +93,12 @@ def read_text(members: Dict[str, Any], name: str) -> str:
     return value.encode(errors="replace").decode()  # half a character, which a worker may have sent, can't be stored
 
 
-def read_number(members: Dict[str, Any]) -> int:
-    number = members.get("job")
-    if isinstance(number, bool) or not isinstance(number, int):
-        raise ValueError("it has no number of a job")
-    return number
-
-
-def read_line(line: bytes) -> Dict[str, Any]:
-    """The members of a runner's line. Raises `ValueError` or `RecursionError` if it can't be read."""
+def read_line(line: bytes) -> Tuple[int, Dict[str, Any]]:
+    """The number of the job in a runner's line, -1 if it says an error, and its members. Raises `ValueError` or `RecursionError` if it can't be read."""
     members = READER.decode(line.decode())
     if not isinstance(members, dict):
         raise ValueError("it is no object")
-    return members
+    number = -1 if "error" in members else members.get("job")
+    if isinstance(number, bool) or not isinstance(number, int):
+        raise ValueError("it has no number of a job")
+    return number, members

@@ -6,16 +6,17 @@ from dataclasses import dataclass, field
 from typing import Callable, Deque, Dict, List, Optional, Sequence, Tuple
 
 from ..core.text import plain_text
-from ..program.turn_timer import Watch
-from .jobs import Event, Job, JobFinished, JobLost, StuckJobEnded, job_members, read_event, read_line, read_number
+from ..program.turn_timer import Watch, write_ready
+from .jobs import Event, Job, JobLost, StuckJobEnded, job_members, read_event, read_line
+from .runner_program import end_process
 
 READ_BYTES = 65_536
 # The longest line of a runner, in bytes. A longer line ends its runner.
 LONGEST_LINE = 1_048_576
 # The least time from one start of a runner to the next, in seconds. It doubles up to the longest. After a runner that ran that long, it is the first again.
 PAUSE, LONGEST_PAUSE = 1.0, 60.0
-# In seconds: the limit for a runner's end, and the longest delay of a plugin's result after its limit.
-GRACE, LATE = 5.0, 10.0
+# The longest delay of a plugin's result after its limit, in seconds.
+LATE = 10.0
 
 
 @dataclass
@@ -36,25 +37,13 @@ class RunnerProcess:
         assert self.process.stdin is not None and self.process.stdout is not None
         self.reads_from, self.writes_to = self.process.stdin.fileno(), self.process.stdout.fileno()
 
-    def end(self, grace: float = GRACE) -> object:
-        """Its exit status. If it doesn't end, nobody waits for it. Its pipes are closed."""
-        for pipe in (self.process.stdin, self.process.stdout):
-            if pipe is not None:
-                pipe.close()
-        for seconds in (grace, GRACE):
-            try:
-                return self.process.wait(timeout=seconds)
-            except subprocess.TimeoutExpired:
-                self.process.kill()
-        return "unknown"
-
 
 class RunnerPool:
     """Processes of one command. Without `slots` they have any number of jobs at once, and a job waits for them without a limit."""
 
     def __init__(self, name: str, arguments: Sequence[str], count: int, slots: Optional[int], wait: float, log: Callable[[str], None],
                  watch: Watch, unwatch: Callable[[int], None], clock: Callable[[], float]) -> None:
-        self.name, self.arguments, self._count, self.slots, self.wait = name, tuple(arguments), count, slots, wait
+        self._name, self._arguments, self._count, self._slots, self._wait = name, arguments, count, slots, wait
         self._log, self._watch, self._unwatch, self._clock = log, watch, unwatch, clock
         self._title = "a runner" if slots is None else f"the runner {name}"
         self._events: List[Event] = []
@@ -63,7 +52,7 @@ class RunnerPool:
         self.processes: Dict[int, RunnerProcess] = {}
         # The jobs that no process has got yet, each with the time at which it came.
         self._waiting: Deque[Tuple[Job, float]] = collections.deque()
-        self._trouble = ""
+        self._cannot_start = False
         self._pause, self._not_before = PAUSE, 0.0
         self._start_missing()
 
@@ -73,18 +62,17 @@ class RunnerPool:
             return
         try:
             while len(self.processes) < self._count:
-                started = subprocess.Popen(self.arguments, stdin=subprocess.PIPE, stdout=subprocess.PIPE, bufsize=0, start_new_session=True)
+                started = subprocess.Popen(self._arguments, stdin=subprocess.PIPE, stdout=subprocess.PIPE, bufsize=0, start_new_session=True)
                 process = RunnerProcess(started, self._clock())
                 os.set_blocking(process.writes_to, False)
                 os.set_blocking(process.reads_from, False)  # bytes that it doesn't read at once don't hold up the monitor
                 self.processes[process.writes_to] = process
                 self._watch(process.writes_to, self.read)
-            self._trouble = ""
+            self._cannot_start = False
         except OSError as error:
-            if not self._trouble:
+            if not self._cannot_start:
                 self._log(f"{self._title} can't be started: {error}; it is tried again")
-            self._trouble = str(error)
-            self._not_before = self._clock() + PAUSE
+            self._cannot_start, self._not_before = True, self._clock() + PAUSE
 
     # ---- jobs
 
@@ -99,24 +87,21 @@ class RunnerPool:
         while self._waiting and process is not None:
             job, _ = self._waiting.popleft()
             self._number += 1
-            process.jobs[self._number] = job, now + job.limit + LATE + (0.0 if self.slots is None else self.wait)
+            process.jobs[self._number] = job, now + job.limit + LATE + (0.0 if self._slots is None else self._wait)
             process.unsent += b'{"job":%d,%s\n' % (self._number, job_members(tuple(job.arguments), job.limit))
             process = self._least_busy()
-        while self.slots is not None and self._waiting and now - self._waiting[0][1] >= self.wait:
-            self._add_lost(JobLost(self._waiting.popleft()[0], f"the runner {self.name} didn't take it"))
+        while self._slots is not None and self._waiting and now - self._waiting[0][1] >= self._wait:
+            self._add_lost(JobLost(self._waiting.popleft()[0], f"the runner {self._name} didn't take it"))
         for process in list(self.processes.values()):
             try:
-                while process.unsent:
-                    del process.unsent[: os.write(process.reads_from, process.unsent)]
-            except BlockingIOError:
-                pass  # the rest follows next time
+                write_ready(process.reads_from, process.unsent)
             except OSError:
                 self._restart(process)
 
     def _least_busy(self) -> Optional[RunnerProcess]:
         """The process that has the fewest jobs, if it has room for one more."""
         least = min(self.processes.values(), key=lambda process: len(process.jobs), default=None)
-        return least if least is None or self.slots is None or len(least.jobs) < self.slots else None
+        return least if least is None or self._slots is None or len(least.jobs) < self._slots else None
 
     def _add_lost(self, event: JobLost) -> None:
         if not event.is_local:
@@ -126,7 +111,6 @@ class RunnerPool:
     # ---- results
 
     def read(self, file: int) -> None:
-        """Reads the results of a process."""
         process = self.processes[file]
         try:
             data = os.read(file, READ_BYTES)
@@ -146,35 +130,29 @@ class RunnerPool:
         """One line of a runner. A faulty line is logged, and the run that it is about is lost, if that can be read."""
         number = -1
         try:
-            members = read_line(line)
+            number, members = read_line(line)
             if "error" in members:
                 self._log(f"{self._title}: {plain_text(str(members['error']))}")
-                return
-            number = read_number(members)
-            self._apply_result(process, number, members)
+            else:
+                self._apply_result(process, number, members)
         except (ValueError, RecursionError) as error:
             self._log(f"a line of {self._title} is no result: {error}: {plain_text(line[:200].decode(errors='replace'))!r}")
-            job, _ = process.jobs.pop(number, (None, 0.0))
-            if job is not None:
-                self._events.append(JobLost(job, "its runner gave no result"))
+            if number in process.jobs:
+                self._events.append(JobLost(process.jobs.pop(number)[0], "its runner gave no result"))
 
     def _apply_result(self, process: RunnerProcess, number: int, members: Dict[str, object]) -> None:
         if members.get("gone") is True:
-            gone = process.stuck.pop(number, None)
-            if gone is not None:
-                self._events.append(StuckJobEnded(gone))
-            return
-        job, _ = process.jobs.get(number, (None, 0.0))
-        if job is None:
-            return
-        event = read_event(job, members)
-        del process.jobs[number]
-        if isinstance(event, JobFinished) and event.is_stuck:
-            process.stuck[number] = job
-        if isinstance(event, JobLost):
-            self._add_lost(event)
-        else:
-            self._events.append(event)
+            if number in process.stuck:
+                self._events.append(StuckJobEnded(process.stuck.pop(number)))
+        elif number in process.jobs:
+            event = read_event(process.jobs[number][0], members)
+            job, _ = process.jobs.pop(number)
+            if isinstance(event, JobLost):
+                self._add_lost(event)
+            else:
+                self._events.append(event)
+                if event.is_stuck:
+                    process.stuck[number] = job
 
     # ---- ends
 
@@ -199,11 +177,11 @@ class RunnerPool:
         self._events.extend(JobLost(job) for job, _ in process.jobs.values())
         self._events.extend(StuckJobEnded(job) for job in process.stuck.values())
         process.process.kill()
-        return process.end()
+        return end_process(process.process)
 
     def kill(self, job: Job) -> bool:
         """Kills the process that has this job, since it gives no answer. A job that no process has yet is lost. Returns False if it isn't here."""
-        for process in list(self.processes.values()):
+        for process in self.processes.values():
             if any(job is each for each, _ in process.jobs.values()):
                 self._log(f"{self._title} gave no result in time: it is killed, and {len(process.jobs)} checks with it")
                 self._close_process(process)

@@ -1,7 +1,10 @@
-"""The commands of runners: nagsched-runner, which starts plugins, and nagsched-gearman-runner, which sends jobs to a Gearman server."""
+"""The programs of this package: how they are found, and how their processes end."""
+import contextlib
 import os
 import pathlib
 import shutil
+import subprocess
+import sys
 from typing import List, Optional
 
 from ..faults import MonitorFault
@@ -9,6 +12,8 @@ from ..faults import MonitorFault
 # The folder of the package, and the folders of its programs: installed next to the package, or built in the tree.
 FOLDER = pathlib.Path(__file__).resolve().parent.parent.parent
 PROGRAM_FOLDERS = (FOLDER, FOLDER / "out")
+# The limit for the end of a process, in seconds.
+GRACE = 5.0
 
 
 def find_program(name: str) -> Optional[str]:
@@ -23,3 +28,21 @@ def runner_command() -> List[str]:
     if program is None:
         raise MonitorFault(f"there is no {FOLDER}/nagsched-runner: build it with monitor/build_runner.sh, or name one in the variable NAGSCHED_RUNNER")
     return [program]
+
+
+def module_command(module: str, arguments: List[str]) -> List[str]:
+    """The command that runs a module of this package as a separate process. No variable and no folder of its caller decides what it imports."""
+    code = f"import sys; sys.path.insert(0, {str(FOLDER)!r}); import nagsched_monitor.{module} as it; sys.exit(it.main())"
+    return [sys.executable, "-I", "-c", code, *arguments]
+
+
+def end_process(process: "subprocess.Popen[bytes]") -> object:
+    """The exit status of a process after its pipes are closed. It is killed if it doesn't end, and nobody waits for it if that doesn't help."""
+    for pipe in (process.stdin, process.stdout):
+        if pipe is not None:
+            pipe.close()
+    for _ in range(2):
+        with contextlib.suppress(subprocess.TimeoutExpired):
+            return process.wait(timeout=GRACE)
+        process.kill()
+    return "unknown"

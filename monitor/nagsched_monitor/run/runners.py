@@ -8,7 +8,7 @@ from ..program.turn_timer import Watch
 from ..site.runner_file import LOCAL, Remote
 from .jobs import Event, Job, JobLost
 from .pool import RunnerPool
-from .runner_program import runner_command
+from .runner_program import end_process, runner_command
 
 
 def raise_file_limit() -> int:
@@ -25,17 +25,17 @@ class RunnerPools:
                  clock: Callable[[], float] = time.monotonic) -> None:
         self._pool = partial(RunnerPool, log=log, watch=watch, unwatch=unwatch, clock=clock)
         self._pools: Dict[str, RunnerPool] = {LOCAL: self._pool(LOCAL, runner_command(), count, None, 0.0)}
+        self._remotes: Dict[str, Remote] = {}
         # The last events of pools that were removed.
         self._events: List[Event] = []
 
     def set_remotes(self, remotes: Mapping[str, Remote]) -> None:
         """Has these runners elsewhere from now on; jobs at others are lost."""
-        for name, pool in list(self._pools.items()):
-            remote = remotes.get(name)
-            if name != LOCAL and (remote is None or (pool.arguments, pool.slots, pool.wait) != (remote.arguments, remote.slots, remote.wait)):
-                pool.close()
-                self._events += pool.events()
-                del self._pools[name]
+        for name in [name for name, remote in self._remotes.items() if remotes.get(name) != remote]:
+            pool = self._pools.pop(name)
+            pool.close()
+            self._events += pool.events()
+        self._remotes = dict(remotes)
         for name, remote in remotes.items():
             if name not in self._pools:
                 self._pools[name] = self._pool(name, remote.arguments, 1, remote.slots, remote.wait)
@@ -48,7 +48,6 @@ class RunnerPools:
             pool.start(job)
 
     def flush(self) -> None:
-        """Passes on the jobs that were started."""
         for pool in self._pools.values():
             pool.flush()
 
@@ -70,9 +69,9 @@ class RunnerPools:
 
     def close(self) -> None:
         """Ends the runners, which kill the running plugins."""
-        processes = [process for pool in self._pools.values() for process in pool.processes.values()]
+        processes = [process.process for pool in self._pools.values() for process in pool.processes.values()]
         for process in processes:
-            assert process.process.stdin is not None
-            process.process.stdin.close()
+            assert process.stdin is not None
+            process.stdin.close()
         for process in processes:
-            process.end()
+            end_process(process)

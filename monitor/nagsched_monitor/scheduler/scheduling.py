@@ -10,7 +10,8 @@ from ..core.object_state import ObjectState, ObjectStates
 from ..core.phases import FIRST_TIME
 from ..core.run_table import ObjectKey, Run
 from ..faults import ConversationEnded
-from ..site.site import Site, objects_of
+from ..site.json_files import members_by_name
+from ..site.site import Site
 from ..store.rows import Generation, StoredCall, StoredChange
 from ..store.status_table import StandingTable
 from ..store.store import Store, Write
@@ -70,7 +71,7 @@ class Scheduling:
             if part.generation.saved is not None:
                 self._read_state(number, part.generation.saved)
                 # The states of objects are known before calls are made again: a result with the same state isn't a change.
-                own = [it.name for it in objects_of(json.loads(part.generation.setup), number) if it.name not in part.generation.mirrors]
+                own = [name for name in members_by_name(json.loads(part.generation.setup)) if name not in part.generation.mirrors]
                 self._query_standings(number, own)
         self._apply_answers(self.schedulers.exchange(), is_again=True)
         for number, part in self.schedulers.parts.items():

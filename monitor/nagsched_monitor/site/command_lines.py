@@ -6,15 +6,15 @@ import shlex
 import shutil
 import subprocess
 from dataclasses import dataclass
-from typing import Container, Dict, List, Sequence, Tuple
+from typing import Container, Dict, List, Sequence
 
 from ..faults import SiteFault
-from .json_files import known_members, read_object, read_seconds
+from .json_files import read_by_name, read_seconds
 
 # A line without quotes, escapes and shell characters.
 PLAIN = re.compile(r"[\w ./:,=%@+!#*?$~^{}\[\]-]*", re.ASCII)
-
-
+# Half of a character, which JSON allows: no program can get such an argument.
+HALF = re.compile("[\ud800-\udfff]")
 # The limit for a shell's test of a line, in seconds.
 LIMIT = 30.0
 
@@ -32,35 +32,25 @@ def read_commands(folder: pathlib.Path, objects: Container[str], runner_of: Cont
     """The command of each object. Each line can be split, and has a program that exists, unless a runner elsewhere runs it."""
     commands = {}
     is_program.cache_clear()
-    for name, members in read_object(folder, "commands.json", required=True).items():
-        place = f"commands.json: {name}"
-        if name not in objects:
-            raise SiteFault(f"{place}: there is no such object")
-        members = known_members(members, ("line", "shell", "limit"), place)
+    for name, place, members in read_by_name(folder, "commands.json", ("line", "shell", "limit"), objects, required=True):
         line, shell = members.get("line"), members.get("shell", False)
         if not isinstance(line, str) or not isinstance(shell, bool):
             raise SiteFault(f"{place}: a line is a text, and shell is true or false")
         if "\0" in line:
             raise SiteFault(f"{place}: its line has a zero byte")
-        if not is_whole(line):
+        if HALF.search(line):
             raise SiteFault(f"{place}: its line has half a character")
         limit = read_seconds(members.get("limit", 60), f"{place}: limit")
         commands[name] = Command(shell_arguments(line, place) if shell else plain_arguments(line, place, name not in runner_of), limit)
     return commands
 
 
-def is_whole(line: str) -> bool:
-    """Whether a line has no half of a character, which JSON allows: no program can get such an argument."""
-    try:
-        line.encode()
-    except UnicodeEncodeError:
-        return False
-    return True
-
-
 def plain_arguments(line: str, place: str, is_here: bool) -> List[str]:
     """The words of a line that no shell runs; the first is a program that exists, if it is run here."""
-    arguments, signs = (line.split(), []) if PLAIN.fullmatch(line) else split_arguments(line, place)
+    try:
+        arguments, signs = (line.split(), []) if PLAIN.fullmatch(line) else (shlex.split(line), shell_characters(line))
+    except ValueError as error:
+        raise SiteFault(f"{place}: its line can't be split into words: {error}") from None
     if not arguments:
         raise SiteFault(f"{place}: its line is empty")
     if signs:
@@ -74,14 +64,6 @@ def plain_arguments(line: str, place: str, is_here: bool) -> List[str]:
 def is_program(name: str) -> bool:
     """Whether a program exists; the answers are forgotten when a site is read again."""
     return shutil.which(name) is not None
-
-
-def split_arguments(line: str, place: str) -> Tuple[List[str], List[str]]:
-    """The words of a line that has quotes or other characters, and the parts that only a shell understands."""
-    try:
-        return shlex.split(line), shell_characters(line)
-    except ValueError as error:
-        raise SiteFault(f"{place}: its line can't be split into words: {error}") from None
 
 
 def shell_characters(line: str) -> List[str]:

@@ -2,11 +2,12 @@
 
     {"web;http": {"host_groups": ["linux"], "service_groups": ["shop"], "contact_groups": ["web-team"], "contacts": ["ada"]}}
 """
+import contextlib
 import pathlib
-from typing import Any, Container, Dict, List, Mapping, Optional, Tuple
+from typing import Container, Dict, List, Mapping, Optional, Tuple
 
 from ..faults import SiteFault
-from .json_files import known_members, read_object
+from .json_files import read_by_name
 
 FILE = "groups.json"
 KINDS = ("host_groups", "service_groups", "contact_groups", "contacts")
@@ -17,15 +18,13 @@ Groups = Mapping[str, List[str]]
 
 def read_groups(folder: pathlib.Path, objects: Optional[Container[str]] = None) -> Dict[str, Groups]:
     """The groups of each object that has some. With `objects`, a name that isn't one of them is a fault."""
-    document = read_object(folder, FILE, required=False)
-    for name, members in document.items():
-        place = f"{FILE}: {name}"
-        if objects is not None and name not in objects:
-            raise SiteFault(f"{place}: there is no such object")
-        for kind, names in known_members(members, KINDS, place).items():
+    groups: Dict[str, Groups] = {}
+    for name, place, members in read_by_name(folder, FILE, KINDS, objects):
+        for kind, names in members.items():
             if not isinstance(names, list) or not all(isinstance(each, str) and each and "," not in each for each in names):
                 raise SiteFault(f"{place}: {kind} has to be a list of names without commas")
-    return document
+        groups[name] = members
+    return groups
 
 
 def labels_of(name: str, groups: Mapping[str, Groups]) -> Dict[str, str]:
@@ -41,18 +40,17 @@ class GroupsFile:
 
     def __init__(self, folder: pathlib.Path) -> None:
         self._folder = folder
-        self._file_state: Tuple[Any, ...] = ()
+        # The state of the file when it was read; None if it didn't exist.
+        self._file_state: Optional[Tuple[int, ...]] = ()
         self._groups: Dict[str, Groups] = {}
 
     def read(self) -> Dict[str, Groups]:
         try:
             stat = (self._folder / FILE).stat()
-            seen: Tuple[Any, ...] = (stat.st_mtime_ns, stat.st_size, stat.st_ino)
+            file_state: Optional[Tuple[int, ...]] = (stat.st_mtime_ns, stat.st_size, stat.st_ino)
         except OSError:
-            seen = (None,)
-        if seen != self._file_state:
-            try:
-                self._groups, self._file_state = read_groups(self._folder), seen
-            except SiteFault:
-                pass
+            file_state = None
+        if file_state != self._file_state:
+            with contextlib.suppress(SiteFault):
+                self._groups, self._file_state = read_groups(self._folder), file_state
         return self._groups

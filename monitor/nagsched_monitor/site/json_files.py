@@ -1,16 +1,44 @@
-"""Reading the JSON files of a site: an error in one is a `SiteFault` that names the place."""
+"""Reading the JSON files of a site: an error in one is a `SiteFault` that names the place. nagsched-from-nagios replaces them together."""
+import contextlib
+import fcntl
 import json
+import os
 import pathlib
-from typing import Any, Dict, Sequence
+import time
+from typing import Any, Container, Dict, Iterator, Mapping, Optional, Sequence, Tuple
 
 from ..faults import SiteFault
 
 MOST_SECONDS = 86_400
 # The longest freshness of a result: a year.
 MOST_FRESH = 31_536_000
+# The longest wait for files that are being written, in seconds.
+PATIENCE = 10.0
 
 
-def read_object(folder: pathlib.Path, name: str, required: bool) -> Dict[str, Any]:
+@contextlib.contextmanager
+def lock_for_reading(folder: pathlib.Path) -> Iterator[None]:
+    """While no file of the site is replaced. Raises `SiteFault` if the wait is too long."""
+    try:
+        lock = os.open(folder, os.O_RDONLY)
+    except OSError as error:
+        raise SiteFault(f"{folder}: {error.strerror}") from None
+    end = time.monotonic() + PATIENCE
+    try:
+        while True:
+            try:
+                fcntl.flock(lock, fcntl.LOCK_SH | fcntl.LOCK_NB)
+                break
+            except BlockingIOError:
+                if time.monotonic() >= end:
+                    raise SiteFault(f"{folder}: its files are being replaced") from None
+                time.sleep(0.02)
+        yield
+    finally:
+        os.close(lock)
+
+
+def read_object(folder: pathlib.Path, name: str, required: bool = False) -> Dict[str, Any]:
     """The members of a file that is a JSON object. An optional file that doesn't exist has none."""
     path = folder / name
     if not required and not path.exists():
@@ -21,19 +49,33 @@ def read_object(folder: pathlib.Path, name: str, required: bool) -> Dict[str, An
         raise SiteFault(f"{name}: {error.strerror}") from None
     except (ValueError, RecursionError) as error:
         raise SiteFault(f"{name}: {error}") from None
-    if not isinstance(document, dict):
-        raise SiteFault(f"{name}: it has to be an object")
-    return document
+    return members_of(document, name)
 
 
-def known_members(members: object, known: Sequence[str], place: str) -> Dict[str, Any]:
-    """An object that has no other members than these."""
-    if not isinstance(members, dict):
+def members_of(value: object, place: str) -> Dict[str, Any]:
+    if not isinstance(value, dict):
         raise SiteFault(f"{place}: it has to be an object")
+    return value
+
+
+def known_members(value: object, known: Sequence[str], place: str) -> Dict[str, Any]:
+    """The members of an object that has no other members than these."""
+    members = members_of(value, place)
     for member in members:
         if member not in known:
             raise SiteFault(f"{place}: a member {member!r} isn't known here")
     return members
+
+
+def read_by_name(
+    folder: pathlib.Path, file: str, known: Sequence[str], objects: Optional[Container[str]], required: bool = False,
+) -> Iterator[Tuple[str, str, Dict[str, Any]]]:
+    """Each name in a file, its place in messages, and its members. With `objects`, a name that isn't one of them is a fault."""
+    for name, members in read_object(folder, file, required).items():
+        place = f"{file}: {name}"
+        if objects is not None and name not in objects:
+            raise SiteFault(f"{place}: there is no such object")
+        yield name, place, known_members(members, known, place)
 
 
 def read_seconds(value: object, place: str, most: int = MOST_SECONDS) -> float:
@@ -42,7 +84,12 @@ def read_seconds(value: object, place: str, most: int = MOST_SECONDS) -> float:
     return value
 
 
-def members_of(value: object, place: str) -> Dict[str, Any]:
-    if not isinstance(value, dict):
-        raise SiteFault(f"{place}: it has to be an object")
+def read_whole(value: object, place: str, least: int, most: int) -> int:
+    if isinstance(value, bool) or not isinstance(value, int) or not least <= value <= most:
+        raise SiteFault(f"{place}: it has to be a whole number from {least} to {most}, not {value!r}")
     return value
+
+
+def members_by_name(setup: Mapping[str, Any]) -> Dict[str, Mapping[str, Any]]:
+    """The hosts and services of a good setup by their full names."""
+    return {host["name"]: host for host in setup.get("hosts", ())} | {f"{it['host']};{it['description']}": it for it in setup.get("services", ())}

@@ -5,12 +5,13 @@
 in `mirrors.json` means that these two objects of `part-2.json` are mirrors of those of `part-1.json`. A mirror is never checked: it is off, and its
 intervals are 0. Each result of its original is reported to it too.
 """
+import collections
 import pathlib
 from dataclasses import dataclass
-from typing import AbstractSet, Any, Dict, FrozenSet, Mapping, Sequence, Tuple
+from typing import AbstractSet, Any, Dict, FrozenSet, Mapping, Sequence, Set, Tuple
 
 from ..faults import SiteFault
-from .json_files import members_of, read_object
+from .json_files import members_by_name, members_of, read_object
 
 FILE = "mirrors.json"
 NEVER = {"enabled": False, "check_interval": 0, "retry_interval": 0}
@@ -31,39 +32,24 @@ class Part:
     stem: str
     options: Mapping[str, Any]
     objects: Mapping[str, Mapping[str, Any]]
-    dependencies: Mapping[str, FrozenSet[Dependency]]
+    dependencies: Mapping[str, AbstractSet[Dependency]]
     # The masters whose own dependencies count too.
-    inherited_masters: FrozenSet[str]
-
-    def difference(self, name: str, other: "Part") -> str:
-        """The first difference of an object between two parts; nothing if results are judged in the same way."""
-        here, there = self.objects[name], other.objects[name]
-        if here["max_check_attempts"] != there["max_check_attempts"]:
-            return "max_check_attempts"
-        if set(here.get("parents", ())) != set(there.get("parents", ())):
-            return "parents"
-        if name in self.inherited_masters and self.dependencies.get(name) != other.dependencies.get(name):
-            return "dependencies, which count here for those that depend on it,"
-        return ""
+    inherited_masters: AbstractSet[str]
 
 
 def part_of(stem: str, setup: Mapping[str, Any]) -> Part:
     """A part with its setup, which was found to be good."""
-    objects = {host["name"]: host for host in setup.get("hosts", ())} | {f"{it['host']};{it['description']}": it for it in setup.get("services", ())}
-    dependencies: Dict[str, FrozenSet[Dependency]] = {}
-    handing_on = set()
-    for it in (*setup.get("service_dependencies", ()), *setup.get("host_dependencies", ())):
-        inherits = it.get("inherits_parent", False)
-        dependency = (it["master"], frozenset(it["criteria"].split(",")), inherits)
-        dependencies[it["dependent"]] = dependencies.get(it["dependent"], frozenset()) | {dependency}
-        if inherits:
-            handing_on.add(it["master"])
-    return Part(stem, setup.get("options", {}), objects, dependencies, frozenset(handing_on))
+    listed = [*setup.get("service_dependencies", ()), *setup.get("host_dependencies", ())]
+    dependencies: Dict[str, Set[Dependency]] = collections.defaultdict(set)
+    for it in listed:
+        dependencies[it["dependent"]].add((it["master"], frozenset(it["criteria"].split(",")), it.get("inherits_parent", False)))
+    inherited = {it["master"] for it in listed if it.get("inherits_parent", False)}
+    return Part(stem, setup.get("options", {}), members_by_name(setup), dependencies, inherited)
 
 
 def read_mirrors(folder: pathlib.Path, setups: Mapping[str, Mapping[str, Any]]) -> Dict[int, AbstractSet[str]]:
     """The names of the mirrors of each part that has some, by its number. The keys of the setups are the names of their files, without the ending."""
-    document = read_object(folder, FILE, required=False)
+    document = read_object(folder, FILE)
     for stem, homes in document.items():
         if stem not in setups:
             raise SiteFault(f"{FILE}: {stem}: there is no {stem}.json")
@@ -91,9 +77,15 @@ def test_mirror(name: str, part: Part, home: object, parts: Mapping[str, Part], 
         raise SiteFault(f"{place}: {home} has a mirror of it too, and not the original")
     if any(part.objects[name].get(member) != value for member, value in NEVER.items()):
         raise SiteFault(f'{place}: a mirror has "enabled":false, "check_interval":0 and "retry_interval":0')
-    differs = part.difference(name, parts[home])
-    if differs:
-        raise SiteFault(f"{place}: {differs} aren't those of its original in {home}.json")
+    here, there = part.objects[name], parts[home].objects[name]
+    has_other_masters = name in part.inherited_masters and part.dependencies.get(name) != parts[home].dependencies.get(name)
+    for differs, what in (
+        (here["max_check_attempts"] != there["max_check_attempts"], "max_check_attempts"),
+        (set(here.get("parents", ())) != set(there.get("parents", ())), "parents"),
+        (has_other_masters, "dependencies, which count here for those that depend on it,"),
+    ):
+        if differs:
+            raise SiteFault(f"{place}: {what} aren't those of its original in {home}.json")
 
 
 def test_options(part: Part, homes: Sequence[Part]) -> None:

@@ -5,14 +5,20 @@ Nagios. The order is: dates with a year, of a month, of a day of any month, of a
 """
 import calendar
 import datetime
+import graphlib
 import re
 from dataclasses import dataclass
 from typing import Dict, List, Mapping, Optional, Sequence, Tuple
 
 from ..faults import SiteFault
+from .json_files import known_members
 
 WEEKDAYS = ("monday", "tuesday", "wednesday", "thursday", "friday", "saturday", "sunday")
 CLOCK_TIMES = re.compile(r"(\d\d):(\d\d)-(\d\d):(\d\d)")
+
+# The members by which dates name their days, in the order in which dates count if several fit, and the limits of those that are numbers.
+KINDS = ({"first", "last"}, {"month", "day"}, {"day"}, {"month", "weekday", "nth"}, {"weekday", "nth"})
+LIMITS = {"month": (1, 12), "day": (-31, 31), "nth": (-5, 5)}
 
 # From a minute of the day up to another, which is excluded.
 Minutes = Tuple[int, int]
@@ -20,41 +26,24 @@ Minutes = Tuple[int, int]
 
 @dataclass(frozen=True)
 class Dates:
-    """Days that are described by more than their weekday. The value None fits every day."""
+    """Days that are described by more than their weekday: those from the first to the last that have all these values."""
 
-    first: Optional[datetime.date]
-    last: Optional[datetime.date]
-    month: Optional[int]
-    day: Optional[int]
-    weekday: Optional[int]
-    nth: Optional[int]
+    rank: int
+    first: datetime.date
+    last: datetime.date
+    values: Mapping[str, int]
     times: Sequence[Minutes]
 
-    def rank(self) -> int:
-        """The order of dates if several fit."""
-        if self.first is not None:
-            return 0
-        if self.day is not None:
-            return 1 if self.month is not None else 2
-        return 3 if self.month is not None else 4
-
     def includes(self, day: datetime.date) -> bool:
-        if self.first is not None and self.last is not None:
-            return self.first <= day <= self.last
-        if self.month is not None and day.month != self.month:
+        if not self.first <= day <= self.last:
             return False
-        length = calendar.monthrange(day.year, day.month)[1]
-        if self.day is not None:
-            return day.day == (self.day if self.day > 0 else length + 1 + self.day)
-        if self.weekday is None or self.nth is None or day.weekday() != self.weekday:
-            return False
-        return self.nth == ((day.day - 1) // 7 + 1 if self.nth > 0 else -((length - day.day) // 7 + 1))
+        left = calendar.monthrange(day.year, day.month)[1] - day.day
+        fitting = {"month": (day.month,), "weekday": (day.weekday(),), "day": (day.day, -left - 1), "nth": ((day.day - 1) // 7 + 1, -(left // 7) - 1)}
+        return all(value in fitting[member] for member, value in self.values.items())
 
 
 @dataclass(frozen=True)
 class Period:
-    """One time period."""
-
     name: str
     weekdays: Mapping[int, Sequence[Minutes]]
     dates: Sequence[Dates]
@@ -69,14 +58,11 @@ class Period:
 
 
 class Periods:
-    """All periods of a site."""
-
     def __init__(self, periods: Mapping[str, Period], zone: Optional[datetime.tzinfo]) -> None:
         self._periods = periods
         self._zone = zone
 
     def includes(self, name: str, wall: float) -> bool:
-        """Whether a period includes a time of the wall clock."""
         moment = datetime.datetime.fromtimestamp(wall, self._zone)
         return self._includes(name, moment.date(), moment.hour * 60 + moment.minute)
 
@@ -101,36 +87,24 @@ def read_periods(document: Mapping[str, object], file: str) -> Dict[str, Period]
         for other in period.excluded:
             if other not in periods:
                 raise SiteFault(f"{file}: period {period.name}: there is no period {other}, which it excludes")
-        if is_excluded(periods, period.name, period.excluded):
-            raise SiteFault(f"{file}: period {period.name} excludes itself")
+    try:
+        graphlib.TopologicalSorter({name: period.excluded for name, period in periods.items()}).prepare()
+    except graphlib.CycleError as error:
+        raise SiteFault(f"{file}: period {error.args[1][0]} excludes itself") from None
     return periods
 
 
-def is_excluded(periods: Mapping[str, Period], name: str, excluded: Sequence[str]) -> bool:
-    """Whether a period is among these or those that they exclude, and so on."""
-    seen, left = set(), list(excluded)
-    while left:
-        other = left.pop()
-        if other == name:
-            return True
-        if other not in seen:
-            seen.add(other)
-            left.extend(periods[other].excluded if other in periods else ())
-    return False
-
-
 def read_period(name: str, members: object, place: str) -> Period:
-    if not isinstance(members, dict) or not set(members) <= {"weekdays", "dates", "exclude"}:
-        raise SiteFault(f"{place}: it has the members weekdays, dates and exclude and no other")
-    weekdays = members.get("weekdays", {})
+    document = known_members(members, ("weekdays", "dates", "exclude"), place)
+    weekdays = document.get("weekdays", {})
     if not isinstance(weekdays, dict) or not set(weekdays) <= set(WEEKDAYS):
         raise SiteFault(f"{place}: weekdays has the members monday to sunday and no other")
     times = {WEEKDAYS.index(day): read_times(texts, f"{place}: {day}") for day, texts in weekdays.items()}
-    dates, excluded = members.get("dates", []), members.get("exclude", [])
+    dates, excluded = document.get("dates", []), document.get("exclude", [])
     if not isinstance(dates, list) or not isinstance(excluded, list) or not all(isinstance(other, str) for other in excluded):
         raise SiteFault(f"{place}: dates and exclude are lists")
     read = [read_dates(each, f"{place}: date {index}") for index, each in enumerate(dates)]
-    return Period(name, times, sorted(read, key=Dates.rank), excluded)
+    return Period(name, times, sorted(read, key=lambda date: date.rank), excluded)
 
 
 def read_times(texts: object, place: str) -> List[Minutes]:
@@ -154,15 +128,14 @@ def read_dates(members: object, place: str) -> Dates:
     if not isinstance(members, dict) or "times" not in members:
         raise SiteFault(f"{place}: a date is an object with times")
     times = read_times(members["times"], place)
-    kind = frozenset(members) - {"times"}
-    if kind == {"first", "last"}:
-        return Dates(read_day(members["first"], place), read_day(members["last"], place), None, None, None, None, times)
-    if kind <= {"month", "day"} and "day" in kind:
-        return Dates(None, None, read_number(members.get("month"), 1, 12, place), read_number(members["day"], -31, 31, place), None, None, times)
-    if kind <= {"month", "weekday", "nth"} and {"weekday", "nth"} <= kind and members["weekday"] in WEEKDAYS:
-        weekday = WEEKDAYS.index(members["weekday"])
-        return Dates(None, None, read_number(members.get("month"), 1, 12, place), None, weekday, read_number(members["nth"], -5, 5, place), times)
-    raise SiteFault(f"{place}: a date has first and last, or day and perhaps month, or weekday, nth and perhaps month")
+    given = {member: value for member, value in members.items() if member != "times" and value is not None}
+    if set(given) not in KINDS or given.get("weekday", WEEKDAYS[0]) not in WEEKDAYS:
+        raise SiteFault(f"{place}: a date has first and last, or day and perhaps month, or weekday, nth and perhaps month")
+    rank = KINDS.index(set(given))
+    if rank == 0:
+        return Dates(rank, read_day(given["first"], place), read_day(given["last"], place), {}, times)
+    values = {member: WEEKDAYS.index(value) if member == "weekday" else read_number(value, *LIMITS[member], place) for member, value in given.items()}
+    return Dates(rank, datetime.date.min, datetime.date.max, values, times)
 
 
 def read_day(text: object, place: str) -> datetime.date:
@@ -172,10 +145,8 @@ def read_day(text: object, place: str) -> datetime.date:
         raise SiteFault(f"{place}: no date: {text!r}") from None
 
 
-def read_number(value: object, least: int, most: int, place: str) -> Optional[int]:
-    """A number within its limits that isn't 0; None without one."""
-    if value is None:
-        return None
+def read_number(value: object, least: int, most: int, place: str) -> int:
+    """A number within its limits that isn't 0."""
     if isinstance(value, bool) or not isinstance(value, int) or not least <= value <= most or value == 0:
         raise SiteFault(f"{place}: no number from {least} to {most}: {value!r}")
     return value

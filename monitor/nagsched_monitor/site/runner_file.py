@@ -11,7 +11,7 @@ from typing import Any, Dict, Iterable, List, Mapping, Set, Tuple
 from ..faults import SiteFault
 from ..run.runner_program import find_program
 from .groups_file import Groups
-from .json_files import known_members, members_of, read_object, read_seconds
+from .json_files import known_members, members_of, read_object, read_seconds, read_whole
 
 FILE = "runners.json"
 NAME = re.compile(r"[A-Za-z0-9_.-]{1,64}")
@@ -34,14 +34,17 @@ class Remote:
 
 def read_runners(folder: pathlib.Path, names: Iterable[str], groups: Mapping[str, Groups]) -> Tuple[Dict[str, Remote], Dict[str, str]]:
     """The runners of a site, and the runner of each object that has one: the first with a pattern that fits it."""
-    members = known_members(read_object(folder, FILE, required=False), ("runners", "objects", "slots", "wait"), FILE)
+    members = known_members(read_object(folder, FILE), ("runners", "objects", "slots", "wait"), FILE)
     commands, objects, slots = (members_of(members.get(member, {}), f"{FILE}: {member}") for member in ("runners", "objects", "slots"))
     wait = read_seconds(members.get("wait", WAIT), f"{FILE}: wait")
     for member, of in (("objects", objects), ("slots", slots)):
         for name in of:
             if name not in commands:
                 raise SiteFault(f"{FILE}: {member}: {name}: there is no such runner")
-    remotes = {name: Remote(name, read_arguments(name, arguments), read_slots(name, slots.get(name, SLOTS)), wait) for name, arguments in commands.items()}
+    remotes = {}
+    for name, arguments in commands.items():
+        most = read_whole(slots.get(name, SLOTS), f"{FILE}: slots: {name}", 1, MOST_SLOTS)
+        remotes[name] = Remote(name, read_arguments(name, arguments), most, wait)
     by_host: Dict[str, List[str]] = {}
     for name in names:
         by_host.setdefault(name.partition(";")[0], []).append(name)
@@ -62,12 +65,6 @@ def read_arguments(name: str, arguments: Any) -> Tuple[str, ...]:
     if program is None:
         raise SiteFault(f"{place}: there is no program {arguments[0]}")
     return (program, *arguments[1:])
-
-
-def read_slots(name: str, slots: Any) -> int:
-    if isinstance(slots, bool) or not isinstance(slots, int) or not 1 <= slots <= MOST_SLOTS:
-        raise SiteFault(f"{FILE}: slots: {name}: it has to be a number from 1 to {MOST_SLOTS}")
-    return slots
 
 
 def matching_objects(runner: str, patterns: Any, by_host: Mapping[str, List[str]], groups: Mapping[str, Groups]) -> List[str]:

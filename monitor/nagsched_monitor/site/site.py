@@ -20,11 +20,11 @@ from typing import AbstractSet, Any, Dict, List, Mapping, Optional, Sequence, Tu
 from ..faults import SiteFault
 from .command_lines import Command, read_commands
 from .groups_file import read_groups
-from .json_files import MOST_FRESH, MOST_SECONDS, known_members, members_of, read_object, read_seconds
+from .json_files import MOST_FRESH, MOST_SECONDS, known_members, lock_for_reading, members_by_name, members_of
+from .json_files import read_by_name, read_object, read_seconds, read_whole
 from .mirror_file import read_mirrors
 from .periods import Periods, read_periods
 from .runner_file import Remote, read_runners
-from .site_lock import lock_for_reading
 
 # The limit for the test of a setup, in seconds.
 LIMIT = 300.0
@@ -57,8 +57,6 @@ class ObjectDefinition:
 
 @dataclass(frozen=True)
 class Options:
-    """The options of the monitor."""
-
     slots: int = 64
     cached_host_check_horizon: int = 15
     timeout_code: int = 2
@@ -88,20 +86,16 @@ class Site:
 def read_site(folder: pathlib.Path, program: str) -> Site:
     """The site of a folder. Raises a `SiteFault` that names the file and the error."""
     with lock_for_reading(folder):
-        return read_files(folder, program)
-
-
-def read_files(folder: pathlib.Path, program: str) -> Site:
-    paths = setup_files(folder)
-    setups = [setup_line(path, program) for path in paths]
-    documents = {path.stem: json.loads(setup) for path, setup in zip(paths, setups)}
-    mirrors = read_mirrors(folder, documents)
-    objects = originals_of(documents, mirrors)
-    options, zone = read_options(folder)
-    runners, runner_of = read_runners(folder, objects, read_groups(folder, objects))
-    commands = read_commands(folder, objects, runner_of)
-    periods, period_of = read_period_file(folder, objects, zone)
-    passive = read_passive(folder, objects)
+        paths = setup_files(folder)
+        setups = [setup_line(path, program) for path in paths]
+        documents = {path.stem: json.loads(setup) for path, setup in zip(paths, setups)}
+        mirrors = read_mirrors(folder, documents)
+        objects = originals_of(documents, mirrors)
+        options, zone = read_options(folder)
+        runners, runner_of = read_runners(folder, objects, read_groups(folder, objects))
+        commands = read_commands(folder, objects, runner_of)
+        periods, period_of = read_period_file(folder, objects, zone)
+        passive = read_passive(folder, objects)
     for name, definition in objects.items():
         only, freshness = passive.get(name, (False, None))
         command, period, runner = commands.get(name), period_of.get(name), runner_of.get(name)
@@ -147,30 +141,18 @@ def setup_line(path: pathlib.Path, program: str) -> bytes:
 
 
 def originals_of(documents: Mapping[str, Mapping[str, Any]], mirrors: Mapping[int, AbstractSet[str]]) -> Dict[str, ObjectDefinition]:
-    """The objects of all parts, each once: mirrors aren't among them."""
+    """The objects of all parts, each once: mirrors aren't among them. Intervals become milliseconds."""
     objects: Dict[str, ObjectDefinition] = {}
     for part, (stem, setup) in enumerate(documents.items()):
-        for definition in objects_of(setup, part):
-            if definition.name in mirrors.get(part, ()):
+        unit = setup.get("options", {}).get("interval_length", 60) * 1000
+        for name, it in members_by_name(setup).items():
+            if name in mirrors.get(part, ()):
                 continue
-            if definition.name in objects:
-                raise SiteFault(f"{stem}.json: {definition.name} is in another part already, and mirrors.json doesn't name it")
-            objects[definition.name] = definition
+            if name in objects:
+                raise SiteFault(f"{stem}.json: {name} is in another part already, and mirrors.json doesn't name it")
+            interval = it.get("check_interval", 5) * unit
+            objects[name] = ObjectDefinition(name, part, it.get("host"), tuple(it.get("parents", ())), interval, it.get("enabled", True))
     return objects
-
-
-def objects_of(setup: Mapping[str, Any], part: int) -> List[ObjectDefinition]:
-    """The hosts and services of a good setup. Intervals become milliseconds."""
-    unit = setup.get("options", {}).get("interval_length", 60) * 1000
-    hosts = [
-        ObjectDefinition(host["name"], part, None, tuple(host.get("parents", ())), host.get("check_interval", 5) * unit, host.get("enabled", True))
-        for host in setup.get("hosts", ())
-    ]
-    services = [
-        ObjectDefinition(f"{it['host']};{it['description']}", part, it["host"], (), it.get("check_interval", 5) * unit, it.get("enabled", True))
-        for it in setup.get("services", ())
-    ]
-    return hosts + services
 
 
 def children_of(objects: Mapping[str, ObjectDefinition]) -> Dict[str, List[str]]:
@@ -194,7 +176,7 @@ def test_command(definition: ObjectDefinition) -> None:
 
 def read_period_file(folder: pathlib.Path, objects: Mapping[str, ObjectDefinition], zone: Optional[zoneinfo.ZoneInfo]) -> Tuple[Periods, Dict[str, str]]:
     """The periods of a site, and the period of each object that has one."""
-    document = known_members(read_object(folder, "periods.json", required=False), ("periods", "objects"), "periods.json")
+    document = known_members(read_object(folder, "periods.json"), ("periods", "objects"), "periods.json")
     periods = read_periods(members_of(document.get("periods", {}), "periods.json: periods"), "periods.json")
     period_of = members_of(document.get("objects", {}), "periods.json: objects")
     for name, period in period_of.items():
@@ -208,11 +190,7 @@ def read_period_file(folder: pathlib.Path, objects: Mapping[str, ObjectDefinitio
 def read_passive(folder: pathlib.Path, objects: Mapping[str, ObjectDefinition]) -> Dict[str, Tuple[bool, Optional[int]]]:
     """For each object in the file, whether it is passive only, and its freshness in milliseconds."""
     passive = {}
-    for name, members in read_object(folder, "passive.json", required=False).items():
-        place = f"passive.json: {name}"
-        if name not in objects:
-            raise SiteFault(f"{place}: there is no such object")
-        members = known_members(members, ("only", "freshness"), place)
+    for name, place, members in read_by_name(folder, "passive.json", ("only", "freshness"), objects):
         only, freshness = members.get("only", False), members.get("freshness")
         if not isinstance(only, bool):
             raise SiteFault(f"{place}: only is true or false")
@@ -222,15 +200,10 @@ def read_passive(folder: pathlib.Path, objects: Mapping[str, ObjectDefinition]) 
 
 def read_options(folder: pathlib.Path) -> Tuple[Options, Optional[zoneinfo.ZoneInfo]]:
     """The options, and the zone of the site: the machine's if none is named."""
-    members = known_members(
-        read_object(folder, "monitor.json", required=False),
-        ("slots", "cached_host_check_horizon", "service_check_timeout_state", "keep_days", "zone"),
-        "monitor.json",
-    )
-    for name, most in (("slots", 10_000), ("cached_host_check_horizon", MOST_SECONDS), ("keep_days", 36_500)):
-        value = members.get(name, 1)
-        if isinstance(value, bool) or not isinstance(value, int) or not (0 if name != "slots" else 1) <= value <= most:
-            raise SiteFault(f"monitor.json: {name}: no whole number up to {most}: {value!r}")
+    known = ("slots", "cached_host_check_horizon", "service_check_timeout_state", "keep_days", "zone")
+    members = known_members(read_object(folder, "monitor.json"), known, "monitor.json")
+    for name, least, most in (("slots", 1, 10_000), ("cached_host_check_horizon", 0, MOST_SECONDS), ("keep_days", 0, 36_500)):
+        read_whole(members.get(name, 1), f"monitor.json: {name}", least, most)
     letter = members.pop("service_check_timeout_state", "c")
     if not isinstance(letter, str) or letter not in CODES_BY_LETTER:
         raise SiteFault(f"monitor.json: service_check_timeout_state is w, c or u, and no {letter!r}")
