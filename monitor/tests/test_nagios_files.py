@@ -4,7 +4,7 @@ import pathlib
 import signal
 import subprocess
 import time
-from typing import Callable, Dict, List, Mapping, Tuple
+from typing import Callable, Counter, Dict, List, Mapping, Tuple
 
 from nagsched_monitor.inputs.nagios_pipe import NAME
 from nagsched_monitor.outputs.nagios_blocks import HOST_STATES, SERVICE_STATES, Program, Settings, status_file
@@ -14,6 +14,7 @@ from nagsched_monitor.store.rows import StoredStanding
 from .running import ProcessTest
 from .simulated import BEGIN, SiteTest
 from .waiting import becomes_true
+from .work_count import CountedName, check_growth, work_of
 
 Block = Dict[str, str]
 WELL = StoredStanding("web", "UP", "HARD", 1, False, 1000.5, 1000.5, 2000.25, 2060.9, True, None, 0.5, 0.25, "fine|rta=0.8ms;1;2")
@@ -235,17 +236,16 @@ class Process(ProcessTest):
 
 
 class Size(SiteTest):
-    def test_4096_objects(self) -> None:
-        """The file is written within 200 ms of processor time."""
-        settings = {f"h{n // 15:03};s{n:04}": Settings(5, 1, 3) for n in range(3840)}
-        settings.update((f"h{n:03}", Settings()) for n in range(256))
+    def work(self, count: int) -> Counter[str]:
+        """What is done to write the file of this many objects, 15 services on each host."""
+        hosts = [f"h{n:03}" for n in range(count // 16)]
+        names = [*hosts, *(f"{host};s{n:02}" for host in hosts for n in range(15))]
+        settings = {name: Settings(5, 1, 3) for name in names}
         words = "PING OK - Packet loss = 0%, RTA = 0.80 ms|rta=0.8ms;3;5"
-        standings = [WELL._replace(name=name, state="OK" if ";" in name else "UP", words=words) for name in settings]
-        times = []
-        for _ in range(5):
-            begun = time.process_time()
-            data = status_file(Program(1, 1, False), settings, standings, 3000.0).encode()
-            times.append(time.process_time() - begun)
-        self.assertEqual(len(objects_of(data)), 4096)
-        self.assertEqual(sum(map(len, services_by_host(standings).values())), 3840)
-        self.assertLess(min(times), 0.2)
+        standings = [WELL._replace(name=CountedName(name), state="OK" if ";" in name else "UP", words=words) for name in names]
+        self.assertEqual(len(objects_of(status_file(Program(1, 1, False), settings, standings, 3000.0).encode())), count)
+        self.assertEqual(sum(map(len, services_by_host(standings).values())), count // 16 * 15)
+        return work_of(lambda: (status_file(Program(1, 1, False), settings, standings, 3000.0).encode(), services_by_host(standings)))
+
+    def test_4096_objects(self) -> None:
+        check_growth(self, self.work, 95)
