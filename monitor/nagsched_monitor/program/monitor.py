@@ -114,8 +114,9 @@ class Monitor:
         """Works until it is asked to stop; returns the exit status."""
         self._install_signal_handlers()
         self.log(f"begins: {len(self.site.objects)} objects, {len(self.site.setups)} parts")
-        for line in changes.problem_lines([(obj.name, obj.standing) for obj in self.engine.objects.values() if obj.standing]):
-            self.log(f"at the start {line}")
+        for obj in self.engine.objects.values():
+            if obj.standing is not None and obj.standing.is_problem():
+                self.log(f"at the start {obj.name} is {obj.standing.state} {obj.standing.kind} {obj.standing.attempt}")
         self._service_manager.notify_ready(f"{len(self.site.objects)} objects")
         return self.loop.run()
 
