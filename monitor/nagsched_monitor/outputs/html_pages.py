@@ -191,9 +191,9 @@ def site_page(status: SiteStatus, groups: Mapping[str, Groups], group: str, site
 def legend_of(status: ObjectStatus) -> str:
     """The states that the picture has, each by its word and colour."""
     day = stretches(status)
-    states = sorted({(it.state, it.kind or "") for it in day if it.state is not None})
+    states = sorted({(it.state, it.kind) for it in day if it.state})
     names = list(dict.fromkeys(badge(state, kind) for state, kind in states))
-    names += ["a thin line where no change is known"] if any(it.state is None for it in day) else []
+    names += ["a thin line where no change is known"] if not all(it.state for it in day) else []
     return f"<p>{', '.join(names)}{'; soft ones are low' if any(kind == 'SOFT' for _, kind in states) else ''}</p>"
 
 

@@ -45,9 +45,6 @@ class Settings:
     is_passive: bool = False
 
 
-NO_SETTINGS = Settings()
-
-
 @dataclass
 class Program:
     """The monitor itself."""
@@ -95,7 +92,7 @@ def status_file(program: Program, settings: Mapping[str, Settings], standings: L
     hosts = [kept for kept in standings if ";" not in kept.name]
     services = [kept for kept in standings if ";" in kept.name]
     info = {"created": int(now), "version": "4.4.6", "last_update_check": 0, "update_available": 0, "last_version": "", "new_version": ""}
-    objects = [object_block(program, settings.get(kept.name, NO_SETTINGS), kept, now) for kept in (*hosts, *services)]
+    objects = [object_block(program, settings.get(kept.name, Settings()), kept, now) for kept in (*hosts, *services)]
     return "\n".join([block("info", info), program_block(program, hosts, services, settings, now), *objects])
 
 
@@ -112,7 +109,7 @@ def block(kind: str, members: Mapping[str, object]) -> str:
 
 def program_block(program: Program, hosts: List[StoredStanding], services: List[StoredStanding], settings: Mapping[str, Settings], now: float) -> str:
     checked = {
-        f"{how}_{what}_check_stats": check_counts([kept for kept in all_of if settings.get(kept.name, NO_SETTINGS).is_passive == passive], now)
+        f"{how}_{what}_check_stats": check_counts([kept for kept in all_of if settings.get(kept.name, Settings()).is_passive == passive], now)
         for what, all_of in (("host", hosts), ("service", services))
         for how, passive in (("active_scheduled", False), ("passive", True))
     }

@@ -105,10 +105,8 @@ class SiteFolder:
 
     def zone(self) -> Optional[datetime.tzinfo]:
         """The zone of the site; if its file is faulty now, the zone before."""
-        try:
+        with contextlib.suppress(SiteFault):
             _, self._zone = read_options(self._folder)
-        except SiteFault:
-            return self._zone
         return self._zone
 
     def document(self, path: str, query: str) -> Tuple[str, str]:
