@@ -17,7 +17,7 @@ from typing import Deque, Dict, List, Optional, Sequence, Tuple
 from ..faults import MonitorFault, RequestFault
 from ..inputs import control
 from ..inputs.nagios_pipe import Pipe, Request, requests_of
-from ..program.helper_process import ignore_signals
+from ..program.helper_process import ignore_signals, is_ended
 from ..store.rows import StoredStanding
 from .nagios_blocks import Document, Program, Settings, settings_of, status_file
 from .status_query import MEMBERS, StatusUnavailable, open_database, read_standings
@@ -39,7 +39,7 @@ class StatusReader:
     """The parts of the database and the files of a site that the status file needs."""
 
     def __init__(self, site: pathlib.Path, program: Program) -> None:
-        self._site, self._program = site, program
+        self._site, self.program = site, program
         self._seen: Tuple[object, ...] = ()
         # The contents of the files as they were last without a fault.
         self._documents: Sequence[Document] = ({}, {}, {})
@@ -74,7 +74,7 @@ class StatusReader:
         for number, moment, name, state in database.execute("SELECT id, time, name, state FROM changes WHERE id > ? ORDER BY id", (self._last_change,)):
             before = self._last_state.get(name, "OK" if ";" in name else "UP")
             if before != state:
-                self._program.last_times.setdefault(name, {})[before] = moment
+                self.program.last_times.setdefault(name, {})[before] = moment
             self._last_state[name], self._last_change = state, number
 
 
@@ -84,8 +84,7 @@ class NagiosFiles:
     def __init__(self, site: pathlib.Path, folder: pathlib.Path, notifies: bool) -> None:
         self._site, self._folder = site, folder
         folder.mkdir(parents=True, exist_ok=True)
-        self._program = Program(os.getppid(), int(time.time()), notifies)
-        self._reader = StatusReader(site, self._program)
+        self._reader = StatusReader(site, Program(os.getppid(), int(time.time()), notifies))
         self._pipe = Pipe(folder)
         self._waiting: Deque[Tuple[str, Request]] = collections.deque()
         self._services: Dict[str, List[str]] = {}
@@ -105,7 +104,7 @@ class NagiosFiles:
             files = [sys.stdin.fileno(), *([] if self._waiting else [self._pipe.file])]
             left = max(0.0, next_write - time.monotonic())
             ready, _, _ = select.select(files, [], [], min(PAUSE, left) if self._waiting else left)
-            if sys.stdin.fileno() in ready and not os.read(sys.stdin.fileno(), 4096):
+            if is_ended(0):
                 break
             if self._pipe.file in ready:
                 self.read_commands(self._pipe.read())
@@ -122,7 +121,8 @@ class NagiosFiles:
         try:
             standings = self._reader.read()
             self._services = services_by_host(standings)
-            replace_file(self._folder / "status.dat", status_file(self._program, self._reader.settings, standings, time.time()).encode(errors="replace"))
+            text = status_file(self._reader.program, self._reader.settings, standings, time.time())
+            replace_file(self._folder / "status.dat", text.encode(errors="replace"))
         except (OSError, StatusUnavailable, ValueError) as error:
             fault = f"status.dat isn't written: {error}"
             if fault != self._fault:
