@@ -62,9 +62,9 @@ class AlertPoster:
         self._url, self._folder, self._every, self._ends = f"{url.rstrip('/')}/api/v2/alerts", folder, every, ends
         self._site = folder.resolve().name
         self._groups = GroupsFile(folder)
-        # The alerts that Alertmanager has accepted as firing, and when.
+        # The alerts that Alertmanager has accepted as firing, and when all are posted again.
         self._posted: Dict[Labels, Alert] = {}
-        self._posted_at: Optional[float] = None
+        self._next_post = 0.0
         self._trouble: Optional[str] = None
 
     def post_due(self) -> None:
@@ -72,8 +72,7 @@ class AlertPoster:
         try:
             status = read_site_status(self._folder, PROBLEMS)
             alerts = alerts_of(status, self._site, self._groups.read())
-            is_due = self._posted_at is None or not 0 <= time.monotonic() - self._posted_at < self._every
-            if is_due or alerts.keys() != self._posted.keys():
+            if time.monotonic() >= self._next_post or alerts.keys() != self._posted.keys():
                 self._post(alerts, status.now)
             trouble = None
         except (StatusUnavailable, OSError, http.client.HTTPException) as error:  # tried again with the next look
@@ -91,7 +90,7 @@ class AlertPoster:
         for first in range(0, len(all_of), AT_ONCE):
             body = json.dumps(all_of[first : first + AT_ONCE], ensure_ascii=False).encode(errors="replace")
             urllib.request.urlopen(urllib.request.Request(self._url, body, {"Content-Type": "application/json"}), timeout=PATIENCE).close()
-        self._posted, self._posted_at = dict(alerts), time.monotonic()
+        self._posted, self._next_post = dict(alerts), time.monotonic() + self._every
 
 
 def main() -> int:

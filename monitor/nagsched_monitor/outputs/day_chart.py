@@ -6,8 +6,7 @@ from ..store.rows import StoredChange
 from .status_query import DAY, ObjectStatus
 from .style import html_text, look_of
 
-HOUR = 3_600
-TICKS = 6 * HOUR
+TICKS = 6 * 3_600
 HIGH, LOW, THIN = 44, 24, 6
 BOTTOM = 52
 
@@ -38,11 +37,11 @@ def day_chart(status: ObjectStatus, time_text: Callable[[float], str]) -> str:
         title = html_text(f"{time_text(it.time)} to {time_text(end)}: {state} {it.words[:200]}")
         place = f'x="{left:.3f}%" width="{max(0.1, right - left):.3f}%" y="{BOTTOM - height}" height="{height}"'
         lines.append(f'<rect class="{name}{"" if it.state else " thin"}" {place}><title>{title}</title></rect>')
-    for hours in range(0, DAY + 1, TICKS):
-        part = 100 * hours / DAY
-        anchor = "start" if hours == 0 else "end" if hours == DAY else "middle"
+    for seconds in range(0, DAY + 1, TICKS):
+        part = 100 * seconds / DAY
+        anchor = "start" if seconds == 0 else "end" if seconds == DAY else "middle"
         lines.append(f'<line x1="{part:g}%" x2="{part:g}%" y1="{BOTTOM}" y2="{BOTTOM + 6}"></line>')
-        time = time_text(begin + hours)
+        time = time_text(begin + seconds)
         without_seconds = time[:-3] if time.count(":") == 2 else time[-5:]
         lines.append(f'<text x="{part:g}%" y="{BOTTOM + 20}" text-anchor="{anchor}">{without_seconds}</text>')
     return "\n".join([*lines, "</svg>"])

@@ -1,6 +1,6 @@
 """The blocks of Nagios's status file: the facts of a site's setup and its table of standings, as members that Nagios's pages read."""
 from dataclasses import dataclass, field
-from typing import Any, Dict, Iterable, List, Mapping, Optional
+from typing import Any, Dict, Iterable, List, Mapping
 
 from ..store.rows import StoredStanding
 
@@ -82,11 +82,6 @@ def printable_text(text: str) -> str:
     return text if text.isprintable() else text.translate(PLAIN)
 
 
-def whole_seconds(time: Optional[float]) -> int:
-    """A time in whole seconds, as in Nagios; a missing time is 0."""
-    return 0 if time is None else int(time)
-
-
 def status_file(program: Program, settings: Mapping[str, Settings], standings: List[StoredStanding], now: float) -> str:
     """The whole file."""
     hosts = [kept for kept in standings if ";" not in kept.name]
@@ -96,23 +91,18 @@ def status_file(program: Program, settings: Mapping[str, Settings], standings: L
     return "\n".join([block("info", info), program_block(program, hosts, services, settings, now), *objects])
 
 
-def check_counts(standings: List[StoredStanding], now: float) -> str:
-    """The number of these objects that were checked within each of the spans."""
-    times = [kept.last_check for kept in standings if kept.last_check is not None]
-    return ",".join(str(sum(time > now - span for time in times)) for span in SPANS)
-
-
 def block(kind: str, members: Mapping[str, object]) -> str:
     lines = "".join([f"\t{name}={value}\n" for name, value in members.items()])
     return f"{kind} {{\n{lines}\t}}\n"
 
 
 def program_block(program: Program, hosts: List[StoredStanding], services: List[StoredStanding], settings: Mapping[str, Settings], now: float) -> str:
-    checked = {
-        f"{how}_{what}_check_stats": check_counts([kept for kept in all_of if settings.get(kept.name, Settings()).is_passive == passive], now)
-        for what, all_of in (("host", hosts), ("service", services))
-        for how, passive in (("active_scheduled", False), ("passive", True))
-    }
+    """The monitor itself, and how many objects were checked within each of the spans."""
+    checked = {}
+    for what, all_of in (("host", hosts), ("service", services)):
+        for how, is_passive in (("active_scheduled", False), ("passive", True)):
+            times = [kept.last_check or 0 for kept in all_of if settings.get(kept.name, Settings()).is_passive == is_passive]
+            checked[f"{how}_{what}_check_stats"] = ",".join(str(sum(time > now - span for time in times)) for span in SPANS)
     own = {"nagios_pid": program.process, "program_start": program.started_at, "enable_notifications": int(program.has_notifications),
            "global_host_event_handler": "", "global_service_event_handler": ""}
     return block("programstatus", {**OF_PROGRAM, **own, **checked, **{f"{each}_stats": "0,0,0" for each in NO_STATS}})
@@ -128,7 +118,7 @@ def output_members(words: str) -> Dict[str, str]:
 
 
 def object_block(program: Program, its: Settings, kept: StoredStanding, now: float) -> str:
-    """The block of a host or a service."""
+    """The block of a host or a service. Times are whole seconds, and a missing time is 0."""
     host, is_service, description = kept.name.partition(";")
     states = SERVICE_STATES if is_service else HOST_STATES
     state = states.get(kept.state or "", 0)
@@ -140,10 +130,10 @@ def object_block(program: Program, its: Settings, kept: StoredStanding, now: flo
         "check_execution_time": f"{kept.took or 0:.3f}", "check_latency": f"{kept.late or 0:.3f}", "check_type": int(its.is_passive),
         "current_state": state, "last_hard_state": state if kept.kind == "HARD" else 0,
         **output_members(kept.words),
-        "last_check": whole_seconds(kept.last_check), "next_check": whole_seconds(kept.next_check),
+        "last_check": int(kept.last_check or 0), "next_check": int(kept.next_check or 0),
         "current_attempt": kept.attempt or 1, "max_attempts": its.max_attempts, "state_type": int(kept.kind != "SOFT"),
-        "last_state_change": whole_seconds(kept.since), "last_hard_state_change": whole_seconds(kept.hard_since),
-        **{f"last_time_{word.lower()}": whole_seconds(kept.last_check if word == kept.state else left.get(word)) for word in states},
+        "last_state_change": int(kept.since or 0), "last_hard_state_change": int(kept.hard_since or 0),
+        **{f"last_time_{word.lower()}": int((kept.last_check if word == kept.state else left.get(word)) or 0) for word in states},
         "notifications_enabled": int(program.has_notifications), "active_checks_enabled": int(kept.is_on), "passive_checks_enabled": 1,
         "flap_detection_enabled": 1,
         "last_update": int(now), "is_flapping": int(kept.flapping), "percent_state_change": "0.00", "notification_period": "", "event_handler": "",
