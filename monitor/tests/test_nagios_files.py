@@ -248,4 +248,4 @@ class Size(SiteTest):
         return work_of(lambda: (status_file(Program(1, 1, False), settings, standings, 3000.0).encode(), services_by_host(standings)))
 
     def test_4096_objects(self) -> None:
-        check_growth(self, self.work, 95)
+        check_growth(self, self.work, 29)

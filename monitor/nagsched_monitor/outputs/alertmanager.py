@@ -10,11 +10,10 @@ import pathlib
 import sys
 import time
 import urllib.request
-from typing import Any, Dict, FrozenSet, Mapping, Optional, Sequence, Tuple
+from typing import Any, Dict, FrozenSet, List, Mapping, Optional, Tuple
 
 from ..core.text import first_line
 from ..program.helper_process import ignore_signals, is_ended
-from ..store.rows import StoredStanding
 from ..site.groups_file import Groups, GroupsFile, labels_of
 from .status_query import PROBLEMS, SiteStatus, StatusUnavailable, read_site_status
 
@@ -37,25 +36,19 @@ def alerts_of(status: SiteStatus, site: str, groups: Mapping[str, Groups]) -> Di
     If the beginning isn't known, it is now; Alertmanager keeps the earliest that it was told.
     """
     hosts = {it.name: str(it.state) for it in status.objects if it.is_host() and it.is_hard_problem()}
-    alerts: Dict[Labels, Alert] = {}
+    alerts: List[Alert] = []
     for it in status.objects:
         labels = {"site": site, **labels_of(it.name, groups), "host_state": hosts.get(it.host(), "UP")}
-        if it.flapping:
-            add_alert(alerts, {**labels, "alertname": FLAPPING, "severity": "warning"}, it, status.now)
+        found = [(FLAPPING, "warning", "is flapping", status.now)] if it.flapping else []
         if it.is_hard_problem():
-            add_alert(alerts, {**labels, "alertname": PROBLEM, "severity": SEVERITIES.get(str(it.state), "unknown")}, it, it.problem_since() or status.now)
+            found.append((PROBLEM, SEVERITIES.get(str(it.state), "unknown"), f"is {it.state}", it.problem_since() or status.now))
+        for name, severity, verb, since in found:
+            notes = {"state": str(it.state), "summary": f"{it.name.replace(';', ' ')} {verb}: {first_line(it.words)}", "output": it.words}
+            alerts.append({"labels": {**labels, "alertname": name, "severity": severity}, "annotations": notes, "startsAt": timestamp(since)})
     if status.silent_seconds() is None:
         labels = {"alertname": HEARTBEAT, "site": site, "severity": "none"}
-        notes = {"summary": f"the monitor of {site} is at work"}
-        alerts[frozenset(labels.items())] = {"labels": labels, "annotations": notes, "startsAt": timestamp(status.now)}
-    return alerts
-
-
-def add_alert(alerts: Dict[Labels, Alert], labels: Dict[str, str], it: StoredStanding, since: float) -> None:
-    name = it.name.replace(";", " ")
-    notes = {"state": str(it.state), "summary": f"{name} {'is flapping' if labels['alertname'] == FLAPPING else f'is {it.state}'}: {first_line(it.words)}"}
-    notes["output"] = it.words
-    alerts[frozenset(labels.items())] = {"labels": labels, "annotations": notes, "startsAt": timestamp(since)}
+        alerts.append({"labels": labels, "annotations": {"summary": f"the monitor of {site} is at work"}, "startsAt": timestamp(status.now)})
+    return {frozenset(alert["labels"].items()): alert for alert in alerts}
 
 
 def timestamp(moment: float) -> str:
@@ -69,29 +62,24 @@ class AlertPoster:
         self._url, self._folder, self._every, self._ends = f"{url.rstrip('/')}/api/v2/alerts", folder, every, ends
         self._site = folder.resolve().name
         self._groups = GroupsFile(folder)
-        # The alerts that Alertmanager has accepted as firing, and when.
+        # The alerts that Alertmanager has accepted as firing, and when all are posted again.
         self._posted: Dict[Labels, Alert] = {}
-        self._posted_at: Optional[float] = None
+        self._next_post = 0.0
         self._trouble: Optional[str] = None
-
-    def run(self) -> None:
-        """Works until its standard input ends."""
-        while not is_ended(LOOK_EVERY):
-            self.post_due()
 
     def post_due(self) -> None:
         """Posts the alerts that are due."""
         try:
             status = read_site_status(self._folder, PROBLEMS)
             alerts = alerts_of(status, self._site, self._groups.read())
-            is_due = self._posted_at is None or not 0 <= time.monotonic() - self._posted_at < self._every
-            if is_due or alerts.keys() != self._posted.keys():
+            if time.monotonic() >= self._next_post or alerts.keys() != self._posted.keys():
                 self._post(alerts, status.now)
             trouble = None
         except (StatusUnavailable, OSError, http.client.HTTPException) as error:  # tried again with the next look
             trouble = str(error) or type(error).__name__
         if trouble != self._trouble:
-            log("alerts are taken again" if trouble is None else f"alerts aren't taken, and are posted again each second: {trouble}")
+            said = "alerts are taken again" if trouble is None else f"alerts aren't taken, and are posted again each second: {trouble}"
+            print(f"alertmanager: {said}", flush=True)
         self._trouble = trouble
 
     def _post(self, alerts: Mapping[Labels, Alert], now: float) -> None:
@@ -100,22 +88,15 @@ class AlertPoster:
         ended = [{**alert, "endsAt": timestamp(now)} for labels, alert in self._posted.items() if labels not in alerts]
         all_of = ended + standing
         for first in range(0, len(all_of), AT_ONCE):
-            self._send(all_of[first : first + AT_ONCE])
-        self._posted, self._posted_at = dict(alerts), time.monotonic()
-
-    def _send(self, alerts: Sequence[Alert]) -> None:
-        body = json.dumps(alerts, ensure_ascii=False).encode(errors="replace")
-        request = urllib.request.Request(self._url, body, {"Content-Type": "application/json"})
-        with urllib.request.urlopen(request, timeout=PATIENCE):
-            pass
-
-
-def log(line: str) -> None:
-    print(f"alertmanager: {line}", flush=True)
+            body = json.dumps(all_of[first : first + AT_ONCE], ensure_ascii=False).encode(errors="replace")
+            urllib.request.urlopen(urllib.request.Request(self._url, body, {"Content-Type": "application/json"}), timeout=PATIENCE).close()
+        self._posted, self._next_post = dict(alerts), time.monotonic() + self._every
 
 
 def main() -> int:
     url, folder = sys.argv[1:]
     ignore_signals()
-    AlertPoster(url, pathlib.Path(folder)).run()
+    poster = AlertPoster(url, pathlib.Path(folder))
+    while not is_ended(LOOK_EVERY):
+        poster.post_due()
     return 0

@@ -1,4 +1,5 @@
 """Changes of state: the line that is printed for each, and the command that is run for it."""
+import contextlib
 import datetime
 import json
 import os
@@ -6,7 +7,7 @@ import signal
 import subprocess
 import tempfile
 import time
-from typing import IO, Callable, List, Optional, Sequence, Tuple
+from typing import IO, Callable, Optional
 
 from ..core.text import first_line
 from ..faults import NotStored
@@ -46,19 +47,10 @@ def change_line(change: StoredChange, zone: Optional[datetime.tzinfo]) -> str:
 
 def change_document(change: StoredChange, before: Optional[Standing]) -> str:
     """A change as the line of JSON that the command reads."""
-    members = {
-        "time": change.time,
-        "name": change.name,
-        "state": change.state,
-        "kind": change.kind,
-        "attempt": change.attempt,
-        "flapping": change.flapping,
-        "was": None if before is None else before.state,
-        "was_flapping": before is not None and before.flapping,
-        "output": first_line(change.words),
-        "long_output": change.words.partition("\n")[2],
-    }
-    return json.dumps(members, ensure_ascii=False)
+    members = {name: getattr(change, name) for name in ("time", "name", "state", "kind", "attempt", "flapping")}
+    output, _, long_output = change.words.partition("\n")
+    members["was"], members["was_flapping"] = (None, False) if before is None else (before.state, before.flapping)
+    return json.dumps({**members, "output": output, "long_output": long_output}, ensure_ascii=False)
 
 
 class Notifier:
@@ -124,7 +116,10 @@ class Notifier:
         if status is None and self._clock() < self._deadline:
             return
         if status is None:
-            kill_group(process)
+            with contextlib.suppress(ProcessLookupError, PermissionError, subprocess.TimeoutExpired):
+                # It has just ended, runs as another user, or hangs: nobody waits for it.
+                os.killpg(process.pid, signal.SIGKILL)
+                process.wait(timeout=5)
         self._process = None
         if status != 0:
             self._retry_later(f"the command for changes {f'took longer than {LIMIT:g} seconds' if status is None else f'ended with {status}'}")
@@ -144,20 +139,10 @@ class Notifier:
     def close(self) -> None:
         """Waits for the running command; its changes stay if it fails."""
         if self._process is not None:
-            try:
+            with contextlib.suppress(subprocess.TimeoutExpired):
                 self._process.wait(timeout=LIMIT)
-            except subprocess.TimeoutExpired:
-                kill_group(self._process)
+            self._deadline = self._clock()
             self._check_command(self._process)
-
-
-def kill_group(process: "subprocess.Popen[bytes]") -> None:
-    """Kills a command with its whole process group, as far as possible."""
-    try:
-        os.killpg(process.pid, signal.SIGKILL)
-        process.wait(timeout=5)
-    except (ProcessLookupError, PermissionError, subprocess.TimeoutExpired):
-        pass  # it has just ended, runs as another user, or hangs: nobody waits for it
 
 
 def file_of_bytes(data: bytes) -> IO[bytes]:
@@ -166,8 +151,3 @@ def file_of_bytes(data: bytes) -> IO[bytes]:
     file.write(data)
     file.seek(0)
     return file
-
-
-def problem_lines(standings: Sequence[Tuple[str, Standing]]) -> List[str]:
-    """A line for each problem at the monitor's start."""
-    return [f"{name} is {standing.state} {standing.kind} {standing.attempt}" for name, standing in standings if standing.is_problem()]

@@ -1,39 +1,23 @@
 """The last day of an object as a picture: time across, states by colour, hard ones high and soft ones low, and the words of each when pointed at."""
-import html
-from dataclasses import dataclass
-from typing import Callable, List, Optional
+from dataclasses import replace
+from typing import Callable, List
 
+from ..store.rows import StoredChange
 from .status_query import DAY, ObjectStatus
-from .style import CLASSES
+from .style import html_text, look_of
 
-HOUR = 3_600
-TICKS = 6 * HOUR
+TICKS = 6 * 3_600
 HIGH, LOW, THIN = 44, 24, 6
 BOTTOM = 52
 
 
-@dataclass(frozen=True)
-class Stretch:
-    """A time during which an object had one standing. Without a state, no change of it is known."""
-
-    begin: float
-    end: float
-    state: Optional[str]
-    kind: Optional[str]
-    words: str
-
-
-def stretches(status: ObjectStatus) -> List[Stretch]:
-    """The day of an object, from its beginning on."""
+def stretches(status: ObjectStatus) -> List[StoredChange]:
+    """The day of an object, from its beginning on: what it was since which time. Without a state, no change of it is known."""
     begin, it = status.now - DAY, status.standing
-    marks = [(begin, status.before.state, status.before.kind, status.before.words)] if status.before is not None else []
-    marks += [(each.time, each.state, each.kind, each.words) for each in status.changes]
-    if not marks and it.since is not None and it.state not in (None, "PENDING"):
-        marks = [(max(begin, it.since), str(it.state), it.kind or "HARD", it.words)]
-    ends = [time for time, *_ in marks[1:]] + [status.now]
-    drawn = [Stretch(time, end, state, kind, words) for (time, state, kind, words), end in zip(marks, ends)]
-    unknown_until = drawn[0].begin if drawn else status.now
-    return ([Stretch(begin, unknown_until, None, None, "")] if unknown_until > begin else []) + drawn
+    found = [*([] if status.before is None else [replace(status.before, time=begin)]), *status.changes]
+    if not found and it.since is not None and it.state not in (None, "PENDING"):
+        found = [StoredChange(0, max(begin, it.since), it.name, str(it.state), it.kind or "HARD", 1, False, it.words)]
+    return found if found and found[0].time <= begin else [StoredChange(0, begin, it.name, "", "", 0, False, ""), *found]
 
 
 def day_chart(status: ObjectStatus, time_text: Callable[[float], str]) -> str:
@@ -45,32 +29,19 @@ def day_chart(status: ObjectStatus, time_text: Callable[[float], str]) -> str:
 
     day = stretches(status)
     lines = ['<svg role="img" aria-label="The states of the last day">']
-    for it in day:
-        left, right = across(it.begin), across(it.end)
-        name = "none thin" if it.state is None else CLASSES.get(it.state, "none")
-        height = THIN if it.state is None else LOW if it.kind == "SOFT" and name not in ("up", "none") else HIGH
-        title = svg_text(f"{time_text(it.begin)} to {time_text(it.end)}: {stretch_text(it)} {it.words[:200]}")
+    for it, end in zip(day, [*(each.time for each in day[1:]), status.now]):
+        left, right = across(it.time), across(end)
+        name, word = look_of(it.state, it.kind)
+        height = THIN if not it.state else LOW if word == "soft" else HIGH
+        state = f"{it.state} {word}".rstrip() or "no change is known"
+        title = html_text(f"{time_text(it.time)} to {time_text(end)}: {state} {it.words[:200]}")
         place = f'x="{left:.3f}%" width="{max(0.1, right - left):.3f}%" y="{BOTTOM - height}" height="{height}"'
-        lines.append(f'<rect class="{name}" {place}><title>{title}</title></rect>')
-    for hours in range(0, DAY + 1, TICKS):
-        part = 100 * hours / DAY
-        anchor = "start" if hours == 0 else "end" if hours == DAY else "middle"
+        lines.append(f'<rect class="{name}{"" if it.state else " thin"}" {place}><title>{title}</title></rect>')
+    for seconds in range(0, DAY + 1, TICKS):
+        part = 100 * seconds / DAY
+        anchor = "start" if seconds == 0 else "end" if seconds == DAY else "middle"
         lines.append(f'<line x1="{part:g}%" x2="{part:g}%" y1="{BOTTOM}" y2="{BOTTOM + 6}"></line>')
-        lines.append(f'<text x="{part:g}%" y="{BOTTOM + 20}" text-anchor="{anchor}">{short_time(time_text(begin + hours))}</text>')
+        time = time_text(begin + seconds)
+        without_seconds = time[:-3] if time.count(":") == 2 else time[-5:]
+        lines.append(f'<text x="{part:g}%" y="{BOTTOM + 20}" text-anchor="{anchor}">{without_seconds}</text>')
     return "\n".join([*lines, "</svg>"])
-
-
-def stretch_text(it: Stretch) -> str:
-    """A stretch as a text."""
-    if it.state is None:
-        return "no change is known"
-    return f"{it.state} {it.kind.lower()}" if it.kind is not None and it.state not in ("OK", "UP", "PENDING") else it.state
-
-
-def short_time(time: str) -> str:
-    """A time of day without its seconds."""
-    return svg_text(time[:-3] if time.count(":") == 2 else time[-5:])
-
-
-def svg_text(text: str) -> str:
-    return html.escape("".join(each if each.isprintable() else "\ufffd" for each in text))

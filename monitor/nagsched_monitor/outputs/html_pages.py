@@ -1,29 +1,26 @@
 """The pages of a site, as HTML. Names and texts of a site are escaped, and control characters are replaced."""
+import collections
 import datetime
-import html
 import urllib.parse
+from dataclasses import replace
 from typing import Dict, List, Mapping, Optional, Sequence, Set, Tuple
 
 from ..core.text import first_line
 from ..site.groups_file import Groups
-from ..store.rows import StoredChange, StoredStanding
+from ..store.rows import StoredStanding
 from .day_chart import day_chart, stretches
 from .status_query import ObjectStatus, SiteStatus
-from .style import CLASSES, STYLE
+from .style import CLASSES, STYLE, html_text, look_of
 
 # How often a page renews itself, in seconds.
 RENEW_EVERY = 15
 YEAR = 31_536_000
 # The last time that has a date here, at the beginning of the year 9999.
 LAST_TIME = 253_370_764_800
-# Control characters, and those that turn the direction of a line.
-REPLACEMENTS = {code: "\ufffd" for code in (*range(32), *range(127, 160), *range(0x202A, 0x202F), *range(0x2066, 0x206A)) if code not in (9, 10)}
 COLUMNS = ("State", "Object", "Attempt", "Since", "Next check", "Last words")
 
-
-def html_text(given: str) -> str:
-    """A text as HTML."""
-    return html.escape(given if given.isprintable() else given.translate(REPLACEMENTS))
+# The cells of a row of a table, as HTML.
+Row = Tuple[str, ...]
 
 
 def duration(seconds: float) -> str:
@@ -43,22 +40,15 @@ class Times:
 
     def __init__(self, now: float, zone: Optional[datetime.tzinfo]) -> None:
         self.now, self._zone = now, zone
-        self._today = datetime.datetime.fromtimestamp(now, zone).date()
-        self._texts: Dict[int, str] = {}
+        self.today = datetime.datetime.fromtimestamp(now, zone).astimezone(zone)
 
     def short(self, time: float) -> str:
         """The time of day, with the date if it isn't today."""
         if not 0 <= time <= LAST_TIME:
             return "never" if time > 0 else "long ago"
-        second = int(time)
-        if second not in self._texts:
-            when = datetime.datetime.fromtimestamp(second, self._zone)
-            today = when.date() == self._today
-            self._texts[second] = when.strftime("%H:%M:%S" if today else "%d %b %H:%M" if when.year == self._today.year else "%d %b %Y %H:%M")
-        return self._texts[second]
-
-    def full(self, time: float) -> str:
-        return datetime.datetime.fromtimestamp(time, self._zone).astimezone(self._zone).isoformat(sep=" ", timespec="seconds")
+        when = datetime.datetime.fromtimestamp(int(time), self._zone)
+        is_today = when.date() == self.today.date()
+        return when.strftime("%H:%M:%S" if is_today else "%d %b %H:%M" if when.year == self.today.year else "%d %b %Y %H:%M")
 
     def ago(self, time: Optional[float]) -> str:
         """A time, and the duration since then."""
@@ -68,15 +58,16 @@ class Times:
 # ---- pieces
 
 
-def badge(state: str, kind: Optional[str]) -> str:
-    """A state by its word and colour; a soft problem by its edge and the word soft."""
-    name = CLASSES.get(state, "none")
-    soft = kind == "SOFT" and name not in ("up", "none")
-    return f'<b class="s {name}{" soft" if soft else ""}">{html_text(state)}</b>{" soft" if soft else " hard" if name not in ("up", "none") else ""}'
+def badge(state: Optional[str], kind: Optional[str], flapping: bool = False) -> str:
+    """A state by its word and colour, a soft problem by its edge, and the words soft, hard and FLAPPING."""
+    name, word = look_of(state, kind)
+    coloured = f'<b class="s {name}{" soft" if word == "soft" else ""}">{html_text(str(state))}</b>'
+    return f"{coloured} {word}".rstrip() + (" FLAPPING" if flapping else "")
 
 
-def link(name: str) -> str:
-    return f'<a href="/object?name={urllib.parse.quote(name, safe="")}">{html_text(name)}</a>'
+def link(address: str, name: str) -> str:
+    """A link to what has this name."""
+    return f'<a href="{address}={urllib.parse.quote(name, safe="")}">{html_text(name)}</a>'
 
 
 def next_check_text(it: StoredStanding, times: Times) -> str:
@@ -93,16 +84,18 @@ def next_check_text(it: StoredStanding, times: Times) -> str:
     return "due" if times.now - it.next_check > YEAR else f"due since {times.short(it.next_check)}"
 
 
-def object_row(it: StoredStanding, times: Times, since: Optional[float]) -> str:
-    flapping = " FLAPPING" if it.flapping else ""
+def object_row(it: StoredStanding, times: Times, since: Optional[float]) -> Row:
     attempt = "" if it.attempt is None else str(it.attempt)
-    cells = (badge(str(it.state), it.kind) + flapping, link(it.name), attempt, times.ago(since), next_check_text(it, times), html_text(first_line(it.words)))
-    return f"<tr><td>{'</td><td>'.join(cells)}</td></tr>"
+    state, words = badge(it.state, it.kind, it.flapping), html_text(first_line(it.words))
+    return state, link("/object?name", it.name), attempt, times.ago(since), next_check_text(it, times), words
 
 
-def table(rows: Sequence[str], heads: Sequence[str] = COLUMNS, name: str = "o") -> str:
+def table(rows: Sequence[Row], empty: str, heads: Sequence[str] = COLUMNS, name: str = "o") -> str:
+    """A table, or a sentence if it has no rows."""
+    if not rows:
+        return f"<p>{empty}</p>"
     head = "".join(f'<th scope="col">{each}</th>' for each in heads)
-    lines = "\n".join(rows)
+    lines = "\n".join(f"<tr><td>{'</td><td>'.join(row)}</td></tr>" for row in rows)
     return f'<table class="{name}"><thead><tr>{head}</tr></thead><tbody>\n{lines}\n</tbody></table>'
 
 
@@ -112,17 +105,15 @@ def tiles(pairs: Sequence[Tuple[str, str]]) -> str:
 
 def html_page(title: str, site: str, times: Times, body: Sequence[str]) -> str:
     """A page, with its head."""
-    return "\n".join(
-        (
-            "<!DOCTYPE html>",
-            f'<html lang="en"><head><meta charset="utf-8"><title>{html_text(title)}</title>',
-            f'<meta name="viewport" content="width=device-width, initial-scale=1"><meta http-equiv="refresh" content="{RENEW_EVERY}">',
-            f"<style>{STYLE}</style></head><body>",
-            f'<header><h1><a href="/">{html_text(site)}</a></h1><span class="n">{times.full(times.now)}, renewed every {RENEW_EVERY} seconds</span></header>',
-            *body,
-            "</body></html>\n",
-        )
-    )
+    now, lines = times.today.isoformat(sep=" ", timespec="seconds"), "\n".join(body)
+    return f"""<!DOCTYPE html>
+<html lang="en"><head><meta charset="utf-8"><title>{html_text(title)}</title>
+<meta name="viewport" content="width=device-width, initial-scale=1"><meta http-equiv="refresh" content="{RENEW_EVERY}">
+<style>{STYLE}</style></head><body>
+<header><h1><a href="/">{html_text(site)}</a></h1><span class="n">{now}, renewed every {RENEW_EVERY} seconds</span></header>
+{lines}
+</body></html>
+"""
 
 
 # ---- the page of a site
@@ -130,11 +121,9 @@ def html_page(title: str, site: str, times: Times, body: Sequence[str]) -> str:
 
 def figures_of(status: SiteStatus) -> str:
     """The number of objects in each state, and the monitor's delay."""
-    counts: Dict[str, int] = {}
-    for (state, _), count in status.state_counts().items():
-        counts[state] = counts.get(state, 0) + count
+    counts = collections.Counter(str(it.state) for it in status.objects)
     order = [*CLASSES, *sorted(set(counts) - set(CLASSES))]
-    states = [(badge(state, None).partition("</b>")[0] + "</b>", str(counts[state])) for state in order if state in counts]
+    states = [(f'<b class="s {look_of(state, None)[0]}">{html_text(state)}</b>', str(counts[state])) for state in order if state in counts]
     figures = status.figures
     late, latest = figures.get("latest_start_lately", 0.0), figures.get("latest_start", 0.0)
     keeps_up = [
@@ -146,26 +135,25 @@ def figures_of(status: SiteStatus) -> str:
     return tiles(states) + tiles(keeps_up)
 
 
-def silence_of(status: SiteStatus) -> List[str]:
+def silence_of(status: SiteStatus) -> str:
     """A line if the monitor isn't working, since the other figures are old then."""
     silent = status.silent_seconds()
     if silent is None:
-        return []
+        return ""
     since = f"for {duration(silent)}" if "written_at" in status.figures else "yet"
-    return [f'<p class="silent">The monitor has written nothing {since}: what is shown is how things stood then.</p>']
+    return f'<p class="silent">The monitor has written nothing {since}: what is shown is how things stood then.</p>'
 
 
-def groups_of(objects: Sequence[StoredStanding], groups: Mapping[str, Groups]) -> List[str]:
+def groups_of(objects: Sequence[StoredStanding], groups: Mapping[str, Groups]) -> str:
     """A line for each host and service group: the number of its objects, and of those with problems."""
-    wrong: Dict[str, int] = {}
-    count: Dict[str, int] = {}
+    counts: Dict[str, List[int]] = {}
     for it in objects:
         for group in names_of(groups.get(it.name, {})):
-            count[group] = count.get(group, 0) + 1
-            wrong[group] = wrong.get(group, 0) + it.is_problem()
-    rows = [f'<tr><td><a href="/?group={urllib.parse.quote(group, safe="")}">{html_text(group)}</a></td><td>{wrong[group]}</td><td>{count[group]}</td></tr>'
-            for group in sorted(count)]
-    return [f"<h2>Groups: {len(rows)}</h2>", table(rows, ("Group", "Wrong", "Objects"), "g")] if rows else []
+            of_group = counts.setdefault(group, [0, 0])
+            of_group[0] += it.is_problem()
+            of_group[1] += 1
+    rows = [(link("/?group", group), str(wrong), str(count)) for group, (wrong, count) in sorted(counts.items())]
+    return f"<h2>Groups: {len(rows)}</h2>{table(rows, '', ('Group', 'Wrong', 'Objects'), 'g')}" if rows else ""
 
 
 def names_of(groups: Groups) -> Set[str]:
@@ -177,33 +165,35 @@ def site_page(status: SiteStatus, groups: Mapping[str, Groups], group: str, site
     """Problems, running checks, and all hosts and services; those of a group, if one is named."""
     times = Times(status.now, zone)
     if group:
-        status = SiteStatus(status.now, [it for it in status.objects if group in names_of(groups.get(it.name, {}))], status.figures)
+        status = replace(status, objects=[it for it in status.objects if group in names_of(groups.get(it.name, {}))])
     wrong, out = status.problems(), status.running_checks()
-    body = [*([f"<p>Group {html_text(group)}</p>"] if group else []), *silence_of(status), figures_of(status), f"<h2>Wrong now: {len(wrong)}</h2>"]
-    body.append(table([object_row(it, times, it.problem_since()) for it in wrong]) if wrong else "<p>Nothing is wrong.</p>")
-    if out:
-        body += [f"<h2>Out: {len(out)}</h2>", "<p>" + ", ".join(f"{link(it.name)} <i>{duration(times.now - (it.out_since or 0))}</i>" for it in out) + "</p>"]
-    for what, is_host in (("Hosts", True), ("Services", False)):
-        rows = [object_row(it, times, it.since) for it in status.objects if it.is_host() == is_host]
-        body += [f"<h2>{what}: {len(rows)}</h2>", table(rows) if rows else f"<p>No {what.lower()}.</p>"]
-    return html_page(f"{len(wrong)} wrong: {group or site}", site, times, [*body, *groups_of(status.objects, groups)])
+    running = ", ".join(f"{link('/object?name', it.name)} <i>{duration(times.now - (it.out_since or 0))}</i>" for it in out)
+    hosts, services = ([object_row(it, times, it.since) for it in status.objects if it.is_host() == is_host] for is_host in (True, False))
+    body = [
+        f"<p>Group {html_text(group)}</p>" if group else "",
+        silence_of(status),
+        figures_of(status),
+        f"<h2>Wrong now: {len(wrong)}</h2>",
+        table([object_row(it, times, it.problem_since()) for it in wrong], "Nothing is wrong."),
+        f"<h2>Out: {len(out)}</h2><p>{running}</p>" if out else "",
+        f"<h2>Hosts: {len(hosts)}</h2>",
+        table(hosts, "No hosts."),
+        f"<h2>Services: {len(services)}</h2>",
+        table(services, "No services."),
+        groups_of(status.objects, groups),
+    ]
+    return html_page(f"{len(wrong)} wrong: {group or site}", site, times, body)
 
 
 # ---- the page of an object
 
 
-def change_row(it: StoredChange, times: Times) -> str:
-    flapping = " FLAPPING" if it.flapping else ""
-    cells = (times.short(it.time), badge(str(it.state), it.kind) + flapping, str(it.attempt), html_text(first_line(it.words)))
-    return f"<tr><td>{'</td><td>'.join(cells)}</td></tr>"
-
-
 def legend_of(status: ObjectStatus) -> str:
     """The states that the picture has, each by its word and colour."""
     day = stretches(status)
-    states = sorted({(it.state, it.kind or "") for it in day if it.state is not None})
+    states = sorted({(it.state, it.kind) for it in day if it.state})
     names = list(dict.fromkeys(badge(state, kind) for state, kind in states))
-    names += ["a thin line where no change is known"] if any(it.state is None for it in day) else []
+    names += ["a thin line where no change is known"] if not all(it.state for it in day) else []
     return f"<p>{', '.join(names)}{'; soft ones are low' if any(kind == 'SOFT' for _, kind in states) else ''}</p>"
 
 
@@ -220,15 +210,16 @@ def object_page(status: ObjectStatus, groups: Groups, site: str, zone: Optional[
         ("began late by", "" if it.late is None else f"{it.late:.3f} s"),
         *((kind.replace("_", " "), html_text(", ".join(names))) for kind, names in groups.items()),
     ]
-    changes = [change_row(each, times) for each in reversed(status.changes)]
+    changes = [(times.short(each.time), badge(each.state, each.kind, each.flapping), str(each.attempt), html_text(first_line(each.words)))
+               for each in reversed(status.changes)]
     body = [
-        f"<h2>{html_text(it.name)} {badge(str(it.state), it.kind)}{' FLAPPING' if it.flapping else ''}</h2>",
+        f"<h2>{html_text(it.name)} {badge(it.state, it.kind, it.flapping)}</h2>",
         tiles([pair for pair in pairs if pair[1]]),
         f"<pre>{html_text(it.words) or 'no words'}</pre>",
         "<h2>The last day</h2>",
         day_chart(status, times.short),
         legend_of(status),
-        table(changes, ("Time", "State", "Attempt", "Words"), "c") if changes else "<p>No change in the last day.</p>",
-        *(["<p>There were more changes than these.</p>"] if status.is_cut else []),
+        table(changes, "No change in the last day.", ("Time", "State", "Attempt", "Words"), "c"),
+        "<p>There were more changes than these.</p>" if status.is_cut else "",
     ]
     return html_page(f"{it.name}: {it.state}", site, times, body)

@@ -1,7 +1,7 @@
 """The figures of a site in Prometheus's text format, and as data."""
 import json
 import pathlib
-from typing import Any, Dict, List, Mapping, Sequence, Tuple
+from typing import Any, Dict, List, Mapping, Sequence, Tuple, Union
 
 from ..faults import MonitorFault
 from ..inputs import control
@@ -16,6 +16,10 @@ STATES = {**HOST_STATES, **SERVICE_STATES}
 
 # A sample: the suffix of its name, its labels, and its value.
 Sample = Tuple[str, Mapping[str, str], float]
+# The samples of a family, or the value of its only one; None if there is none now.
+Samples = Union[Sequence[Sample], float, None]
+# A family: its name, its kind, its help, and its samples.
+Family = Tuple[str, str, str, Samples]
 Signs = Mapping[str, Any]
 
 
@@ -28,10 +32,10 @@ def number_text(value: float) -> str:
     return str(int(value)) if value == int(value) and abs(value) < 2**53 else repr(value)
 
 
-def family(name: str, kind: str, help_text: str, samples: Sequence[Sample], site: str) -> List[str]:
+def family(name: str, kind: str, help_text: str, samples: Samples, site: str) -> List[str]:
     """The lines of a family. Each sample has the label `site`."""
     lines = [f"# HELP {name} {help_text}", f"# TYPE {name} {kind}"]
-    for suffix, labels, value in samples:
+    for suffix, labels, value in () if samples is None else [("", {}, samples)] if isinstance(samples, (int, float)) else samples:
         inner = ",".join(f'{label}="{label_value(text)}"' for label, text in {"site": site, **labels}.items())
         lines.append(f"{name}{suffix}{{{inner}}} {number_text(value)}")
     return lines
@@ -56,72 +60,60 @@ def read_signs(folder: pathlib.Path) -> Signs:
     return signs
 
 
-def single_sample(value: float) -> List[Sample]:
-    return [("", {}, value)]
-
-
-def signs_families(status: SiteStatus, signs: Signs, site: str) -> List[List[str]]:
-    """The signs of life of the monitor. Most of them are missing while it gives no answer."""
-    runners: Mapping[str, Mapping[str, int]] = signs.get("runners", {})
-    of_runners: Dict[str, List[Sample]] = {
-        what: [("", {"runner": name}, float(its[what])) for name, its in runners.items()] for what in ("running", "wanted", "stuck", "waiting")}
-    by_name = {name: single_sample(float(signs[name])) if name in signs else [] for name in ("is_stuck", "passive_waiting", "changes_waiting", "oldest_change")}
-    last_turn = signs.get("turn", status.figures.get("written_at"))
-    families: Sequence[Tuple[str, str, List[Sample]]] = (
-        ("nagsched_up", "1 if the monitor answers, 0 if it doesn't.", single_sample(bool(signs))),
-        ("nagsched_last_turn_timestamp_seconds", "When the last turn of the monitor's loop began that could be stored.",
-         [] if last_turn is None else single_sample(last_turn)),
-        ("nagsched_stuck", "1 while nothing can be stored, so that no check is made.", by_name["is_stuck"]),
-        ("nagsched_passive_waiting", "Passive results that wait to be reported.", by_name["passive_waiting"]),
-        ("nagsched_changes_waiting", "Changes that the command for changes hasn't taken.", by_name["changes_waiting"]),
-        ("nagsched_oldest_change_seconds", "How long the oldest of these has waited.", by_name["oldest_change"]),
-        ("nagsched_runners", "Runner processes that run.", of_runners["running"]),
-        ("nagsched_runners_wanted", "Runner processes that there should be.", of_runners["wanted"]),
-        ("nagsched_runners_stuck", "Runner processes that stand still: a result is later than its limit allows.", of_runners["stuck"]),
-        ("nagsched_runner_waiting", "Checks that wait for their runner.", of_runners["waiting"]),
-    )
-    return [family(name, "gauge", help_text, samples, site) for name, help_text, samples in families]
-
-
-def object_families(status: SiteStatus, groups: Mapping[str, Groups], site: str) -> List[List[str]]:
-    """The state of each object that was checked. Soft problems and flapping objects have one more series."""
-    states: List[Sample] = []
-    soft: List[Sample] = []
-    flapping: List[Sample] = []
-    for it in status.objects:
-        labels = labels_of(it.name, groups)
-        if it.state in STATES:
-            states.append(("", labels, STATES[str(it.state)]))
-        if it.is_problem() and it.kind == "SOFT":
-            soft.append(("", labels, 1))
-        if it.flapping:
-            flapping.append(("", labels, 1))
+def counted(status: SiteStatus) -> List[Family]:
+    """The facts in the database."""
+    figures, saved = status.figures, status.figures.get("saved_at")
+    results: List[Sample] = [("", {"result": result}, figures.get(f"checks.{result}", 0)) for result in RESULTS]
+    objects: List[Sample] = [("", {"state": state, "kind": kind}, count) for (state, kind), count in sorted(status.state_counts().items())]
     return [
-        family("nagsched_state", "gauge", "Of a service 0 OK, 1 WARNING, 2 CRITICAL, 3 UNKNOWN; of a host 0 UP, 1 DOWN, 2 UNREACHABLE.", states, site),
-        family("nagsched_soft", "gauge", "1 for each object whose problem is soft.", soft, site),
-        family("nagsched_flapping", "gauge", "1 for each object that flaps.", flapping, site),
+        ("nagsched_checks_total", "counter", "Results that were reported, by the state of the object or why there is none.", results),
+        ("nagsched_check_latency_seconds", "histogram", "How late checks began.", latency(figures)),
+        ("nagsched_due", "gauge", "Objects whose time has come and whose check hasn't begun.", status.due_count()),
+        ("nagsched_out", "gauge", "Objects whose plugins run.", len(status.running_checks())),
+        ("nagsched_objects", "gauge", "Objects by state and kind.", objects),
+        ("nagsched_calls_total", "counter", "Calls that were made of the scheduler.", figures.get("calls", 0)),
+        ("nagsched_saves_total", "counter", "States of the scheduler that were saved.", figures.get("saves", 0)),
+        ("nagsched_seconds_since_save", "gauge", "Seconds since the state was saved last.", None if saved is None else round(max(0.0, status.now - saved), 3)),
+        ("nagsched_faults_total", "counter", "Turns that ended with a fault of the monitor's own.", figures.get("faults", 0)),
+    ]
+
+
+def signs_of_life(status: SiteStatus, signs: Signs) -> List[Family]:
+    """The signs of life of the monitor. Most of them are missing while it gives no answer."""
+    def of_runners(what: str) -> List[Sample]:
+        return [("", {"runner": name}, float(its[what])) for name, its in signs.get("runners", {}).items()]
+
+    last_turn = signs.get("turn", status.figures.get("written_at"))
+    return [
+        ("nagsched_up", "gauge", "1 if the monitor answers, 0 if it doesn't.", bool(signs)),
+        ("nagsched_last_turn_timestamp_seconds", "gauge", "When the last turn of the monitor's loop began that could be stored.", last_turn),
+        ("nagsched_stuck", "gauge", "1 while nothing can be stored, so that no check is made.", signs.get("is_stuck")),
+        ("nagsched_passive_waiting", "gauge", "Passive results that wait to be reported.", signs.get("passive_waiting")),
+        ("nagsched_changes_waiting", "gauge", "Changes that the command for changes hasn't taken.", signs.get("changes_waiting")),
+        ("nagsched_oldest_change_seconds", "gauge", "How long the oldest of these has waited.", signs.get("oldest_change")),
+        ("nagsched_runners", "gauge", "Runner processes that run.", of_runners("running")),
+        ("nagsched_runners_wanted", "gauge", "Runner processes that there should be.", of_runners("wanted")),
+        ("nagsched_runners_stuck", "gauge", "Runner processes that stand still: a result is later than its limit allows.", of_runners("stuck")),
+        ("nagsched_runner_waiting", "gauge", "Checks that wait for their runner.", of_runners("waiting")),
+    ]
+
+
+def of_objects(status: SiteStatus, groups: Mapping[str, Groups]) -> List[Family]:
+    """The state of each object that was checked. Soft problems and flapping objects have one more series."""
+    labelled = [(it, labels_of(it.name, groups)) for it in status.objects]
+    states: List[Sample] = [("", labels, STATES[str(it.state)]) for it, labels in labelled if it.state in STATES]
+    soft: List[Sample] = [("", labels, 1) for it, labels in labelled if it.is_problem() and it.kind == "SOFT"]
+    flapping: List[Sample] = [("", labels, 1) for it, labels in labelled if it.flapping]
+    return [
+        ("nagsched_state", "gauge", "Of a service 0 OK, 1 WARNING, 2 CRITICAL, 3 UNKNOWN; of a host 0 UP, 1 DOWN, 2 UNREACHABLE.", states),
+        ("nagsched_soft", "gauge", "1 for each object whose problem is soft.", soft),
+        ("nagsched_flapping", "gauge", "1 for each object that flaps.", flapping),
     ]
 
 
 def metrics(status: SiteStatus, groups: Mapping[str, Groups], signs: Signs, site: str) -> str:
     """All families."""
-    figures = status.figures
-    results: List[Sample] = [("", {"result": result}, figures.get(f"checks.{result}", 0)) for result in RESULTS]
-    objects: List[Sample] = [("", {"state": state, "kind": kind}, count) for (state, kind), count in sorted(status.state_counts().items())]
-    saved = figures.get("saved_at")
-    since = [] if saved is None else single_sample(round(max(0.0, status.now - saved), 3))
-    families = [family(name, kind, help_text, samples, site) for name, kind, help_text, samples in (
-        ("nagsched_checks_total", "counter", "Results that were reported, by the state of the object or why there is none.", results),
-        ("nagsched_check_latency_seconds", "histogram", "How late checks began.", latency(figures)),
-        ("nagsched_due", "gauge", "Objects whose time has come and whose check hasn't begun.", single_sample(status.due_count())),
-        ("nagsched_out", "gauge", "Objects whose plugins run.", single_sample(len(status.running_checks()))),
-        ("nagsched_objects", "gauge", "Objects by state and kind.", objects),
-        ("nagsched_calls_total", "counter", "Calls that were made of the scheduler.", single_sample(figures.get("calls", 0))),
-        ("nagsched_saves_total", "counter", "States of the scheduler that were saved.", single_sample(figures.get("saves", 0))),
-        ("nagsched_seconds_since_save", "gauge", "Seconds since the state was saved last.", since),
-        ("nagsched_faults_total", "counter", "Turns that ended with a fault of the monitor's own.", single_sample(figures.get("faults", 0))),
-    )]
-    return "".join(f"{line}\n" for lines in (*families, *signs_families(status, signs, site), *object_families(status, groups, site)) for line in lines)
+    return "".join(f"{line}\n" for each in (*counted(status), *signs_of_life(status, signs), *of_objects(status, groups)) for line in family(*each, site))
 
 
 def status_document(status: SiteStatus, groups: Mapping[str, Groups], site: str) -> Dict[str, Any]:

@@ -1,7 +1,6 @@
 """The blocks of Nagios's status file: the facts of a site's setup and its table of standings, as members that Nagios's pages read."""
-import json
 from dataclasses import dataclass, field
-from typing import Any, Dict, List, Mapping, Optional, Tuple
+from typing import Any, Dict, Iterable, List, Mapping
 
 from ..store.rows import StoredStanding
 
@@ -30,6 +29,10 @@ NO_STATS = ("active_ondemand_host_check", "active_ondemand_service_check", "cach
             "serial_host_check", "external_command")
 
 
+# The content of a file of a site.
+Document = Mapping[str, Any]
+
+
 @dataclass
 class Settings:
     """The settings of an object, by the site's files."""
@@ -54,15 +57,23 @@ class Program:
     last_times: Dict[str, Dict[str, float]] = field(default_factory=dict)
 
 
-def settings_of(setup: Mapping[str, Any]) -> Dict[str, Settings]:
-    """The settings of a setup's objects, by their full names."""
-    settings = {host["name"]: object_settings(host) for host in setup.get("hosts", ())}
-    settings.update((f"{it['host']};{it['description']}", object_settings(it)) for it in setup.get("services", ()))
+def settings_of(setups: Iterable[Document], commands: Document, periods: Document, passive: Document) -> Dict[str, Settings]:
+    """The settings of all objects by their full names, by the setups and the other files of a site."""
+    settings = {}
+    period_of = periods.get("objects", {})
+    for setup in setups:
+        for it in (*setup.get("hosts", ()), *setup.get("services", ())):
+            name = f"{it['host']};{it['description']}" if "host" in it else it["name"]
+            intervals = it.get("check_interval", 5), it.get("retry_interval", 1)
+            is_passive = passive.get(name, {}).get("only", False)
+            settings[name] = Settings(*intervals, it["max_check_attempts"], command_name(commands.get(name, {})), period_of.get(name, ""), is_passive)
     return settings
 
 
-def object_settings(members: Mapping[str, Any]) -> Settings:
-    return Settings(members.get("check_interval", 5), members.get("retry_interval", 1), members["max_check_attempts"])
+def command_name(members: Document) -> str:
+    """The program of a command, without its folder. Its arguments aren't written: they may contain passwords."""
+    words = str(members.get("line", "")).split(maxsplit=1)
+    return printable_text(words[0].rpartition("/")[2]) if words and "=" not in words[0] else ""
 
 
 def printable_text(text: str) -> str:
@@ -71,62 +82,46 @@ def printable_text(text: str) -> str:
     return text if text.isprintable() else text.translate(PLAIN)
 
 
-def whole_seconds(time: Optional[float]) -> int:
-    """A time in whole seconds, as in Nagios; a missing time is 0."""
-    return 0 if time is None else int(time)
-
-
 def status_file(program: Program, settings: Mapping[str, Settings], standings: List[StoredStanding], now: float) -> str:
     """The whole file."""
     hosts = [kept for kept in standings if ";" not in kept.name]
     services = [kept for kept in standings if ";" in kept.name]
-    nothing = Settings()
-    blocks = [info_block(now), program_block(program, hosts, services, settings, now)]
-    blocks += [object_block(program, settings.get(kept.name, nothing), kept, now) for kept in (*hosts, *services)]
-    return "\n".join(blocks)
-
-
-def info_block(now: float) -> str:
-    return f"info {{\n\tcreated={int(now)}\n\tversion=4.4.6\n\tlast_update_check=0\n\tupdate_available=0\n\tlast_version=\n\tnew_version=\n\t}}\n"
-
-
-def check_counts(standings: List[StoredStanding], now: float) -> str:
-    """The number of these objects that were checked within each of the spans."""
-    times = [kept.last_check for kept in standings if kept.last_check is not None]
-    return ",".join(str(sum(time > now - span for time in times)) for span in SPANS)
+    info = {"created": int(now), "version": "4.4.6", "last_update_check": 0, "update_available": 0, "last_version": "", "new_version": ""}
+    objects = [object_block(program, settings.get(kept.name, Settings()), kept, now) for kept in (*hosts, *services)]
+    return "\n".join([block("info", info), program_block(program, hosts, services, settings, now), *objects])
 
 
 def block(kind: str, members: Mapping[str, object]) -> str:
-    lines = "".join(f"\t{name}={value}\n" for name, value in members.items())
+    lines = "".join([f"\t{name}={value}\n" for name, value in members.items()])
     return f"{kind} {{\n{lines}\t}}\n"
 
 
 def program_block(program: Program, hosts: List[StoredStanding], services: List[StoredStanding], settings: Mapping[str, Settings], now: float) -> str:
-    nothing = Settings()
-    checked = {
-        f"{how}_{what}_check_stats": check_counts([kept for kept in all_of if settings.get(kept.name, nothing).is_passive == passive], now)
-        for what, all_of in (("host", hosts), ("service", services))
-        for how, passive in (("active_scheduled", False), ("passive", True))
-    }
+    """The monitor itself, and how many objects were checked within each of the spans."""
+    checked = {}
+    for what, all_of in (("host", hosts), ("service", services)):
+        for how, is_passive in (("active_scheduled", False), ("passive", True)):
+            times = [kept.last_check or 0 for kept in all_of if settings.get(kept.name, Settings()).is_passive == is_passive]
+            checked[f"{how}_{what}_check_stats"] = ",".join(str(sum(time > now - span for time in times)) for span in SPANS)
     own = {"nagios_pid": program.process, "program_start": program.started_at, "enable_notifications": int(program.has_notifications),
            "global_host_event_handler": "", "global_service_event_handler": ""}
     return block("programstatus", {**OF_PROGRAM, **own, **checked, **{f"{each}_stats": "0,0,0" for each in NO_STATS}})
 
 
-def split_output(words: str) -> Tuple[str, str, str]:
+def output_members(words: str) -> Dict[str, str]:
     """A plugin's output, its long output with each line feed as two letters, and its performance data."""
     first, _, others = words.partition("\n")
     output, _, performance = first.partition("|")
     long_output, _, more = others.partition("|")
-    return output, "\\n".join(printable_text(line) for line in long_output.rstrip("\n").split("\n")), f"{performance} {more}".strip()
+    lines = [printable_text(line) for line in long_output.rstrip("\n").split("\n")]
+    return {"plugin_output": printable_text(output), "long_plugin_output": "\\n".join(lines), "performance_data": printable_text(f"{performance} {more}")}
 
 
 def object_block(program: Program, its: Settings, kept: StoredStanding, now: float) -> str:
-    """The block of a host or a service."""
+    """The block of a host or a service. Times are whole seconds, and a missing time is 0."""
     host, is_service, description = kept.name.partition(";")
     states = SERVICE_STATES if is_service else HOST_STATES
     state = states.get(kept.state or "", 0)
-    output, long_output, performance = split_output(kept.words)
     left = program.last_times.get(kept.name, {})
     return block("servicestatus" if is_service else "hoststatus", {
         "host_name": host, **({"service_description": description} if is_service else {}),
@@ -134,36 +129,13 @@ def object_block(program: Program, its: Settings, kept: StoredStanding, now: flo
         "has_been_checked": int(kept.state not in (None, "PENDING")), "should_be_scheduled": int(kept.next_check is not None and bool(kept.is_on)),
         "check_execution_time": f"{kept.took or 0:.3f}", "check_latency": f"{kept.late or 0:.3f}", "check_type": int(its.is_passive),
         "current_state": state, "last_hard_state": state if kept.kind == "HARD" else 0,
-        "plugin_output": printable_text(output), "long_plugin_output": long_output, "performance_data": printable_text(performance),
-        "last_check": whole_seconds(kept.last_check), "next_check": whole_seconds(kept.next_check),
+        **output_members(kept.words),
+        "last_check": int(kept.last_check or 0), "next_check": int(kept.next_check or 0),
         "current_attempt": kept.attempt or 1, "max_attempts": its.max_attempts, "state_type": int(kept.kind != "SOFT"),
-        "last_state_change": whole_seconds(kept.since), "last_hard_state_change": whole_seconds(kept.hard_since),
-        **{f"last_time_{word.lower()}": whole_seconds(kept.last_check if word == kept.state else left.get(word)) for word in states},
+        "last_state_change": int(kept.since or 0), "last_hard_state_change": int(kept.hard_since or 0),
+        **{f"last_time_{word.lower()}": int((kept.last_check if word == kept.state else left.get(word)) or 0) for word in states},
         "notifications_enabled": int(program.has_notifications), "active_checks_enabled": int(kept.is_on), "passive_checks_enabled": 1,
         "flap_detection_enabled": 1,
         "last_update": int(now), "is_flapping": int(kept.flapping), "percent_state_change": "0.00", "notification_period": "", "event_handler": "",
         **dict.fromkeys(ZEROS, 0),
     })
-
-
-def command_names(document: Mapping[str, Any]) -> Dict[str, str]:
-    """The program of each object's command, without its folder. Its arguments aren't written: they may contain passwords."""
-    names = {}
-    for name, members in document.items():
-        words = str(members.get("line", "")).split(maxsplit=1)
-        if words and "=" not in words[0]:
-            names[name] = printable_text(words[0].rpartition("/")[2])
-    return names
-
-
-def add_file_settings(settings: Dict[str, Settings], commands: bytes, periods: bytes, passive: bytes) -> None:
-    """Adds the settings of the other files of a site. Each file may be empty."""
-    for name, command in command_names(json.loads(commands or b"{}")).items():
-        if name in settings:
-            settings[name].command = command
-    for name, period in json.loads(periods or b"{}").get("objects", {}).items():
-        if name in settings:
-            settings[name].period = period
-    for name, members in json.loads(passive or b"{}").items():
-        if name in settings:
-            settings[name].is_passive = members.get("only", False)

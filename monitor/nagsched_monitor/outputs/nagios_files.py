@@ -4,6 +4,7 @@ It is a process next to the monitor. Its arguments are the site's folder, the fo
 database, and sends requests to the monitor through its socket.
 """
 import collections
+import itertools
 import json
 import os
 import pathlib
@@ -16,9 +17,9 @@ from typing import Deque, Dict, List, Optional, Sequence, Tuple
 from ..faults import MonitorFault, RequestFault
 from ..inputs import control
 from ..inputs.nagios_pipe import Pipe, Request, requests_of
-from ..program.helper_process import ignore_signals
+from ..program.helper_process import ignore_signals, is_ended
 from ..store.rows import StoredStanding
-from .nagios_blocks import Program, Settings, add_file_settings, settings_of, status_file
+from .nagios_blocks import Document, Program, Settings, settings_of, status_file
 from .status_query import MEMBERS, StatusUnavailable, open_database, read_standings
 
 # How often the status file is written, and the longest pause before waiting requests are sent again, in seconds.
@@ -38,9 +39,10 @@ class StatusReader:
     """The parts of the database and the files of a site that the status file needs."""
 
     def __init__(self, site: pathlib.Path, program: Program) -> None:
-        self._site, self._program = site, program
-        self._setups: Dict[int, bytes] = {}
-        self._files: Tuple[bytes, ...] = ()
+        self._site, self.program = site, program
+        self._seen: Tuple[object, ...] = ()
+        # The contents of the files as they were last without a fault.
+        self._documents: Sequence[Document] = ({}, {}, {})
         self._last_change = 0
         self._last_state: Dict[str, str] = {}
         self.settings: Dict[str, Settings] = {}
@@ -55,40 +57,40 @@ class StatusReader:
     def _read_settings(self, database: sqlite3.Connection) -> None:
         """Reads the setups and the other files of the site, if they have changed."""
         setups = dict(database.execute("SELECT part, setup FROM generations ORDER BY id"))
-        files = tuple(path.read_bytes() if path.exists() else b"" for path in (self._site / name for name in FILES))
-        if setups == self._setups and files == self._files:
+        files = [path.read_bytes() if path.exists() else b"" for path in (self._site / name for name in FILES)]
+        if self._seen == (setups, files):
             return
-        settings: Dict[str, Settings] = {}
-        for setup in setups.values():
-            settings.update(settings_of(json.loads(setup)))
+        self._seen, parts = (setups, files), [json.loads(setup) for setup in setups.values()]
         try:
-            add_file_settings(settings, *files)
+            documents = [json.loads(file or b"{}") for file in files]
+            self.settings = settings_of(parts, *documents)
+            self._documents = documents
         except (ValueError, AttributeError) as error:
             log(f"the files of the site are half read: {error}")  # they are being edited, and weren't reloaded
-        self._setups, self._files, self.settings = setups, files, settings
+            self.settings = settings_of(parts, *self._documents)
 
     def _read_changes(self, database: sqlite3.Connection) -> None:
         """Reads the times at which objects left a state, from the new changes."""
         for number, moment, name, state in database.execute("SELECT id, time, name, state FROM changes WHERE id > ? ORDER BY id", (self._last_change,)):
             before = self._last_state.get(name, "OK" if ";" in name else "UP")
             if before != state:
-                self._program.last_times.setdefault(name, {})[before] = moment
+                self.program.last_times.setdefault(name, {})[before] = moment
             self._last_state[name], self._last_change = state, number
 
 
 class NagiosFiles:
     """The files of one site, while this process updates them."""
 
-    def __init__(self, site: pathlib.Path, folder: pathlib.Path, notifies: bool, every: float = EVERY) -> None:
-        self._site, self._folder, self._every = site, folder, every
+    def __init__(self, site: pathlib.Path, folder: pathlib.Path, notifies: bool) -> None:
+        self._site, self._folder = site, folder
         folder.mkdir(parents=True, exist_ok=True)
-        self._program = Program(os.getppid(), int(time.time()), notifies)
-        self._reader = StatusReader(site, self._program)
+        self._reader = StatusReader(site, Program(os.getppid(), int(time.time()), notifies))
         self._pipe = Pipe(folder)
         self._waiting: Deque[Tuple[str, Request]] = collections.deque()
         self._services: Dict[str, List[str]] = {}
         self._fault: Optional[str] = None
-        self._mark, self._count = f"pipe-{os.getpid()}-{time.time_ns()}", 0
+        # Each request has a number of its own, so that it isn't obeyed twice when it is sent twice.
+        self._numbers = map(f"pipe-{os.getpid()}-{time.time_ns()}-{{}}".format, itertools.count(1))
 
     def run(self) -> None:
         """Works until its standard input ends."""
@@ -97,12 +99,12 @@ class NagiosFiles:
             now = time.monotonic()
             if now >= next_write:
                 self.write()
-                next_write = now + self._every
+                next_write = now + EVERY
             # While requests wait for the monitor, no more are read: the pipe holds them.
             files = [sys.stdin.fileno(), *([] if self._waiting else [self._pipe.file])]
             left = max(0.0, next_write - time.monotonic())
             ready, _, _ = select.select(files, [], [], min(PAUSE, left) if self._waiting else left)
-            if sys.stdin.fileno() in ready and not os.read(sys.stdin.fileno(), 4096):
+            if is_ended(0):
                 break
             if self._pipe.file in ready:
                 self.read_commands(self._pipe.read())
@@ -115,47 +117,44 @@ class NagiosFiles:
 
     def write(self) -> None:
         """Writes the status file again; if that fails, the old one stays."""
+        fault = None
         try:
             standings = self._reader.read()
             self._services = services_by_host(standings)
-            replace_file(self._folder / "status.dat", status_file(self._program, self._reader.settings, standings, time.time()).encode(errors="replace"))
-            fault = None
+            text = status_file(self._reader.program, self._reader.settings, standings, time.time())
+            replace_file(self._folder / "status.dat", text.encode(errors="replace"))
         except (OSError, StatusUnavailable, ValueError) as error:
             fault = f"status.dat isn't written: {error}"
-        if fault is not None and fault != self._fault:
-            log(fault)
+            if fault != self._fault:
+                log(fault)
         self._fault = fault
 
     # ---- the pipe
 
     def read_commands(self, lines: Sequence[bytes]) -> None:
-        """Takes in lines of the pipe, and logs each one that isn't obeyed. Each request has a number, so that it isn't obeyed twice when it is sent twice."""
+        """Takes in lines of the pipe, and logs each one that isn't obeyed."""
         for line in lines:
             try:
                 name, requests = requests_of(line, self._services)
+                self._waiting.extend((name, {**request, "number": next(self._numbers)}) for request in requests)
             except RequestFault as fault:
                 log(str(fault))
-                continue
-            for request in requests:
-                self._count += 1
-                self._waiting.append((name, {**request, "number": f"{self._mark}-{self._count}"}))
 
     def send_requests(self) -> None:
         """Has the monitor obey the waiting requests. Requests that it doesn't answer, or can't obey now, are sent again."""
         while self._waiting:
-            some = [self._waiting[place] for place in range(min(AT_ONCE, len(self._waiting)))]
+            some = list(itertools.islice(self._waiting, AT_ONCE))
             try:
                 answers = control.send_requests(self._site, [json.dumps(request, ensure_ascii=False).encode(errors="replace") for _, request in some])
             except MonitorFault:
                 return  # it begins, ends or reads its site; the request is sent again
             again = []
-            for asked, answer in zip(some, answers):
+            for asked, answer in zip(some, map(json.loads, answers)):
                 self._waiting.popleft()
-                reply = json.loads(answer)
-                if reply.get("again", False):
+                if answer.get("again", False):
                     again.append(asked)
-                elif "error" in reply:
-                    log(f"{asked[0]}: {asked[1].get('name', '')}: {reply['error']}")
+                elif "error" in answer:
+                    log(f"{asked[0]}: {asked[1].get('name', '')}: {answer['error']}")
             self._waiting.extendleft(reversed(again))
             if again or len(answers) < len(some):
                 return
@@ -163,11 +162,10 @@ class NagiosFiles:
 
 def services_by_host(standings: Sequence[StoredStanding]) -> Dict[str, List[str]]:
     """The services of each host."""
-    services: Dict[str, List[str]] = {kept.name: [] for kept in standings if ";" not in kept.name}
+    services: Dict[str, List[str]] = {}
     for kept in standings:
         host, is_service, description = kept.name.partition(";")
-        if is_service:
-            services.setdefault(host, []).append(description)
+        services.setdefault(host, []).extend([description] if is_service else [])
     return services
 
 

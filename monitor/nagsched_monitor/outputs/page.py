@@ -7,8 +7,8 @@
 Its arguments are its address, the site's folder, and the names by which it is reached. It asks nobody for a password, so use an address that others reach
 only in a trusted network. A request whose `Host` is neither an address nor one of the names is refused: another site's page can make a browser send one.
 """
+import contextlib
 import datetime
-import http
 import http.server
 import ipaddress
 import json
@@ -16,19 +16,17 @@ import pathlib
 import socket
 import socketserver
 import sys
-import threading
 import time
 import urllib.parse
+from http import HTTPStatus
 from typing import Any, Dict, Optional, Sequence, Tuple
 
-from . import html_pages
-
 from ..faults import MonitorFault, SiteFault
-from ..program.helper_process import ignore_signals, is_ended
 from ..program.addresses import parse_address
+from ..program.helper_process import ignore_signals, is_ended
 from ..site.groups_file import GroupsFile
 from ..site.site import read_options
-from . import metrics
+from . import html_pages, metrics
 from .status_query import StatusUnavailable, read_object, read_site_status
 from .style import HEADERS
 
@@ -59,28 +57,24 @@ class Handler(http.server.BaseHTTPRequestHandler):
     server: "Server"
 
     def do_GET(self) -> None:
+        if not is_allowed_host(self.headers.get("Host"), self.server.names):
+            return self.send_error(HTTPStatus.MISDIRECTED_REQUEST)
         path, _, query = self.path.partition("?")
         try:
-            if not is_allowed_host(self.headers.get("Host"), self.server.names):
-                raise MonitorFault
-            kind, body = self.server.site.document(path, query)
+            self._send(HTTPStatus.OK, *self.server.site.document(path, query))
         except StatusUnavailable as fault:
-            self._send(http.HTTPStatus.SERVICE_UNAVAILABLE, PLAIN, f"{fault}\n")
+            self._send(HTTPStatus.SERVICE_UNAVAILABLE, PLAIN, f"{fault}\n")
         except KeyError:
-            self.send_error(http.HTTPStatus.NOT_FOUND)
-        except MonitorFault:
-            self.send_error(http.HTTPStatus.MISDIRECTED_REQUEST)
-        else:
-            self._send(http.HTTPStatus.OK, kind, body)
+            self.send_error(HTTPStatus.NOT_FOUND)
 
     do_HEAD = do_GET
 
-    def _send(self, status: http.HTTPStatus, kind: str, body: str) -> None:
+    def _send(self, status: HTTPStatus, kind: str, body: str) -> None:
         data = body.encode(errors="replace")
         self.send_response(status)
         for name, value in {**HEADERS, "Content-Type": kind, "Content-Length": str(len(data)), "Connection": "close"}.items():
             self.send_header(name, value)
-        if status == http.HTTPStatus.METHOD_NOT_ALLOWED:
+        if status == HTTPStatus.METHOD_NOT_ALLOWED:
             self.send_header("Allow", "GET, HEAD")
         self.end_headers()
         if self.command != "HEAD":
@@ -90,7 +84,7 @@ class Handler(http.server.BaseHTTPRequestHandler):
     def send_error(self, code: int, message: Optional[str] = None, explain: Optional[str] = None) -> None:
         """A refusal: one line, which contains nothing that came with the request."""
         self.close_connection = True
-        status = http.HTTPStatus.METHOD_NOT_ALLOWED if code == http.HTTPStatus.NOT_IMPLEMENTED else http.HTTPStatus(code)
+        status = HTTPStatus.METHOD_NOT_ALLOWED if code == HTTPStatus.NOT_IMPLEMENTED else HTTPStatus(code)
         self._send(status, PLAIN, f"{status.value} {status.phrase}\n")
 
     def version_string(self) -> str:
@@ -111,10 +105,8 @@ class SiteFolder:
 
     def zone(self) -> Optional[datetime.tzinfo]:
         """The zone of the site; if its file is faulty now, the zone before."""
-        try:
+        with contextlib.suppress(SiteFault):
             _, self._zone = read_options(self._folder)
-        except SiteFault:
-            return self._zone
         return self._zone
 
     def document(self, path: str, query: str) -> Tuple[str, str]:
@@ -135,64 +127,48 @@ class SiteFolder:
         raise KeyError(path)
 
 
-class Server(http.server.ThreadingHTTPServer):
+class Server(socketserver.ThreadingTCPServer):
     """The server of a page: a thread for each client, up to a limit."""
 
-    daemon_threads = True
+    allow_reuse_address = daemon_threads = True
     request_queue_size = MOST_CLIENTS
+    # The longest wait for a client before the next look at late ones and at the monitor, in seconds.
+    timeout = 0.5
 
     def __init__(self, place: Tuple[str, int], site: SiteFolder, names: Sequence[str] = ()) -> None:
         self.address_family = socket.AF_INET6 if ":" in place[0] else socket.AF_INET
         self.site, self.names = site, [name.lower() for name in names]
+        # When each open connection began. Only the server's own thread adds some, and each thread removes its own.
         self._started_at: Dict[Any, float] = {}
-        self._lock = threading.Lock()
         super().__init__(place, Handler)
 
-    def server_bind(self) -> None:
-        """Binds, and sends no query to a name server."""
-        socketserver.TCPServer.server_bind(self)
-        self.server_name, self.server_port = self.server_address[0], self.server_address[1]  # type: ignore[assignment]
-
     def url(self) -> str:
-        host = f"[{self.server_name}]" if self.address_family == socket.AF_INET6 else self.server_name
-        return f"http://{host}:{self.server_port}/"
+        host, port = str(self.server_address[0]), self.server_address[1]
+        return f"http://{f'[{host}]' if ':' in host else host}:{port}/"
 
     def process_request(self, request: Any, client_address: Any) -> None:
-        with self._lock:
-            is_room = len(self._started_at) < MOST_CLIENTS
-            if is_room:
-                self._started_at[request] = time.monotonic()
-        if is_room:
+        if len(self._started_at) < MOST_CLIENTS:
+            self._started_at[request] = time.monotonic()
             super().process_request(request, client_address)
         else:
             self.shutdown_request(request)
 
     def shutdown_request(self, request: Any) -> None:
-        with self._lock:
-            self._started_at.pop(request, None)
+        self._started_at.pop(request, None)
         super().shutdown_request(request)
 
     def service_actions(self) -> None:
         """Closes connections of clients that take too long."""
-        with self._lock:
-            late = [request for request, begun in self._started_at.items() if time.monotonic() - begun > LONGEST_REQUEST]
-        for request in late:
-            try:
-                request.shutdown(socket.SHUT_RDWR)
-            except OSError:
-                continue  # it has just ended
+        for request, begun in list(self._started_at.items()):
+            if time.monotonic() - begun > LONGEST_REQUEST:
+                with contextlib.suppress(OSError):  # it has just ended
+                    request.shutdown(socket.SHUT_RDWR)
 
     def handle_error(self, request: Any, client_address: Any) -> None:
         """A failed request is a line of the log, unless its client has gone or sends nothing."""
         fault = sys.exc_info()[1]
         if not isinstance(fault, OSError):
             print(f"the page: {type(fault).__name__}: {fault}", file=sys.stderr, flush=True)
-
-
-def end_with_monitor(server: Server) -> None:
-    while not is_ended(None):
-        pass
-    server.shutdown()
 
 
 def main() -> int:
@@ -204,7 +180,8 @@ def main() -> int:
         print(f"the page on {place}: {fault}", file=sys.stderr)
         return 1
     print(f"the page is at {server.url()}", flush=True)
-    threading.Thread(target=end_with_monitor, args=(server,), daemon=True).start()
-    server.serve_forever()
+    while not is_ended(0):
+        server.handle_request()
+        server.service_actions()
     server.server_close()
     return 0

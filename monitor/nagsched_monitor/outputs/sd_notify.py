@@ -1,4 +1,5 @@
 """Messages to a service manager such as systemd: the monitor is ready, is alive, or ends. Each is a datagram to its socket."""
+import contextlib
 import os
 import socket
 import time
@@ -40,7 +41,5 @@ class ServiceManager:
         address = f"\0{self._address[1:]}" if self._address.startswith("@") else self._address
         with socket.socket(socket.AF_UNIX, socket.SOCK_DGRAM | socket.SOCK_CLOEXEC) as there:
             there.setblocking(False)
-            try:
+            with contextlib.suppress(OSError):  # the manager is gone, or doesn't read: monitoring continues without it
                 there.sendto(lines.encode(), address)
-            except OSError:
-                pass  # the manager is gone, or doesn't read: monitoring continues without it

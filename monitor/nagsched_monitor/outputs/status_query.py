@@ -1,10 +1,11 @@
 """A site as other processes show it, read from its database, which is opened for reading only."""
+import collections
 import pathlib
 import sqlite3
 import time
 from contextlib import closing, contextmanager
 from dataclasses import dataclass
-from typing import Dict, Iterator, List, Mapping, Optional, Sequence, Tuple
+from typing import Counter, Iterator, List, Mapping, Optional, Sequence, Tuple
 
 from ..store.rows import StoredChange, StoredStanding
 
@@ -47,13 +48,9 @@ class SiteStatus:
     def due_count(self) -> int:
         return sum(it.is_due(self.now) for it in self.objects)
 
-    def state_counts(self) -> Dict[Tuple[str, str], int]:
+    def state_counts(self) -> Counter[Tuple[str, str]]:
         """The number of objects of each state and kind."""
-        counts: Dict[Tuple[str, str], int] = {}
-        for it in self.objects:
-            key = str(it.state), it.kind or "NONE"
-            counts[key] = counts.get(key, 0) + 1
-        return counts
+        return collections.Counter((str(it.state), it.kind or "NONE") for it in self.objects)
 
     def silent_seconds(self) -> Optional[float]:
         """The seconds for which the monitor has written nothing, if it counts as silent; None while it is at work."""
@@ -103,12 +100,12 @@ def read_site_status(folder: pathlib.Path, condition: str = "", *cells: str) -> 
 def read_object(folder: pathlib.Path, name: str) -> Optional[ObjectStatus]:
     """An object of a site; None if no object has this name."""
     now = time.time()
+
+    def read_changes(condition: str, most: int) -> List[StoredChange]:
+        query = f"SELECT {CHANGE} FROM changes WHERE name = ? AND time {condition} ? ORDER BY id DESC LIMIT {most}"
+        return [StoredChange(*row) for row in database.execute(query, (name, now - DAY))]
+
     with open_database(folder) as database:
         found = read_standings(database, MEMBERS, "WHERE name = ?", name)
-        rows = [
-            [StoredChange(*row) for row in database.execute(f"SELECT {CHANGE} FROM changes WHERE name = ? AND time {side} ? ORDER BY id DESC LIMIT {most}",
-                                                          (name, now - DAY))]
-            for side, most in ((">=", MOST_CHANGES + 1), ("<", 1))
-        ]
-    lately, before = rows
+        lately, before = read_changes(">=", MOST_CHANGES + 1), read_changes("<", 1)
     return ObjectStatus(now, found[0], before[0] if before else None, lately[:MOST_CHANGES][::-1], len(lately) > MOST_CHANGES) if found else None

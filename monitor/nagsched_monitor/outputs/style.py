@@ -1,9 +1,13 @@
-"""The style of the page, and the headers that keep everything else out of it.
+"""The style of the page, how states and texts are written in it, and the headers that keep everything else out of it.
 
 The colours are those of Okabe and Ito, which colour-blind people can distinguish. Hard problems are filled, soft ones have a dashed edge, and each has a word.
 """
 import base64
 import hashlib
+import html
+from typing import Optional, Tuple
+
+from ..core.text import CONTROLS
 
 STYLE = """
 :root{color-scheme:light dark;--back:#fff;--text:#16181d;--faint:#59606e;--line:#d5d8df;--card:#f3f4f7;--link:#0a4f9c;--grey:#6b7280}
@@ -47,3 +51,14 @@ HEADERS = {
 }
 # state: the class of its colour
 CLASSES = {"OK": "up", "UP": "up", "WARNING": "warn", "CRITICAL": "down", "DOWN": "down", "UNKNOWN": "unknown", "UNREACHABLE": "far"}
+
+
+def look_of(state: Optional[str], kind: Optional[str]) -> Tuple[str, str]:
+    """The class of a state's colour, and whether it is a soft or a hard problem."""
+    name = CLASSES.get(state or "", "none")
+    return name, "" if name in ("up", "none") else "soft" if kind == "SOFT" else "hard"
+
+
+def html_text(given: str) -> str:
+    """A text as HTML, without control characters."""
+    return html.escape(CONTROLS.sub("\ufffd", given))

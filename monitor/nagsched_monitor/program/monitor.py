@@ -65,6 +65,10 @@ class Monitor:
         self.loop.after = [self._log_changes, self._apply_reload, self._serve_clients]
         self.loop.chores = [self._drop_old_changes, self._service_manager.notify_alive, *(process.work for process in self._helpers)]
 
+    @property
+    def site(self) -> Site:
+        return self.scheduling.site
+
     def _make_helpers(self, arguments: argparse.Namespace) -> List[HelperProcess]:
         """The processes next to the monitor that its options ask for."""
         folder, asked = str(arguments.folder), []
@@ -106,10 +110,11 @@ class Monitor:
     def run(self) -> int:
         """Works until it is asked to stop; returns the exit status."""
         self._install_signal_handlers()
-        self.log(f"begins: {len(self.engine.site.objects)} objects, {len(self.engine.site.setups)} parts")
-        for line in changes.problem_lines([(obj.name, obj.standing) for obj in self.engine.objects.values() if obj.standing]):
-            self.log(f"at the start {line}")
-        self._service_manager.notify_ready(f"{len(self.engine.site.objects)} objects")
+        self.log(f"begins: {len(self.site.objects)} objects, {len(self.site.setups)} parts")
+        for obj in self.engine.objects.values():
+            if obj.standing is not None and obj.standing.is_problem():
+                self.log(f"at the start {obj.name} is {obj.standing.state} {obj.standing.kind} {obj.standing.attempt}")
+        self._service_manager.notify_ready(f"{len(self.site.objects)} objects")
         return self.loop.run()
 
     def _serve_clients(self) -> Optional[int]:
@@ -120,7 +125,7 @@ class Monitor:
     def _log_changes(self) -> Optional[int]:
         """Logs the changes of the turn, and has the command run for them."""
         for change in self.scheduling.pop_changes():
-            self.log(changes.change_line(change, self.engine.site.zone))
+            self.log(changes.change_line(change, self.site.zone))
         self._notifier.work()
         return self.clock.moment() + BUSY_WAIT if self._notifier.is_busy() else None
 
@@ -143,7 +148,7 @@ class Monitor:
         self._dropped_at = now
         if 0 <= since < DAY:
             try:
-                self.store.write(drop_changes_before(now - self.engine.site.options.keep_days * DAY))
+                self.store.write(drop_changes_before(now - self.site.options.keep_days * DAY))
             except NotStored as fault:
                 self.log(str(fault))
 
