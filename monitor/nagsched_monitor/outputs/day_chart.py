@@ -1,5 +1,4 @@
 """The last day of an object as a picture: time across, states by colour, hard ones high and soft ones low, and the words of each when pointed at."""
-from dataclasses import replace
 from typing import Callable, List
 
 from ..store.rows import StoredChange
@@ -14,7 +13,7 @@ BOTTOM = 52
 def stretches(status: ObjectStatus) -> List[StoredChange]:
     """The day of an object, from its beginning on: what it was since which time. Without a state, no change of it is known."""
     begin, it = status.now - DAY, status.standing
-    found = [*([] if status.before is None else [replace(status.before, time=begin)]), *status.changes]
+    found = [*([] if status.before is None else [status.before._replace(time=begin)]), *status.changes]
     if not found and it.since is not None and it.state not in (None, "PENDING"):
         found = [StoredChange(0, max(begin, it.since), it.name, str(it.state), it.kind or "HARD", 1, False, it.words)]
     return found if found and found[0].time <= begin else [StoredChange(0, begin, it.name, "", "", 0, False, ""), *found]
