@@ -123,23 +123,17 @@ class Waits:
         return [f"{name}: {beyond:.0f} s longer" for name, beyond in sorted(self.worst.items(), key=lambda row: -row[1]) if beyond > 0]
 
 
-def processes_named(root: int, word: str) -> Iterator[int]:
-    """The processes below the root whose first argument ends with this word."""
-    children = collections.defaultdict(list)
+def children_named(parent: int, word: str) -> Iterator[int]:
+    """The children of a process whose first argument ends with this word. A runner's guard is a child of the runner, so it isn't one of them."""
     for each in filter(str.isdecimal, os.listdir("/proc")):
         with contextlib.suppress(OSError):
             fields = pathlib.Path(f"/proc/{each}/stat").read_text().rpartition(")")[2].split()
-            children[int(fields[1])].append(int(each))
-    below = [root]
-    for process in below:
-        below += children[process]
-        with contextlib.suppress(OSError):
-            if pathlib.Path(f"/proc/{process}/cmdline").read_text().partition("\0")[0].endswith(word):
-                yield process
+            if int(fields[1]) == parent and pathlib.Path(f"/proc/{each}/cmdline").read_text().partition("\0")[0].endswith(word):
+                yield int(each)
 
 
 def signal_all(running: subprocess.Popen[bytes], word: str, number: signal.Signals) -> None:
-    found = list(processes_named(running.pid, word))
+    found = list(children_named(running.pid, word))
     if not found:
         raise SystemExit(f"no process {word} runs")
     for process in found:
@@ -208,8 +202,6 @@ def main() -> int:
         try:
             return run(site, program, minute)
         finally:
-            for process in processes_named(os.getpid(), "nagsched-runner"):
-                os.kill(process, signal.SIGKILL)
             subprocess.run(["umount", "-l", site.mount], check=True)
 
 
