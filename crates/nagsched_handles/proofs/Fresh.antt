@@ -44,6 +44,22 @@ pub last_too : {X : Type 0} (P : X → Type 0) (old new : List X) (x : X) → ol
 last_too P old new x is all = subst P (ap (λ xs. get_or xs (length new) x) is ∙ get_or-append_seam new x [] x)
     (all (length new) x (omega (arith, shorter old new x is)))
 
+-- ---- counts, in the loops that take the last pass
+
+-- the passes that are joined and those that are left are still all passes
+pub still_all : (joined one other old new all : ℕ) → joined ≡ one + other → other ≡ 1 → old ≡ new + 1 → one + old ≡ all → joined + new ≡ all
+still_all joined one other old new all is alone fewer was = omega (arith, is, alone, fewer, was)
+
+pub still_none : (joined one other : ℕ) → joined ≡ one + other → one ≡ 0 → other ≡ 0 → joined ≡ 0
+still_none joined one other is none nothing = omega (arith, is, none, nothing)
+
+-- the place of the last pass is one of the places of all
+pub has_place : (all passes rest given : ℕ) → passes ≡ rest + 1 → all ≡ passes + given → rest < all
+has_place all passes rest given fewer is = omega (arith, fewer, is)
+
+pub both_shorter : (a b old new : ℕ) → a ≡ b + 1 → old ≡ new + 1 → old ≡ a → new ≡ b
+both_shorter a b old new fewer shorter was = omega (arith, fewer, shorter, was)
+
 -- ---- new passes
 
 pub fresh_all : (calls : ℕ) (desk : Desk) (n : ℕ) (ps : List Pass) → AreNewPassesWith calls desk n ps → All (IsFreshPassOf desk) ps

@@ -84,13 +84,13 @@ fn renew_book(
 ) -> (NamedBook, Option<Box<HandleTarget>>)
     ensures { IsRenewed room named result.0 (box_value result.1) }
 {
-    let Ok(mut place) = Box::new(alloc, HandleTarget::Nothing) else {
+    let Ok(mut place) = HandleTarget::vacant_place(alloc) else {
         return (named, None);
     };
     let NamedBook { book, names } = named;
     match book.renew(alloc, room) {
         Ok((book, entries)) => {
-            *place = HandleTarget::History(entries);
+            place.put(HandleTarget::History(entries));
             (NamedBook { book, names }, Some(place))
         }
         Err(book) => (NamedBook { book, names }, None),

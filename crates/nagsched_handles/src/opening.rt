@@ -154,7 +154,7 @@ fn prepare_seats(alloc: Global, count: usize) -> Result<Vec<Box<HandleTarget>>, 
 {
     let mut seats = Vec::with_capacity(alloc, count)?;
     for _seat in 0..count {
-        seats.push_reserved(Box::new(alloc, HandleTarget::Nothing)?);
+        seats.push_reserved(HandleTarget::vacant_place(alloc)?);
     }
     Ok(seats)
 }
@@ -195,7 +195,8 @@ fn share(shared: &Arc<Shared, Global>, seats: &mut Vec<Box<HandleTarget>>) -> Re
     ensures shared { OnOk result (All (λ seat. IsSeatOf (arc_value shared.now) seat.value) seats.new.items) }
 {
     for at in 0..seats.len() {
-        *seats[at] = HandleTarget::Pass(DeskPass::without_pass(Arc::try_clone(shared)?));
+        let seat = HandleTarget::Pass(DeskPass::without_pass(Arc::try_clone(shared)?));
+        seats[at].put(seat);
     }
     Ok(())
 }

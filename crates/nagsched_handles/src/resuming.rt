@@ -33,7 +33,7 @@ pub fn resume(
 {
     let before = replace(target, HandleTarget::Nothing);
     let (after, resumed) = resume_over(alloc, before, saved, start, room);
-    *target = after;
+    target.put(after);
     resumed
 }
 

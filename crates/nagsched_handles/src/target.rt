@@ -8,6 +8,8 @@ use crate::desk_pass::DeskPass;
 use check_book::Book;
 use check_objects::Setup;
 use check_sched::{Call, Reply};
+use std::alloc::{AllocError, Global};
+use std::mem::replace;
 use ticket_steps::{Entry, Kept};
 
 /// A setup for the book of a desk, and a second copy of it for the names. Passes read names while the
@@ -54,6 +56,18 @@ fn shared<T: Sync>(value: &T) -> &T
 impl HandleTarget {
     ghost use Rattle.nagsched_handles.specs.Handles.{target_book, target_setup};
     ghost use Rattle.nagsched_handles.specs.Histories.{target_entries};
+
+    /// A place on the heap for a target, without the target.
+    pub(crate) fn vacant_place(alloc: Global) -> Result<Box<HandleTarget>, AllocError> {
+        Ok(Box::new(alloc, HandleTarget::Nothing)?)
+    }
+
+    /// Puts another target into the place of this one, which is dropped.
+    pub(crate) fn put(&mut self, target: HandleTarget)
+        ensures { self.new ≡ target }
+    {
+        drop(replace(self, target));
+    }
 
     /// The setup that names the objects. A history has none.
     pub fn setup(&self) -> Option<&Setup>

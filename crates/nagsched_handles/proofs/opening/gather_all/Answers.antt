@@ -1,10 +1,10 @@
-use Rattle.std.proofs.Common.{◌∙◌, ap, arith, length}
+use Rattle.std.proofs.Common.{◌∙◌, ap, length}
 use Rattle.ticket_lock.specs.Callers.{Caller}
 use Rattle.check_sched.specs.declared.call.Call.{Call}
 use Rattle.check_sched.specs.declared.call.Reply.{Reply}
 use Rattle.check_desk.specs.Passes.{pass_of}
 use Rattle.nagsched_handles.specs.Opening.{IsFreshPassOf}
-use Rattle.nagsched_handles.proofs.Fresh.{joined_numbers, joined_seen, last_too, left_all, shorter}
+use Rattle.nagsched_handles.proofs.Fresh.{joined_numbers, joined_seen, last_too, left_all, shorter, still_all, still_none}
 use Rattle.nagsched_handles.proofs.opening.gather_all.Goals as goal
 
 pub loop-pass-preserved : goal.loop-pass-preserved
@@ -21,7 +21,7 @@ loop-pass-preserved c =
     let calls = ap (λ (m : Caller Call Reply). m.calls) made in (
       c.gather-whole.ensures.desk,
       left_all (IsFreshPassOf desk) c.loop-pass.rest.items c.pop.new.self.items c.in-Some-pop.pass popped was.1,
-      omega (arith, fewer, numbers, fresh.alone, was.2),
-      omega (arith, calls, was.3, fresh.calls),
+      still_all _ _ _ _ _ _ numbers fresh.alone fewer was.2,
+      still_none _ _ _ calls was.3 fresh.calls,
       ap (λ (m : Caller Call Reply). m.seen) made ∙ joined_seen one other was.4 fresh.seen,
     )

@@ -1,10 +1,10 @@
-use Rattle.std.proofs.Common.{◌≡◌, ◌<◌, ◌≤◌, ◌+◌, ◌++◌, ◌∷◌, [], ◌∙◌, sym, ap, subst, arith, length, length-append, length-set, drop}
+use Rattle.std.proofs.Common.{◌≡◌, ◌<◌, ◌≤◌, ◌+◌, ◌++◌, ◌∷◌, [], ◌∙◌, sym, ap, subst, arith, length, length-append, length-set, set, drop}
 use Rattle.std.proofs.lemmas.List.{append_assoc, append-nil, drop_all}
 use Rattle.std_alloc.specs.Arc.{arc_value}
 use Rattle.nagsched_handles.specs.declared.target.HandleTarget.{HandleTarget}
 use Rattle.nagsched_handles.specs.Opening.{IsFreshPassOf}
 use Rattle.nagsched_handles.specs.Seats.{HasPass, HavePasses, IsSeatFor, IsSeatOf, IsSeatWithPass}
-use Rattle.nagsched_handles.proofs.Fresh.{handed, last_too, left_all, seat_for, seated, shorter}
+use Rattle.nagsched_handles.proofs.Fresh.{both_shorter, handed, has_place, last_too, left_all, seat_for, seated, shorter}
 use Rattle.nagsched_handles.proofs.opening.hand_out.Goals as goal
 
 pub loop-pass-init : goal.loop-pass-init
@@ -39,19 +39,21 @@ loop-pass-preserved c =
     let given = was.4.0 in
     let popped = c.in-Some.ensures.items in
     let fewer = shorter passes rest pass popped in
-    let less : length rest < length c.loop-pass.handles = omega (arith, fewer, was.0, ap length was.4.1, length-append passes given) in
+    let less : length rest < length c.loop-pass.handles =
+    has_place _ (length passes) _ (length given) fewer (was.0 ∙ ap length was.4.1 ∙ length-append passes given) in
     let of = last_too (λ s. IsSeatOf desk s.value) c.loop-pass.seats.items c.pop-in-Some.new.self.items seat c.in-Some-pop.ensures.items was.3 in
     let taken = subst (λ (b : HandleTarget). IsSeatWithPass pass b c.take_seat.new.seat) c.deref_mut.ensures.value c.take_seat.ensures in
     let has = subst (HasPass desk pass) (sym c.of.ensures) (seated desk pass seat.value c.take_seat.new.seat of taken) in
     let at : c.len.result ≡ length rest = omega (arith, c.len.ensures, c.in-Some.ensures.len, fewer) in
-    let behind : HavePasses desk given (drop (length rest + 1) c.loop-pass.handles) = rw (← fewer) was.4.2 in (
+    let behind : HavePasses desk given (drop (length rest + 1) c.loop-pass.handles) = subst (λ n. HavePasses desk given (drop n c.loop-pass.handles)) fewer was.4.2 in (
       length-set c.loop-pass.handles c.len.result c.of.result ∙ was.0,
-      omega (arith, fewer, shorter c.loop-pass.seats.items c.pop-in-Some.new.self.items seat c.in-Some-pop.ensures.items, was.1),
+      both_shorter _ _ _ _ fewer (shorter c.loop-pass.seats.items c.pop-in-Some.new.self.items seat c.in-Some-pop.ensures.items) was.1,
       left_all (IsFreshPassOf desk.desk) passes rest pass popped was.2,
       left_all (λ s. IsSeatOf desk s.value) c.loop-pass.seats.items c.pop-in-Some.new.self.items seat c.in-Some-pop.ensures.items was.3,
       (
         pass ∷ given,
         was.4.1 ∙ ap (λ xs. xs ++ given) popped ∙ append_assoc rest (pass ∷ []) given,
-        rw at (handed desk (length rest) pass c.of.result given c.loop-pass.handles less has behind),
+        subst (λ n. HavePasses desk (pass ∷ given) (drop (length rest) (set c.loop-pass.handles n c.of.result))) (sym at)
+            (handed desk (length rest) pass c.of.result given c.loop-pass.handles less has behind),
       ),
     )

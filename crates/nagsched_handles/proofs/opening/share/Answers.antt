@@ -1,4 +1,4 @@
-use Rattle.std.proofs.Common.{◌≡◌, ◌<◌, ◌∙◌, ap, arith, length, length-set}
+use Rattle.std.proofs.Common.{◌≡◌, ◌<◌, ◌∙◌, sym, ap, subst, arith, length, length-set}
 use Rattle.std.proofs.lemmas.List.Elements.{AllWithin-more_set}
 use Rattle.std_alloc.specs.Arc.{arc_value}
 use Rattle.nagsched_handles.specs.Seats.{IsSeatOf}
@@ -11,5 +11,5 @@ loop-at-preserved c =
     let less : c.loop-at.at < length c.loop-at.seats.items = omega (arith, c.loop-at-test.true, c.len-at-end.ensures, was.0) in
     let of : arc_value c.without_pass.result.shared ≡ desk = ap arc_value c.without_pass.ensures ∙ c.in_ok-try_clone.ensures in (
       length-set c.loop-at.seats.items c.loop-at.at _ ∙ was.0,
-      AllWithin-more_set c.loop-at.seats.items c.loop-at.at _ less (λ seat. IsSeatOf desk seat.value) was.1 of,
+      AllWithin-more_set c.loop-at.seats.items c.loop-at.at _ less (λ seat. IsSeatOf desk seat.value) was.1 (subst (IsSeatOf desk) (sym c.put.ensures) of),
     )
