@@ -1,5 +1,5 @@
--- Why the program ends early if a setup or a stored state can't be read.
-use Rattle.std.specs.Prelude.{ℕ, List, IsErr, ⊤}
+-- Why the loop ends early: the faults that it makes of refusals, and those that it gives by itself.
+use Rattle.std.specs.Prelude.{ℕ, List, Option, IsErr, IsSomeAnd, ⊤}
 use Rattle.setup_model.specs.declared.error.LoadError.{LoadError}
 use Rattle.setup_model.specs.declared.error.LoadError.TheVariants as load
 use Rattle.check_saved_state.specs.Text.{saved_of_text}
@@ -18,8 +18,8 @@ abbrev pub fault_of_text : SavedFault → Fault
 fault_of_text saved.Memory = fault.Memory
 fault_of_text other = fault.Refused
 
--- No book is resumed from this text: the text is refused, or memory ran out.
-abbrev pub IsNotResumed : List ℕ → Fault → Type 0
-IsNotResumed text fault.Refused = IsErr (saved_of_text text)
-IsNotResumed text fault.Memory = ⊤
-IsNotResumed text other = ⊥
+-- a fault of the loop itself over this stored text: the text isn't a saved state, or memory ran out
+abbrev pub IsLoopFault : Option (List ℕ) → Fault → Type 0
+IsLoopFault stored fault.Refused = IsSomeAnd stored (λ text. IsErr (saved_of_text text))
+IsLoopFault stored fault.Memory = ⊤
+IsLoopFault stored other = ⊥

@@ -18,6 +18,11 @@ use Rattle.nagsched_loop.specs.declared.runs.Run.{Run}
 abbrev pub saved_text_of : State → List ℕ
 saved_text_of state = saved_text (saved_of state)
 
+-- the text is that of the saved state of a scheduler in this state, and is read as that saved state
+pub record IsSavedText (state : State) (text : Option (List ℕ)) : Type 0 where
+  pub is_text : text ≡ Some (saved_text_of state)
+  pub reads_back : saved_of_text (saved_text_of state) ≡ Ok (saved_of state)
+
 -- the state is resumed from this text, over this setup and from this moment on
 pub record IsResumedState (setup : Configuration) (text : List ℕ) (start : ℕ) (state : State)
     : Type 0 where
@@ -52,17 +57,50 @@ abbrev pub AreStillListed : State → ℕ → List (Entry Call Reply) → List R
 AreStillListed state limit entries runs = (object number : ℕ) → run_number_of object state ≡ Some number
     → has_call_for entries (run_with_limit object number limit) ≡ false → Contains runs (run_with_limit object number limit)
 
--- A setup was monitored. It is one that the files gave. The first state was resumed from the stored text, at the first moment of the clock, and
--- generations led from it to the last state. Of the checks that were running in the first state, none was forgotten.
-pub record IsWatched {S : Type 0} (does : S → Effect → S → Type 0) (gives : Configuration → Type 0)
-    (past : Configuration → List (Entry Call Reply) → Type 0) (stored : Option (List ℕ)) (environment : S) (to : State) (runs : List Run) : Type 0 where
-  pub start : ℕ
+-- A setup is begun over the stored text: the files gave the setup, and its first state is resumed from the text, at the first moment of the clock.
+pub record IsBegun {S : Type 0} (does : S → Effect → S → Type 0) (gives : Configuration → Type 0) (stored : Option (List ℕ)) (environment : S)
+    (start : ℕ) (first : State) : Type 0 where
   pub clock : S
   pub read : does environment (reads start) clock
   pub setup : Configuration
   pub given : gives setup
-  pub first : State
   pub is_first : IsFirst setup stored start first
+
+-- A setup was monitored. It was begun over the stored text, and generations led from its first state to the last one. Of the checks that were running in
+-- the first state, none was forgotten.
+pub record IsWatched {S : Type 0} (does : S → Effect → S → Type 0) (gives : Configuration → Type 0)
+    (past : Configuration → List (Entry Call Reply) → Type 0) (stored : Option (List ℕ)) (environment : S) (to : State) (runs : List Run) : Type 0 where
+  pub start : ℕ
+  pub first : State
+  pub begun : IsBegun does gives stored environment start first
   pub histories : List (List (Entry Call Reply))
   pub lead : AreGenerations past histories first to
   pub still_listed : AreStillListed first start (entries_in histories) runs
+
+-- ---- the text that is stored after an error
+
+-- the text of the state at the end of a generation: a legal history led to that state from this one
+pub record IsGenerationText (from : State) (text : Option (List ℕ)) : Type 0 where
+  pub history : List (Entry Call Reply)
+  pub legal : IsLegal step from history
+  pub is_saved : IsSavedText (replay step from history) text
+
+-- The text of the state at the end of a generation, in the monitoring of a setup that was begun over the text from before. The histories of the
+-- generations before it were handed over.
+pub record IsTextOfSetup {S : Type 0} (does : S → Effect → S → Type 0) (gives : Configuration → Type 0)
+    (past : Configuration → List (Entry Call Reply) → Type 0) (before : Option (List ℕ)) (environment : S) (text : Option (List ℕ)) : Type 0 where
+  pub start : ℕ
+  pub first : State
+  pub begun : IsBegun does gives before environment start first
+  pub histories : List (List (Entry Call Reply))
+  pub from : State
+  pub lead : AreGenerations past histories first from
+  pub ended : IsGenerationText from text
+
+-- The text from before, or that of the state at the end of a generation since then, after any number of setups. Each of the setups was begun over the text
+-- that was stored last.
+pub data IsTextSince {S : Type 0} (does : S → Effect → S → Type 0) (gives : Configuration → Type 0)
+    (past : Configuration → List (Entry Call Reply) → Type 0) (before : Option (List ℕ)) : Option (List ℕ) → Type 0 where
+  unchanged : IsTextSince does gives past before before
+  later : {last text : Option (List ℕ)} → (environment : S) → IsTextSince does gives past before last
+      → IsTextOfSetup does gives past last environment text → IsTextSince does gives past before text

@@ -1,7 +1,7 @@
 //! The environment of a loop that monitors for months: the clock, the plugins, the operators, and the
 //! files. A program implements these two traits. `simulated` has an example of each.
 
-ghost use Rattle.std.specs.Prelude.{◌≡◌, ◌≤◌, Some, option_map, IfOk, OnOk};
+ghost use Rattle.std.specs.Prelude.{◌≡◌, ◌≤◌, ◌⊎◌, Some, option_map, IfErr, IfOk, OnErr, OnOk};
 
 use crate::fault::Fault;
 use check_objects::Setup;
@@ -68,14 +68,16 @@ pub(crate) trait Environment {
 /// The setup file, the file with the stored state, and the destination of the history.
 ///
 /// For contracts only: `stored` is the text that was stored last. `gives` is the set of setups that the file
-/// can contain, and `past` the set of histories that it can get. A program without proofs about these two
-/// allows all, by `⊤`.
+/// can contain, and `past` the set of histories that it can get. `fails` is the set of errors that a call can
+/// return, for each state of the files after it. A program without proofs about these three allows all, by
+/// `⊤`.
 pub(crate) trait Files {
     ghost use Rattle.std.specs.Prelude.{ℕ, List, Option};
     ghost use Rattle.ticket_steps.specs.declared.books.Entry.{Entry as EntryOf};
     ghost use Rattle.check_objects.specs.Configuration.{Configuration};
     ghost use Rattle.check_sched.specs.declared.call.Call.{Call as CallOf};
     ghost use Rattle.check_sched.specs.declared.call.Reply.{Reply as ReplyOf};
+    ghost use Rattle.nagsched_loop.specs.declared.fault.Fault.{Fault as FaultOf};
 
     ghost stored: { Self → Option (List ℕ) };
 
@@ -83,21 +85,30 @@ pub(crate) trait Files {
 
     ghost past: { Configuration → List (EntryOf CallOf ReplyOf) → Type 0 };
 
+    ghost fails: { Self → FaultOf → Type 0 };
+
     /// The present setup.
     fn setup(&mut self, alloc: Global) -> Result<Setup, Fault>
         ensures stored { stored self.new ≡ stored self.old }
-        ensures given { IfOk result gives };
+        ensures given { IfOk result gives }
+        ensures fails { IfErr result (fails self.new) };
 
     /// The text that was stored last, by this run of the program or by an earlier one.
     fn state(&self, alloc: Global) -> Result<Option<Vec<u8>>, Fault>
-        ensures { IfOk result (λ text. option_map (λ bytes. bytes.items) text ≡ stored self.now) };
+        ensures stored { IfOk result (λ text.
+            option_map (λ bytes. bytes.items) text ≡ stored self.now) }
+        ensures fails { IfErr result (fails self.now) };
 
     /// Stores a text in place of the one before, so that one of the two is always complete.
     fn store_state(&mut self, text: &[u8]) -> Result<(), Fault>
-        ensures { OnOk result (stored self.new ≡ Some text.now) };
+        ensures stored { OnOk result (stored self.new ≡ Some text.now) }
+        ensures kept { OnErr result
+            ((stored self.new ≡ stored self.old) ⊎ (stored self.new ≡ Some text.now)) }
+        ensures fails { IfErr result (fails self.new) };
 
     /// Takes the history of a generation that has ended.
     fn past(&mut self, setup: &Setup, entries: &[Entry<Call, Reply>]) -> Result<(), Fault>
         ensures stored { stored self.new ≡ stored self.old }
-        ensures past { OnOk result (past setup.now entries.now) };
+        ensures past { OnOk result (past setup.now entries.now) }
+        ensures fails { IfErr result (fails self.new) };
 }

@@ -13,8 +13,6 @@ pub(crate) enum Fault {
     Output,
     /// There is no memory: for a book, a desk, threads or a line.
     Memory,
-    /// A pass of the desk is missing at the day's end.
-    Pass,
     /// A setup or a stored state is refused.
     Refused,
 }
@@ -23,7 +21,6 @@ impl Fault {
     /// The exit status that reports it.
     pub(crate) fn status(self) -> u8 {
         match self {
-            Fault::Pass => 1,
             Fault::Words => 2,
             Fault::Output => 3,
             Fault::Memory => 4,

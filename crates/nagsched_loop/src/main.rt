@@ -11,7 +11,6 @@
 //!
 //! The exit statuses:
 //! - 0: success;
-//! - 1: a pass of the desk is missing when a generation ends;
 //! - 2: the argument is wrong;
 //! - 3: the output can't be written;
 //! - 4: memory runs out;

@@ -7,15 +7,16 @@
 //! - `runs`: the list of the running checks, and the time limits;
 //! - `resuming`: the text of a state.
 
-ghost use Rattle.std.specs.Prelude.{◌≡◌, List, [], Some, IfOk};
+ghost use Rattle.std.specs.Prelude.{◌≡◌, ◌⊎◌, List, [], IfErr, IfOk, OnErr};
 ghost use Rattle.ticket_steps.specs.declared.books.Entry.{Entry};
 ghost use Rattle.check_book.specs.Books.{entries_of, refused_of, sched_of};
 ghost use Rattle.check_desk.specs.Desks.{IsPassOf};
 ghost use Rattle.check_desk.specs.Passes.{pass_of};
 ghost use Rattle.check_sched.specs.declared.call.Call.{Call};
 ghost use Rattle.check_sched.specs.declared.call.Reply.{Reply};
+ghost use Rattle.nagsched_loop.specs.Faults.{IsLoopFault};
 ghost use Rattle.nagsched_loop.specs.Loop.{KeepsOtherRuns, IsReturned};
-ghost use Rattle.nagsched_loop.specs.Months.{IsGeneration, IsWatched, saved_text_of};
+ghost use Rattle.nagsched_loop.specs.Months.{IsGeneration, IsGenerationText, IsSavedText, IsTextOfSetup, IsTextSince, IsWatched};
 
 use crate::environment::{End, Environment, Files};
 use crate::fault::Fault;
@@ -33,6 +34,10 @@ use std::sync::Wait;
 ///
 /// The number of rounds of a generation is half the room of its book. With a room of 0 or 1 a generation has
 /// no rounds, and no check is ever taken.
+///
+/// An error loses no saved state. The text that is stored then is the one from before, or the text of the state
+/// at the end of a generation since. The error is that of the call of `files` that failed, and no other
+/// call followed. Otherwise memory ran out, or the text from before isn't a saved state.
 pub(crate) fn watch_months<O: Environment, F: Files>(
     rt: &impl Wait,
     alloc: Global,
@@ -40,7 +45,10 @@ pub(crate) fn watch_months<O: Environment, F: Files>(
     files: &mut F,
     room: usize,
 ) -> Result<Book, Fault>
-    ensures { IfOk result (λ book. F.stored files.new ≡ Some (saved_text_of (sched_of book))) }
+    ensures stored { IfOk result (λ book. IsSavedText (sched_of book) (F.stored files.new)) }
+    ensures kept { IsTextSince O.does F.gives F.past (F.stored files.old) (F.stored files.new) }
+    ensures fault { IfErr result (λ fault.
+        IsLoopFault (F.stored files.old) fault ⊎ F.fails files.new fault) }
 {
     for _ in rt.forever() {
         let Watched {
@@ -74,11 +82,14 @@ fn watch_setup<O: Environment, F: Files>(
     files: &mut F,
     room: usize,
 ) -> Result<Watched, Fault>
-    ensures stored { IfOk result (λ made.
-        F.stored files.new ≡ Some (saved_text_of (sched_of made.book))) }
+    ensures stored { IfOk result (λ made. IsSavedText (sched_of made.book) (F.stored files.new)) }
     ensures watched { IfOk result (λ made.
         IsWatched O.does F.gives F.past (F.stored files.old) environment.old (sched_of made.book)
         made.runs.items) }
+    ensures kept { OnErr result ((F.stored files.new ≡ F.stored files.old)
+        ⊎ IsTextOfSetup O.does F.gives F.past (F.stored files.old) environment.old (F.stored files.new)) }
+    ensures fault { IfErr result (λ fault.
+        IsLoopFault (F.stored files.old) fault ⊎ F.fails files.new fault) }
 {
     let start = environment.now();
     let setup = files.setup(alloc)?;
@@ -114,20 +125,23 @@ fn generation<O: Environment, F: Files>(
 ) -> Result<(Book, End), Fault>
     requires { (entries_of book ≡ []) × (refused_of book ≡ 0) }
     ensures empty { IfOk result (λ made. (entries_of made.0 ≡ []) × (refused_of made.0 ≡ 0)) }
-    ensures stored { IfOk result (λ made. F.stored files.new ≡ Some (saved_text_of (sched_of made.0))) }
+    ensures stored { IfOk result (λ made. IsSavedText (sched_of made.0) (F.stored files.new)) }
     ensures generation_ended { IfOk result (λ made. (history : List (Entry Call Reply))
         × IsGeneration F.past history (sched_of book) (sched_of made.0)
         × KeepsOtherRuns history runs.old.items runs.new.items) }
+    ensures kept { OnErr result ((F.stored files.new ≡ F.stored files.old)
+        ⊎ IsGenerationText (sched_of book) (F.stored files.new)) }
+    ensures fault { IfErr result (λ fault. (fault ≡ Fault.Memory) ⊎ F.fails files.new fault) }
 {
     let Ok((desk, mut passes)) = Desk::open(alloc, book, 1) else {
         return Err(Fault::Memory);
     };
     let Some(pass) = passes.pop() else {
-        return Err(Fault::Pass);
+        unreachable!()
     };
     let GenerationEnd { pass, end } = watch(rt, &desk, pass, environment, runs, room / 2);
     let Ok(book) = desk.close(pass) else {
-        return Err(Fault::Pass);
+        unreachable!()
     };
     files.store_state(&saved_text(alloc, &book)?)?;
     let Ok((book, entries)) = book.renew(alloc, room) else {

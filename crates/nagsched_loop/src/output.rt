@@ -1,5 +1,7 @@
 //! The report of a generation: its entries as lines that `nagsched run` reads and writes.
 
+ghost use Rattle.std.specs.Prelude.{◌≡◌, ◌⊎◌, IfErr};
+
 use crate::fault::Fault;
 use check_objects::Setup;
 use check_sched::{Call, Reply};
@@ -14,7 +16,9 @@ pub(crate) fn write_entries<W: Write>(
     setup: &Setup,
     entries: &[Entry<Call, Reply>],
     writer: &mut W,
-) -> Result<(), Fault> {
+) -> Result<(), Fault>
+    ensures { IfErr result (λ fault. (fault ≡ Fault.Output) ⊎ (fault ≡ Fault.Memory)) }
+{
     let mut line = String::new(alloc);
     for entry in entries {
         line.clear();
@@ -67,12 +71,16 @@ fn name_of(setup: &Setup, object: u32) -> &str {
 }
 
 /// Writes a text.
-pub(crate) fn write<W: Write>(writer: &mut W, text: &str) -> Result<(), Fault> {
+pub(crate) fn write<W: Write>(writer: &mut W, text: &str) -> Result<(), Fault>
+    ensures { IfErr result (λ fault. fault ≡ Fault.Output) }
+{
     write_bytes(writer, text.as_bytes())
 }
 
 /// Writes a text, as bytes.
-pub(crate) fn write_bytes<W: Write>(writer: &mut W, text: &[u8]) -> Result<(), Fault> {
+pub(crate) fn write_bytes<W: Write>(writer: &mut W, text: &[u8]) -> Result<(), Fault>
+    ensures { IfErr result (λ fault. fault ≡ Fault.Output) }
+{
     match writer.write_all(text) {
         Ok(()) => Ok(()),
         Err(_fault) => Err(Fault::Output),

@@ -1,10 +1,10 @@
 //! A restart: the state of the book is saved as text, and another book is resumed from that text. A
 //! program that really ends stores the text in a file, and reads its setup again.
 
-ghost use Rattle.std.specs.Prelude.{◌≡◌, ◌≤◌, [], option_map, IfErr, IfNone, IfOk, IfSome};
+ghost use Rattle.std.specs.Prelude.{◌≡◌, ◌≤◌, [], option_map, Some, IfErr, IfOk};
 ghost use Rattle.check_book.specs.Books.{entries_of, refused_of, sched_of};
-ghost use Rattle.nagsched_loop.specs.Faults.{IsNotResumed};
-ghost use Rattle.nagsched_loop.specs.Months.{IsFirst, IsResumedState, saved_text_of};
+ghost use Rattle.nagsched_loop.specs.Faults.{IsLoopFault};
+ghost use Rattle.nagsched_loop.specs.Months.{IsFirst, IsResumedState, IsSavedText};
 
 use crate::fault::Fault;
 use check_book::Book;
@@ -12,9 +12,9 @@ use check_objects::Setup;
 use check_sched::{LAST_MOMENT, Saved};
 use std::alloc::{AllocError, Global};
 
-/// The text of a book's saved state.
+/// The text of a book's saved state. It is read as that saved state.
 pub(crate) fn saved_text(alloc: Global, book: &Book) -> Result<Vec<u8>, AllocError>
-    ensures { IfOk result (λ text. text.items ≡ saved_text_of (sched_of book.now)) }
+    ensures { IfOk result (λ text. IsSavedText (sched_of book.now) (Some text.items)) }
 {
     book.save(alloc)?.write(alloc)
 }
@@ -31,7 +31,7 @@ pub(crate) fn resume_book(
     requires { start ≤ LAST_MOMENT }
     ensures empty { IfOk result (λ book. (entries_of book ≡ []) × (refused_of book ≡ 0)) }
     ensures resumed { IfOk result (λ book. IsResumedState setup text.now start (sched_of book)) }
-    ensures refused { IfErr result (IsNotResumed text.now) }
+    ensures fault { IfErr result (IsLoopFault (Some text.now)) }
 {
     let saved = Saved::read(alloc, text)?;
     match Book::resume(alloc, setup, &saved, start, room) {
@@ -52,8 +52,7 @@ pub(crate) fn begin(
     ensures empty { IfOk result (λ book. (entries_of book ≡ []) × (refused_of book ≡ 0)) }
     ensures first { IfOk result (λ book.
         IsFirst setup (option_map (λ text. text.items) stored) start (sched_of book)) }
-    ensures refused { IfSome stored (λ text. IfErr result (IsNotResumed text.items)) }
-    ensures memory { IfNone stored (IfErr result (λ fault. fault ≡ Fault.Memory)) }
+    ensures fault { IfErr result (IsLoopFault (option_map (λ text. text.items) stored)) }
 {
     match stored {
         Some(text) => resume_book(alloc, setup, &text, start, room),

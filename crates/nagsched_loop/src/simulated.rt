@@ -1,7 +1,7 @@
 //! The simulated environment of the loop. Its clock advances only while the loop sleeps, and its machines
 //! answer after seconds or never. It also has an operator, a setup that changes, and files in memory.
 
-ghost use Rattle.std.specs.Prelude.{⊤, option_map};
+ghost use Rattle.std.specs.Prelude.{⊤, ◌≢◌, option_map};
 
 use crate::environment::{End, Environment, Event, Files};
 use crate::fault::Fault;
@@ -165,11 +165,15 @@ impl<W: Write> Memory<W> {
 }
 
 impl<W: Write> Files for Memory<W> {
+    ghost use Rattle.nagsched_loop.specs.declared.fault.Fault.TheVariants as fault;
+
     ghost stored = { λ files. option_map (λ text. text.items) files.text };
 
     ghost gives = { λ setup. ⊤ };
 
     ghost past = { λ setup history. ⊤ };
+
+    ghost fails = { λ files error. error ≢ fault.Words };
 
     /// The room's setup first, and then the changed one.
     fn setup(&mut self, alloc: Global) -> Result<Setup, Fault> {

@@ -1,16 +1,17 @@
-use Rattle.std.proofs.Common.{◌≡◌, [], ◌∷◌, ◌++◌, false, refl, subst, ◌∙◌}
+use Rattle.std.proofs.Common.{◌≡◌, [], ◌∷◌, ◌++◌, false, inl, inr, refl, subst, ◌∙◌, ⊎_elim}
+use Rattle.std.proofs.lemmas.Result.{err_from_is_err_and}
 use Rattle.std.specs.Prelude.{Contains}
 use Rattle.std.proofs.lemmas.List.Elements.{All-contains, All-contains_itself}
 use Rattle.check_book.specs.Books.{sched_of}
 use Rattle.nagsched_loop.specs.Loop.{has_call_for, run_with_limit}
 use Rattle.nagsched_loop.specs.Months.{IsFirst, entries_in}
-use Rattle.nagsched_loop.proofs.MonthLemmas.{generations_more, kept_generation}
+use Rattle.nagsched_loop.proofs.MonthLemmas.{generations_more, kept_generation, text_after_generation}
 use Rattle.nagsched_loop.proofs.months.watch_setup.Goals as goal
 
 pub loop-init : goal.loop-init
 loop-init g c =
     let empty = c.in_ok-book.ensures.empty in
-    (tt, tt, (empty.0, empty.1, [], refl, λ k d lt e. All-contains_itself _ k d lt))
+    (tt, tt, (empty.0, empty.1, [], refl, λ k d lt e. All-contains_itself _ k d lt, inl refl))
 
 pub returns-in-Setup : goal.returns-in-Setup
 returns-in-Setup g c =
@@ -22,14 +23,16 @@ returns-in-Setup g c =
       stored = c.in_ok-next.ensures.stored;
       watched = record {
         start = c.now-start.result;
-        clock = c.now-start.new.self;
-        read = c.now-start.ensures.does;
-        setup = c.in_ok-setup.setup;
-        given = c.in_ok-setup.ensures.given;
         first = sched_of c.in_ok-book.book;
-        is_first =
-            subst (λ stored. IsFirst c.in_ok-setup.setup stored c.now-start.result (sched_of c.in_ok-book.book))
-            (c.in_ok-stored.ensures ∙ c.setup.ensures.stored) c.in_ok-book.ensures.first;
+        begun = record {
+          clock = c.now-start.new.self;
+          read = c.now-start.ensures.does;
+          setup = c.in_ok-setup.setup;
+          given = c.in_ok-setup.ensures.given;
+          is_first =
+              subst (λ stored. IsFirst c.in_ok-setup.setup stored c.now-start.result (sched_of c.in_ok-book.book))
+              (c.in_ok-stored.ensures.stored ∙ c.setup.ensures.stored) c.in_ok-book.ensures.first;
+        };
         histories = histories;
         lead = generations_more g.F.Files.past before.2 generation_ended.0 _ _ _ before.3 generation_ended.1;
         still_listed = λ object number is unnamed.
@@ -37,7 +40,27 @@ returns-in-Setup g c =
             All-contains (λ r. has_call_for (entries_in histories) r ≡ false → Contains c.generation.new.runs.items r) _ run stored
             (c.in_ok-runs.ensures.all object number is) unnamed;
       };
+      kept = tt;
+      fault = tt;
     }
+
+pub returns-in_err-next-clause-kept : goal.returns-in_err-next-clause-kept
+returns-in_err-next-clause-kept g c =
+    let p = err_from_is_err_and c.from_residual-in_err-next.result c.from_residual-in_err-next.ensures.1 in
+    let before = c.loop.invariant.2 in
+    let since = ⊎_elim (λ same. inl (same ∙ c.setup.ensures.stored)) (λ saved. inr saved) before.5 in
+    rw p.1
+    (text_after_generation g.O.Environment.does g.F.Files.gives g.F.Files.past _ _ c.now-start.result (sched_of c.in_ok-book.book) _ before.2 _ _
+    (record {
+      clock = c.now-start.new.self;
+      read = c.now-start.ensures.does;
+      setup = c.in_ok-setup.setup;
+      given = c.in_ok-setup.ensures.given;
+      is_first =
+          subst (λ stored. IsFirst c.in_ok-setup.setup stored c.now-start.result (sched_of c.in_ok-book.book))
+          (c.in_ok-stored.ensures.stored ∙ c.setup.ensures.stored) c.in_ok-book.ensures.first;
+    })
+    before.3 since c.in_err-next.ensures.kept)
 
 pub loop-preserved : goal.loop-preserved
 loop-preserved g c =
@@ -52,5 +75,6 @@ loop-preserved g c =
         before.2 ++ generation_ended.0 ∷ [],
         generations_more g.F.Files.past before.2 generation_ended.0 _ _ _ before.3 generation_ended.1,
         kept_generation before.2 generation_ended.0 _ _ _ before.4 generation_ended.2,
+        inr c.in_ok-next.ensures.stored,
       ),
     )
