@@ -5,8 +5,9 @@
 
 The monitor runs the site against the real clock. A plugin in sh takes the place of all plugins. The site's folder is a file system of its own, so that it can
 be filled. SECONDS is the length of a minute of the plan, 60 if it isn't given. After the plan it prints the starts of plugins per second before and after each
-trouble, and each object that had no result for longer than its interval, its limit and a minute. The status is 1 if there was one. Objects without active
-checks, or with a check period, are left out.
+trouble, and each object that had no result for longer than its interval, its limit and a minute, with the minute at which it had waited longest. The status is
+1 if there was one. Objects without active checks, with a check period, or with a dependency that can hold them back are left out. While the disk is full no
+result can be stored, so an object with an interval and a limit of less than a minute together waits too long then.
 """
 from __future__ import annotations
 
@@ -84,6 +85,7 @@ class Site:
         """For each object with regular active checks, the longest time in seconds that it may have no result."""
         setup, commands = self.read("setup.json"), self.read("commands.json")
         left_out = {name for name, rule in self.read("passive.json").items() if rule.get("only")} | set(self.read("periods.json").get("objects", {}))
+        left_out |= {link["dependent"] for sort in ("service", "host") for link in setup.get(f"{sort}_dependencies", [])}
         unit = setup["options"].get("interval_length", 60)
         named = {entry["name"]: entry for entry in setup["hosts"]} | {f"{entry['host']};{entry['description']}": entry for entry in setup["services"]}
         return {name: entry.get("check_interval", 5) * unit + commands[name].get("limit", 60) + 60
@@ -107,7 +109,7 @@ class Waits:
 
     def __init__(self, site: Site) -> None:
         self._database, self._allowed = site.folder / "monitor.db", site.allowed()
-        self.began, self.worst = time.time(), dict[str, float]()
+        self.began, self.worst = time.time(), dict[str, tuple[float, float]]()
 
     def look(self) -> None:
         """Notes the time since the last result of each object, beyond what is allowed."""
@@ -116,11 +118,12 @@ class Waits:
         now = time.time()
         for name, ended in rows:
             if name in self._allowed:
-                beyond = now - max(ended or 0, self.began) - self._allowed[name]
+                beyond = (now - max(ended or 0, self.began) - self._allowed[name], now - self.began)
                 self.worst[name] = max(self.worst.get(name, beyond), beyond)
 
-    def over(self) -> list[str]:
-        return [f"{name}: {beyond:.0f} s longer" for name, beyond in sorted(self.worst.items(), key=lambda row: -row[1]) if beyond > 0]
+    def over(self, minute: float) -> list[str]:
+        worst = sorted(self.worst.items(), key=lambda row: -row[1][0])
+        return [f"{name}: {beyond:.0f} s longer, at minute {at / minute:.0f}" for name, (beyond, at) in worst if beyond > 0]
 
 
 def children_named(parent: int, word: str) -> Iterator[int]:
@@ -176,7 +179,7 @@ def follow_plan(site: Site, running: subprocess.Popen[bytes], program: str, minu
         print(f"minute {at}: {name}")
         for what, place in (("before", at - 1), ("during", at), ("from the next minute on", end + 1), ("5 minutes later", end + 5)):
             print(f"    {what + ':':25} {rates(site, begin + place * minute, minute)}")
-    over = waits.over()
+    over = waits.over(minute)
     print(f"{len(waits.worst)} objects, {len((site.control / 'starts').read_text().splitlines())} plugins started; {len(over)} objects waited too long")
     print("".join(line + "\n" for line in over), end="")
     print("".join(line for line in (site.control / "log").read_text().splitlines(keepends=True) if not CHANGE.search(line)), end="")
