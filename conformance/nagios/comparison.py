@@ -225,7 +225,7 @@ class Comparison:
         if outcome == "held":
             if here != "start":
                 self.compare("time after a turn", stays, seconds(words[3]), ("pushed back", seconds(words[3])))
-            self.expect("pushed back by 5 to 17 s", True, 5 <= int(words[3]) - o.event.time <= 17)
+            self.expect("pushed back by 5 to 17 s", True, 5 <= int(words[3]) - o.next_check <= 17)
             o.event = model.Event(int(words[3]), forced, o.event.on_demand, max(int(words[3]), now))
             o.next_check = int(words[3])
         elif outcome == "putoff":
