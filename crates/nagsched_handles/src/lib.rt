@@ -1,5 +1,5 @@
 #![tactic(auto)]
-//! The handles of the C library, each of which owns a value on the heap, and its structs of numbers.
+//! The handles of the C library and its structs of numbers. A handle owns a value on the heap.
 //!
 //! A [`Handle`] leads to a setup, a pass of a desk, a book or an old history. A call takes this target out
 //! of the handle, uses it, and puts it back. A struct is made from a standing, a call, a reply, an entry, or a
