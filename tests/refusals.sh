@@ -41,10 +41,5 @@ for ((n = 1; n <= requests; n += n < 2000 ? 1 : 61)); do
     fi
 done
 printf 'run, 4,096 hosts: %d requests, %d ample, %d status 4, other: %s\n' "$requests" "$ample" "$memory" "${other:-none}"
-# The tests of runs expect other errors than that of memory, so they are left out of this copy.
-mkdir "$work/tree"
-cp -a "$top/crates" "$top/crates.txt" "$top/HANDLES" "$work/tree"
-rm -r "$work/tree/crates/nagsched_tests/src/sessions"*
-sed -i '/^mod sessions;$/s/.*/mod no_sessions {}/' "$work/tree/crates/nagsched_tests/src/lib.rt"
-(cd "$work/tree/crates/nagsched_tests" && rt try --test --fail-alloc 1..)
+(cd "$top/crates/lock_tests" && rt try --test --fail-alloc 1..)
 [[ -z $other ]]

@@ -10,6 +10,9 @@
 ghost use Rattle.std.specs.Prelude.{◌≡◌, IfOk, map, string_bytes};
 ghost use Rattle.clap.specs.Walk.{texts};
 
+#[cfg(test)]
+mod sessions;
+
 use nagsched_cli::session::{Ending, exit_status, refuse_words, session};
 use nagsched_protocol::DriveError;
 use std::alloc::{AllocError, Global};

@@ -1,7 +1,7 @@
 //! The target of a handle: a setup, a pass of a desk, the book of a closed desk, or the entries of an
 //! earlier book.
 
-ghost use Rattle.std.specs.Prelude.{◌≡◌, option_map};
+ghost use Rattle.std.specs.Prelude.{◌≡◌, IfOk, option_map};
 ghost use Rattle.check_book.specs.Books.{sched_of};
 
 use crate::desk_pass::DeskPass;
@@ -56,9 +56,12 @@ fn shared<T: Sync>(value: &T) -> &T
 impl HandleTarget {
     ghost use Rattle.nagsched_handles.specs.Handles.{target_book, target_setup};
     ghost use Rattle.nagsched_handles.specs.Histories.{target_entries};
+    ghost use Rattle.nagsched_handles.specs.declared.target.HandleTarget.TheVariants as target;
 
     /// A place on the heap for a target, without the target.
-    pub(crate) fn vacant_place(alloc: Global) -> Result<Box<HandleTarget>, AllocError> {
+    pub(crate) fn vacant_place(alloc: Global) -> Result<Box<HandleTarget>, AllocError>
+        ensures { IfOk result (λ place. place.value ≡ target.Nothing) }
+    {
         Ok(Box::new(alloc, HandleTarget::Nothing)?)
     }
 

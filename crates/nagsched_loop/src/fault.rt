@@ -18,8 +18,12 @@ pub(crate) enum Fault {
 }
 
 impl Fault {
-    /// The exit status that reports it.
-    pub(crate) fn status(self) -> u8 {
+    ghost use Rattle.std.specs.Prelude.{◌<◌};
+
+    /// The exit status that reports it. Status 0 reports success.
+    pub(crate) fn status(self) -> u8
+        ensures { 0 < result }
+    {
         match self {
             Fault::Words => 2,
             Fault::Output => 3,

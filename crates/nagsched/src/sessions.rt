@@ -1,5 +1,6 @@
 //! Tests of facts that no clause states and the built program doesn't show: runs over readers and
-//! writers that fail, flushes, and the statuses of arguments.
+//! writers that fail, flushes, and the statuses of arguments. `.ci/devices.py` runs the built program over
+//! devices that fail.
 
 mod devices;
 mod faults;
