@@ -13,8 +13,8 @@ use std::process::Abort;
 use std::test::Fail;
 use std::thread::join;
 use ticket_lock::{Look, Seat, TicketLock, Turn, every_step};
-use ticket_steps::Kept;
 use ticket_steps::counter::CounterBook;
+use ticket_steps::{Kept, NoMemory};
 use turns::take_turn;
 
 mod turns;
@@ -58,6 +58,47 @@ fn seat_with(
     }
 }
 
+/// The turn that a seat draws. A test of a seat with no draw left fails.
+fn draw(
+    rt: &impl Abort,
+    lock: &TicketLock<CounterBook>,
+    seat: Seat<CounterBook>,
+) -> Turn<CounterBook>
+    requires { IsSeatOf lock.now seat }
+    ensures { IsTurnOf lock.now result }
+{
+    match lock.draw(seat) {
+        Ok(turn) => turn,
+        Err(_seat) => panic!(rt; "spent"),
+    }
+}
+
+/// The seat after its turn, and the reply. A test of a turn that has to wait fails.
+fn seat_after_turn(
+    rt: &impl Abort,
+    lock: &TicketLock<CounterBook>,
+    turn: Turn<CounterBook>,
+    call: u8,
+) -> (Seat<CounterBook>, Result<u64, NoMemory>)
+    requires { IsTurnOf lock.now turn }
+    ensures { IsSeatOf lock.now result.0 }
+{
+    match take_turn(lock, turn, call) {
+        Ok(done) => done,
+        Err(_turn) => panic!(rt; "waits"),
+    }
+}
+
+/// The book of a lock that is closed. A test in which a seat is missing fails.
+fn book_of(rt: &impl Abort, lock: TicketLock<CounterBook>, seat: Seat<CounterBook>) -> CounterBook
+    requires { IsSeatOf lock seat }
+{
+    match lock.close(seat) {
+        Ok(book) => book,
+        Err((_lock, _seat)) => panic!(rt; "missing"),
+    }
+}
+
 #[test]
 fn two_seats_take_turns(rt: HostRuntime) -> Result<(), Fail> {
     let (lock, first, second) = two_seats(rt.alloc(), 10)?;
@@ -65,25 +106,15 @@ fn two_seats_take_turns(rt: HostRuntime) -> Result<(), Fail> {
     assert!(rt; second.number() == 1 && second.count() == 1 && second.left() == 4_294_967_295);
     let (first, zero) = lock.glance(first, 0);
     assert!(rt; zero == 0 && first.fresh() && first.calls() == 0);
-    let Ok(a) = lock.draw(first) else {
-        panic!(rt; "spent")
-    };
-    let Ok(b) = lock.draw(second) else {
-        panic!(rt; "spent")
-    };
+    let a = draw(&rt, &lock, first);
+    let b = draw(&rt, &lock, second);
     assert!(rt; a.ticket() == 0 && b.ticket() == 1);
     let b = match take_turn(&lock, b, 7) {
         Ok((_seat, _reply)) => panic!(rt; "held too early"),
         Err(turn) => turn,
     };
-    let (first, five) = match take_turn(&lock, a, 5) {
-        Ok(done) => done,
-        Err(_turn) => panic!(rt; "waits"),
-    };
-    let (second, twelve) = match take_turn(&lock, b, 7) {
-        Ok(done) => done,
-        Err(_turn) => panic!(rt; "waits"),
-    };
+    let (first, five) = seat_after_turn(&rt, &lock, a, 5);
+    let (second, twelve) = seat_after_turn(&rt, &lock, b, 7);
     let (second, shown) = lock.glance(second, 0);
     assert_eq!(rt; (five, twelve, shown), (Ok(5), Ok(12), 12));
     let (lock, first) = match lock.close(first) {
@@ -92,10 +123,7 @@ fn two_seats_take_turns(rt: HostRuntime) -> Result<(), Fail> {
     };
     let seat = lock.gather(first, second);
     assert!(rt; seat.calls() == 2 && seat.count() == 2 && !seat.fresh());
-    let book = match lock.close(seat) {
-        Ok(book) => book,
-        Err((_lock, _seat)) => panic!(rt; "missing"),
-    };
+    let book = book_of(&rt, lock, seat);
     let entries = book.entries();
     assert_eq!(rt; entries.len(), 2);
     assert!(rt; is_entry(&entries[0], 0, 5, 5) && is_entry(&entries[1], 1, 7, 12));
@@ -108,9 +136,7 @@ fn two_seats_take_turns(rt: HostRuntime) -> Result<(), Fail> {
 #[test]
 fn a_glance_reads_what_was_posted(rt: HostRuntime) -> Result<(), Fail> {
     let (lock, first, second) = two_seats(rt.alloc(), 10)?;
-    let Ok(turn) = lock.draw(first) else {
-        panic!(rt; "spent")
-    };
+    let turn = draw(&rt, &lock, first);
     let (hold, mut book) = match lock.look(turn) {
         Look::Held(hold, book) => (hold, book),
         Look::Waiting(_turn) => panic!(rt; "waits"),
@@ -124,20 +150,12 @@ fn a_glance_reads_what_was_posted(rt: HostRuntime) -> Result<(), Fail> {
     let (second, after) = lock.glance(second, 0);
     assert!(rt; hold.posted() && reply == 5 && before == 0 && after == 5);
     let first = lock.leave(hold, book);
-    let Ok(turn) = lock.draw(second) else {
-        panic!(rt; "spent")
-    };
-    let (second, same) = match take_turn(&lock, turn, 0) {
-        Ok(done) => done,
-        Err(_turn) => panic!(rt; "waits"),
-    };
+    let turn = draw(&rt, &lock, second);
+    let (second, same) = seat_after_turn(&rt, &lock, turn, 0);
     let (second, shown) = lock.glance(second, 0);
     assert_eq!(rt; (same, shown), (Ok(5), 5));
     let seat = lock.gather(first, second);
-    let book = match lock.close(seat) {
-        Ok(book) => book,
-        Err((_lock, _seat)) => panic!(rt; "missing"),
-    };
+    let book = book_of(&rt, lock, seat);
     let entries = book.entries();
     assert_eq!(rt; entries.len(), 2);
     assert!(rt; is_entry(&entries[0], 0, 5, 5) && is_entry(&entries[1], 1, 0, 5));
@@ -156,10 +174,7 @@ fn a_seat_draws_as_often_as_it_was_given(rt: HostRuntime) -> Result<(), Fail> {
         Err(seat) => seat,
     };
     assert_eq!(rt; (seat.left(), seat.calls()), (0, 2));
-    let book = match lock.close(seat) {
-        Ok(book) => book,
-        Err((_lock, _seat)) => panic!(rt; "missing"),
-    };
+    let book = book_of(&rt, lock, seat);
     assert_eq!(rt; book.entries().len(), 2);
     Ok(())
 }
@@ -235,10 +250,7 @@ fn two_threads_make_a_thousand_calls_each(rt: HostRuntime) -> Result<(), Fail> {
     let second = seat_back(&rt, &lock, second);
     let seat = lock.gather(first, second);
     assert_eq!(rt; seat.calls(), 2000);
-    let book = match lock.close(seat) {
-        Ok(book) => book,
-        Err((_lock, _seat)) => panic!(rt; "missing"),
-    };
+    let book = book_of(&rt, lock, seat);
     assert_eq!(rt; book.entries().len(), 2000);
     assert_eq!(rt; book.entries()[1999].reply, 2000);
     Ok(())
