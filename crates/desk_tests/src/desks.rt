@@ -5,13 +5,20 @@ ghost use Rattle.check_desk.specs.Desks.{IsHolderAt, IsPassOf, IsWaitingAt};
 
 use crate::openings::{ONE_SERVICE, close_desk, two_passes};
 use check_desk::{Answer, Desk, Hold, Pass, Poll, Turn};
-use check_rules::{Code, Kind, Standing, State, code};
+use check_rules::{Code, Standing, code};
 use check_sched::{Call, Reply};
 use std::process::Abort;
+use std::sync::Wait;
 use std::test::Fail;
 use ticket_steps::Kept;
 
 const STATUS: Call = Call::Status { object: 1 };
+
+const REPORT: Call = Call::Report {
+    object: 1,
+    run: 1,
+    code: Code::Critical,
+};
 
 /// Takes a ticket.
 fn begun(rt: &impl Abort, desk: &Desk, pass: Pass) -> Turn
@@ -46,6 +53,18 @@ fn expect_waiting(rt: &impl Abort, desk: &Desk, turn: Turn) -> Turn
     }
 }
 
+/// Whether this is the standing of an object that was never checked, is off, and didn't change.
+fn is_unchecked(answer: Answer) -> bool {
+    matches!(
+        answer,
+        Answer::Reply(Reply::Standing {
+            standing: Standing { checked: false, .. },
+            changed: false,
+            next: None,
+        })
+    )
+}
+
 #[test]
 fn turns_come_in_the_order_of_their_tickets(rt: HostRuntime) -> Result<(), Fail> {
     let (desk, first, second) = two_passes(rt.alloc(), ONE_SERVICE)?;
@@ -57,17 +76,7 @@ fn turns_come_in_the_order_of_their_tickets(rt: HostRuntime) -> Result<(), Fail>
     let hold = expect_hold(&rt, &desk, second);
     let (second, told) = desk.finish(hold, STATUS);
     assert_eq!(rt; taken, Answer::Reply(Reply::Taken { object: 1, run: 1 }));
-    let Answer::Reply(
-        Reply::Standing {
-            standing,
-            changed,
-            next,
-        },
-    ) = told
-    else {
-        return Err(Fail::from("no standing"));
-    };
-    assert!(rt; !standing.checked && !changed && next.is_none());
+    assert!(rt; is_unchecked(told));
     let (desk, first) = match desk.close(first) {
         Ok(_book) => return Err(Fail::from("closed with a pass missing")),
         Err(back) => back,
@@ -82,45 +91,42 @@ fn turns_come_in_the_order_of_their_tickets(rt: HostRuntime) -> Result<(), Fail>
     Ok(())
 }
 
-/// A glance at an object of the setup.
-fn glance_at(rt: &impl Abort, desk: &Desk, pass: Pass, object: u32) -> (Pass, Standing)
+/// A glance at an object of the setup, whose standing has this word.
+fn expect_word(rt: &impl Abort, desk: &Desk, pass: Pass, object: u32, word: u64) -> Pass
     requires { IsPassOf desk.now pass }
-    ensures { IsPassOf desk.now result.0 }
+    ensures { IsPassOf desk.now result }
 {
     let (pass, standing) = desk.glance(pass, object);
     let Some(standing) = standing else {
         panic!(rt; "no such object");
     };
-    (pass, standing)
+    assert_eq!(rt; code(standing), word);
+    pass
+}
+
+/// The hold of a pass that has just taken the service.
+fn hold_after_take(rt: &(impl Wait + Abort), desk: &Desk, pass: Pass) -> Hold
+    requires { IsPassOf desk.now pass }
+    ensures { IsHolderAt desk.now result }
+{
+    let (pass, taken) = desk.ask(rt, pass, Call::Take { now: 0 });
+    assert_eq!(rt; taken, Answer::Reply(Reply::Taken { object: 1, run: 1 }));
+    let turn = begun(rt, desk, pass);
+    expect_hold(rt, desk, turn)
 }
 
 /// The second pass glances while the first takes, holds and reports. It reads what was posted, and the
-/// glance is no call.
+/// glance is no call. The words are those of an unchecked service (OK HARD 1), an unchecked host (UP HARD 1)
+/// and a service that is CRITICAL SOFT 1.
 #[test]
 fn glances_without_a_turn(rt: HostRuntime) -> Result<(), Fail> {
     let (desk, first, second) = two_passes(rt.alloc(), ONE_SERVICE)?;
-    let (second, standing) = glance_at(&rt, &desk, second, 1);
-    assert_eq!(rt; code(standing), 48, "unchecked OK HARD 1");
-    let (first, taken) = desk.ask(&rt, first, Call::Take { now: 0 });
-    assert_eq!(rt; taken, Answer::Reply(Reply::Taken { object: 1, run: 1 }));
-    let turn = begun(&rt, &desk, first);
-    let hold = expect_hold(&rt, &desk, turn);
-    let (second, standing) = glance_at(&rt, &desk, second, 0);
-    assert_eq!(rt; code(standing), 32_824, "unchecked UP HARD 1");
-    let report = Call::Report {
-        object: 1,
-        run: 1,
-        code: Code::Critical,
-    };
-    let (first, reported) = desk.finish(hold, report);
+    let second = expect_word(&rt, &desk, second, 1, 48);
+    let hold = hold_after_take(&rt, &desk, first);
+    let second = expect_word(&rt, &desk, second, 0, 32_824);
+    let (first, reported) = desk.finish(hold, REPORT);
     assert!(rt; matches!(reported, Answer::Reply(_)));
-    let (second, standing) = glance_at(&rt, &desk, second, 1);
-    assert_eq!(rt; code(standing), 37, "CRITICAL SOFT 1");
-    assert_eq!(rt;
-        (standing.state, standing.kind),
-        (State::Critical, Kind::Soft)
-    );
-    assert_eq!(rt; (standing.attempt, standing.flapping), (1, false));
+    let second = expect_word(&rt, &desk, second, 1, 37);
     assert_eq!(rt; second.calls(), 0);
     let (second, standing) = desk.glance(second, 2);
     assert!(rt; standing.is_none());

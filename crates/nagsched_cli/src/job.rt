@@ -1,8 +1,8 @@
 //! Reads the program's arguments with `clap`. This crate doesn't do the jobs that they ask for.
 
-ghost use Rattle.std.specs.Prelude.{◌≡◌, ◌≤◌, ◌^◌, if◌then◌else◌, Some, [], false, option_map, IfOk, OnOk, IfErr, IfSome, string_bytes};
+ghost use Rattle.std.specs.Prelude.{◌≡◌, ◌≤◌, ◌^◌, if◌then◌else◌, Some, [], false, option_map, IfOk, IsOkAnd, OnOk, IfErr, IfSome, string_bytes};
 ghost use Rattle.clap.specs.declared.builder.command.Command.TheViews.{out-Command};
-ghost use Rattle.clap.specs.Words.{app_of, fault_of, kind_of, new_app, rows_of, rule_of, found_of, subcommand_rows_of};
+ghost use Rattle.clap.specs.Words.{app_of, fault_of, kind_of, new_app, rows_of, rule_of, found_of, subcommand_rows_of, with_subcommand};
 ghost use Rattle.clap.specs.Walk.{texts};
 ghost use Rattle.nagsched_cli.specs.Arguments.{program, run_subcommand, live_subcommand, check_subcommand, drill_subcommand, schema_subcommand};
 ghost use Rattle.nagsched_cli.specs.Arguments.{number_option, optional_start_option, subcommand_with_start};
@@ -64,13 +64,23 @@ pub fn job(alloc: Global, words: &[&str]) -> Result<Job, WordsError>
 fn build_program<'a>(alloc: Global) -> Result<Command<'a>, AllocError>
     ensures { IfOk result (λ c. app_of c ≡ program) }
 {
-    new_command(alloc, "nagsched", HELP)
-        .version(VERSION)
-        .subcommand(build_run(alloc)?)?
-        .subcommand(build_live(alloc)?)?
-        .subcommand(build_check(alloc)?)?
-        .subcommand(build_drill(alloc)?)?
-        .subcommand(build_schema(alloc))
+    let program = new_command(alloc, "nagsched", HELP).version(VERSION);
+    let program = add_subcommand(program, build_run(alloc))?;
+    let program = add_subcommand(program, build_live(alloc))?;
+    let program = add_subcommand(program, build_check(alloc))?;
+    let program = add_subcommand(program, build_drill(alloc))?;
+    program.subcommand(build_schema(alloc))
+}
+
+/// The program with one more subcommand.
+fn add_subcommand<'a>(
+    program: Command<'a>,
+    subcommand: Result<Command<'a>, AllocError>,
+) -> Result<Command<'a>, AllocError>
+    ensures { IfOk result (λ c. IsOkAnd subcommand.entry (λ added. (out-Command added).has_globals ≡ false
+        → app_of c ≡ with_subcommand (app_of program.entry) (app_of added).top)) }
+{
+    program.subcommand(subcommand?)
 }
 
 /// The subcommand `run`.

@@ -8,8 +8,11 @@ use check_desk::Desk;
 use check_objects::Setup;
 use check_rules::Code;
 use check_sched::Reply;
-use check_workers::{Plugin, crew};
+use check_workers::{Plugin, Tally, crew};
+use std::alloc::Global;
+use std::sync::Wait;
 use std::test::Fail;
+use std::thread::Threads;
 use ticket_steps::Kept;
 
 /// A machine room and its four thermometers, which are objects 1 to 4 in the order of their names.
@@ -45,9 +48,8 @@ impl Plugin for Thermometers {
     }
 }
 
-#[test]
-fn a_team_embeds_it(rt: HostRuntime) -> Result<(), Fail> {
-    let alloc = rt.alloc();
+/// Lets four workers work at three moments. Returns the book and the counts of the answers.
+fn watch_room(rt: &(impl Threads + Wait + Sync), alloc: Global) -> Result<(Book, Tally), Fail> {
     let setup = Setup::read(alloc, MACHINE_ROOM)?;
     let Ok(book) = Book::open(alloc, setup, 0, 1_000) else {
         return Err(Fail::from("no memory for the book"));
@@ -59,16 +61,24 @@ fn a_team_embeds_it(rt: HostRuntime) -> Result<(), Fail> {
         degrees: [0, 24, 22, 31, 42],
     };
     let moments = [0, 60_000, 120_000];
-    let Ok((book, tally)) = crew(&rt, alloc, desk, passes, &plugin, &moments) else {
-        return Err(Fail::from("no memory for the threads"));
-    };
+    crew(rt, alloc, desk, passes, &plugin, &moments).map_err(|_error| Fail::from(
+        "no memory for the threads",
+    ))
+}
 
+/// The number of checks that were taken.
+fn count_taken(book: &Book) -> usize {
     let is_taken = |reply: Reply| matches!(reply, Reply::Taken { .. });
-    let taken = book
-        .entries()
+    book.entries()
         .iter()
         .filter(|entry| is_taken(entry.reply))
-        .count();
+        .count()
+}
+
+#[test]
+fn a_team_embeds_it(rt: HostRuntime) -> Result<(), Fail> {
+    let (book, tally) = watch_room(&rt, rt.alloc())?;
+    let taken = count_taken(&book);
     assert!(rt; taken >= 4, "each thermometer was read");
     assert_eq!(rt; (tally.takes, tally.stops), (12, 0));
     assert_eq!(rt; (tally.taken, tally.reported), (taken as u64, taken as u64));

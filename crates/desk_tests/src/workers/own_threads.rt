@@ -1,16 +1,17 @@
 //! How a team embeds the library in threads of its own: two workers with a plugin that promises more
 //! than any code, an operator and a dashboard share one scheduler.
 
-ghost use Rattle.std.specs.Prelude.{◌≡◌, ◌⊎◌};
+ghost use Rattle.std.specs.Prelude.{◌≡◌, ◌⊎◌, IfOk};
 ghost use Rattle.check_rules.specs.declared.state.Code.TheVariants as code;
 ghost use Rattle.check_desk.specs.Desks.{IsPassOf};
 
+use crate::openings::{MOST_CALLS, close_desk, open_desk};
 use check_book::Book;
 use check_desk::{Answer, Desk, Pass};
-use check_objects::Setup;
 use check_rules::{Code, Standing, State};
 use check_sched::{Call, Reply};
 use check_workers::{Plugin, work};
+use std::alloc::Global;
 use std::process::Abort;
 use std::sync::Wait;
 use std::test::Fail;
@@ -164,34 +165,32 @@ fn assert_whole(rt: &impl Abort, book: &Book, was_open: bool) {
     assert!(rt; !was_open || history.iter().any(|entry| is_warning(entry.call)));
 }
 
-#[test]
-fn a_team_keeps_its_own_threads(rt: HostRuntime) -> Result<(), Fail> {
-    let alloc = rt.alloc();
-    let setup = Setup::read(alloc, HOUSE)?;
-    let Ok(book) = Book::open(alloc, setup, 0, 1_000) else {
-        return Err(Fail::from("no memory for the book"));
-    };
-    let Ok((desk, mut passes)) = Desk::open(alloc, book, 4) else {
-        return Err(Fail::from("no memory for the desk"));
-    };
+/// A desk on the house, with the passes of the two workers, and those of the operator and the dashboard.
+fn open_house(alloc: Global) -> Result<(Desk, (Pass, Pass), (Pass, Pass)), Fail>
+    ensures { IfOk result (λ made.
+        (IsPassOf made.0 made.1.0 × IsPassOf made.0 made.1.1)
+        × (IsPassOf made.0 made.2.0 × IsPassOf made.0 made.2.1)) }
+{
+    let (desk, mut passes) = open_desk(alloc, HOUSE, 4, MOST_CALLS)?;
     let (dashboard, operator) = (passes.pop(), passes.pop());
     let (second, first) = (passes.pop(), passes.pop());
-    let (Some(first), Some(second)) = (first, second) else {
-        return Err(Fail::from("no passes for the workers"));
-    };
-    let (Some(operator), Some(dashboard)) = (operator, dashboard) else {
-        return Err(Fail::from("no passes for the others"));
-    };
+    match (first, second, operator, dashboard) {
+        (Some(first), Some(second), Some(operator), Some(dashboard)) => {
+            Ok((desk, (first, second), (operator, dashboard)))
+        }
+        _ => Err(Fail::from("not four passes")),
+    }
+}
+
+#[test]
+fn a_team_keeps_its_own_threads(rt: HostRuntime) -> Result<(), Fail> {
+    let (desk, workers, others) = open_house(rt.alloc())?;
     let doors = Doors {
         open: [false, false, true],
     };
-    let workers = (first, second);
-    let others = (operator, dashboard);
     let (pass, was_open) = work_together(&rt, &desk, &doors, workers, others);
     let calls = pass.calls();
-    let Ok(book) = desk.close(pass) else {
-        return Err(Fail::from("a pass is missing"));
-    };
+    let book = close_desk(&rt, desk, pass);
     assert_eq!(rt; book.entries().len() as u64 + book.refused(), calls);
     assert_whole(&rt, &book, was_open);
     Ok(())
