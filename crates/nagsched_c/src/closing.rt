@@ -6,10 +6,9 @@ ghost use Rattle.nagsched_handles.specs.Handles.{contents_of};
 ghost use Rattle.nagsched_c.specs.Closing.{HasClosed, HasGathered, HasRenewed, IsBookIn, IsOpenStill, IsRestingIn, IsSameBook};
 
 use crate::status::{MISSING, NO_MEMORY, OK, WRONG};
+use nagsched_handles::Handle;
 use nagsched_handles::closing::{close, is_book, is_resting, merge_passes, renew};
-use nagsched_handles::{Handle, HandleTarget};
 use std::alloc::Global;
-use std::mem::replace;
 
 /// Gathers two passes of one desk: the first stays, and answers for the calls of both. The second
 /// handle is empty afterwards.
@@ -61,18 +60,9 @@ pub extern "C" fn nagsched_close(alloc: Global, pass: &mut Handle) -> u32
         *pass = Handle::of(target);
         return WRONG;
     }
-    match close(replace(&mut *target, HandleTarget::Nothing)) {
-        Ok(book) => {
-            *target = book;
-            *pass = Handle::of(target);
-            OK
-        }
-        Err(same) => {
-            *target = same;
-            *pass = Handle::of(target);
-            MISSING
-        }
-    }
+    let is_closed = close(&mut target);
+    *pass = Handle::of(target);
+    if is_closed { OK } else { MISSING }
 }
 
 /// Renews a book: it opens in its present state, without entries and with room for `room` entries. Its
@@ -106,8 +96,7 @@ pub extern "C" fn nagsched_renew(
         *book = Handle::of(target);
         return WRONG;
     }
-    let (now, past) = renew(alloc, replace(&mut *target, HandleTarget::Nothing), room);
-    *target = now;
+    let past = renew(alloc, &mut target, room);
     *book = Handle::of(target);
     match past {
         Some(past) => {

@@ -5,10 +5,9 @@ ghost use Rattle.nagsched_handles.specs.Handles.{contents_of};
 ghost use Rattle.nagsched_c.specs.Opening.{are_empty, terms_of, ArePassHandles, HasOpened, IsBackIn, MayOpen};
 
 use crate::status::{NO_MEMORY, OK, WRONG};
+use nagsched_handles::Handle;
 use nagsched_handles::opening::{Terms, is_source, open_source};
-use nagsched_handles::{Handle, HandleTarget};
 use std::alloc::Global;
-use std::mem::replace;
 use ticket_steps::DRAWS;
 
 /// Opens a desk, with a pass for each of the handles, 1 to 1,024 empty ones. Each pass has 2^32 - 1 calls.
@@ -108,14 +107,11 @@ fn open_desk(alloc: Global, source: &mut Handle, terms: Terms, passes: &mut [Han
         *source = Handle::of(target);
         return WRONG;
     }
-    let taken = replace(&mut *target, HandleTarget::Nothing);
-    match open_source(alloc, taken, terms, passes) {
-        Ok(()) => OK,
-        Err(err) => {
-            *target = err;
-            *source = Handle::of(target);
-            NO_MEMORY
-        }
+    if open_source(alloc, &mut target, terms, passes) {
+        OK
+    } else {
+        *source = Handle::of(target);
+        NO_MEMORY
     }
 }
 

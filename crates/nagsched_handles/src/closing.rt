@@ -35,8 +35,27 @@ pub fn is_resting(target: &HandleTarget) -> bool
     }
 }
 
+/// Ends the desk of a pass, if all its passes were gathered into this one: the book takes the pass's
+/// place. Otherwise the pass stays.
+pub fn close(target: &mut HandleTarget) -> bool
+    requires { IsResting target.old }
+    ensures closed { result ≡ true → HasClosedDesk target.old target.new }
+    ensures open { result ≡ false → IsUnchangedPass target.old target.new }
+{
+    match book_or_pass(target.take()) {
+        Ok(book) => {
+            target.put(book);
+            true
+        }
+        Err(pass) => {
+            target.put(pass);
+            false
+        }
+    }
+}
+
 /// The book of a pass's desk, if all passes were gathered into this one. Otherwise the pass.
-pub fn close(target: HandleTarget) -> Result<HandleTarget, HandleTarget>
+fn book_or_pass(target: HandleTarget) -> Result<HandleTarget, HandleTarget>
     requires { IsResting target }
     ensures ended { IfOk result (λ book. HasClosedDesk target book) }
     ensures err { IfErr result (λ pass. IsUnchangedPass target pass) }
@@ -57,9 +76,20 @@ pub fn is_book(target: &HandleTarget) -> bool
     matches!(target, HandleTarget::Book(_))
 }
 
+/// Renews a book, and returns the entries of the old one. If memory is refused, the book stays as it was,
+/// and there are no entries.
+pub fn renew(alloc: Global, target: &mut HandleTarget, room: usize) -> Option<Box<HandleTarget>>
+    requires { IsBookTarget target.old }
+    ensures { HasRenewedBook room target.old target.new (box_value result) }
+{
+    let (renewed, past) = renew_target(alloc, target.take(), room);
+    target.put(renewed);
+    past
+}
+
 /// The renewed book, and the entries of the old one. If memory was refused, the book as it was, and no
 /// entries.
-pub fn renew(
+fn renew_target(
     alloc: Global,
     target: HandleTarget,
     room: usize,

@@ -3,7 +3,7 @@
 //! The memory for a desk's seats is asked for before the desk opens. So if it is refused, the setup or
 //! the book can be handed back.
 
-ghost use Rattle.std.specs.Prelude.{◌≡◌, ◌↔◌, ◌<◌, ◌≤◌, [], length, true, IfOk, IfErr, OnOk};
+ghost use Rattle.std.specs.Prelude.{◌≡◌, ◌↔◌, ◌<◌, ◌≤◌, [], length, true, false, IfOk, IfErr, OnOk};
 ghost use Rattle.std.specs.List.{All};
 ghost use Rattle.std_alloc.specs.Arc.{arc_value};
 ghost use Rattle.check_desk.specs.Desks.{desk_opening, passes_of, AreNewPassesWith, IsPassOf};
@@ -54,10 +54,33 @@ pub fn is_source(target: &HandleTarget, terms: Terms) -> bool
     }
 }
 
-/// Opens a desk on a setup or a book, with a pass for each handle. If memory is refused, it leaves the
-/// handles as they were, and hands back the setup or the book, or else the only pass of the desk. The
-/// pass would need a count of owners that is at its limit (`IsHandedBackOf`).
+/// Opens a desk on a setup or a book, with a pass for each handle. If memory is refused, the handles and
+/// the source are as they were, or else the source is the only pass of the desk. The pass would need a
+/// count of owners that is at its limit (`IsHandedBackOf`).
 pub fn open_source(
+    alloc: Global,
+    source: &mut HandleTarget,
+    terms: Terms,
+    handles: &mut [Handle],
+) -> bool
+    requires source { IsSource terms source.old }
+    requires calls { 0 < terms.calls }
+    requires nonempty { (0 < length handles.old) × (length handles.old ≤ 1024) }
+    ensures opened { result ≡ true → IsOpenedBy terms source.old handles.new }
+    ensures err { result ≡ false
+        → IsHandedBack terms source.old source.new × (handles.new ≡ handles.old) }
+{
+    match open_target(alloc, source.take(), terms, handles) {
+        Ok(()) => true,
+        Err(back) => {
+            source.put(back);
+            false
+        }
+    }
+}
+
+/// The same. A source that is handed back is the error.
+fn open_target(
     alloc: Global,
     source: HandleTarget,
     terms: Terms,

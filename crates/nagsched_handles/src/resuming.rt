@@ -7,7 +7,6 @@ use crate::target::{HandleTarget, NamedBook, NamedSetup};
 use check_book::Book;
 use check_sched::{LAST_MOMENT, Saved};
 use std::alloc::Global;
-use std::mem::replace;
 
 /// Whether the target is a setup.
 pub fn is_setup(target: &HandleTarget) -> bool
@@ -31,8 +30,7 @@ pub fn resume(
     ensures resumed { result ≡ true → IsResumedBook start room saved.now target.old target.new }
     ensures same { result ≡ false → IsSameSetup target.old target.new }
 {
-    let before = replace(target, HandleTarget::Nothing);
-    let (after, resumed) = resume_over(alloc, before, saved, start, room);
+    let (after, resumed) = resume_over(alloc, target.take(), saved, start, room);
     target.put(after);
     resumed
 }

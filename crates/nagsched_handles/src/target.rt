@@ -65,6 +65,14 @@ impl HandleTarget {
         Ok(Box::new(alloc, HandleTarget::Nothing)?)
     }
 
+    /// The target, which leaves nothing in its place.
+    pub(crate) fn take(&mut self) -> HandleTarget
+        ensures value { result ≡ self.old }
+        ensures vacant { self.new ≡ target.Nothing }
+    {
+        replace(self, HandleTarget::Nothing)
+    }
+
     /// Puts another target into the place of this one, which is dropped.
     pub(crate) fn put(&mut self, target: HandleTarget)
         ensures { self.new ≡ target }

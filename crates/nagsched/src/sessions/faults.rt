@@ -35,26 +35,36 @@ fn readers_fail(rt: HostRuntime) -> Result<(), Fail> {
     Ok(())
 }
 
+/// A run over this input, from the start 0 on.
+fn drive_over(alloc: Global, input: &str, writer: &mut ShortWriter) -> Result<Outcome, DriveError> {
+    drive(alloc, 0, &mut input.as_bytes(), writer)
+}
+
 #[test]
 fn writers_fail(rt: HostRuntime) -> Result<(), Fail> {
     let alloc = rt.alloc();
     let input = with_host(alloc, LINES)?;
     for room in 0..TEXT.len() {
         for most in [1, 3, 100] {
-            let mut reader = input.as_bytes();
             let mut writer = ShortWriter::new(alloc, most);
             writer.room = room;
-            let result = drive(alloc, 0, &mut reader, &mut writer);
+            let result = drive_over(alloc, &input, &mut writer);
             assert_eq!(rt; result, Err(DriveError::Write));
             assert!(rt; writer.taken.as_slice() == &TEXT[..room]);
         }
     }
+    Ok(())
+}
+
+#[test]
+fn writers_fail_with_any_error(rt: HostRuntime) -> Result<(), Fail> {
+    let alloc = rt.alloc();
+    let input = with_host(alloc, LINES)?;
     for error in KINDS {
-        let mut reader = input.as_bytes();
         let mut writer = ShortWriter::new(alloc, 3);
         writer.room = 5;
         writer.error = error;
-        let result = drive(alloc, 0, &mut reader, &mut writer);
+        let result = drive_over(alloc, &input, &mut writer);
         assert_eq!(rt; result, Err(DriveError::Write));
     }
     Ok(())
@@ -65,9 +75,8 @@ fn writer_takes_no_byte(rt: HostRuntime) -> Result<(), Fail> {
     let alloc = rt.alloc();
     for lines in [LINES, "["] {
         let input = with_host(alloc, lines)?;
-        let mut reader = input.as_bytes();
         let mut writer = ShortWriter::new(alloc, 0);
-        let result = drive(alloc, 0, &mut reader, &mut writer);
+        let result = drive_over(alloc, &input, &mut writer);
         assert_eq!(rt; result, Err(DriveError::Write));
         assert!(rt; writer.taken.is_empty());
     }
@@ -85,13 +94,11 @@ fn flushes_once(rt: HostRuntime) -> Result<(), Fail> {
         ("[", refused, Outcome::Refused),
     ] {
         let input = with_host(alloc, lines)?;
-        let mut reader = input.as_bytes();
         let mut writer = ShortWriter::new(alloc, 1);
-        let result = drive(alloc, 0, &mut reader, &mut writer);
+        let result = drive_over(alloc, &input, &mut writer);
         assert_eq!(rt; result, Ok(ended));
         assert!(rt; writer.taken.as_slice() == wanted);
-        assert_eq!(rt; writer.flushes, 1);
-        assert_eq!(rt; writer.flushed, wanted.len());
+        assert_eq!(rt; (writer.flushes, writer.flushed), (1, wanted.len()));
     }
     Ok(())
 }
@@ -113,34 +120,36 @@ fn failing_writer(alloc: Global) -> ShortWriter {
     writer
 }
 
-/// Conversations, checks and drills report a reader that fails as `Read`, and a writer as `Write`. The
-/// program has one status for both.
+/// Conversations, checks and drills report a reader that fails as `Read`. The program has one status for
+/// both devices.
 #[test]
-fn each_job_reports_which_device_failed(rt: HostRuntime) -> Result<(), Fail> {
+fn each_job_reports_a_reader_that_fails(rt: HostRuntime) -> Result<(), Fail> {
     let alloc = rt.alloc();
     let input = with_host(alloc, LINES)?;
-    let bytes = input.as_bytes();
+    let reader = &mut failing_reader(input.as_bytes());
     let good = &mut ShortWriter::new(alloc, 100);
-    let fresh = Start::Fresh(0);
-    let talked = live(alloc, fresh, &mut failing_reader(bytes), good);
+    let talked = live(alloc, Start::Fresh(0), reader, good);
     assert_eq!(rt; talked, Err(DriveError::Read));
-    let talked = live(
-        alloc,
-        fresh,
-        &mut input.as_bytes(),
-        &mut failing_writer(alloc),
-    );
-    assert_eq!(rt; talked, Err(DriveError::Write));
-    for start in [fresh, Start::Resumed(None)] {
+    for start in [Start::Fresh(0), Start::Resumed(None)] {
         let told = check(alloc, start, &mut failing_reader(b"{}"), good);
         assert_eq!(rt; told, Err(DriveError::Read));
     }
-    let told = write_setup_line(alloc, &mut b"{}".as_slice(), &mut failing_writer(alloc));
-    assert_eq!(rt; told, Err(DriveError::Write));
     let drilled = drill(&rt, alloc, 0, 1, 100, &mut failing_reader(b"{}"), good);
     assert_eq!(rt; drilled, Err(DriveError::Read));
-    let nobody = &mut failing_writer(alloc);
-    let drilled = drill(&rt, alloc, 0, 1, 100, &mut b"{}".as_slice(), nobody);
+    Ok(())
+}
+
+/// They report a writer that fails as `Write`.
+#[test]
+fn each_job_reports_a_writer_that_fails(rt: HostRuntime) -> Result<(), Fail> {
+    let alloc = rt.alloc();
+    let input = with_host(alloc, LINES)?;
+    let writer = &mut failing_writer(alloc);
+    let talked = live(alloc, Start::Fresh(0), &mut input.as_bytes(), writer);
+    assert_eq!(rt; talked, Err(DriveError::Write));
+    let told = write_setup_line(alloc, &mut b"{}".as_slice(), writer);
+    assert_eq!(rt; told, Err(DriveError::Write));
+    let drilled = drill(&rt, alloc, 0, 1, 100, &mut b"{}".as_slice(), writer);
     assert_eq!(rt; drilled, Err(DriveError::Write));
     Ok(())
 }

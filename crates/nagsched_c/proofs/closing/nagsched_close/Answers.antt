@@ -1,14 +1,16 @@
-use Rattle.std.proofs.Common.{◌∙◌, subst}
+use Rattle.std.proofs.Common.{subst}
 use Rattle.nagsched_handles.specs.declared.target.HandleTarget.{HandleTarget}
 use Rattle.nagsched_handles.specs.Closing.{HasClosedDesk, IsUnchangedPass}
 use Rattle.nagsched_c.proofs.closing.nagsched_close.Goals as goal
 
-pub returns-in-Ok-clause-closed : goal.returns-in-Ok-clause-closed
-returns-in-Ok-clause-closed c = λ is.
-    let from = c.replace.ensures.value ∙ c.deref_mut.ensures.value in
-    rw (← c.in-Some.ensures.value, c.of-in-Ok.ensures) (subst (λ (b : HandleTarget). HasClosedDesk b c.in-Ok.book) from c.in-Ok.ensures.ended)
+pub returns-then-is_closed-clause-closed : goal.returns-then-is_closed-clause-closed
+returns-then-is_closed-clause-closed c = λ is.
+    let closed = c.close-is_closed.ensures.closed c.if-is_closed.true in
+    rw (← c.in-Some.ensures.value, c.of-2.ensures)
+    (subst (λ (b : HandleTarget). HasClosedDesk b c.close-is_closed.new.target) c.deref_mut.ensures.value closed)
 
-pub returns-in-Err-clause-err : goal.returns-in-Err-clause-err
-returns-in-Err-clause-err c = λ is.
-    let from = c.replace.ensures.value ∙ c.deref_mut.ensures.value in
-    rw (← c.in-Some.ensures.value, c.of-in-Err.ensures) (subst (λ (b : HandleTarget). IsUnchangedPass b c.in-Err.same) from c.in-Err.ensures.err)
+pub returns-else-is_closed-clause-err : goal.returns-else-is_closed-clause-err
+returns-else-is_closed-clause-err c = λ is.
+    let is_open = c.close-is_closed.ensures.open c.if-is_closed.false in
+    rw (← c.in-Some.ensures.value, c.of-2.ensures)
+    (subst (λ (b : HandleTarget). IsUnchangedPass b c.close-is_closed.new.target) c.deref_mut.ensures.value is_open)
