@@ -1,7 +1,8 @@
 #!/usr/bin/env python3
 """The monitor compared with Nagios 4: checks per second, their lateness, processor time, memory.
 
-    bench/monitor.py PROGRAM [RATE..]      manually; needs cc, and Debian's package nagios4-core, which it fetches and unpacks into a temporary folder
+    bench/monitor.py PROGRAM [RATE..]      manually; needs cc, the runner that monitor/build_runner.sh makes, and Debian's package nagios4-core, which it
+                                           fetches and unpacks into a temporary folder
 
 For each rate (18, 200, 500, 800 and 2,000 checks due per second) both run the same services for SECONDS, one after the other. Each service is checked every
 ten seconds, with a plugin in C that ends at once. At 500 the monitor also runs with a disk whose sync takes ten milliseconds more. Latency is the lateness
@@ -14,6 +15,7 @@ import json
 import os
 import pathlib
 import signal
+import socket
 import sqlite3
 import statistics
 import subprocess
@@ -150,7 +152,9 @@ def measure_restart(folder, program):
     """The seconds of a restart and of a reload."""
     begin = time.monotonic()
     running = subprocess.Popen([sys.executable, MONITOR, "--program", program, folder], stdout=subprocess.DEVNULL, stderr=subprocess.DEVNULL)
-    while run_command(folder, "status", "h1").returncode:
+    while not is_answering(folder):
+        if running.poll() is not None:
+            sys.exit(f"bench: the monitor ended with status {running.returncode} at its start")
         time.sleep(0.01)
     restart, begin = time.monotonic() - begin, time.monotonic()
     run_command(folder, "reload").check_returncode()
@@ -158,6 +162,17 @@ def measure_restart(folder, program):
     running.send_signal(signal.SIGTERM)
     running.wait(timeout=60)
     return f"{restart:8.2f} {reload:7.2f}"
+
+
+def is_answering(folder):
+    try:
+        with socket.socket(socket.AF_UNIX) as there:
+            there.settimeout(60)
+            there.connect(str(folder / "monitor.socket"))
+            there.sendall(b'{"do":"signs"}\n')
+            return bool(there.recv(1))
+    except OSError:
+        return False
 
 
 def run_command(folder, *arguments):
