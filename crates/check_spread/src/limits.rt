@@ -6,8 +6,7 @@ ghost use Rattle.check_spread.specs.declared.limits.TheConstants.{LAST_MOMENT, L
 /// The greatest moment that a clock can show, in milliseconds.
 pub const LAST_MOMENT: u64 = 1 << 60;
 
-/// The time up to which checks are set, in milliseconds. A check can be set later than the moment of a call,
-/// so this is greater than the greatest moment.
+/// The time up to which checks are set, in milliseconds.
 pub const LAST_TIME: u64 = 1 << 61;
 
 /// The number of milliseconds in a minute.

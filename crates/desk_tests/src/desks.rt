@@ -21,7 +21,7 @@ const REPORT: Call = Call::Report {
 };
 
 /// Takes a ticket.
-fn begun(rt: &impl Abort, desk: &Desk, pass: Pass) -> Turn
+fn take_ticket(rt: &impl Abort, desk: &Desk, pass: Pass) -> Turn
     requires { IsPassOf desk.now pass }
     ensures { IsWaitingAt desk.now result }
 {
@@ -68,8 +68,8 @@ fn is_unchecked(answer: Answer) -> bool {
 #[test]
 fn turns_come_in_the_order_of_their_tickets(rt: HostRuntime) -> Result<(), Fail> {
     let (desk, first, second) = two_passes(rt.alloc(), ONE_SERVICE)?;
-    let first = begun(&rt, &desk, first);
-    let second = begun(&rt, &desk, second);
+    let first = take_ticket(&rt, &desk, first);
+    let second = take_ticket(&rt, &desk, second);
     let second = expect_waiting(&rt, &desk, second);
     let hold = expect_hold(&rt, &desk, first);
     let (first, taken) = desk.finish(hold, Call::Take { now: 0 });
@@ -111,7 +111,7 @@ fn hold_after_take(rt: &(impl Wait + Abort), desk: &Desk, pass: Pass) -> Hold
 {
     let (pass, taken) = desk.ask(rt, pass, Call::Take { now: 0 });
     assert_eq!(rt; taken, Answer::Reply(Reply::Taken { object: 1, run: 1 }));
-    let turn = begun(rt, desk, pass);
+    let turn = take_ticket(rt, desk, pass);
     expect_hold(rt, desk, turn)
 }
 
