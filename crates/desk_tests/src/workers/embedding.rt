@@ -61,9 +61,10 @@ fn watch_room(rt: &(impl Threads + Wait + Sync), alloc: Global) -> Result<(Book,
         degrees: [0, 24, 22, 31, 42],
     };
     let moments = [0, 60_000, 120_000];
-    crew(rt, alloc, desk, passes, &plugin, &moments).map_err(|_error| Fail::from(
-        "no memory for the threads",
-    ))
+    let Ok((book, tally)) = crew(rt, alloc, desk, passes, &plugin, &moments) else {
+        return Err(Fail::from("no memory for the threads"));
+    };
+    Ok((book, tally))
 }
 
 /// The number of checks that were taken.
