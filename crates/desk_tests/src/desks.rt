@@ -53,7 +53,7 @@ fn expect_waiting(rt: &impl Abort, desk: &Desk, turn: Turn) -> Turn
     }
 }
 
-/// Whether this is the standing of an object that was never checked, is off, and didn't change.
+/// Whether this is the standing of an object that was never checked, has no next check, and didn't change.
 fn is_unchecked(answer: Answer) -> bool {
     matches!(
         answer,

@@ -23,3 +23,10 @@ abbrev pub IsLoopFault : Option (List ℕ) → Fault → Type 0
 IsLoopFault stored fault.Refused = IsSomeAnd stored (λ text. IsErr (saved_of_text text))
 IsLoopFault stored fault.Memory = ⊤
 IsLoopFault stored other = ⊥
+
+-- the exit status that reports a fault
+abbrev pub exit_status : Fault → ℕ
+exit_status fault.Words = 2
+exit_status fault.Output = 3
+exit_status fault.Memory = 4
+exit_status fault.Refused = 5

@@ -18,11 +18,12 @@ pub(crate) enum Fault {
 }
 
 impl Fault {
-    ghost use Rattle.std.specs.Prelude.{◌<◌};
+    ghost use Rattle.std.specs.Prelude.{◌≡◌};
+    ghost use Rattle.nagsched_loop.specs.Faults.{exit_status};
 
     /// The exit status that reports it. Status 0 reports success.
     pub(crate) fn status(self) -> u8
-        ensures { 0 < result }
+        ensures { result ≡ exit_status self }
     {
         match self {
             Fault::Words => 2,

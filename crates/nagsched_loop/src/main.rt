@@ -59,7 +59,7 @@ fn main(rt: HostRuntime) -> ExitCode {
 /// Monitors the room for the number of days in the argument, and writes everything to standard output.
 fn watch<R: Env + Print + AllocGlobal + Wait>(rt: &R) -> Result<(), Fault> {
     let alloc = rt.alloc();
-    let mut environment = Days::of(asked(rt, alloc)?);
+    let mut environment = Days::of(read_days(rt, alloc)?);
     let Ok(writer) = BufWriter::new(alloc, io::writer(rt)) else {
         return Err(Fault::Memory);
     };
@@ -68,8 +68,8 @@ fn watch<R: Env + Print + AllocGlobal + Wait>(rt: &R) -> Result<(), Fault> {
     files.flush()
 }
 
-/// The number of days in the argument. An Err is `Words` or `Memory`.
-fn asked<R: Env + AllocGlobal>(rt: &R, alloc: Global) -> Result<u32, Fault> {
+/// Reads the number of days from the argument. An Err is `Words` or `Memory`.
+fn read_days<R: Env + AllocGlobal>(rt: &R, alloc: Global) -> Result<u32, Fault> {
     let args = match env::args(rt) {
         Ok(args) => args,
         Err(e) if e.kind() == ErrorKind::OutOfMemory => return Err(Fault::Memory),
