@@ -165,12 +165,13 @@ def measure_restart(folder, program):
 
 
 def is_answering(folder):
+    """Whether the monitor of a folder answers a request. Its command `status` reads the database alone."""
     try:
-        with socket.socket(socket.AF_UNIX) as there:
-            there.settimeout(60)
-            there.connect(str(folder / "monitor.socket"))
-            there.sendall(b'{"do":"signs"}\n')
-            return bool(there.recv(1))
+        with socket.socket(socket.AF_UNIX) as client:
+            client.settimeout(60)
+            client.connect(str(folder / "monitor.socket"))
+            client.sendall(b'{"do":"signs"}\n')
+            return bool(client.recv(1))
     except OSError:
         return False
 
