@@ -118,18 +118,18 @@ module _ (hosts : List (String Global × Host)) (services : List (String Global 
   some_object (d ∷ ss) hs h k some = some_service (d ∷ ss) h (omega arith)
 
   -- what numbers of dependencies are: those of objects, in the order of the parsed setup
-  pub record AreNumbered (drafts : ParsedSetup) (count : ℕ) (all : List (ℕ × Dependency)) : Type 0 where
+  pub record AreNumbered (parsed : ParsedSetup) (count : ℕ) (all : List (ℕ × Dependency)) : Type 0 where
     pub dependents : list_all (λ d. nat_lt d.0 count) all ≡ true
-    pub lists : dependency_lists count all ≡ dependencies_by_number objects drafts
+    pub lists : dependency_lists count all ≡ dependencies_by_number objects parsed
 
-  pub all_numbered : (drafts : ParsedSetup) (host_count service_count : ℕ) (ss hs : List ParsedDependency) (none of_services all : List (ℕ × Dependency))
+  pub all_numbered : (parsed : ParsedSetup) (host_count service_count : ℕ) (ss hs : List ParsedDependency) (none of_services all : List (ℕ × Dependency))
       → ((name : List ℕ) → is_known (names_in services) name ≡ true → is_known (names_in hosts) name ≡ false)
-      → ss ≡ drafts.service_dependencies → hs ≡ drafts.host_dependencies → host_count ≡ length hosts → service_count ≡ length services
-      → list_all (has_known_ends (names_in services)) drafts.service_dependencies ≡ true
-      → list_all (has_known_ends (names_in hosts)) drafts.host_dependencies ≡ true
+      → ss ≡ parsed.service_dependencies → hs ≡ parsed.host_dependencies → host_count ≡ length hosts → service_count ≡ length services
+      → list_all (has_known_ends (names_in services)) parsed.service_dependencies ≡ true
+      → list_all (has_known_ends (names_in hosts)) parsed.host_dependencies ≡ true
       → none ≡ [] → of_services ≡ none ++ map (offset_dependency host_count (names_in services)) ss
-      → all ≡ of_services ++ map (offset_dependency 0 (names_in hosts)) hs → AreNumbered drafts (host_count + service_count) all
-  all_numbered drafts host_count service_count ss hs none of_services all apart of_ss of_hs hosts_are services_are service_ends host_ends start first then =
+      → all ≡ of_services ++ map (offset_dependency 0 (names_in hosts)) hs → AreNumbered parsed (host_count + service_count) all
+  all_numbered parsed host_count service_count ss hs none of_services all apart of_ss of_hs hosts_are services_are service_ends host_ends start first then =
       let known_ss = ap (list_all (has_known_ends (names_in services))) of_ss ∙ service_ends in
       let known_hs = ap (list_all (has_known_ends (names_in hosts))) of_hs ∙ host_ends in
       let numbers : all ≡ map (numbered_dependency objects) (ss ++ hs) =

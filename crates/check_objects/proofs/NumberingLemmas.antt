@@ -41,17 +41,17 @@ module _ {K L X Y : Type 0} (order : K → K → Ordering) (order' : L → L →
       ∙ ap (λ l. match_ordering (order' (f k) (f e.0)) (view (k, v) ∷ view e ∷ map view es) ((f e.0, g v) ∷ map view es) (view e ∷ l)) (map-insert es k v)
 
   -- a loop's step: what is kept of the item d goes into the map behind its key
-  pub placed_next : {D E : Type 0} (key : E → L) (value : E → Y) (drafts : List D → List E) (one : D → E)
-      (step : (d : D) (ds : List D) → drafts (d ∷ ds) ≡ one d ∷ drafts ds)
+  pub placed_next : {D E : Type 0} (key : E → L) (value : E → Y) (parsed : List D → List E) (one : D → E)
+      (step : (d : D) (ds : List D) → parsed (d ∷ ds) ≡ one d ∷ parsed ds)
       (old new : List (K × X)) (k : K) (v : X) (ds : List D) (i : ℕ) (d : D) → drop i ds ≡ d ∷ drop (i + 1) ds → new ≡ insert_entry order old k v → f k
       ≡ key (one d) → g v ≡ value (one d)
-      → placed order' key value (map view old) (drafts (drop i ds)) ≡ placed order' key value (map view new) (drafts (drop (i + 1) ds))
-  placed_next key value drafts one step old new k v ds i d e put is_same_key same_value =
+      → placed order' key value (map view old) (parsed (drop i ds)) ≡ placed order' key value (map view new) (parsed (drop (i + 1) ds))
+  placed_next key value parsed one step old new k v ds i d e put is_same_key same_value =
       let m : map view new ≡ insert_entry order' (map view old) (key (one d)) (value (one d)) =
       ap (map view) put ∙ map-insert old k v ∙ ap (λ x. insert_entry order' (map view old) x (g v)) is_same_key
       ∙ ap (λ x. insert_entry order' (map view old) (key (one d)) x) same_value in
-      ap (λ l. placed order' key value (map view old) (drafts l)) e ∙ ap (λ l. placed order' key value (map view old) l) (step d (drop (i + 1) ds))
-      ∙ ap (λ m. placed order' key value m (drafts (drop (i + 1) ds))) (sym m)
+      ap (λ l. placed order' key value (map view old) (parsed l)) e ∙ ap (λ l. placed order' key value (map view old) l) (step d (drop (i + 1) ds))
+      ∙ ap (λ m. placed order' key value m (parsed (drop (i + 1) ds))) (sym m)
 
 -- ---- lists that a loop makes of a map's entries, one after another
 

@@ -61,10 +61,10 @@ names_in_order hosts = map (λ h. h.0) (hosts_in_order hosts)
 
 -- the hosts and services of a parsed setup without a fault, by number
 abbrev pub configuration_of_objects : ParsedSetup → Configuration
-configuration_of_objects drafts = record {
-  options = drafts.options;
-  hosts = map (numbered_host (names_in_order drafts.hosts)) (hosts_in_order drafts.hosts);
-  services = map (numbered_service (names_in_order drafts.hosts)) (services_in_order drafts.services);
+configuration_of_objects parsed = record {
+  options = parsed.options;
+  hosts = map (numbered_host (names_in_order parsed.hosts)) (hosts_in_order parsed.hosts);
+  services = map (numbered_service (names_in_order parsed.hosts)) (services_in_order parsed.services);
   dependencies = [];
 }
 
@@ -92,19 +92,19 @@ dependency_lists count ds = map (dependencies_among ds) (range_with_len 0 count)
 
 -- the dependencies of both sorts
 abbrev pub all_dependencies : ParsedSetup → List ParsedDependency
-all_dependencies drafts = drafts.service_dependencies ++ drafts.host_dependencies
+all_dependencies parsed = parsed.service_dependencies ++ parsed.host_dependencies
 
 -- for each of these objects its dependencies, in the document's order
 abbrev pub dependencies_by_number : List NamedObject → ParsedSetup → List (List Dependency)
-dependencies_by_number objects drafts = dependency_lists (length objects) (map (numbered_dependency objects) (all_dependencies drafts))
+dependencies_by_number objects parsed = dependency_lists (length objects) (map (numbered_dependency objects) (all_dependencies parsed))
 
 -- the setup of a parsed setup without a fault
 abbrev pub configuration : ParsedSetup → Configuration
-configuration drafts =
-    let c = configuration_of_objects drafts in record {
+configuration parsed =
+    let c = configuration_of_objects parsed in record {
       options = c.options;
       hosts = c.hosts;
       services = c.services;
       dependencies = dependencies_by_number
-          (objects_of c) drafts;
+          (objects_of c) parsed;
     }

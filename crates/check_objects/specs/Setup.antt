@@ -22,7 +22,7 @@ document_tree bytes = if nat_lt 16777216 (length bytes) then Err faults.too_long
 
 -- the parsed setup of a tree, if it has no fault except for cycles
 abbrev pub verified_setup : Data → Result ParsedSetup Fault
-verified_setup d = parsed_setup d >>= λ drafts. (verification drafts >>= λ _. Ok drafts)
+verified_setup d = parsed_setup d >>= λ parsed. (verification parsed >>= λ _. Ok parsed)
 
 -- ---- the setup, or the refusal
 
@@ -40,7 +40,7 @@ without_cycles c = without_dependency_cycle c >>= without_parent_cycle
 
 -- the setup of a tree
 unfoldable pub setup_of_tree : Data → Result Configuration LoadError
-setup_of_tree d = with_error load_error (verified_setup d) >>= λ drafts. without_cycles (configuration drafts)
+setup_of_tree d = with_error load_error (verified_setup d) >>= λ parsed. without_cycles (configuration parsed)
 
 -- the setup of a document's bytes
 unfoldable pub setup_of : List ℕ → Result Configuration LoadError
@@ -51,7 +51,7 @@ setup_of bytes = with_error load_error (document_tree bytes) >>= setup_of_tree
 -- the fault of a tree: the first one of its parsed setup; if that has no fault except for cycles, one of the cycles
 abbrev pub IsFaultBy : Result ParsedSetup Fault → Fault → Type 0
 IsFaultBy (Err e) f = f ≡ e
-IsFaultBy (Ok drafts) f = IsCycleFault drafts f
+IsFaultBy (Ok parsed) f = IsCycleFault parsed f
 
 abbrev pub IsFaultOfTree : Data → Fault → Type 0
 IsFaultOfTree d f = IsFaultBy (verified_setup d) f

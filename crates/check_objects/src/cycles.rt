@@ -25,27 +25,27 @@ use std::alloc::{AllocError, Global};
 /// A cycle of dependencies as a fault, from its objects' numbers. An Err means out of memory.
 pub(crate) fn dependency_cycle(
     alloc: Global,
-    drafts: &ParsedSetup<'_>,
+    parsed: &ParsedSetup<'_>,
     hosts: &IndexMap<String, Host>,
     services: &IndexMap<String, Service>,
     cycle: &[u32],
 ) -> Result<Fault, AllocError>
-    requires faultless { verification (parsed_view drafts.now) ≡ Ok tt }
+    requires faultless { verification (parsed_view parsed.now) ≡ Ok tt }
     requires hosts { map host_entry hosts.now.entries
-        ≡ (configuration (parsed_view drafts.now)).hosts }
+        ≡ (configuration (parsed_view parsed.now)).hosts }
     requires services { map service_entry services.now.entries
-        ≡ (configuration (parsed_view drafts.now)).services }
-    requires cyclic { has_cycle (masters_of (configuration (parsed_view drafts.now))) ≡ true }
-    requires cycle { IsCycle (masters_of (configuration (parsed_view drafts.now))) cycle.now }
-    ensures { IfOk result (λ fault. AreRefusedFor (parsed_view drafts.now) (Some (view_of fault))) }
+        ≡ (configuration (parsed_view parsed.now)).services }
+    requires cyclic { has_cycle (masters_of (configuration (parsed_view parsed.now))) ≡ true }
+    requires cycle { IsCycle (masters_of (configuration (parsed_view parsed.now))) cycle.now }
+    ensures { IfOk result (λ fault. AreRefusedFor (parsed_view parsed.now) (Some (view_of fault))) }
 {
     if (cycle[0] as usize) < hosts.len() {
-        let names = host_names(alloc, &drafts.hosts)?;
+        let names = host_names(alloc, &parsed.hosts)?;
         let mut indices = document_indices(alloc, cycle, 0, hosts, &names)?;
         begin_with_least(&mut indices);
         Ok(Fault::DependencyCycle(Part::Hosts, indices))
     } else {
-        let names = full_names(alloc, &drafts.services)?;
+        let names = full_names(alloc, &parsed.services)?;
         let others = hosts.len() as u32;
         let mut indices = document_indices(alloc, cycle, others, services, &names)?;
         begin_with_least(&mut indices);
@@ -56,18 +56,18 @@ pub(crate) fn dependency_cycle(
 /// A cycle of parents as a fault, from its hosts' numbers. An Err means out of memory.
 pub(crate) fn parent_cycle(
     alloc: Global,
-    drafts: &ParsedSetup<'_>,
+    parsed: &ParsedSetup<'_>,
     hosts: &IndexMap<String, Host>,
     cycle: &[u32],
 ) -> Result<Fault, AllocError>
-    requires faultless { verification (parsed_view drafts.now) ≡ Ok tt }
+    requires faultless { verification (parsed_view parsed.now) ≡ Ok tt }
     requires hosts { map host_entry hosts.now.entries
-        ≡ (configuration (parsed_view drafts.now)).hosts }
-    requires cyclic { has_cycle (parents_by_host (configuration (parsed_view drafts.now))) ≡ true }
-    requires cycle { IsCycle (parents_by_host (configuration (parsed_view drafts.now))) cycle.now }
-    ensures { IfOk result (λ fault. IsParentFault (parsed_view drafts.now) (Some (view_of fault))) }
+        ≡ (configuration (parsed_view parsed.now)).hosts }
+    requires cyclic { has_cycle (parents_by_host (configuration (parsed_view parsed.now))) ≡ true }
+    requires cycle { IsCycle (parents_by_host (configuration (parsed_view parsed.now))) cycle.now }
+    ensures { IfOk result (λ fault. IsParentFault (parsed_view parsed.now) (Some (view_of fault))) }
 {
-    let names = host_names(alloc, &drafts.hosts)?;
+    let names = host_names(alloc, &parsed.hosts)?;
     let mut indices = document_indices(alloc, cycle, 0, hosts, &names)?;
     begin_with_least(&mut indices);
     Ok(Fault::ParentCycle(indices))

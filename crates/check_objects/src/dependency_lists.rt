@@ -28,7 +28,7 @@ pub type Dependencies = SmallVec<Dependency, 1>;
 /// means out of memory.
 pub fn list_dependencies(
     alloc: Global,
-    drafts: &ParsedSetup<'_>,
+    parsed: &ParsedSetup<'_>,
     hosts: &IndexMap<String, Host>,
     services: &IndexMap<String, Service>,
 ) -> Result<Vec<Dependencies>, AllocError>
@@ -36,22 +36,22 @@ pub fn list_dependencies(
     requires apart { (name : List ℕ) → is_known (names_in services.now.entries) name ≡ true
         → is_known (names_in hosts.now.entries) name ≡ false }
     requires of_services { list_all (has_known_ends (names_in services.now.entries))
-        (parsed_view drafts.now).service_dependencies ≡ true }
+        (parsed_view parsed.now).service_dependencies ≡ true }
     requires of_hosts { list_all (has_known_ends (names_in hosts.now.entries))
-        (parsed_view drafts.now).host_dependencies ≡ true }
+        (parsed_view parsed.now).host_dependencies ≡ true }
     ensures { IfOk result (λ lists. map (λ list. list.items) lists.items
         ≡ dependencies_by_number (objects_in hosts.now.entries services.now.entries)
-        (parsed_view drafts.now)) }
+        (parsed_view parsed.now)) }
 {
     let mut numbered = Vec::new(alloc);
     let host_count = hosts.len();
     number_dependencies(
         &mut numbered,
-        &drafts.service_dependencies,
+        &parsed.service_dependencies,
         host_count as u32,
         services,
     )?;
-    number_dependencies(&mut numbered, &drafts.host_dependencies, 0, hosts)?;
+    number_dependencies(&mut numbered, &parsed.host_dependencies, 0, hosts)?;
     list_by_dependent(alloc, host_count + services.len(), &numbered)
 }
 
@@ -59,18 +59,18 @@ pub fn list_dependencies(
 /// objects come before them. An Err means out of memory.
 fn number_dependencies<T>(
     numbered: &mut Vec<(u32, Dependency)>,
-    drafts: &[ParsedDependency<'_>],
+    parsed: &[ParsedDependency<'_>],
     others: u32,
     objects: &IndexMap<String, T>,
 ) -> Result<(), AllocError>
     requires bounded { others + length objects.now.entries ≤ 4096 }
     requires known { list_all (has_known_ends (names_in objects.now.entries))
-        (map dependency drafts.now) ≡ true }
+        (map dependency parsed.now) ≡ true }
     ensures { OnOk result (numbered.new.items ≡ numbered.old.items
-        ++ map (offset_dependency others (names_in objects.now.entries)) (map dependency drafts.now)) }
+        ++ map (offset_dependency others (names_in objects.now.entries)) (map dependency parsed.now)) }
 {
-    for draft in drafts {
-        numbered.push(number_dependency(*draft, others, objects))?;
+    for item in parsed {
+        numbered.push(number_dependency(*item, others, objects))?;
     }
     Ok(())
 }
@@ -78,21 +78,21 @@ fn number_dependencies<T>(
 /// The number of a dependency's dependent, and the dependency by number. Both ends are among these objects,
 /// and this many other objects come before them.
 fn number_dependency<T>(
-    draft: ParsedDependency<'_>,
+    item: ParsedDependency<'_>,
     others: u32,
     objects: &IndexMap<String, T>,
 ) -> (u32, Dependency)
     requires bounded { others + length objects.now.entries ≤ 4096 }
-    requires known { has_known_ends (names_in objects.now.entries) (dependency draft) ≡ true }
+    requires known { has_known_ends (names_in objects.now.entries) (dependency item) ≡ true }
     ensures { result
-        ≡ offset_dependency others (names_in objects.now.entries) (dependency draft.entry) }
+        ≡ offset_dependency others (names_in objects.now.entries) (dependency item.entry) }
 {
-    let dependent = offset_number(others, objects, draft.dependent);
-    let master = offset_number(others, objects, draft.master);
+    let dependent = offset_number(others, objects, item.dependent);
+    let master = offset_number(others, objects, item.master);
     let dependency = Dependency {
         master,
-        criteria: draft.criteria,
-        inherits: draft.inherits,
+        criteria: item.criteria,
+        inherits: item.inherits,
     };
     (dependent, dependency)
 }

@@ -45,21 +45,21 @@ pub struct Service {
 /// memory.
 pub fn number_objects(
     alloc: Global,
-    drafts: &ParsedSetup<'_>,
+    parsed: &ParsedSetup<'_>,
 ) -> Result<(IndexMap<String, Host>, IndexMap<String, Service>), AllocError>
-    requires bounded { length drafts.now.hosts.items ≤ 4096 }
-    requires names { first_repeat bytes_eq (names_of (parsed_view drafts.now).hosts) ≡ None }
-    requires keys { first_repeat is_same_key (map key_of (parsed_view drafts.now).services) ≡ None }
-    requires without_semicolon { list_all (λ s. is_host_name s.host) (parsed_view drafts.now).services ≡ true }
-    requires hosts { All (λ h. HasBoundedAttempts h.check) drafts.now.hosts.items }
-    requires services { All (λ s. HasBoundedAttempts s.check) drafts.now.services.items }
+    requires bounded { length parsed.now.hosts.items ≤ 4096 }
+    requires names { first_repeat bytes_eq (names_of (parsed_view parsed.now).hosts) ≡ None }
+    requires keys { first_repeat is_same_key (map key_of (parsed_view parsed.now).services) ≡ None }
+    requires without_semicolon { list_all (λ s. is_host_name s.host) (parsed_view parsed.now).services ≡ true }
+    requires hosts { All (λ h. HasBoundedAttempts h.check) parsed.now.hosts.items }
+    requires services { All (λ s. HasBoundedAttempts s.check) parsed.now.services.items }
     ensures hosts { IfOk result (λ objects.
-        map host_entry objects.0.entries ≡ (configuration_of_objects (parsed_view drafts.now)).hosts) }
+        map host_entry objects.0.entries ≡ (configuration_of_objects (parsed_view parsed.now)).hosts) }
     ensures services { IfOk result (λ objects.
-        map service_entry objects.1.entries ≡ (configuration_of_objects (parsed_view drafts.now)).services) }
+        map service_entry objects.1.entries ≡ (configuration_of_objects (parsed_view parsed.now)).services) }
 {
-    let hosts = sort_hosts(alloc, &drafts.hosts)?;
-    let services = sort_services(alloc, &drafts.services)?;
+    let hosts = sort_hosts(alloc, &parsed.hosts)?;
+    let services = sort_services(alloc, &parsed.services)?;
     let names = number_names(alloc, &hosts)?;
     let hosts = index_hosts(alloc, hosts, &names)?;
     let services = index_services(alloc, services, &names)?;
@@ -72,16 +72,16 @@ pub fn number_objects(
 /// parents' names.
 fn sort_hosts<'v>(
     alloc: Global,
-    drafts: &[ParsedHost<'v>],
+    parsed: &[ParsedHost<'v>],
 ) -> Result<BTreeMap<&'v str, (Object, &'v [Value])>, AllocError>
-    requires attempts { All (λ h. HasBoundedAttempts h.check) drafts.now }
-    requires distinct { first_repeat bytes_eq (names_of (map host drafts.now)) ≡ None }
+    requires attempts { All (λ h. HasBoundedAttempts h.check) parsed.now }
+    requires distinct { first_repeat bytes_eq (names_of (map host parsed.now)) ≡ None }
     ensures { IfOk result (λ m.
-        map sorted_host m.entries ≡ hosts_in_order (map host drafts.now)) }
+        map sorted_host m.entries ≡ hosts_in_order (map host parsed.now)) }
 {
     let mut sorted = BTreeMap::new(alloc);
-    for draft in drafts {
-        sorted.insert(draft.name, (object(draft.check), draft.parents))?;
+    for item in parsed {
+        sorted.insert(item.name, (object(item.check), item.parents))?;
     }
     Ok(sorted)
 }
@@ -90,16 +90,16 @@ fn sort_hosts<'v>(
 /// the same host and the same description.
 fn sort_services<'v>(
     alloc: Global,
-    drafts: &[ParsedService<'v>],
+    parsed: &[ParsedService<'v>],
 ) -> Result<BTreeMap<(&'v str, &'v str), Object>, AllocError>
-    requires attempts { All (λ s. HasBoundedAttempts s.check) drafts.now }
-    requires distinct { first_repeat is_same_key (map key_of (map service drafts.now)) ≡ None }
+    requires attempts { All (λ s. HasBoundedAttempts s.check) parsed.now }
+    requires distinct { first_repeat is_same_key (map key_of (map service parsed.now)) ≡ None }
     ensures { IfOk result (λ m.
-        map sorted_service m.entries ≡ services_in_order (map service drafts.now)) }
+        map sorted_service m.entries ≡ services_in_order (map service parsed.now)) }
 {
     let mut sorted = BTreeMap::new(alloc);
-    for draft in drafts {
-        sorted.insert((draft.host, draft.description), object(draft.check))?;
+    for item in parsed {
+        sorted.insert((item.host, item.description), object(item.check))?;
     }
     Ok(sorted)
 }

@@ -92,53 +92,53 @@ impl Setup {
         ensures refused { IfErr result (λ fault.
             IsRefusedTree (view tree.now) (non_memory_fault (view_of fault))) }
     {
-        let drafts = parse_setup(alloc, tree)?;
-        verify(alloc, &drafts)?;
-        Setup::from_parsed(alloc, &drafts)
+        let parsed = parse_setup(alloc, tree)?;
+        verify(alloc, &parsed)?;
+        Setup::from_parsed(alloc, &parsed)
     }
 
     /// The setup of a parsed setup without a fault. It is refused if some object depends on itself through one
     /// dependency or more. It is also refused if some host is its own parent through one parent or more.
-    fn from_parsed(alloc: Global, drafts: &ParsedSetup<'_>) -> Result<Setup, Fault>
-        requires faultless { verification (parsed_view drafts.now) ≡ Ok tt }
-        requires hosts { All (λ h. HasBoundedAttempts h.check) drafts.now.hosts.items }
-        requires services { All (λ s. HasBoundedAttempts s.check) drafts.now.services.items }
+    fn from_parsed(alloc: Global, parsed: &ParsedSetup<'_>) -> Result<Setup, Fault>
+        requires faultless { verification (parsed_view parsed.now) ≡ Ok tt }
+        requires hosts { All (λ h. HasBoundedAttempts h.check) parsed.now.hosts.items }
+        requires services { All (λ s. HasBoundedAttempts s.check) parsed.now.services.items }
         ensures setup { IfOk result (λ setup.
-            without_cycles (configuration (parsed_view drafts.now)) ≡ Ok setup) }
+            without_cycles (configuration (parsed_view parsed.now)) ≡ Ok setup) }
         ensures refused { IfErr result (λ fault.
-            AreRefusedFor (parsed_view drafts.now) (non_memory_fault (view_of fault))) }
+            AreRefusedFor (parsed_view parsed.now) (non_memory_fault (view_of fault))) }
     {
-        let (hosts, services) = number_objects(alloc, drafts)?;
-        let dependencies = list_dependencies(alloc, drafts, &hosts, &services)?;
-        Setup::without_cycles(alloc, drafts, hosts, services, dependencies)
+        let (hosts, services) = number_objects(alloc, parsed)?;
+        let dependencies = list_dependencies(alloc, parsed, &hosts, &services)?;
+        Setup::without_cycles(alloc, parsed, hosts, services, dependencies)
     }
 
     /// The setup of a parsed setup without a fault, after their objects and dependencies were numbered. It is refused
     /// if it has a cycle.
     fn without_cycles(
         alloc: Global,
-        drafts: &ParsedSetup<'_>,
+        parsed: &ParsedSetup<'_>,
         hosts: IndexMap<String, Host>,
         services: IndexMap<String, Service>,
         dependencies: Vec<Dependencies>,
     ) -> Result<Setup, Fault>
-        requires faultless { verification (parsed_view drafts.now) ≡ Ok tt }
+        requires faultless { verification (parsed_view parsed.now) ≡ Ok tt }
         requires hosts { map host_entry hosts.entries
-            ≡ (configuration (parsed_view drafts.now)).hosts }
+            ≡ (configuration (parsed_view parsed.now)).hosts }
         requires services { map service_entry services.entries
-            ≡ (configuration (parsed_view drafts.now)).services }
+            ≡ (configuration (parsed_view parsed.now)).services }
         requires dependencies { map (λ list. list.items) dependencies.items
-            ≡ (configuration (parsed_view drafts.now)).dependencies }
+            ≡ (configuration (parsed_view parsed.now)).dependencies }
         ensures setup { IfOk result (λ setup.
-            without_cycles (configuration (parsed_view drafts.now)) ≡ Ok setup) }
+            without_cycles (configuration (parsed_view parsed.now)) ≡ Ok setup) }
         ensures refused { IfErr result (λ fault.
-            AreRefusedFor (parsed_view drafts.now) (non_memory_fault (view_of fault))) }
+            AreRefusedFor (parsed_view parsed.now) (non_memory_fault (view_of fault))) }
     {
         match dependency_order(alloc, &dependencies)? {
             OrderOrCycle::Order(order) => {
-                verify_no_parent_cycle(alloc, drafts, &hosts)?;
+                verify_no_parent_cycle(alloc, parsed, &hosts)?;
                 Ok(Setup {
-                    options: drafts.options,
+                    options: parsed.options,
                     hosts,
                     services,
                     dependencies,
@@ -146,7 +146,7 @@ impl Setup {
                 })
             }
             OrderOrCycle::Cycle(cycle) => {
-                Err(dependency_cycle(alloc, drafts, &hosts, &services, &cycle)?)
+                Err(dependency_cycle(alloc, parsed, &hosts, &services, &cycle)?)
             }
         }
     }
@@ -295,21 +295,21 @@ impl Setup {
 /// Verifies that no host is its own parent, through one parent or more.
 fn verify_no_parent_cycle(
     alloc: Global,
-    drafts: &ParsedSetup<'_>,
+    parsed: &ParsedSetup<'_>,
     hosts: &IndexMap<String, Host>,
 ) -> Result<(), Fault>
-    requires faultless { verification (parsed_view drafts.now) ≡ Ok tt }
+    requires faultless { verification (parsed_view parsed.now) ≡ Ok tt }
     requires hosts { map host_entry hosts.now.entries
-        ≡ (configuration (parsed_view drafts.now)).hosts }
+        ≡ (configuration (parsed_view parsed.now)).hosts }
     ensures none { OnOk result
-        (has_cycle (parents_by_host (configuration (parsed_view drafts.now))) ≡ false) }
+        (has_cycle (parents_by_host (configuration (parsed_view parsed.now))) ≡ false) }
     ensures cycle { IfErr result (λ fault.
-        IsParentFault (parsed_view drafts.now) (non_memory_fault (view_of fault))) }
+        IsParentFault (parsed_view parsed.now) (non_memory_fault (view_of fault))) }
 {
     let links = parent_links(alloc, hosts)?;
     match topological_order(alloc, &links)? {
         OrderOrCycle::Order(_) => Ok(()),
-        OrderOrCycle::Cycle(cycle) => Err(parent_cycle(alloc, drafts, hosts, &cycle)?),
+        OrderOrCycle::Cycle(cycle) => Err(parent_cycle(alloc, parsed, hosts, &cycle)?),
     }
 }
 

@@ -18,5 +18,5 @@ mod spread;
 mod times;
 mod visits;
 
-pub use limits::{LAST_MOMENT, LAST_TIME, limits_of_times};
+pub use limits::{LAST_MOMENT, LAST_TIME, MINUTE, limits_of_times};
 pub use times::{copy_objects, earlier, initial_times, interleave_factor, milliseconds};

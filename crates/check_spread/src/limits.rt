@@ -1,7 +1,7 @@
 //! The limits of moments and times.
 
 ghost use Rattle.std.specs.Prelude.{◌≡◌, ◌^◌};
-ghost use Rattle.check_spread.specs.declared.limits.TheConstants.{LAST_MOMENT, LAST_TIME};
+ghost use Rattle.check_spread.specs.declared.limits.TheConstants.{LAST_MOMENT, LAST_TIME, MINUTE};
 
 /// The greatest moment that a clock can show, in milliseconds.
 pub const LAST_MOMENT: u64 = 1 << 60;
@@ -16,4 +16,5 @@ pub const MINUTE: u64 = 60_000;
 pub fn limits_of_times()
     ensures moment { LAST_MOMENT ≡ 2 ^ 60 }
     ensures time { LAST_TIME ≡ 2 ^ 61 }
+    ensures minute { MINUTE ≡ 60000 }
 {}

@@ -194,20 +194,20 @@ document_by line tree fits is =
     let bounded : nat_lt 16777216 (length line) ≡ false = grind (arith, nat_tests, fits) in
     ap (λ b. cond b (Err fault.too_long) (ok_or (tree_of line) fault.not_json)) bounded ∙ ap (λ o. ok_or o fault.not_json) is
 
-drafts_by : (r : Result ParsedSetup Fault) (f : ParsedSetup → Result Configuration LoadError) (c : Configuration)
+parsed_by : (r : Result ParsedSetup Fault) (f : ParsedSetup → Result Configuration LoadError) (c : Configuration)
     → (with_error load_error (r >>= λ ds. (verification ds >>= λ _. Ok ds)) >>= f) ≡ Ok c → (ds : ParsedSetup) × (r ≡ Ok ds)
-drafts_by (Ok ds) f c e = (ds, refl)
-drafts_by (Err x) f c e = cc
+parsed_by (Ok ds) f c e = (ds, refl)
+parsed_by (Err x) f c e = cc
 
-drafts_found : (tree : Data) (c : Configuration) → setup_of_tree tree ≡ Ok c → (ds : ParsedSetup) × (parsed_setup tree ≡ Ok ds)
+parsed_found : (tree : Data) (c : Configuration) → setup_of_tree tree ≡ Ok c → (ds : ParsedSetup) × (parsed_setup tree ≡ Ok ds)
 unfolding setup_of_tree
-drafts_found tree c e = drafts_by (parsed_setup tree) (λ ds. without_cycles (configuration ds)) c e
+parsed_found tree c e = parsed_by (parsed_setup tree) (λ ds. without_cycles (configuration ds)) c e
 
 -- a good document has no float
 good_floats : (document : List ℕ) (c : Configuration) (tree : Data) → IsGood document c tree → has_float tree ≡ false
 good_floats document c tree good =
-    let drafts = drafts_found tree c (sym (setup_by document (Ok tree) good.0) ∙ good.1) in
-    no_float tree (whole_numbers document tree drafts.0 (tree_of_document document tree good.0) drafts.1)
+    let parsed = parsed_found tree c (sym (setup_by document (Ok tree) good.0) ∙ good.1) in
+    no_float tree (whole_numbers document tree parsed.0 (tree_of_document document tree good.0) parsed.1)
 
 same_tree : (document : List ℕ) (one other : Data) → tree_of document ≡ Some one → tree_of document ≡ Some other → one ≡ other
 same_tree document one other is there = let both : Some one ≡ Some other = sym is ∙ there in cc

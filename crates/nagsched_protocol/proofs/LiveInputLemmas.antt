@@ -14,7 +14,7 @@ use Rattle.nagsched_protocol.specs.LiveError.{IsReadingError, IsInputError}
 use Rattle.nagsched_protocol.specs.declared.live_error.LiveError.{LiveError}
 use Rattle.nagsched_protocol.specs.declared.live_error.LiveError.TheVariants as errors
 use Rattle.nagsched_protocol.specs.LiveInput.{LinePrefix, IsBoundedReading, TookLine, rest_after_line, prefix_of, has_feed}
-use Rattle.nagsched_protocol.specs.declared.line_reader.TheConstants.{ASKED_BYTES}
+use Rattle.nagsched_protocol.specs.declared.line_reader.TheConstants.{READ_BYTES}
 use Rattle.std.specs.Io.KnownBytes.{Consumes}
 
 -- ---- where the first line feed is
@@ -234,12 +234,12 @@ pub record Coming (most : ℕ) (hand : List ℕ) (had left : Option (List ℕ)) 
   pub feedless : has_feed taken ≡ false
   pub kept : line ≡ prefix_of most taken
   pub bounded : length taken < most
-  pub size : length rest ≤ ASKED_BYTES
+  pub size : length rest ≤ READ_BYTES
   pub many : reads ≤ length bytes_read
 
 -- nothing was taken yet
 pub comes_first : (most : ℕ) (hand : List ℕ) (had : Option (List ℕ)) (line : LinePrefix) → line ≡ prefix_of most [] → 0 < most
-    → length hand ≤ ASKED_BYTES → Coming most hand had had line hand 0
+    → length hand ≤ READ_BYTES → Coming most hand had had line hand 0
 comes_first most hand had line kept some size = record {
   bytes_read = [];
   taken = [];
@@ -252,7 +252,7 @@ comes_first most hand had line kept some size = record {
   many = omega arith;
 }
 
-pub stops_soon : (most : ℕ) (bytes_read part : List ℕ) → has_feed bytes_read ≡ false → length bytes_read < most → length part ≤ ASKED_BYTES
+pub stops_soon : (most : ℕ) (bytes_read part : List ℕ) → has_feed bytes_read ≡ false → length bytes_read < most → length part ≤ READ_BYTES
     → IsBoundedReading most (bytes_read ++ part)
 stops_soon most bytes_read part free bounded h =
     let first : length (first_line_of (bytes_read ++ part)) ≡ length (bytes_read ++ first_line_of part) = ap length (first_on bytes_read part free) in
@@ -284,14 +284,14 @@ begun_hand {most} {reads} {hand} s behind new whole w r n none =
     not_yet most (hand ++ s.bytes_read) behind new (Unit {0}) whole (took_hand s behind new whole (Unit {0}) w r n (λ _. tt)) none
 
 -- behind the line there is no more than one read gave
-behind_few : (most : ℕ) (bytes : List ℕ) (feed : Bool) → has_feed bytes ≡ feed → IsBoundedReading most bytes → length (rest_after_line bytes) ≤ ASKED_BYTES
+behind_few : (most : ℕ) (bytes : List ℕ) (feed : Bool) → has_feed bytes ≡ feed → IsBoundedReading most bytes → length (rest_after_line bytes) ≤ READ_BYTES
 behind_few most bytes true e soon =
     let parts = ap length (feed_split bytes e) in
     let sizes = length-append (first_line_of bytes) (10 ∷ rest_after_line bytes) in
     omega (arith, parts, sizes, soon.at_the_feed)
 behind_few most bytes false e soon = rw (behind_none bytes e) (omega arith)
 
-pub behind_size : (most : ℕ) (bytes : List ℕ) → IsBoundedReading most bytes → length (rest_after_line bytes) ≤ ASKED_BYTES
+pub behind_size : (most : ℕ) (bytes : List ℕ) → IsBoundedReading most bytes → length (rest_after_line bytes) ≤ READ_BYTES
 behind_size most bytes soon = behind_few most bytes (has_feed bytes) refl soon
 
 pub behind_soon : (most : ℕ) (bytes : List ℕ) → 0 < most → IsBoundedReading most bytes → IsBoundedReading most (rest_after_line bytes)
@@ -322,7 +322,7 @@ more_reads reads bytes_read part hand many same some =
 -- what is so of all that was given, where what was at hand was taken, and the reader was asked again
 pub asked_so : {most reads : ℕ} {hand rest : List ℕ} {had mid : Option (List ℕ)} {line : LinePrefix} (s : Coming most hand had mid line rest reads)
     (behind : List ℕ) (new : LinePrefix) (left : Option (List ℕ)) (part : List ℕ) (reading after : List ℕ → Type 0)
-    → Begun most (hand ++ s.bytes_read) new behind → (length new.bytes == new.most) ≡ false → Consumes mid left part → length part ≤ ASKED_BYTES
+    → Begun most (hand ++ s.bytes_read) new behind → (length new.bytes == new.most) ≡ false → Consumes mid left part → length part ≤ READ_BYTES
     → reading (s.bytes_read ++ part) → after (s.bytes_read ++ part)
     → (bytes_read : List ℕ) × Consumes had left bytes_read × reading bytes_read × IsBoundedReading most (hand ++ bytes_read) × after bytes_read
 asked_so {most} {reads} {hand} {rest} {had} {mid} s behind new left part reading after begun short now size t a =
@@ -345,7 +345,7 @@ took_rest {most} {reads} {hand} s behind new part now_hand end begun same none e
 -- it gave some
 pub comes_more : {most reads : ℕ} {hand rest : List ℕ} {had mid : Option (List ℕ)} {line : LinePrefix} (s : Coming most hand had mid line rest reads)
     (behind : List ℕ) (new : LinePrefix) (left : Option (List ℕ)) (part now_hand : List ℕ) → Begun most (hand ++ s.bytes_read) new behind
-    → (length new.bytes == new.most) ≡ false → Consumes mid left part → length part ≤ ASKED_BYTES → now_hand ≡ part → 0 < length now_hand
+    → (length new.bytes == new.most) ≡ false → Consumes mid left part → length part ≤ READ_BYTES → now_hand ≡ part → 0 < length now_hand
     → Coming most hand had left new now_hand (reads + 1)
 comes_more {most} {reads} {hand} {rest} {had} {mid} s behind new left part now_hand begun short now size same some = record {
   bytes_read = s.bytes_read ++ part;

@@ -1,6 +1,6 @@
 -- An input that is taken line by line as it comes.
 use Rattle.std.specs.Prelude.{◌≡◌, ℕ, ◌+◌, ◌<◌, ◌≤◌, ◌==◌, Bool, true, false, List, [], ◌∷◌, length, take, Option, Some, None, Result, Ok, if◌then◌else◌}
-use Rattle.nagsched_protocol.specs.declared.line_reader.TheConstants.{ASKED_BYTES}
+use Rattle.nagsched_protocol.specs.declared.line_reader.TheConstants.{READ_BYTES}
 use Rattle.nagsched_protocol.specs.Input.{first_line_of}
 use Rattle.serde_json.specs.Data.{Items}
 use Rattle.setup_model.specs.Agreement.{◌>>=◌}
@@ -44,5 +44,5 @@ pub record TookLine (most : ℕ) (bytes : List ℕ) (line : LinePrefix) (rest : 
 -- and at most the bytes of one read come after the line. This bounds the bytes and doesn't count the reads. It doesn't exclude that a reader is asked
 -- again after the line feed, for the rest of those bytes.
 pub record IsBoundedReading (most : ℕ) (bytes_read : List ℕ) : Type 0 where
-  pub at_the_bound : length bytes_read < most + ASKED_BYTES
-  pub at_the_feed : length bytes_read ≤ length (first_line_of bytes_read) + ASKED_BYTES
+  pub at_the_bound : length bytes_read < most + READ_BYTES
+  pub at_the_feed : length bytes_read ≤ length (first_line_of bytes_read) + READ_BYTES

@@ -10,7 +10,7 @@ ghost use Rattle.nagsched_protocol.specs.LiveInput.{rest_after_line, has_feed, l
 ghost use Rattle.nagsched_protocol.specs.Script.{Beginning, Script, beginning_of, script_of};
 ghost use Rattle.nagsched_protocol.specs.declared.input.TheConstants.{MAX_READ_BYTES};
 ghost use Rattle.nagsched_protocol.specs.declared.line.TheConstants.{MAX_LINE_BYTES};
-ghost use Rattle.nagsched_protocol.specs.declared.line_reader.TheConstants.{ASKED_BYTES, KEPT_LINE_BYTES, KEPT_SAVED_BYTES, KEPT_SETUP_BYTES};
+ghost use Rattle.nagsched_protocol.specs.declared.line_reader.TheConstants.{READ_BYTES, LINE_PREFIX_BYTES, SAVED_PREFIX_BYTES, SETUP_PREFIX_BYTES};
 ghost use Rattle.nagsched_protocol.specs.declared.refusal.InputRefusal.{InputRefusal};
 ghost use Rattle.nagsched_protocol.specs.declared.script.TheConstants.{MAX_INPUT_BYTES};
 ghost use Rattle.nagsched_protocol.specs.declared.start.Start.{Start};
@@ -30,10 +30,10 @@ pub fn limits_of_an_input()
 /// A conversation asks for 8,192 bytes at a time. It keeps at most 16,777,217 bytes of a setup document
 /// or a saved state, and 4,097 of a later line. Each limit is one more than such a text may have.
 pub fn limits_of_a_conversation()
-    ensures asked { ASKED_BYTES ≡ 8192 }
-    ensures setup { KEPT_SETUP_BYTES ≡ 16777217 }
-    ensures saved { KEPT_SAVED_BYTES ≡ 16777217 }
-    ensures line { KEPT_LINE_BYTES ≡ 4097 }
+    ensures read { READ_BYTES ≡ 8192 }
+    ensures setup { SETUP_PREFIX_BYTES ≡ 16777217 }
+    ensures saved { SAVED_PREFIX_BYTES ≡ 16777217 }
+    ensures line { LINE_PREFIX_BYTES ≡ 4097 }
 {}
 
 /// The line of a reply has at most 1,024 bytes.

@@ -46,7 +46,7 @@ pub use drive_error::DriveError;
 pub use input::{Lines, MAX_READ_BYTES, read_at_most, split_line};
 pub use line::Command;
 pub use line_reader::{
-    ASKED_BYTES, InputBuffer, KEPT_LINE_BYTES, KEPT_SAVED_BYTES, KEPT_SETUP_BYTES, LineBuffer,
+    InputBuffer, LINE_PREFIX_BYTES, LineBuffer, READ_BYTES, SAVED_PREFIX_BYTES, SETUP_PREFIX_BYTES,
     read_buffered, take_document,
 };
 pub use live_error::LiveError;

@@ -21,17 +21,17 @@ use std::io::Read;
 use std::marker::Model;
 
 /// The number of bytes that the reader is asked for at a time.
-pub const ASKED_BYTES: usize = 8192;
+pub const READ_BYTES: usize = 8192;
 
 /// The most bytes of line 1 that are kept: one more than a setup document may have. So a longer
 /// document is known to be too long.
-pub const KEPT_SETUP_BYTES: usize = 16_777_217;
+pub const SETUP_PREFIX_BYTES: usize = 16_777_217;
 
 /// The most bytes of a saved state, on line 2, that are kept: one more than it may have.
-pub const KEPT_SAVED_BYTES: usize = 16_777_217;
+pub const SAVED_PREFIX_BYTES: usize = 16_777_217;
 
 /// The most bytes of a later line that are kept: one more than it may have.
-pub const KEPT_LINE_BYTES: usize = 4097;
+pub const LINE_PREFIX_BYTES: usize = 4097;
 
 /// The kept part of a line: at most `most` of its first bytes, and whether all of the line is blank.
 #[derive(Drop)]
@@ -116,13 +116,13 @@ pub struct InputBuffer {
 
 impl Model for InputBuffer {
     ghost use Rattle.std.specs.Prelude.{◌≤◌, List, ℕ, drop, vec_len};
-    ghost use Rattle.nagsched_protocol.specs.declared.line_reader.TheConstants.{ASKED_BYTES};
+    ghost use Rattle.nagsched_protocol.specs.declared.line_reader.TheConstants.{READ_BYTES};
 
     ghost Value = { List ℕ };
 
     ghost view = { λ b. drop b.taken b.bytes_read.items };
 
-    ghost invariant = { λ b. (b.taken ≤ vec_len b.bytes_read) × (vec_len b.bytes_read ≤ ASKED_BYTES) };
+    ghost invariant = { λ b. (b.taken ≤ vec_len b.bytes_read) × (vec_len b.bytes_read ≤ READ_BYTES) };
 }
 
 impl InputBuffer {
@@ -169,14 +169,14 @@ impl InputBuffer {
         requires { self.old ≡ [] }
         ensures bytes_read { (bytes_read : List ℕ)
             × Consumes (R.remaining reader.old) (R.remaining reader.new) bytes_read
-            × OnOk result (self.new ≡ bytes_read) × (length bytes_read ≤ ASKED_BYTES) }
+            × OnOk result (self.new ≡ bytes_read) × (length bytes_read ≤ READ_BYTES) }
         ensures end { IfOk result (λ more. more ≡ false
             → (self.new ≡ []) × IsAtEnd (R.remaining reader.new)) }
         ensures more { IfOk result (λ more. more ≡ true → 0 < length self.new) }
         ensures errors { IfErr result IsInputError }
         ensures lost { OnErr result (self.new ≡ []) }
     {
-        let mut chunk = [0; ASKED_BYTES];
+        let mut chunk = [0; READ_BYTES];
         let count = ask_reader(reader, &mut chunk)?;
         self.taken = 0;
         self.bytes_read.clear();
@@ -194,7 +194,7 @@ pub fn take_document<R: Read>(
     line: &mut LineBuffer,
     reader: &mut R,
 ) -> Result<bool, LiveError>
-    requires bounded { length buffered.old ≤ ASKED_BYTES }
+    requires bounded { length buffered.old ≤ READ_BYTES }
     requires begins { (line.old ≡ prefix_of line.old.most []) × (0 < line.old.most) }
     ensures reading { (bytes_read : List ℕ)
         × Consumes (R.remaining reader.old) (R.remaining reader.new) bytes_read
@@ -226,7 +226,7 @@ pub fn read_buffered<C: Command>(
     line: &LineBuffer,
     number: usize,
 ) -> Result<Option<C>, ScriptError>
-    ensures { (text : List ℕ) → line.now ≡ prefix_of KEPT_LINE_BYTES text
+    ensures { (text : List ℕ) → line.now ≡ prefix_of LINE_PREFIX_BYTES text
         → IsExpectedResult (option_map C.seen) result (line_meaning_by (C.meaning setup.now) number text) }
 {
     if line.is_blank() {

@@ -17,7 +17,7 @@ use Rattle.nagsched_protocol.specs.Agreement.{IsExpectedResult}
 use Rattle.nagsched_protocol.specs.declared.drive_error.DriveError.{DriveError}
 use Rattle.nagsched_protocol.specs.declared.live_error.LiveError.{LiveError}
 use Rattle.nagsched_protocol.specs.declared.live_error.LiveError.TheVariants as live
-use Rattle.nagsched_protocol.specs.declared.line_reader.TheConstants.{KEPT_SAVED_BYTES, KEPT_SETUP_BYTES}
+use Rattle.nagsched_protocol.specs.declared.line_reader.TheConstants.{SAVED_PREFIX_BYTES, SETUP_PREFIX_BYTES}
 use Rattle.nagsched_protocol.specs.declared.refusal.InputRefusal.{InputRefusal}
 use Rattle.nagsched_protocol.specs.declared.refusal.InputRefusal.TheVariants as refusal
 use Rattle.nagsched_protocol.specs.declared.refusal.ScriptError.{ScriptError}
@@ -50,16 +50,16 @@ use Rattle.nagsched_run.proofs.LiveLemmas.{not_long, refused_stays, rest_input, 
 saved_too_long : (line : List ℕ) → 16777216 < length line → saved_of_text line ≡ Err faults.TooLong
 saved_too_long line h = let a : nat_lt 16777216 (length line) ≡ true = grind (arith, nat_tests, h) in rw a refl
 
-pub kept_saved : (line : List ℕ) → saved_of_text (take KEPT_SAVED_BYTES line) ≡ saved_of_text line
-kept_saved line = front_tells saved_of_text 16777216 KEPT_SAVED_BYTES (Err faults.TooLong) (omega arith) saved_too_long line
+pub kept_saved : (line : List ℕ) → saved_of_text (take SAVED_PREFIX_BYTES line) ≡ saved_of_text line
+kept_saved line = front_tells saved_of_text 16777216 SAVED_PREFIX_BYTES (Err faults.TooLong) (omega arith) saved_too_long line
 
 -- nothing follows the setup: line 2 has no byte
 pub unfollowed : (hand : List ℕ) (r : Result Saved ScriptError) (left : Option (List ℕ)) → hand ≡ [] → IsAtEnd left
     → IsExpectedResult (λ saved. saved) r (with_saved_refusal (saved_of_text []))
-    → IsExpectedResult (λ saved. saved) r (saved_at_start (hand ++ [])) × HasTakenDocument KEPT_SAVED_BYTES (hand ++ []) false hand left
+    → IsExpectedResult (λ saved. saved) r (saved_at_start (hand ++ [])) × HasTakenDocument SAVED_PREFIX_BYTES (hand ++ []) false hand left
 unfollowed hand r left e end g = rw e (g, record { follows = refl; buffer_is = refl; ended = λ f. inl end })
 
-pub unread : (hand : List ℕ) → hand ≡ [] → IsBoundedReading KEPT_SAVED_BYTES (hand ++ [])
+pub unread : (hand : List ℕ) → hand ≡ [] → IsBoundedReading SAVED_PREFIX_BYTES (hand ++ [])
 unread hand e = rw e (record { at_the_bound = omega arith; at_the_feed = omega arith })
 
 -- what holds anyway holds of a value
@@ -90,12 +90,12 @@ none_text moment c saved bytes s free =
 saved_stays : (bytes more : List ℕ) → has_feed bytes ≡ true → saved_at_start (bytes ++ more) ≡ saved_at_start bytes
 saved_stays bytes more feed = ap (λ l. with_saved_refusal (saved_of_text l)) (first_stays bytes more feed)
 
-long_stays : (bytes more : List ℕ) → has_feed bytes ≡ false → KEPT_SAVED_BYTES ≤ length bytes → saved_at_start (bytes ++ more) ≡ saved_at_start bytes
+long_stays : (bytes more : List ℕ) → has_feed bytes ≡ false → SAVED_PREFIX_BYTES ≤ length bytes → saved_at_start (bytes ++ more) ≡ saved_at_start bytes
 long_stays bytes more free long = ap with_saved_refusal (line_stays saved_of_text (Err faults.TooLong) saved_too_long bytes more (inr (free, inr long)))
 
 -- what was saved wasn't too long
 ends_at : (bytes : List ℕ) (saved : Saved) (left : Option (List ℕ)) → saved_at_start bytes ≡ Ok saved → has_feed bytes ≡ false
-    → IsAtEnd left ⊎ (KEPT_SAVED_BYTES ≤ length bytes) → IsAtEnd left
+    → IsAtEnd left ⊎ (SAVED_PREFIX_BYTES ≤ length bytes) → IsAtEnd left
 ends_at bytes saved left s free (inl end) = end
 ends_at bytes saved left s free (inr long) =
     let all = ap length (first_all bytes free) in
@@ -103,7 +103,7 @@ ends_at bytes saved left s free (inr long) =
     cc
 
 pub saved_ends : (bytes : List ℕ) (saved : Saved) (left : Option (List ℕ)) (follow : Bool) → saved_at_start bytes ≡ Ok saved → follow ≡ has_feed bytes
-    → (follow ≡ false → IsAtEnd left ⊎ (KEPT_SAVED_BYTES ≤ length bytes)) → follow ≡ false → IsAtEnd left
+    → (follow ≡ false → IsAtEnd left ⊎ (SAVED_PREFIX_BYTES ≤ length bytes)) → follow ≡ false → IsAtEnd left
 saved_ends bytes saved left follow s feed ended f = ends_at bytes saved left s (sym feed ∙ f) (ended f)
 
 on_text : (moment : Option ℕ) (c : Configuration) (saved : Saved) (bytes more : List ℕ) → saved_at_start bytes ≡ Ok saved → has_feed bytes ≡ true
@@ -123,7 +123,7 @@ never_follows may_follow hand part had none end feed f =
 
 -- nor so many bytes
 never_long : (may_follow : Bool) (hand part : List ℕ) (had : Option (List ℕ)) → (may_follow ≡ false → part ≡ [])
-    → (may_follow ≡ false → (hand ≡ []) × IsAtEnd had) → KEPT_SAVED_BYTES ≤ length (hand ++ part) → may_follow ≡ false → ⊥
+    → (may_follow ≡ false → (hand ≡ []) × IsAtEnd had) → SAVED_PREFIX_BYTES ≤ length (hand ++ part) → may_follow ≡ false → ⊥
 never_long may_follow hand part had none end long f =
     let size : length (hand ++ part) ≡ 0 = rw ((end f).0, none f) refl in
     omega (arith, size, long)
@@ -186,7 +186,7 @@ refuses_on may_follow hand part had left why read never s = record {
 refuses_by : (may_follow : Bool) (hand part : List ℕ) (had left : Option (List ℕ)) (why : InputRefusal)
     → saved_at_start (hand ++ part) ≡ Err why → Consumes had left part → (may_follow ≡ false → part ≡ [])
     → (may_follow ≡ false → (hand ≡ []) × IsAtEnd had) → has_feed (hand ++ part) ≡ false
-    → IsAtEnd left ⊎ (KEPT_SAVED_BYTES ≤ length (hand ++ part)) → Refuses may_follow hand had left why
+    → IsAtEnd left ⊎ (SAVED_PREFIX_BYTES ≤ length (hand ++ part)) → Refuses may_follow hand had left why
 refuses_by may_follow hand part had left why s read none end free (inl ended) =
     record { coming = part; is_input = input_all had left part read ended; short = none; refused = s }
 refuses_by may_follow hand part had left why s read none end free (inr long) =
@@ -196,7 +196,7 @@ refuses_by may_follow hand part had left why s read none end free (inr long) =
 refuses : (may_follow follow : Bool) (hand part : List ℕ) (had left : Option (List ℕ)) (why : InputRefusal)
     → saved_at_start (hand ++ part) ≡ Err why → Consumes had left part → (may_follow ≡ false → part ≡ [])
     → (may_follow ≡ false → (hand ≡ []) × IsAtEnd had) → follow ≡ has_feed (hand ++ part)
-    → (follow ≡ false → IsAtEnd left ⊎ (KEPT_SAVED_BYTES ≤ length (hand ++ part))) → Refuses may_follow hand had left why
+    → (follow ≡ false → IsAtEnd left ⊎ (SAVED_PREFIX_BYTES ≤ length (hand ++ part))) → Refuses may_follow hand had left why
 refuses may_follow true hand part had left why s read none end feed ended =
     refuses_on may_follow hand part had left why read (never_follows may_follow hand part had none end (sym feed))
     (saved_stays (hand ++ part) (rest_of left) (sym feed) ∙ s)
@@ -205,7 +205,7 @@ refuses may_follow false hand part had left why s read none end feed ended =
 
 gone_refused_by : (moment : Option ℕ) (c : Configuration) (may_follow : Bool) (hand part : List ℕ) (had left held holds : Option (List ℕ))
     (why : InputRefusal) (wrote : Result Outcome DriveError) (r : Result Outcome LiveError)
-    → Refuses may_follow hand had left why → Consumes had left part → IsBoundedReading KEPT_SAVED_BYTES (hand ++ part)
+    → Refuses may_follow hand had left why → Consumes had left part → IsBoundedReading SAVED_PREFIX_BYTES (hand ++ part)
     → IfOk wrote (λ o. o ≡ outcome.Refused) → OnOk wrote (Appends held holds (refusal_line why))
     → IfErr wrote (λ e. LeavesText e held holds (refusal_line why)) → IsWriteResult r wrote
     → IsContinuation (start.Resumed moment) c may_follow hand r (streams had left held holds)
@@ -227,8 +227,8 @@ gone_refused_by moment c may_follow hand part had left held holds why wrote r z 
 pub gone_refused : (moment : Option ℕ) (c : Configuration) (may_follow follow : Bool) (hand part : List ℕ) (had left held holds : Option (List ℕ))
     (why : InputRefusal) (wrote : Result Outcome DriveError) (r : Result Outcome LiveError)
     → saved_at_start (hand ++ part) ≡ Err why → Consumes had left part → (may_follow ≡ false → part ≡ [])
-    → IsBoundedReading KEPT_SAVED_BYTES (hand ++ part) → (may_follow ≡ false → (hand ≡ []) × IsAtEnd had) → follow ≡ has_feed (hand ++ part)
-    → (follow ≡ false → IsAtEnd left ⊎ (KEPT_SAVED_BYTES ≤ length (hand ++ part)))
+    → IsBoundedReading SAVED_PREFIX_BYTES (hand ++ part) → (may_follow ≡ false → (hand ≡ []) × IsAtEnd had) → follow ≡ has_feed (hand ++ part)
+    → (follow ≡ false → IsAtEnd left ⊎ (SAVED_PREFIX_BYTES ≤ length (hand ++ part)))
     → IfOk wrote (λ o. o ≡ outcome.Refused) → OnOk wrote (Appends held holds (refusal_line why))
     → IfErr wrote (λ e. LeavesText e held holds (refusal_line why)) → IsWriteResult r wrote
     → IsContinuation (start.Resumed moment) c may_follow hand r (streams had left held holds)
@@ -289,12 +289,12 @@ gone_answered moment c saved may_follow true hand part had mid left held holds (
 
 -- nothing is at hand, and nothing comes, where no line feed followed a good setup
 ends_by : (c : Configuration) (bytes_read hand : List ℕ) (mid : Option (List ℕ)) → with_setup_refusal (setup_of (first_line_of bytes_read)) ≡ Ok c
-    → has_feed bytes_read ≡ false → hand ≡ rest_after_line bytes_read → IsAtEnd mid ⊎ (KEPT_SETUP_BYTES ≤ length bytes_read) → (hand ≡ []) × IsAtEnd mid
+    → has_feed bytes_read ≡ false → hand ≡ rest_after_line bytes_read → IsAtEnd mid ⊎ (SETUP_PREFIX_BYTES ≤ length bytes_read) → (hand ≡ []) × IsAtEnd mid
 ends_by c bytes_read hand mid s free behind (inl at_end) = (behind ∙ behind_none bytes_read free, at_end)
 ends_by c bytes_read hand mid s free behind (inr long) = absurd (not_long c bytes_read s free long)
 
 pub ends_short : (c : Configuration) (bytes_read hand : List ℕ) (mid : Option (List ℕ)) (whole : Bool) → with_setup_refusal (setup_of (first_line_of bytes_read)) ≡ Ok c
-    → whole ≡ has_feed bytes_read → hand ≡ rest_after_line bytes_read → (whole ≡ false → IsAtEnd mid ⊎ (KEPT_SETUP_BYTES ≤ length bytes_read))
+    → whole ≡ has_feed bytes_read → hand ≡ rest_after_line bytes_read → (whole ≡ false → IsAtEnd mid ⊎ (SETUP_PREFIX_BYTES ≤ length bytes_read))
     → whole ≡ false → (hand ≡ []) × IsAtEnd mid
 ends_short c bytes_read hand mid whole s feed behind end f = ends_by c bytes_read hand mid s (sym feed ∙ f) behind (end f)
 
@@ -306,11 +306,11 @@ parts_stay bytes_read coming false feed none =
     rw (none refl) (ap first_line_of (append-nil bytes_read), ap rest_after_line (append-nil bytes_read) ∙ sym (append-nil (rest_after_line bytes_read)))
 
 -- no more behind the setup than shows it, whether the setup's line feed was given before or not
-soon_behind : (bytes_read more : List ℕ) (whole : Bool) → whole ≡ has_feed bytes_read → IsBoundedReading KEPT_SAVED_BYTES (rest_after_line bytes_read ++ more)
-    → IsBoundedReading KEPT_SAVED_BYTES (rest_after_line (bytes_read ++ more))
+soon_behind : (bytes_read more : List ℕ) (whole : Bool) → whole ≡ has_feed bytes_read → IsBoundedReading SAVED_PREFIX_BYTES (rest_after_line bytes_read ++ more)
+    → IsBoundedReading SAVED_PREFIX_BYTES (rest_after_line (bytes_read ++ more))
 soon_behind bytes_read more true feed soon = rw (behind_stays bytes_read more (sym feed)) soon
 soon_behind bytes_read more false feed soon =
-    rw (behind_on bytes_read more (sym feed)) (behind_soon KEPT_SAVED_BYTES more (omega arith) (rw (behind_none bytes_read (sym feed)) at soon))
+    rw (behind_on bytes_read more (sym feed)) (behind_soon SAVED_PREFIX_BYTES more (omega arith) (rw (behind_none bytes_read (sym feed)) at soon))
 
 read_behind : (r : Result Beginning InputRefusal) (had mid left : Option (List ℕ)) (bytes_read coming : List ℕ) (whole : Bool) → whole ≡ has_feed bytes_read
     → Consumes had mid bytes_read → ReadOver (λ more. rest_after_line bytes_read ++ more) r mid left coming → ReadOver rest_after_line r had left (bytes_read ++ coming)
@@ -369,14 +369,14 @@ begins_refused : (how : Start) (input : List ℕ) (e : LoadError) → setup_of (
 begins_refused how input e s = ap (λ r. with_setup_refusal r >>= λ d. beginning_over how d (rest_after_line input)) s
 
 refusal_read : (how : Start) (input bytes_read : List ℕ) (e : LoadError) (had left : Option (List ℕ)) → setup_of (first_line_of input) ≡ Err e
-    → Consumes had left bytes_read → IsBoundedReading KEPT_SETUP_BYTES bytes_read → HasReadLive how had left input
+    → Consumes had left bytes_read → IsBoundedReading SETUP_PREFIX_BYTES bytes_read → HasReadLive how had left input
 refusal_read how input bytes_read e had left s read soon = rw s (bytes_read, read, soon)
 
 -- what is shown of a setup's refusal is what is shown of the whole
 pub setup_refusal : (how : Start) (bytes_read : List ℕ) (had left held holds : Option (List ℕ)) (why : InputRefusal) (whole : Bool)
     (r : Result Outcome DriveError)
-    → with_setup_refusal (setup_of (first_line_of bytes_read)) ≡ Err why → Consumes had left bytes_read → IsBoundedReading KEPT_SETUP_BYTES bytes_read → whole ≡ has_feed bytes_read
-    → (whole ≡ false → IsAtEnd left ⊎ (KEPT_SETUP_BYTES ≤ length bytes_read)) → IfOk r (λ o. o ≡ outcome.Refused)
+    → with_setup_refusal (setup_of (first_line_of bytes_read)) ≡ Err why → Consumes had left bytes_read → IsBoundedReading SETUP_PREFIX_BYTES bytes_read → whole ≡ has_feed bytes_read
+    → (whole ≡ false → IsAtEnd left ⊎ (SETUP_PREFIX_BYTES ≤ length bytes_read)) → IfOk r (λ o. o ≡ outcome.Refused)
     → OnOk r (Appends held holds (refusal_line why)) → IfErr r (λ e. LeavesText e held holds (refusal_line why))
     → ConversationEnded how r (streams had left held holds)
 setup_refusal how bytes_read had left held holds why whole (Ok o) s read soon feed end refused wrote f =

@@ -11,7 +11,7 @@ use Rattle.check_sched.specs.State.{State}
 use Rattle.nagsched_protocol.specs.declared.command.RunCommand.{RunCommand}
 use Rattle.nagsched_protocol.specs.declared.drive_error.DriveError.{DriveError}
 use Rattle.nagsched_protocol.specs.declared.drive_error.DriveError.TheVariants as errors
-use Rattle.nagsched_protocol.specs.declared.line_reader.TheConstants.{KEPT_SETUP_BYTES}
+use Rattle.nagsched_protocol.specs.declared.line_reader.TheConstants.{SETUP_PREFIX_BYTES}
 use Rattle.nagsched_protocol.specs.declared.refusal.InputRefusal.{InputRefusal}
 use Rattle.nagsched_protocol.specs.declared.refusal.InputRefusal.TheVariants as refusal
 use Rattle.nagsched_protocol.specs.declared.refusal.ScriptError.{ScriptError}
@@ -409,7 +409,7 @@ live_unwritten how e had left held bytes_read read =
 
 -- there are no lines behind the setup
 pub not_long : (c : Configuration) (bytes_read : List ℕ) → with_setup_refusal (setup_of (first_line_of bytes_read)) ≡ Ok c → has_feed bytes_read ≡ false
-    → KEPT_SETUP_BYTES ≤ length bytes_read → ⊥
+    → SETUP_PREFIX_BYTES ≤ length bytes_read → ⊥
 not_long c bytes_read s free long =
     let all = ap length (first_all bytes_read free) in
     let r = sym (too_long (first_line_of bytes_read) (omega (arith, long, all))) ∙ setup_is (setup_of (first_line_of bytes_read)) c s in
@@ -417,13 +417,13 @@ not_long c bytes_read s free long =
 
 -- ---- a refused setup
 
-ended_by : (left : Option (List ℕ)) (bytes_read : List ℕ) → IsAtEnd left ⊎ (KEPT_SETUP_BYTES ≤ length bytes_read)
-    → (rest_of left ≡ []) ⊎ (KEPT_SETUP_BYTES ≤ length bytes_read)
+ended_by : (left : Option (List ℕ)) (bytes_read : List ℕ) → IsAtEnd left ⊎ (SETUP_PREFIX_BYTES ≤ length bytes_read)
+    → (rest_of left ≡ []) ⊎ (SETUP_PREFIX_BYTES ≤ length bytes_read)
 ended_by left bytes_read (inl end) = inl (rest_none left end)
 ended_by left bytes_read (inr long) = inr long
 
 pub refused_stays : (bytes_read : List ℕ) (left : Option (List ℕ)) (whole : Bool) → whole ≡ has_feed bytes_read
-    → (whole ≡ false → IsAtEnd left ⊎ (KEPT_SETUP_BYTES ≤ length bytes_read))
+    → (whole ≡ false → IsAtEnd left ⊎ (SETUP_PREFIX_BYTES ≤ length bytes_read))
     → setup_of (first_line_of (bytes_read ++ rest_of left)) ≡ setup_of (first_line_of bytes_read)
 refused_stays bytes_read left true feed end = setup_stays bytes_read (rest_of left) (inl (sym feed))
 refused_stays bytes_read left false feed end = setup_stays bytes_read (rest_of left) (inr (sym feed, ended_by left bytes_read (end refl)))

@@ -80,9 +80,9 @@ module _ {A : Type 0} (test : A → Bool) (shape : Data → Option A) (each : (d
 abbrev HasTexts : ParsedSetup → Type 0
 HasTexts ds = EachPasses (λ h. is_utf8 h.name) ds.hosts × EachPasses (λ s. is_utf8 (full_name (key_of s))) ds.services
 
-drafts_texts : (d : Data) (ds : ParsedSetup) → GoodTree d → parsed_setup d ≡ Ok ds → HasTexts ds
+parsed_texts : (d : Data) (ds : ParsedSetup) → GoodTree d → parsed_setup d ≡ Ok ds → HasTexts ds
 unfolding parsed_setup
-drafts_texts d ds g e =
+parsed_texts d ds g e =
     let values = get members.hosts.name d in
     let others = get members.services.name d in
     guarded_ok (has_only_members document_members d) _ (shape_fault document_place d) ds (HasTexts ds) (λ only shaped.
@@ -142,8 +142,8 @@ past : {A E : Type 0} (wrong : Bool) (why : E) (r : Result A E) (a : A) → cond
 past true why r a e = cc
 past false why r a e = (refl, e)
 
-drafts_read : (ds : ParsedSetup) (c : Configuration) → HasTexts ds → verification ds ≡ Ok tt → without_cycles (configuration ds) ≡ Ok c → IsRead c
-drafts_read ds c g faultless e =
+parsed_read : (ds : ParsedSetup) (c : Configuration) → HasTexts ds → verification ds ≡ Ok tt → without_cycles (configuration ds) ≡ Ok c → IsRead c
+parsed_read ds c g faultless e =
     let d = configuration ds in
     next (without_dependency_cycle d) without_parent_cycle c (IsRead c) (λ middle m last.
     let masters = past (has_cycle (masters_of d)) errors.DependencyCycle (Ok d) middle m in
@@ -167,9 +167,9 @@ pub setup_by : (document : List ℕ) (c : Configuration) → setup_of document �
 unfolding setup_of setup_of_tree
 setup_by document c e =
     next (with_error load_error (document_tree document)) setup_of_tree c (IsRead c) (λ tree t from_tree.
-    next (with_error load_error (verified_setup tree)) _ c (IsRead c) (λ ds f from_drafts.
-    next (parsed_setup tree) _ ds (IsRead c) (λ drafts r tested.
-    next (verification drafts) _ ds (IsRead c) (λ _ faultless last.
-    let texts = drafts_texts tree drafts (document_good document tree (no_fault load_error (document_tree document) tree t)) r in
-    drafts_read drafts c texts faultless (subst (λ x. without_cycles (configuration x) ≡ Ok c) (sym (ok_is drafts ds last)) from_drafts))
+    next (with_error load_error (verified_setup tree)) _ c (IsRead c) (λ ds f from_parsed.
+    next (parsed_setup tree) _ ds (IsRead c) (λ parsed r tested.
+    next (verification parsed) _ ds (IsRead c) (λ _ faultless last.
+    let texts = parsed_texts tree parsed (document_good document tree (no_fault load_error (document_tree document) tree t)) r in
+    parsed_read parsed c texts faultless (subst (λ x. without_cycles (configuration x) ≡ Ok c) (sym (ok_is parsed ds last)) from_parsed))
     tested) (no_fault load_error (verified_setup tree) ds f)) from_tree) e

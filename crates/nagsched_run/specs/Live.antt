@@ -9,7 +9,7 @@ use Rattle.check_saved_state.specs.Text.{saved_of_text}
 use Rattle.check_sched.specs.State.{State}
 use Rattle.nagsched_protocol.specs.declared.drive_error.DriveError.{DriveError}
 use Rattle.nagsched_protocol.specs.declared.drive_error.DriveError.TheVariants as errors
-use Rattle.nagsched_protocol.specs.declared.line_reader.TheConstants.{KEPT_SAVED_BYTES, KEPT_SETUP_BYTES}
+use Rattle.nagsched_protocol.specs.declared.line_reader.TheConstants.{SAVED_PREFIX_BYTES, SETUP_PREFIX_BYTES}
 use Rattle.nagsched_protocol.specs.declared.live_error.LiveError.{LiveError}
 use Rattle.nagsched_protocol.specs.declared.live_error.LiveError.TheVariants as live
 use Rattle.nagsched_protocol.specs.declared.refusal.InputRefusal.{InputRefusal}
@@ -47,12 +47,12 @@ live_outcome how input = outcome_by (beginning_of how input)
 -- the bytes read that comes after the setup document.
 abbrev pub ReadOver : (List ℕ → List ℕ) → Result Beginning InputRefusal → Option (List ℕ) → Option (List ℕ) → List ℕ → Type 0
 ReadOver behind (Ok b) had left bytes = Consumes had left bytes
-ReadOver behind (Err e) had left bytes = (bytes_read : List ℕ) × Consumes had left bytes_read × IsBoundedReading KEPT_SAVED_BYTES (behind bytes_read)
+ReadOver behind (Err e) had left bytes = (bytes_read : List ℕ) × Consumes had left bytes_read × IsBoundedReading SAVED_PREFIX_BYTES (behind bytes_read)
 
 -- the same for an input with this setup
 abbrev pub ReadBy : Start → Result Configuration LoadError → Option (List ℕ) → Option (List ℕ) → List ℕ → Type 0
 ReadBy how (Ok c) had left input = ReadOver rest_after_line (beginning_over how c (rest_after_line input)) had left input
-ReadBy how (Err e) had left input = (bytes_read : List ℕ) × Consumes had left bytes_read × IsBoundedReading KEPT_SETUP_BYTES bytes_read
+ReadBy how (Err e) had left input = (bytes_read : List ℕ) × Consumes had left bytes_read × IsBoundedReading SETUP_PREFIX_BYTES bytes_read
 
 -- The bytes that were read: the input to its end or, if its setup or its saved state is refused, no more than show the refusal.
 abbrev pub HasReadLive : Start → Option (List ℕ) → Option (List ℕ) → List ℕ → Type 0

@@ -22,8 +22,8 @@ use check_objects::Setup;
 use check_saved_state::Saved;
 use check_sched::Sched;
 use nagsched_protocol::{
-    ASKED_BYTES, DriveError, InputBuffer, InputRefusal, KEPT_LINE_BYTES, KEPT_SAVED_BYTES,
-    KEPT_SETUP_BYTES, LineBuffer, LiveError, REPLY_BYTES, RunCommand, ScriptError, Start, flush,
+    DriveError, InputBuffer, InputRefusal, LINE_PREFIX_BYTES, LineBuffer, LiveError, READ_BYTES,
+    REPLY_BYTES, RunCommand, SAVED_PREFIX_BYTES, SETUP_PREFIX_BYTES, ScriptError, Start, flush,
     open, read_buffered, read_saved, read_setup, resume, take_document, write_refusal,
 };
 use std::alloc::{AllocError, Global};
@@ -111,7 +111,7 @@ fn continue_live<R: Read, W: Write>(
 ) -> Result<Outcome, LiveError>
     requires start { CanStart start }
     requires end { may_follow ≡ false → (buffered ≡ []) × IsAtEnd (R.remaining reader.old) }
-    requires bounded { length buffered ≤ ASKED_BYTES }
+    requires bounded { length buffered ≤ READ_BYTES }
     ensures continuation { IsContinuation start setup may_follow buffered result
         (streams (R.remaining reader.old) (R.remaining reader.new)
         (W.contents writer.old) (W.contents writer.new)) }
@@ -166,13 +166,13 @@ fn read_setup_line<R: Read>(
     requires { buffered.old ≡ [] }
     ensures { (bytes_read : List ℕ)
         × Consumes (R.remaining reader.old) (R.remaining reader.new) bytes_read
-        × IsBoundedReading KEPT_SETUP_BYTES bytes_read
+        × IsBoundedReading SETUP_PREFIX_BYTES bytes_read
         × IfOk result (λ first.
         IsExpectedResult (λ setup. setup) first.0 (with_setup_refusal (setup_of (first_line_of bytes_read)))
-        × HasTakenDocument KEPT_SETUP_BYTES bytes_read first.1 buffered.new (R.remaining reader.new))
+        × HasTakenDocument SETUP_PREFIX_BYTES bytes_read first.1 buffered.new (R.remaining reader.new))
         × IfErr result (IsReadingError bytes_read) }
 {
-    let mut document = LineBuffer::new(alloc, KEPT_SETUP_BYTES);
+    let mut document = LineBuffer::new(alloc, SETUP_PREFIX_BYTES);
     let whole = take_document(buffered, &mut document, reader)?;
     Ok((read_setup(alloc, document.bytes()), whole))
 }
@@ -187,14 +187,14 @@ fn read_saved_line<R: Read>(
     reader: &mut R,
 ) -> Result<(Result<Saved, ScriptError>, bool), LiveError>
     requires end { may_follow ≡ false → (buffered.old ≡ []) × IsAtEnd (R.remaining reader.old) }
-    requires bounded { length buffered.old ≤ ASKED_BYTES }
+    requires bounded { length buffered.old ≤ READ_BYTES }
     ensures reading { (bytes_read : List ℕ)
         × Consumes (R.remaining reader.old) (R.remaining reader.new) bytes_read
         × (may_follow ≡ false → bytes_read ≡ [])
-        × IsBoundedReading KEPT_SAVED_BYTES (buffered.old ++ bytes_read)
+        × IsBoundedReading SAVED_PREFIX_BYTES (buffered.old ++ bytes_read)
         × IfOk result (λ second.
         IsExpectedResult (λ saved. saved) second.0 (saved_at_start (buffered.old ++ bytes_read))
-        × HasTakenDocument KEPT_SAVED_BYTES (buffered.old ++ bytes_read) second.1 buffered.new
+        × HasTakenDocument SAVED_PREFIX_BYTES (buffered.old ++ bytes_read) second.1 buffered.new
         (R.remaining reader.new))
         × IfErr result (IsReadingError bytes_read) }
     ensures no_read { has_feed buffered.old ≡ true → reader.new ≡ reader.old }
@@ -202,7 +202,7 @@ fn read_saved_line<R: Read>(
     if !may_follow {
         return Ok((read_saved(alloc, &[]), false));
     }
-    let mut line = LineBuffer::new(alloc, KEPT_SAVED_BYTES);
+    let mut line = LineBuffer::new(alloc, SAVED_PREFIX_BYTES);
     let follow = take_document(buffered, &mut line, reader)?;
     Ok((read_saved(alloc, line.bytes()), follow))
 }
@@ -221,14 +221,14 @@ impl Conversation {
     fn new(alloc: Global, sched: Sched, buffered: InputBuffer) -> Result<Conversation, AllocError>
         ensures sched { IfOk result (λ talk. talk.sched ≡ sched) }
         ensures buffered { IfOk result (λ talk. talk.buffered ≡ buffered) }
-        ensures line { IfOk result (λ talk. talk.line ≡ prefix_of KEPT_LINE_BYTES []) }
+        ensures line { IfOk result (λ talk. talk.line ≡ prefix_of LINE_PREFIX_BYTES []) }
         ensures capacity { IfOk result (λ talk. REPLY_BYTES ≤ string_capacity talk.reply) }
     {
         let reply = String::with_capacity(alloc, REPLY_BYTES)?;
         Ok(Conversation {
             sched,
             buffered,
-            line: LineBuffer::new(alloc, KEPT_LINE_BYTES),
+            line: LineBuffer::new(alloc, LINE_PREFIX_BYTES),
             reply,
         })
     }
@@ -243,7 +243,7 @@ impl Conversation {
         reader: &mut R,
         writer: &mut W,
     ) -> Result<Outcome, LiveError>
-        requires buffers { (self.old.line.most ≡ KEPT_LINE_BYTES)
+        requires buffers { (self.old.line.most ≡ LINE_PREFIX_BYTES)
             × (REPLY_BYTES ≤ string_capacity self.old.reply) }
         requires begins { begins ≤ 3 }
         ensures outcome { IfOk result (λ outcome. outcome ≡ Outcome.Ran) }
@@ -272,7 +272,7 @@ impl Conversation {
         reader: &mut R,
         writer: &mut W,
     ) -> Result<(), LiveError>
-        requires buffers { (self.old.line.most ≡ KEPT_LINE_BYTES)
+        requires buffers { (self.old.line.most ≡ LINE_PREFIX_BYTES)
             × (REPLY_BYTES ≤ string_capacity self.old.reply) }
         requires begins { begins ≤ 3 }
         ensures lines { AnsweringEnded begins self.old.sched self.old.buffered
@@ -300,7 +300,7 @@ impl Conversation {
         reader: &mut R,
         writer: &mut W,
     ) -> Result<bool, LiveError>
-        requires { (self.old.line.most ≡ KEPT_LINE_BYTES)
+        requires { (self.old.line.most ≡ LINE_PREFIX_BYTES)
             × (REPLY_BYTES ≤ string_capacity self.old.reply) }
         ensures reading { (bytes_read : List ℕ)
             × Consumes (R.remaining reader.old) (R.remaining reader.new) bytes_read
@@ -309,7 +309,7 @@ impl Conversation {
             (W.contents writer.old) (W.contents writer.new))
             × IfErr result (IsLineReadingError bytes_read) }
         ensures no_read { has_feed self.old.buffered ≡ true → reader.new ≡ reader.old }
-        ensures line { OnOk result (self.new.line.most ≡ KEPT_LINE_BYTES) }
+        ensures line { OnOk result (self.new.line.most ≡ LINE_PREFIX_BYTES) }
         ensures capacity { REPLY_BYTES ≤ string_capacity self.new.reply }
         ensures fault { IfErr result (λ e. LineFailed self.old.sched number self.old.buffered
             (R.remaining reader.old) (W.contents writer.old) (W.contents writer.new) (drive_error_of e)) }
@@ -331,11 +331,11 @@ impl Conversation {
         writer: &mut W,
     ) -> Result<(), DriveError>
         requires { REPLY_BYTES ≤ string_capacity self.old.reply }
-        ensures answered { (text : List ℕ) → self.old.line ≡ prefix_of KEPT_LINE_BYTES text
+        ensures answered { (text : List ℕ) → self.old.line ≡ prefix_of LINE_PREFIX_BYTES text
             → OnOk result ((self.new.sched ≡ state_after_line self.old.sched (line_meaning self.old.sched number text))
             × Appends (W.contents writer.old) (W.contents writer.new)
             (line_answer self.old.sched (line_meaning self.old.sched number text))) }
-        ensures fault { (text : List ℕ) → self.old.line ≡ prefix_of KEPT_LINE_BYTES text
+        ensures fault { (text : List ℕ) → self.old.line ≡ prefix_of LINE_PREFIX_BYTES text
             → IfErr result (λ e. LeavesText e (W.contents writer.old) (W.contents writer.new)
             (line_answer self.old.sched (line_meaning self.old.sched number text))) }
         ensures kind { IfErr result (λ e. e ≢ DriveError.Read) }

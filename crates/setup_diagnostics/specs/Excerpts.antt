@@ -25,5 +25,5 @@ abbrev pub excerpt : List ℕ → List ℕ
 excerpt text = excerpt_to 80 (chars text)
 
 -- a text as a JSON string of at most 80 characters
-abbrev pub shown : List ℕ → List ℕ
-shown text = codes "\"" ++ (excerpt text ++ codes "\"")
+abbrev pub quotation : List ℕ → List ℕ
+quotation text = codes "\"" ++ (excerpt text ++ codes "\"")

@@ -14,7 +14,7 @@ use Rattle.setup_model.specs.declared.place.Place.{Place}
 use Rattle.setup_model.specs.Place.{host_place, service_place}
 use Rattle.setup_reader.specs.Places.{value_at}
 use Rattle.setup_diagnostics.specs.Places.{role_text, part_text, place_text, member_text}
-use Rattle.setup_diagnostics.specs.Excerpts.{shown}
+use Rattle.setup_diagnostics.specs.Excerpts.{quotation}
 
 -- ---- bad names
 
@@ -33,7 +33,7 @@ name_fault_text (name_fault.Long n) = codes " has " ++ (decimal n ++ codes " byt
 name_fault_text (name_fault.Byte b) = bad_byte_text b
 
 abbrev pub bad_name_text : Data → Place → NameFault → List ℕ
-bad_name_text tree place w = place_text tree place ++ (shown (name_member place.part) ++ name_fault_text w)
+bad_name_text tree place w = place_text tree place ++ (quotation (name_member place.part) ++ name_fault_text w)
 
 -- ---- repeats
 

@@ -7,7 +7,7 @@ use Rattle.setup_model.specs.declared.place.Part.TheVariants as part
 use Rattle.setup_model.specs.declared.place.Place.{Place}
 use Rattle.setup_model.specs.Members.{part_name}
 use Rattle.setup_reader.specs.Places.{value_at}
-use Rattle.setup_diagnostics.specs.Excerpts.{excerpt, shown}
+use Rattle.setup_diagnostics.specs.Excerpts.{excerpt, quotation}
 
 -- ---- texts of the document
 
@@ -29,13 +29,13 @@ abbrev pub service_name_text : List ℕ × List ℕ → List ℕ
 service_name_text name = codes "\"" ++ (excerpt name.0 ++ (codes ";" ++ (excerpt name.1 ++ codes "\"")))
 
 abbrev pub ends_text : List ℕ × List ℕ → List ℕ
-ends_text ends = shown ends.0 ++ (codes " on " ++ shown ends.1)
+ends_text ends = quotation ends.0 ++ (codes " on " ++ quotation ends.1)
 
 -- the name of a host, the full name of a service, or both ends of a dependency
 abbrev pub item_name_text : Part → Data → Option (List ℕ)
 item_name_text part.Document d = None
 item_name_text part.Options d = None
-item_name_text part.Hosts d = option_map shown (member_text (codes "name") d)
+item_name_text part.Hosts d = option_map quotation (member_text (codes "name") d)
 item_name_text part.Services d = option_map service_name_text (member_text_pair (codes "host") (codes "description") d)
 item_name_text part.ServiceDependencies d = option_map ends_text (member_text_pair (codes "dependent") (codes "master") d)
 item_name_text part.HostDependencies d = option_map ends_text (member_text_pair (codes "dependent") (codes "master") d)
@@ -60,4 +60,4 @@ place_text tree place = part_text place.part place.index ++ (name_text tree plac
 -- the role of a name, and the name, if there is one
 abbrev pub role_text : List ℕ → Option (List ℕ) → List ℕ
 role_text role None = []
-role_text role (Some name) = role ++ shown name
+role_text role (Some name) = role ++ quotation name

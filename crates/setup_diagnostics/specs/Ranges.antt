@@ -7,7 +7,7 @@ use Rattle.setup_model.specs.Fault.{RangeFault}
 use Rattle.setup_model.specs.Member.{Row, limits_of}
 use Rattle.setup_model.specs.Members as members
 use Rattle.setup_diagnostics.specs.Places.{place_text}
-use Rattle.setup_diagnostics.specs.Excerpts.{shown}
+use Rattle.setup_diagnostics.specs.Excerpts.{quotation}
 
 abbrev pub between_text : ℕ → ℕ → List ℕ
 between_text low high = codes "; it can be " ++ (decimal low ++ (codes " to " ++ decimal high))
@@ -18,11 +18,11 @@ limits_text (Some limits) = between_text limits.0 limits.1
 
 -- the number of a member
 abbrev pub number_text : Row → ℕ → List ℕ
-number_text m n = shown m.name ++ (codes " is " ++ decimal n)
+number_text m n = quotation m.name ++ (codes " is " ++ decimal n)
 
 -- the member that a number can't be above, and its number
 abbrev pub above_text : Row → ℕ → List ℕ
-above_text m n = codes "; it can't be above " ++ (shown m.name ++ (codes ", which is " ++ decimal n))
+above_text m n = codes "; it can't be above " ++ (quotation m.name ++ (codes ", which is " ++ decimal n))
 
 abbrev pub wrong_number_text : RangeFault → List ℕ
 wrong_number_text (fault.out_of_range m n) = number_text m n ++ limits_text (limits_of m.kind)

@@ -8,7 +8,7 @@ use Rattle.setup_model.specs.Fault.{ShapeFault}
 use Rattle.setup_reader.specs.Places.{value_at}
 use Rattle.setup_reader.specs.Shapes.{keys_in}
 use Rattle.setup_diagnostics.specs.Places.{role_text, place_text}
-use Rattle.setup_diagnostics.specs.Excerpts.{shown}
+use Rattle.setup_diagnostics.specs.Excerpts.{quotation}
 
 -- a text that begins with this one
 pub record BeginsWith (head text : List ℕ) : Type 0 where
@@ -27,14 +27,14 @@ abbrev pub unknown_text : Data → Place → ℕ → List ℕ
 unknown_text tree place index = role_text (codes "a member ") (member_name_at tree place index) ++ codes " isn't known here"
 
 abbrev pub missing_text : List ℕ → List ℕ
-missing_text name = codes "the member " ++ (shown name ++ codes " is missing")
+missing_text name = codes "the member " ++ (quotation name ++ codes " is missing")
 
 -- The place, and the member at fault. For a member that is unknown or missing, the text is the whole line. For a value of another kind, it is
 -- everything that comes before the value.
 abbrev pub IsShapeText : Data → Place → Option ShapeFault → List ℕ → Type 0
 IsShapeText tree p (Some (fault.unknown i)) text = text ≡ place_text tree p ++ unknown_text tree p i
 IsShapeText tree p (Some (fault.missing m)) text = text ≡ place_text tree p ++ missing_text m.name
-IsShapeText tree p (Some (fault.wrong_kind m)) text = BeginsWith (place_text tree p ++ shown m.name) text
+IsShapeText tree p (Some (fault.wrong_kind m)) text = BeginsWith (place_text tree p ++ quotation m.name) text
 IsShapeText tree p (Some fault.no_array) text = BeginsWith (place_text tree p ++ codes "this is ") text
 IsShapeText tree p (Some fault.no_object) text = BeginsWith (place_text tree p ++ codes "this is ") text
 IsShapeText tree p None text = BeginsWith (place_text tree p) text

@@ -4,7 +4,7 @@ ghost use Rattle.std.specs.Prelude.{◌≡◌, ◌≢◌, ◌<◌, ◌++◌, ◌
 ghost use Rattle.std.specs.Char.{digit_char, encode_utf8};
 ghost use Rattle.setup_diagnostics.specs.Places.{role_text};
 ghost use Rattle.setup_diagnostics.specs.Feeds.{has_line_feed, HasNoLineFeed};
-ghost use Rattle.setup_diagnostics.specs.Excerpts.{excerpt, control_escape, escape, shown};
+ghost use Rattle.setup_diagnostics.specs.Excerpts.{excerpt, control_escape, escape, quotation};
 
 use itoa::Buffer;
 use std::alloc::{AllocError, Global};
@@ -75,7 +75,7 @@ impl Line {
 
     /// Appends a text of the document as a JSON string, cut after 80 characters.
     pub(crate) fn push_text(&mut self, text: &str) -> Result<(), AllocError>
-        ensures text { OnOk result (self.new ≡ self.old ++ shown text.now) }
+        ensures text { OnOk result (self.new ≡ self.old ++ quotation text.now) }
     {
         self.push_words("\"")?;
         self.push_excerpt(text)?;

@@ -6,7 +6,7 @@ ghost use Rattle.serde_json.specs.View.{members_view, view};
 ghost use Rattle.setup_model.specs.Fault.{shape_view};
 ghost use Rattle.setup_diagnostics.specs.Feeds.{has_line_feed};
 ghost use Rattle.setup_diagnostics.specs.Shapes.{nth_member_name, member_name_at, missing_text, unknown_text, BeginsWith, IsShapeText};
-ghost use Rattle.setup_diagnostics.specs.Excerpts.{shown};
+ghost use Rattle.setup_diagnostics.specs.Excerpts.{quotation};
 
 use crate::kinds::{kind_words, push_value};
 use crate::line::Line;
@@ -105,7 +105,7 @@ fn push_wrong_member(
     place: Place,
     member: Member,
 ) -> Result<(), AllocError>
-    ensures { OnOk result (BeginsWith (line.old ++ shown member.name.now) line.new) }
+    ensures { OnOk result (BeginsWith (line.old ++ quotation member.name.now) line.new) }
 {
     line.push_text(member.name)?;
     match value_at(tree, place).and_then(|object| object.get(member.name)) {

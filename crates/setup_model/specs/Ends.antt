@@ -49,6 +49,6 @@ dependency_list_test p names others ds = each (dependency_test p names others) d
 
 -- both ends of every dependency exist: those of services are among the first names, and those of hosts among the second
 abbrev pub dependencies_test : List (List ℕ) → List (List ℕ) → ParsedSetup → Result (Unit {0}) Fault
-dependencies_test services hosts drafts =
-    dependency_list_test part.ServiceDependencies services hosts drafts.service_dependencies >>= λ _.
-    dependency_list_test part.HostDependencies hosts services drafts.host_dependencies
+dependencies_test services hosts parsed =
+    dependency_list_test part.ServiceDependencies services hosts parsed.service_dependencies >>= λ _.
+    dependency_list_test part.HostDependencies hosts services parsed.host_dependencies

@@ -10,29 +10,29 @@ use Rattle.setup_model.specs.declared.place.Place.{Place}
 use Rattle.setup_model.specs.Member.{Row}
 
 -- a required member: an object without it is refused
-abbrev pub required : List ℕ → Kind → Row
-required name kind = record { name = name; kind = kind; default = None }
+abbrev pub required_member : List ℕ → Kind → Row
+required_member name kind = record { name = name; kind = kind; default = None }
 
 -- a member that has a default
-abbrev pub optional : List ℕ → Kind → DefaultValue → Row
-optional name kind default = record { name = name; kind = kind; default = Some default }
+abbrev pub optional_member : List ℕ → Kind → DefaultValue → Row
+optional_member name kind default = record { name = name; kind = kind; default = Some default }
 
 -- ---- the document
 
 abbrev pub options : Row
-options = optional (codes "options") (kind.Part part.Options) default.Empty
+options = optional_member (codes "options") (kind.Part part.Options) default.Empty
 
 abbrev pub hosts : Row
-hosts = optional (codes "hosts") (kind.Part part.Hosts) default.Empty
+hosts = optional_member (codes "hosts") (kind.Part part.Hosts) default.Empty
 
 abbrev pub services : Row
-services = optional (codes "services") (kind.Part part.Services) default.Empty
+services = optional_member (codes "services") (kind.Part part.Services) default.Empty
 
 abbrev pub service_dependencies : Row
-service_dependencies = optional (codes "service_dependencies") (kind.Part part.ServiceDependencies) default.Empty
+service_dependencies = optional_member (codes "service_dependencies") (kind.Part part.ServiceDependencies) default.Empty
 
 abbrev pub host_dependencies : Row
-host_dependencies = optional (codes "host_dependencies") (kind.Part part.HostDependencies) default.Empty
+host_dependencies = optional_member (codes "host_dependencies") (kind.Part part.HostDependencies) default.Empty
 
 abbrev pub document_members : List Row
 document_members = options ∷ hosts ∷ services ∷ service_dependencies ∷ host_dependencies ∷ []
@@ -41,44 +41,44 @@ document_members = options ∷ hosts ∷ services ∷ service_dependencies ∷ h
 
 -- a second to a day
 abbrev pub interval_length : Row
-interval_length = optional (codes "interval_length") (kind.Number 1 86400) (default.Number 60)
+interval_length = optional_member (codes "interval_length") (kind.Number 1 86400) (default.Number 60)
 
 abbrev pub service_inter_check_delay_method : Row
-service_inter_check_delay_method = optional (codes "service_inter_check_delay_method") kind.Delay default.Smart
+service_inter_check_delay_method = optional_member (codes "service_inter_check_delay_method") kind.Delay default.Smart
 
 -- a minute to a year
 abbrev pub max_service_check_spread : Row
-max_service_check_spread = optional (codes "max_service_check_spread") (kind.Number 1 525600) (default.Number 30)
+max_service_check_spread = optional_member (codes "max_service_check_spread") (kind.Number 1 525600) (default.Number 30)
 
 abbrev pub service_interleave_factor : Row
-service_interleave_factor = optional (codes "service_interleave_factor") kind.Factor default.Smart
+service_interleave_factor = optional_member (codes "service_interleave_factor") kind.Factor default.Smart
 
 abbrev pub host_inter_check_delay_method : Row
-host_inter_check_delay_method = optional (codes "host_inter_check_delay_method") kind.Delay default.Smart
+host_inter_check_delay_method = optional_member (codes "host_inter_check_delay_method") kind.Delay default.Smart
 
 abbrev pub max_host_check_spread : Row
-max_host_check_spread = optional (codes "max_host_check_spread") (kind.Number 1 525600) (default.Number 30)
+max_host_check_spread = optional_member (codes "max_host_check_spread") (kind.Number 1 525600) (default.Number 30)
 
 abbrev pub max_concurrent_checks : Row
-max_concurrent_checks = optional (codes "max_concurrent_checks") (kind.Number 0 1000000) (default.Number 0)
+max_concurrent_checks = optional_member (codes "max_concurrent_checks") (kind.Number 0 1000000) (default.Number 0)
 
 abbrev pub soft_state_dependencies : Row
-soft_state_dependencies = optional (codes "soft_state_dependencies") kind.Switch (default.Switch false)
+soft_state_dependencies = optional_member (codes "soft_state_dependencies") kind.Switch (default.Switch false)
 
 abbrev pub use_aggressive_host_checking : Row
-use_aggressive_host_checking = optional (codes "use_aggressive_host_checking") kind.Switch (default.Switch false)
+use_aggressive_host_checking = optional_member (codes "use_aggressive_host_checking") kind.Switch (default.Switch false)
 
 abbrev pub low_service_flap_threshold : Row
-low_service_flap_threshold = optional (codes "low_service_flap_threshold") (kind.Number 0 100) (default.Number 20)
+low_service_flap_threshold = optional_member (codes "low_service_flap_threshold") (kind.Number 0 100) (default.Number 20)
 
 abbrev pub high_service_flap_threshold : Row
-high_service_flap_threshold = optional (codes "high_service_flap_threshold") (kind.Number 0 100) (default.Number 30)
+high_service_flap_threshold = optional_member (codes "high_service_flap_threshold") (kind.Number 0 100) (default.Number 30)
 
 abbrev pub low_host_flap_threshold : Row
-low_host_flap_threshold = optional (codes "low_host_flap_threshold") (kind.Number 0 100) (default.Number 20)
+low_host_flap_threshold = optional_member (codes "low_host_flap_threshold") (kind.Number 0 100) (default.Number 20)
 
 abbrev pub high_host_flap_threshold : Row
-high_host_flap_threshold = optional (codes "high_host_flap_threshold") (kind.Number 0 100) (default.Number 30)
+high_host_flap_threshold = optional_member (codes "high_host_flap_threshold") (kind.Number 0 100) (default.Number 30)
 
 abbrev pub option_members : List Row
 option_members =
@@ -90,30 +90,30 @@ option_members =
 
 -- the name of a host
 abbrev pub host_name : Row
-host_name = required (codes "name") kind.Text
+host_name = required_member (codes "name") kind.Text
 
 abbrev pub parents : Row
-parents = optional (codes "parents") kind.Texts default.Empty
+parents = optional_member (codes "parents") kind.Texts default.Empty
 
 -- the host of a service
 abbrev pub service_host : Row
-service_host = required (codes "host") kind.Text
+service_host = required_member (codes "host") kind.Text
 
 abbrev pub description : Row
-description = required (codes "description") kind.Text
+description = required_member (codes "description") kind.Text
 
 -- at most a year of minutes
 abbrev pub check_interval : Row
-check_interval = optional (codes "check_interval") (kind.Number 0 525600) (default.Number 5)
+check_interval = optional_member (codes "check_interval") (kind.Number 0 525600) (default.Number 5)
 
 abbrev pub retry_interval : Row
-retry_interval = optional (codes "retry_interval") (kind.Number 0 525600) (default.Number 1)
+retry_interval = optional_member (codes "retry_interval") (kind.Number 0 525600) (default.Number 1)
 
 abbrev pub max_check_attempts : Row
-max_check_attempts = required (codes "max_check_attempts") (kind.Number 1 255)
+max_check_attempts = required_member (codes "max_check_attempts") (kind.Number 1 255)
 
 abbrev pub enabled : Row
-enabled = optional (codes "enabled") kind.Switch (default.Switch true)
+enabled = optional_member (codes "enabled") kind.Switch (default.Switch true)
 
 abbrev pub host_members : List Row
 host_members = host_name ∷ parents ∷ check_interval ∷ retry_interval ∷ max_check_attempts ∷ enabled ∷ []
@@ -124,20 +124,20 @@ service_members = service_host ∷ description ∷ check_interval ∷ retry_inte
 -- ---- dependencies
 
 abbrev pub dependent : Row
-dependent = required (codes "dependent") kind.Text
+dependent = required_member (codes "dependent") kind.Text
 
 abbrev pub master : Row
-master = required (codes "master") kind.Text
+master = required_member (codes "master") kind.Text
 
 abbrev pub criteria_name : List ℕ
 criteria_name = codes "criteria"
 
 -- the criteria of a dependency, of letters that a service or a host can have
 abbrev pub criteria : Kind → Row
-criteria letters = required criteria_name letters
+criteria letters = required_member criteria_name letters
 
 abbrev pub inherits_parent : Row
-inherits_parent = optional (codes "inherits_parent") kind.Switch (default.Switch false)
+inherits_parent = optional_member (codes "inherits_parent") kind.Switch (default.Switch false)
 
 -- the members of a dependency whose criteria are of this kind
 abbrev pub dependency_members : Kind → List Row

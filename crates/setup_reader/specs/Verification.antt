@@ -36,10 +36,10 @@ parent_count hosts = sum_by (λ h. length h.parents) hosts
 
 -- at most 4,096 hosts and services together, 16,384 parents of all hosts, and 16,384 dependencies of both sorts
 abbrev pub item_counts_test : ParsedSetup → Result (Unit {0}) Fault
-item_counts_test drafts =
-    count_test count.Objects 4096 (u64_or_max (length drafts.hosts + length drafts.services)) >>= λ _.
-    (count_test count.Parents 16384 (u64_or_max (parent_count drafts.hosts)) >>= λ _.
-    count_test count.Dependencies 16384 (u64_or_max (length drafts.service_dependencies + length drafts.host_dependencies)))
+item_counts_test parsed =
+    count_test count.Objects 4096 (u64_or_max (length parsed.hosts + length parsed.services)) >>= λ _.
+    (count_test count.Parents 16384 (u64_or_max (parent_count parsed.hosts)) >>= λ _.
+    count_test count.Dependencies 16384 (u64_or_max (length parsed.service_dependencies + length parsed.host_dependencies)))
 
 -- ---- names
 
@@ -91,9 +91,9 @@ service_hosts_test names services = each (service_host_test names) services
 
 -- every named object exists: parents, the hosts of services, and both ends of dependencies
 abbrev pub links_test : List (List ℕ) → ParsedSetup → Result (Unit {0}) Fault
-links_test names drafts =
-    parents_test names drafts.hosts >>= λ _.
-    (service_hosts_test names drafts.services >>= λ _. dependencies_test (full_names drafts.services) names drafts)
+links_test names parsed =
+    parents_test names parsed.hosts >>= λ _.
+    (service_hosts_test names parsed.services >>= λ _. dependencies_test (full_names parsed.services) names parsed)
 
 -- ---- limits
 
@@ -167,10 +167,10 @@ setup_ranges_test options hosts services = options_test options >>= λ _. (each 
 
 -- the first fault after the shape, if there is one
 unfoldable pub verification : ParsedSetup → Result (Unit {0}) Fault
-verification drafts =
-    item_counts_test drafts >>= λ _.
-    (setup_names_test drafts.hosts drafts.services >>= λ _.
-    (distinct_host_names drafts.hosts >>= λ names.
-    (distinct_services_test drafts.services >>= λ _.
-    (links_test names drafts >>= λ _.
-    setup_ranges_test drafts.options drafts.hosts drafts.services))))
+verification parsed =
+    item_counts_test parsed >>= λ _.
+    (setup_names_test parsed.hosts parsed.services >>= λ _.
+    (distinct_host_names parsed.hosts >>= λ names.
+    (distinct_services_test parsed.services >>= λ _.
+    (links_test names parsed >>= λ _.
+    setup_ranges_test parsed.options parsed.hosts parsed.services))))

@@ -9,17 +9,17 @@ use setup_model::{
     Count, Fault, MAX_DEPENDENCIES, MAX_OBJECTS, MAX_PARENTS, ParsedHost, ParsedSetup,
 };
 
-pub(crate) fn verify_counts(drafts: &ParsedSetup<'_>) -> Result<(), Fault>
-    ensures exact { IsExpectedReading (λ u. u) result (item_counts_test (parsed_view drafts.now)) }
+pub(crate) fn verify_counts(parsed: &ParsedSetup<'_>) -> Result<(), Fault>
+    ensures exact { IsExpectedReading (λ u. u) result (item_counts_test (parsed_view parsed.now)) }
     ensures bounded { OnOk result
-        (length drafts.now.hosts.items + length drafts.now.services.items ≤ 4096) }
+        (length parsed.now.hosts.items + length parsed.now.services.items ≤ 4096) }
 {
-    let objects = sum(drafts.hosts.len(), drafts.services.len());
+    let objects = sum(parsed.hosts.len(), parsed.services.len());
     verify_count(Count::Objects, MAX_OBJECTS, objects)?;
-    verify_count(Count::Parents, MAX_PARENTS, count_parents(&drafts.hosts))?;
+    verify_count(Count::Parents, MAX_PARENTS, count_parents(&parsed.hosts))?;
     let dependencies = sum(
-        drafts.service_dependencies.len(),
-        drafts.host_dependencies.len(),
+        parsed.service_dependencies.len(),
+        parsed.host_dependencies.len(),
     );
     verify_count(Count::Dependencies, MAX_DEPENDENCIES, dependencies)
 }

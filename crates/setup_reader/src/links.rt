@@ -17,14 +17,14 @@ use std::alloc::{AllocError, Global};
 
 pub(crate) fn verify_links(
     alloc: Global,
-    drafts: &ParsedSetup<'_>,
+    parsed: &ParsedSetup<'_>,
     hosts: &IndexSet<&str>,
 ) -> Result<(), Fault>
-    ensures { IsExpectedReading (λ u. u) result (links_test (texts hosts.now.keys) (parsed_view drafts.now)) }
+    ensures { IsExpectedReading (λ u. u) result (links_test (texts hosts.now.keys) (parsed_view parsed.now)) }
 {
-    verify_parents(&drafts.hosts, hosts)?;
-    verify_hosts(&drafts.services, hosts)?;
-    verify_ends(alloc, drafts, hosts)
+    verify_parents(&parsed.hosts, hosts)?;
+    verify_hosts(&parsed.services, hosts)?;
+    verify_ends(alloc, parsed, hosts)
 }
 
 fn verify_parents(hosts: &[ParsedHost<'_>], names: &IndexSet<&str>) -> Result<(), Fault>
@@ -67,38 +67,38 @@ fn verify_hosts(services: &[ParsedService<'_>], names: &IndexSet<&str>) -> Resul
 
 // ---- the ends of dependencies
 
-fn verify_ends(alloc: Global, drafts: &ParsedSetup<'_>, hosts: &IndexSet<&str>) -> Result<(), Fault>
+fn verify_ends(alloc: Global, parsed: &ParsedSetup<'_>, hosts: &IndexSet<&str>) -> Result<(), Fault>
     ensures { IsExpectedReading (λ u. u) result
-        (dependencies_test (full_names (parsed_view drafts.now).services)
-        (texts hosts.now.keys) (parsed_view drafts.now)) }
+        (dependencies_test (full_names (parsed_view parsed.now).services)
+        (texts hosts.now.keys) (parsed_view parsed.now)) }
 {
-    if drafts.service_dependencies.is_empty() && drafts.host_dependencies.is_empty() {
+    if parsed.service_dependencies.is_empty() && parsed.host_dependencies.is_empty() {
         return Ok(());
     }
-    let names = full_names(alloc, &drafts.services)?;
+    let names = full_names(alloc, &parsed.services)?;
     let services = distinct_texts(alloc, &names)?;
-    verify_both_sorts(drafts, &services, hosts)
+    verify_both_sorts(parsed, &services, hosts)
 }
 
 /// Whether the ends of all dependencies are among these full names of services and these names of hosts.
 fn verify_both_sorts(
-    drafts: &ParsedSetup<'_>,
+    parsed: &ParsedSetup<'_>,
     services: &IndexSet<&str>,
     hosts: &IndexSet<&str>,
 ) -> Result<(), Fault>
     ensures { IsExpectedReading (λ u. u) result
         (dependencies_test (texts services.now.keys) (texts hosts.now.keys)
-        (parsed_view drafts.now)) }
+        (parsed_view parsed.now)) }
 {
     verify_dependencies(
         Part::ServiceDependencies,
-        &drafts.service_dependencies,
+        &parsed.service_dependencies,
         services,
         hosts,
     )?;
     verify_dependencies(
         Part::HostDependencies,
-        &drafts.host_dependencies,
+        &parsed.host_dependencies,
         hosts,
         services,
     )
@@ -140,8 +140,8 @@ fn verify_dependencies(
         (dependency_list_test part (texts names.now.keys) (texts others.now.keys)
         (map dependency dependencies.now)) }
 {
-    for (index, draft) in dependencies.iter().enumerate() {
-        if let Err(fault) = verify_dependency(*draft, names, others) {
+    for (index, item) in dependencies.iter().enumerate() {
+        if let Err(fault) = verify_dependency(*item, names, others) {
             return Err(Fault::UnknownEnd(Place::item(part, index), fault));
         }
     }
@@ -149,15 +149,15 @@ fn verify_dependencies(
 }
 
 fn verify_dependency(
-    draft: ParsedDependency<'_>,
+    item: ParsedDependency<'_>,
     names: &IndexSet<&str>,
     others: &IndexSet<&str>,
 ) -> Result<(), EndFault>
     ensures { result ≡ dependency_ends_test (texts names.now.keys) (texts others.now.keys)
-        (dependency draft.entry) }
+        (dependency item.entry) }
 {
-    verify_end(End::Dependent, draft.dependent, names, others)?;
-    verify_end(End::Master, draft.master, names, others)
+    verify_end(End::Dependent, item.dependent, names, others)?;
+    verify_end(End::Master, item.master, names, others)
 }
 
 fn verify_end(

@@ -17,17 +17,17 @@ use std::alloc::Global;
 /// of [`LoadError`](setup_model::LoadError), with all details that the test has found. `Memory` can come in
 /// place of either.
 #[tactic(auto, unfolding(crate::specs::Verification::verification))]
-pub fn verify(alloc: Global, drafts: &ParsedSetup<'_>) -> Result<(), Fault>
-    ensures exact { IsExpectedReading (λ u. u) result (verification (parsed_view drafts.now)) }
+pub fn verify(alloc: Global, parsed: &ParsedSetup<'_>) -> Result<(), Fault>
+    ensures exact { IsExpectedReading (λ u. u) result (verification (parsed_view parsed.now)) }
     ensures bounded { OnOk result
-        (length drafts.now.hosts.items + length drafts.now.services.items ≤ 4096) }
-    ensures hosts { OnOk result (All (λ h. HasBoundedAttempts h.check) drafts.now.hosts.items) }
-    ensures services { OnOk result (All (λ s. HasBoundedAttempts s.check) drafts.now.services.items) }
+        (length parsed.now.hosts.items + length parsed.now.services.items ≤ 4096) }
+    ensures hosts { OnOk result (All (λ h. HasBoundedAttempts h.check) parsed.now.hosts.items) }
+    ensures services { OnOk result (All (λ s. HasBoundedAttempts s.check) parsed.now.services.items) }
 {
-    verify_counts(drafts)?;
-    verify_names(&drafts.hosts, &drafts.services)?;
-    let names = distinct_names(alloc, &drafts.hosts)?;
-    verify_distinct_services(alloc, &drafts.services)?;
-    verify_links(alloc, drafts, &names)?;
-    verify_ranges(&drafts.options, &drafts.hosts, &drafts.services)
+    verify_counts(parsed)?;
+    verify_names(&parsed.hosts, &parsed.services)?;
+    let names = distinct_names(alloc, &parsed.hosts)?;
+    verify_distinct_services(alloc, &parsed.services)?;
+    verify_links(alloc, parsed, &names)?;
+    verify_ranges(&parsed.options, &parsed.hosts, &parsed.services)
 }

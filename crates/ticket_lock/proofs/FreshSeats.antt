@@ -6,25 +6,25 @@ use Rattle.atomic_table.specs.Table.{Me}
 use Rattle.ticket_steps.specs.declared.books.Kept.{Ghosts}
 use Rattle.ticket_steps.specs.declared.seats.Phase.TheVariants.{Idle}
 use Rattle.ticket_steps.specs.declared.seats.CoreSeat.{CoreSeat}
-use Rattle.ticket_steps.specs.Sums.{counted}
-use Rattle.ticket_steps.proofs.SumLemmas.{counted_first, length-counted}
+use Rattle.ticket_steps.specs.Sums.{numbers_from}
+use Rattle.ticket_steps.proofs.SumLemmas.{numbers_from_first, length-numbers_from}
 use Rattle.ticket_lock.specs.declared.tokens.SeatCounts.{SeatCounts}
 use Rattle.ticket_lock.specs.declared.views.View.{View}
 use Rattle.ticket_lock.specs.Counts.{AreCountsOf}
 use Rattle.ticket_lock.specs.Legal.{IsLegalFrom}
 
 -- the counts of a seat with a row of numbers
-row_counts : (f : SeatCounts) (s : CoreSeat) → s.own ≡ f.number → s.numbers ≡ counted f.number f.count → s.left ≡ f.left → s.calls ≡ f.calls
+row_counts : (f : SeatCounts) (s : CoreSeat) → s.own ≡ f.number → s.numbers ≡ numbers_from f.number f.count → s.left ≡ f.left → s.calls ≡ f.calls
     → 0 < f.count → f.count ≤ 1024 → f.calls ≤ 4398046510080 → AreCountsOf f s
 row_counts f s own row left calls nonempty_numbers bounded bounded_calls = record {
   own = own;
-  count = ap length row ∙ length-counted f.number f.count;
+  count = ap length row ∙ length-numbers_from f.number f.count;
   left = left;
   calls = calls;
   nonempty_numbers = nonempty_numbers;
   bounded_numbers = bounded;
   bounded_calls = bounded_calls;
-  among = rw (own, row) (counted_first f.number f.count nonempty_numbers);
+  among = rw (own, row) (numbers_from_first f.number f.count nonempty_numbers);
 }
 
 module _ {K C R : Type 0} (k : Ghosts K C R) where
@@ -36,11 +36,11 @@ module _ {K C R : Type 0} (k : Ghosts K C R) where
     pub agreement : AreCountsOf f me.0.seat
     pub fresh_is : me.0.seat.fresh ≡ nat_lt 0 parts
     pub range : 0 < parts → f.number + f.count ≤ 1024
-    pub row : 0 < parts → me.0.seat.numbers ≡ counted f.number f.count
+    pub row : 0 < parts → me.0.seat.numbers ≡ numbers_from f.number f.count
 
   pub fresh_token : (f : SeatCounts) (parts : ℕ) (me : Me (Option K) (View K C R)) (w : View K C R) → me ≡ (w, [])
       → w.seat.phase ≡ Idle → w.seat.fresh ≡ true → 0 < parts → IsLegalFrom k w.start w.seen → w.seat.own ≡ f.number
-      → w.seat.numbers ≡ counted f.number f.count → w.seat.left ≡ f.left → w.seat.calls ≡ f.calls → 0 < f.count → f.number + f.count ≤ 1024
+      → w.seat.numbers ≡ numbers_from f.number f.count → w.seat.left ≡ f.left → w.seat.calls ≡ f.calls → 0 < f.count → f.number + f.count ≤ 1024
       → f.calls ≤ 4398046510080 → IsFresh f parts me
   fresh_token f parts me w e idle fresh_is some legal own row left calls nonempty_numbers bounded bounded_calls =
       subst (IsFresh f parts) (sym e) record {

@@ -3,7 +3,7 @@ use Rattle.std.specs.Prelude.{◌≡◌, ℕ, ◌+◌, ◌-◌, ◌*◌, ◌<◌
 use Rattle.ticket_steps.specs.declared.books.Entry.{Entry}
 use Rattle.ticket_steps.specs.declared.books.Kept.{Ghosts}
 use Rattle.ticket_steps.specs.History.{IsLegal}
-use Rattle.ticket_steps.specs.Sums.{counted}
+use Rattle.ticket_steps.specs.Sums.{numbers_from}
 use Rattle.ticket_lock.specs.declared.views.Start.{Start}
 use Rattle.ticket_lock.specs.Boards.{board_after}
 use Rattle.ticket_lock.specs.Layout.{board_word}
@@ -29,7 +29,7 @@ module _ {C R : Type 0} where
 
   -- the first caller, for all numbers
   abbrev pub first_caller : ℕ → ℕ → Caller C R
-  first_caller numbers draws = caller 0 (counted 0 numbers) (numbers * draws) 0 true []
+  first_caller numbers draws = caller 0 (numbers_from 0 numbers) (numbers * draws) 0 true []
 
   -- a fresh caller without its last numbers and the draws of these numbers
   abbrev pub caller_after_split : ℕ → ℕ → Caller C R → Caller C R

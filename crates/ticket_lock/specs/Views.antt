@@ -7,7 +7,7 @@ use Rattle.ticket_steps.specs.declared.seats.CoreSeat.{CoreSeat}
 use Rattle.ticket_steps.specs.History.{of}
 use Rattle.ticket_steps.specs.Seats.{fresh_seat, gone_seat, seat_after_split, other_seat, waiting_seat, holding_seat, posted_seat, seat_after_turn}
 use Rattle.ticket_steps.specs.Seats.{gathered_seat}
-use Rattle.ticket_steps.specs.Sums.{occurrences, counted}
+use Rattle.ticket_steps.specs.Sums.{occurrences, numbers_from}
 use Rattle.ticket_lock.specs.declared.views.Start.{Start}
 use Rattle.ticket_lock.specs.declared.views.Part.{Part}
 use Rattle.ticket_lock.specs.declared.views.View.{View}
@@ -41,7 +41,7 @@ module _ {K C R : Type 0} where
 
   -- the view of the first seat
   abbrev pub first_view : Start K → View K C R
-  first_view start = view (Some start) (fresh_seat start.draws 0 (counted 0 start.numbers) 0) [] 0
+  first_view start = view (Some start) (fresh_seat start.draws 0 (numbers_from 0 start.numbers) 0) [] 0
 
   -- a fresh seat's view without its last numbers, and the view of the seat that gets these numbers
   abbrev pub view_after_split : ℕ → View K C R → View K C R

@@ -6,7 +6,7 @@
 ghost use Rattle.std.specs.Prelude.{◌≡◌, ◌+◌, ◌^◌, ◌<◌, ◌≤◌, nat_lt, false, cond, [], ◌∷◌, length, None};
 ghost use Rattle.std.specs.Coded.{Coded-set};
 ghost use Rattle.ticket_steps.specs.declared.seats.Phase.TheVariants.{Idle, Waiting, Holding, Posted};
-ghost use Rattle.ticket_steps.specs.Sums.{counted, occurrences};
+ghost use Rattle.ticket_steps.specs.Sums.{numbers_from, occurrences};
 ghost use Rattle.ticket_lock.specs.Counts.{AreCountsOf};
 ghost use Rattle.ticket_lock.specs.Legal.{IsLegalFrom, IsLegalFrom-prop};
 
@@ -36,7 +36,7 @@ pub struct Seat<K: Kept> {
     ghost agreement: { AreCountsOf counts table_seat.me.0.seat },
     ghost fresh_is: { table_seat.me.0.seat.fresh ≡ nat_lt 0 parts },
     ghost range: { 0 < parts → counts.number + counts.count ≤ 1024 },
-    ghost row: { 0 < parts → table_seat.me.0.seat.numbers ≡ counted counts.number counts.count },
+    ghost row: { 0 < parts → table_seat.me.0.seat.numbers ≡ numbers_from counts.number counts.count },
 }
 
 /// A caller that has drawn a ticket and waits for its turn.

@@ -16,19 +16,19 @@ use Rattle.ticket_steps.specs.Happenings.{split, drew, waited, held, posted, pos
 use Rattle.ticket_steps.specs.Lawful.{IsLawful}
 use Rattle.ticket_steps.specs.Seats.{Holds, seat, seat_after_split, other_seat, waiting_seat, holding_seat, posted_seat, seat_after_turn, gathered_seat}
 use Rattle.ticket_steps.specs.Seats.{gone_seat}
-use Rattle.ticket_steps.specs.Sums.{counted}
+use Rattle.ticket_steps.specs.Sums.{numbers_from}
 use Rattle.ticket_steps.proofs.FaultLemmas.{read_is}
 use Rattle.ticket_steps.proofs.Lists.{at_same, set_swap}
 use Rattle.ticket_steps.proofs.SeatLemmas.{one_calls, served_le, taken_le}
-use Rattle.ticket_steps.proofs.SumLemmas.{length-counted}
+use Rattle.ticket_steps.proofs.SumLemmas.{length-numbers_from}
 
 -- the core state at the opening
 pub opened_is : {S C R : Type 0} (numbers draws : ℕ) (opening state : S) (entries : List (Entry C R)) (count served : ℕ) (seats : List CoreSeat) (all : List ℕ)
-    → served ≡ 0 → all ≡ counted 0 numbers → seats ≡ seat 0 all Idle (numbers * draws) 0 true ∷ [] → state ≡ opening → entries ≡ [] → count ≡ 0
+    → served ≡ 0 → all ≡ numbers_from 0 numbers → seats ≡ seat 0 all Idle (numbers * draws) 0 true ∷ [] → state ≡ opening → entries ≡ [] → count ≡ 0
     → core_state 0 served seats (book_state state entries count) ≡ opening_core numbers draws opening
 opened_is numbers draws opening state entries count served seats all served_is all_is seats_are state_is none_kept none_refused =
-    let here : seats ≡ seat 0 (counted 0 numbers) Idle (length (counted 0 numbers) * draws) 0 true ∷ [] = seats_are ∙
-    (λ i. seat 0 (all_is i) Idle (sym (length-counted 0 numbers) i * draws) 0 true ∷ []) in
+    let here : seats ≡ seat 0 (numbers_from 0 numbers) Idle (length (numbers_from 0 numbers) * draws) 0 true ∷ [] = seats_are ∙
+    (λ i. seat 0 (all_is i) Idle (sym (length-numbers_from 0 numbers) i * draws) 0 true ∷ []) in
     λ i. core_state 0 (served_is i) (here i) (book_state (state_is i) (none_kept i) (none_refused i))
 
 -- a core has few tickets

@@ -7,8 +7,8 @@ use mathlib.Core.Logic.{dite}
 use native.Mathlib.Decide.{ℕ_discrete, dec_le}
 use Rattle.ticket_steps.specs.declared.books.Entry.{Entry}
 use Rattle.ticket_steps.specs.History.{of}
-use Rattle.ticket_steps.specs.Sums.{counted, occurrences}
-use Rattle.ticket_steps.proofs.SumLemmas.{below_no, below_yes, counted_below}
+use Rattle.ticket_steps.specs.Sums.{numbers_from, occurrences}
+use Rattle.ticket_steps.proofs.SumLemmas.{below_no, below_yes, numbers_from_below}
 
 zeros : (numbers : List ℕ) → sum_by (λ p. 0) numbers ≡ 0
 zeros [] = refl
@@ -67,12 +67,12 @@ module _ {C R : Type 0} where
       (λ gt. omega (arith, gt))
 
   -- A history all of whose numbers are below n is as long as the histories of the numbers together.
-  pub of-lengths : (n : ℕ) (es : List (Entry C R)) → ((p : ℕ) → n ≤ p → of p es ≡ []) → length es ≡ sum_by (λ p. length (of p es)) (counted 0 n)
-  of-lengths n [] none = sym (zeros (counted 0 n))
+  pub of-lengths : (n : ℕ) (es : List (Entry C R)) → ((p : ℕ) → n ≤ p → of p es ≡ []) → length es ≡ sum_by (λ p. length (of p es)) (numbers_from 0 n)
+  of-lengths n [] none = sym (zeros (numbers_from 0 n))
   of-lengths n (e ∷ es) none =
       let more = of-lengths n es (λ p le. (put-nil e (of p es) (e.pass == p) (none p le)).1) in
-      let once = counted_below e.pass 0 n in
+      let once = numbers_from_below e.pass 0 n in
       let start = below_no e.pass 0 (omega arith) in
       let within = below_yes e.pass (0 + n) (let lt = below n e es none in omega (arith, lt)) in
-      let all = counts-cons e es (counted 0 n) in
+      let all = counts-cons e es (numbers_from 0 n) in
       omega (arith, more, once, start, within, all)

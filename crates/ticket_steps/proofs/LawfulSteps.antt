@@ -15,13 +15,13 @@ use Rattle.ticket_steps.specs.Lawful.{IsSeat, IsLawful, spare_seats}
 use Rattle.ticket_steps.specs.Seats.{tickets_of, is_present, poster_count_of, fresh_seat, gone_seat, seat_after_split, other_seat, waiting_seat, holding_seat}
 use Rattle.ticket_steps.specs.Seats.{posted_seat, seat_after_turn, gathered_seat}
 use Rattle.ticket_steps.specs.Seats.{Holds, IsSeatAt}
-use Rattle.ticket_steps.specs.Sums.{total, occurrences, once_below, counted}
+use Rattle.ticket_steps.specs.Sums.{total, occurrences, once_below, numbers_from}
 use Rattle.ticket_steps.proofs.Lists.{at_set, at_snoc, at_same, set_else, at_within}
 use Rattle.ticket_steps.proofs.SeatLemmas.{tickets, posts, tickets_idle, tickets_waiting, tickets_holding, holding_holds, posted_holds, holder_there}
 use Rattle.ticket_steps.proofs.SeatLemmas.{same_ticket, sole}
-use Rattle.ticket_steps.proofs.SumLemmas.{total-set, total-append, occurrences-same, occurrences-append, occurrences-take-drop, take-counted, drop-counted}
-use Rattle.ticket_steps.proofs.SumLemmas.{length-counted}
-use Rattle.ticket_steps.proofs.SumLemmas.{counted_first, counted_below, below_no, below_more}
+use Rattle.ticket_steps.proofs.SumLemmas.{total-set, total-append, occurrences-same, occurrences-append, occurrences-take-drop, take-numbers_from, drop-numbers_from}
+use Rattle.ticket_steps.proofs.SumLemmas.{length-numbers_from}
+use Rattle.ticket_steps.proofs.SumLemmas.{numbers_from_first, numbers_from_below, below_no, below_more}
 
 -- what is so of each seat stays so where the seat at i goes to w
 each_set : (draws served served' : ℕ) (seats : List CoreSeat) (i : ℕ) (w : CoreSeat) → IsSeat draws served' w
@@ -38,12 +38,12 @@ each_snoc draws served seats w new all j s e =
     ⊎_elim (λ (t : get_elem? seats j ≡ some s). all j s t) (λ (t : w ≡ s). subst (IsSeat draws served) t new) (at_snoc seats w s j e)
 
 -- a fresh seat with a range of numbers
-fresh_is : (draws served n k calls : ℕ) (numbers : List ℕ) → 0 < k → numbers ≡ counted n k → IsSeat draws served (fresh_seat draws n numbers calls)
+fresh_is : (draws served n k calls : ℕ) (numbers : List ℕ) → 0 < k → numbers ≡ numbers_from n k → IsSeat draws served (fresh_seat draws n numbers calls)
 fresh_is draws served n k calls numbers h is =
-    let len : length numbers ≡ k = ap length is ∙ length-counted n k in record {
+    let len : length numbers ≡ k = ap length is ∙ length-numbers_from n k in record {
       holder = λ t e. absurd (omega (arith, e.0));
-      own = λ _. omega (arith, ap (occurrences n) is, counted_first n k h);
-      whole = λ _. (is ∙ ap (counted n) (sym len), refl);
+      own = λ _. omega (arith, ap (occurrences n) is, numbers_from_first n k h);
+      whole = λ _. (is ∙ ap (numbers_from n) (sym len), refl);
       gone_seat = λ e. absurd (cc);
     }
 
@@ -55,16 +55,16 @@ sums_split seats i p a b at g = omega (arith, total-append g (set seats i a) (b 
 module _ {S C R : Type 0} (numbers draws : ℕ) where
   pub lawful_opened : (state : S) → 0 < numbers → IsLawful {C = C} {R = R} numbers draws (opening_core numbers draws state)
   lawful_opened state h =
-      let len : length (counted 0 numbers) ≡ numbers = length-counted 0 numbers in record {
+      let len : length (numbers_from 0 numbers) ≡ numbers = length-numbers_from 0 numbers in record {
         each =
-            each_snoc draws 0 [] (fresh_seat draws 0 (counted 0 numbers) 0) (fresh_is draws 0 0 numbers 0 (counted 0 numbers) h refl)
+            each_snoc draws 0 [] (fresh_seat draws 0 (numbers_from 0 numbers) 0) (fresh_is draws 0 0 numbers 0 (numbers_from 0 numbers) h refl)
             (λ j s e. absurd (some-ne-none s (sym e)));
         tickets = λ t. omega arith;
-        numbered = λ n. omega (arith, counted_below n 0 numbers, below_no n 0 (omega arith), ap (once_below n) (zero-add numbers));
+        numbered = λ n. omega (arith, numbers_from_below n 0 numbers, below_no n 0 (omega arith), ap (once_below n) (zero-add numbers));
         count = omega (arith, len);
         counted = refl;
         calls = refl;
-        supply = let e : length (counted 0 numbers) * draws ≡ numbers * draws = ap (λ (k : ℕ). k * draws) len in omega (arith, e);
+        supply = let e : length (numbers_from 0 numbers) * draws ≡ numbers * draws = ap (λ (k : ℕ). k * draws) len in omega (arith, e);
         places = omega (arith, len);
       }
 
@@ -78,11 +78,11 @@ module _ {S C R : Type 0} (numbers draws : ℕ) where
       let x : CoreSeat = seat_after_split draws count p in
       let y : CoreSeat = other_seat draws count p in
       let w = (l.each i p at).whole fresh in
-      let taken : take k p.numbers ≡ counted p.own k = ap (take k) w.0 ∙ take-counted p.own k len (omega arith) in
+      let taken : take k p.numbers ≡ numbers_from p.own k = ap (take k) w.0 ∙ take-numbers_from p.own k len (omega arith) in
       let rest : len - k ≡ count = omega arith in
-      let dropped : drop k p.numbers ≡ counted (p.own + k) count = ap (drop k) w.0 ∙ (drop-counted p.own k len (omega arith) ∙ ap (counted (p.own + k)) rest) in
-      let xs : length x.numbers ≡ k = ap length taken ∙ length-counted p.own k in
-      let ys : length y.numbers ≡ count = ap length dropped ∙ length-counted (p.own + k) count in
+      let dropped : drop k p.numbers ≡ numbers_from (p.own + k) count = ap (drop k) w.0 ∙ (drop-numbers_from p.own k len (omega arith) ∙ ap (numbers_from (p.own + k)) rest) in
+      let xs : length x.numbers ≡ k = ap length taken ∙ length-numbers_from p.own k in
+      let ys : length y.numbers ≡ count = ap length dropped ∙ length-numbers_from (p.own + k) count in
       let sums = sums_split b.seats i p x y at in
       let left_x : x.left ≡ k * draws = ap (λ (n : ℕ). n * draws) xs in
       let left_y : y.left ≡ count * draws = ap (λ (n : ℕ). n * draws) ys in

@@ -11,10 +11,10 @@ use Rattle.ticket_steps.specs.Books.{calls_handled}
 use Rattle.ticket_steps.specs.CoreStates.{CoreState}
 use Rattle.ticket_steps.specs.Lawful.{IsSeat, IsLawful}
 use Rattle.ticket_steps.specs.Seats.{Holds, tickets_of, holder_count_of, poster_count_of, is_present, tickets_at, holders, posters}
-use Rattle.ticket_steps.specs.Sums.{total, occurrences, once_below, counted}
+use Rattle.ticket_steps.specs.Sums.{total, occurrences, once_below, numbers_from}
 use Rattle.ticket_steps.proofs.SumLemmas.{occurrences-same, occurrences-other, times_le, below_le, below_no, below_yes, between, term_le, terms_le, sums_le}
 use Rattle.ticket_steps.proofs.SumLemmas.{sums_lt}
-use Rattle.ticket_steps.proofs.SumLemmas.{only_term, counted_last}
+use Rattle.ticket_steps.proofs.SumLemmas.{only_term, numbers_from_last}
 
 abbrev pub tickets : ℕ → CoreSeat → ℕ
 tickets t s = occurrences t (tickets_of s.phase)
@@ -219,7 +219,7 @@ module _ {S C R : Type 0} (numbers draws : ℕ) (c : CoreState S C R) (l : IsLaw
       let k : ℕ = length p.numbers - 1 in
       let len : k + 1 ≡ length p.numbers = omega arith in
       let last : 0 < occurrences (p.own + k) p.numbers = omega
-      (arith, counted_last p.own k, ap (occurrences (p.own + k)) (ap (counted p.own) len), ap (occurrences (p.own + k)) whole) in
+      (arith, numbers_from_last p.own k, ap (occurrences (p.own + k)) (ap (numbers_from p.own) len), ap (occurrences (p.own + k)) whole) in
       dite (dec_le numbers (p.own + k))
       (λ le. absurd (omega (
         arith,

@@ -5,7 +5,7 @@ use mathlib.Core.Logic.{dite}
 use native.Mathlib.Decide.{ℕ_discrete, dec_le}
 use mathlib.Core.Option.{some, some-injective, some-ne-none}
 use lib.ListN.{get_elem?}
-use Rattle.ticket_steps.specs.Sums.{total, occurrences, once_below, counted}
+use Rattle.ticket_steps.specs.Sums.{total, occurrences, once_below, numbers_from}
 
 abbrev pub one_if : Bool → ℕ
 one_if b = cond b 1 0
@@ -95,43 +95,43 @@ below_le x n = dite (dec_le (suc x) n) (λ lt. omega (arith, below_yes x n (omeg
 pub between : (t a b : ℕ) → once_below t a < once_below t b → a < b
 between t a b h = dite (dec_le (suc a) b) (λ lt. lt) (λ ge. absurd (omega (arith, below_gap t b a (omega arith))))
 
-pub length-counted : (n k : ℕ) → length (counted n k) ≡ k
-length-counted n zero = refl
-length-counted n (suc k) = omega (arith, length-counted (n + 1) k)
+pub length-numbers_from : (n k : ℕ) → length (numbers_from n k) ≡ k
+length-numbers_from n zero = refl
+length-numbers_from n (suc k) = omega (arith, length-numbers_from (n + 1) k)
 
-pub counted_first : (n k : ℕ) → 0 < k → 0 < occurrences n (counted n k)
-counted_first n zero h = absurd (omega arith)
-counted_first n (suc k) h = omega (arith, occurrences-same n (counted (n + 1) k))
+pub numbers_from_first : (n k : ℕ) → 0 < k → 0 < occurrences n (numbers_from n k)
+numbers_from_first n zero h = absurd (omega arith)
+numbers_from_first n (suc k) h = omega (arith, occurrences-same n (numbers_from (n + 1) k))
 
-pub counted_below : (p n k : ℕ) → occurrences p (counted n k) + once_below p n ≡ once_below p (n + k)
-counted_below p n zero = let d : n + zero ≡ n = omega arith in omega (arith, ap (once_below p) d)
-counted_below p n (suc k) = let d : n + suc k ≡ n + 1 + k = omega arith in omega (arith, ap (once_below p) d, counted_below p (n + 1) k, below_more p n)
+pub numbers_from_below : (p n k : ℕ) → occurrences p (numbers_from n k) + once_below p n ≡ once_below p (n + k)
+numbers_from_below p n zero = let d : n + zero ≡ n = omega arith in omega (arith, ap (once_below p) d)
+numbers_from_below p n (suc k) = let d : n + suc k ≡ n + 1 + k = omega arith in omega (arith, ap (once_below p) d, numbers_from_below p (n + 1) k, below_more p n)
 
 pub occurrences-take-drop : (n k : ℕ) (xs : List ℕ) → occurrences n (take k xs) + occurrences n (drop k xs) ≡ occurrences n xs
 occurrences-take-drop n zero xs = omega arith
 occurrences-take-drop n (suc k) [] = omega arith
 occurrences-take-drop n (suc k) (x ∷ xs) = omega (arith, occurrences-take-drop n k xs)
 
-pub take-counted : (n k j : ℕ) → k ≤ j → take k (counted n j) ≡ counted n k
-take-counted n zero j h = refl
-take-counted n (suc k) zero h = absurd (omega arith)
-take-counted n (suc k) (suc j) h = ap (λ (l : List ℕ). n ∷ l) (take-counted (n + 1) k j (omega arith))
+pub take-numbers_from : (n k j : ℕ) → k ≤ j → take k (numbers_from n j) ≡ numbers_from n k
+take-numbers_from n zero j h = refl
+take-numbers_from n (suc k) zero h = absurd (omega arith)
+take-numbers_from n (suc k) (suc j) h = ap (λ (l : List ℕ). n ∷ l) (take-numbers_from (n + 1) k j (omega arith))
 
-pub drop-counted : (n k j : ℕ) → k ≤ j → drop k (counted n j) ≡ counted (n + k) (j - k)
-drop-counted n zero j h = let e : n + zero ≡ n = omega arith in let d : j - zero ≡ j = omega arith in λ i. counted (sym e i) (sym d i)
-drop-counted n (suc k) zero h = absurd (omega arith)
-drop-counted n (suc k) (suc j) h =
-    let e : n + 1 + k ≡ n + suc k = omega arith in let d : j - k ≡ suc j - suc k = omega arith in drop-counted (n + 1) k j (omega arith)
-    ∙ (λ i. counted (e i) (d i))
+pub drop-numbers_from : (n k j : ℕ) → k ≤ j → drop k (numbers_from n j) ≡ numbers_from (n + k) (j - k)
+drop-numbers_from n zero j h = let e : n + zero ≡ n = omega arith in let d : j - zero ≡ j = omega arith in λ i. numbers_from (sym e i) (sym d i)
+drop-numbers_from n (suc k) zero h = absurd (omega arith)
+drop-numbers_from n (suc k) (suc j) h =
+    let e : n + 1 + k ≡ n + suc k = omega arith in let d : j - k ≡ suc j - suc k = omega arith in drop-numbers_from (n + 1) k j (omega arith)
+    ∙ (λ i. numbers_from (e i) (d i))
 
 -- one number more
-pub counted_more : (n k : ℕ) → counted n (k + 1) ≡ counted n k ++ (n + k) ∷ []
-counted_more n zero = let e : n ≡ n + zero = omega arith in ap (λ (x : ℕ). x ∷ []) e
-counted_more n (suc k) =
+pub numbers_from_more : (n k : ℕ) → numbers_from n (k + 1) ≡ numbers_from n k ++ (n + k) ∷ []
+numbers_from_more n zero = let e : n ≡ n + zero = omega arith in ap (λ (x : ℕ). x ∷ []) e
+numbers_from_more n (suc k) =
     let e : n + 1 + k ≡ n + suc k = omega arith in
     let d : suc k + 1 ≡ suc (k + 1) = omega arith in
-    ap (counted n) d ∙ ap (λ (l : List ℕ). n ∷ l) (counted_more (n + 1) k ∙ ap (λ (x : ℕ). counted (n + 1) k ++ x ∷ []) e)
+    ap (numbers_from n) d ∙ ap (λ (l : List ℕ). n ∷ l) (numbers_from_more (n + 1) k ∙ ap (λ (x : ℕ). numbers_from (n + 1) k ++ x ∷ []) e)
 
 -- the last number of a range is one of its numbers
-pub counted_last : (n k : ℕ) → 0 < occurrences (n + k) (counted n (k + 1))
-counted_last n k = omega (arith, ap (occurrences (n + k)) (counted_more n k), occurrences-append (n + k) (counted n k) ((n + k) ∷ []), occurrences-same (n + k) [])
+pub numbers_from_last : (n k : ℕ) → 0 < occurrences (n + k) (numbers_from n (k + 1))
+numbers_from_last n k = omega (arith, ap (occurrences (n + k)) (numbers_from_more n k), occurrences-append (n + k) (numbers_from n k) ((n + k) ∷ []), occurrences-same (n + k) [])

@@ -3,7 +3,7 @@ use Rattle.std.specs.Prelude.{◌≡◌, ℕ, ◌+◌, List, [], ◌∷◌}
 use Rattle.ticket_steps.specs.declared.seats.CoreSeat.{CoreSeat}
 use Rattle.ticket_steps.specs.Books.{BookState, calls_handled, empty_book}
 use Rattle.ticket_steps.specs.Seats.{fresh_seat, holders, posters}
-use Rattle.ticket_steps.specs.Sums.{counted}
+use Rattle.ticket_steps.specs.Sums.{numbers_from}
 
 pub record CoreState (S C R : Type 0) : Type 0 where
   pub next : ℕ
@@ -20,7 +20,7 @@ module _ {S C R : Type 0} where
 
   -- the opening state: one fresh seat, with its own number 0, for all numbers, and an empty book at home
   abbrev pub opening_core : ℕ → ℕ → S → CoreState S C R
-  opening_core numbers draws state = core_state 0 0 (fresh_seat draws 0 (counted 0 numbers) 0 ∷ []) (empty_book state)
+  opening_core numbers draws state = core_state 0 0 (fresh_seat draws 0 (numbers_from 0 numbers) 0 ∷ []) (empty_book state)
 
   -- the book is out exactly while a seat holds
   abbrev pub IsHome : CoreState S C R → Type 0

@@ -5,7 +5,7 @@ use lib.ListN.{get_elem?}
 use Rattle.ticket_steps.specs.declared.seats.CoreSeat.{CoreSeat}
 use Rattle.ticket_steps.specs.CoreStates.{CoreState, IsCounted}
 use Rattle.ticket_steps.specs.Seats.{Holds, is_present, tickets_at, answering}
-use Rattle.ticket_steps.specs.Sums.{total, occurrences, once_below, counted}
+use Rattle.ticket_steps.specs.Sums.{total, occurrences, once_below, numbers_from}
 
 -- the facts of each seat when this number is served
 pub record IsSeat (draws served : ℕ) (s : CoreSeat) : Type 0 where
@@ -14,7 +14,7 @@ pub record IsSeat (draws served : ℕ) (s : CoreSeat) : Type 0 where
   -- a seat answers for its own number
   pub own : is_present s.phase ≡ true → 0 < occurrences s.own s.numbers
   -- a fresh seat has a range of numbers and all their draws
-  pub whole : s.fresh ≡ true → (s.numbers ≡ counted s.own (length s.numbers)) × (s.left ≡ length s.numbers * draws)
+  pub whole : s.fresh ≡ true → (s.numbers ≡ numbers_from s.own (length s.numbers)) × (s.left ≡ length s.numbers * draws)
   -- a seat that was gathered into another has nothing left
   pub gone_seat : is_present s.phase ≡ false → (s.numbers ≡ []) × (s.calls ≡ 0) × (s.left ≡ 0) × (s.fresh ≡ false)
 

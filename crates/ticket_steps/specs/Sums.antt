@@ -16,6 +16,6 @@ abbrev pub once_below : ℕ → ℕ → ℕ
 once_below x n = cond (nat_lt x n) 1 0
 
 -- the numbers from n on, this many
-abbrev pub counted : ℕ → ℕ → List ℕ
-counted n zero = []
-counted n (suc k) = n ∷ counted (n + 1) k
+abbrev pub numbers_from : ℕ → ℕ → List ℕ
+numbers_from n zero = []
+numbers_from n (suc k) = n ∷ numbers_from (n + 1) k

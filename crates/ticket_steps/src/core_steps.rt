@@ -9,7 +9,7 @@ ghost use Rattle.ticket_steps.specs.CoreStates.{core_state, opening_core};
 ghost use Rattle.ticket_steps.specs.Faults.{IsFault, Shows, LeadsBy, Steps};
 ghost use Rattle.ticket_steps.specs.Lawful.{IsLawful};
 ghost use Rattle.ticket_steps.specs.Seats.{HasSeat, is_present};
-ghost use Rattle.ticket_steps.specs.Sums.{counted};
+ghost use Rattle.ticket_steps.specs.Sums.{numbers_from};
 
 use crate::books::Kept;
 use crate::events::{Event, Fault, Seen};
@@ -310,7 +310,7 @@ impl<K: Kept> Core<K> {
 
 /// The numbers from 0 on, this many.
 fn first_numbers(alloc: Global, count: u32) -> Result<LinkedList<u32>, AllocError>
-    ensures { IfOk result (λ numbers. numbers ≡ counted 0 count) }
+    ensures { IfOk result (λ numbers. numbers ≡ numbers_from 0 count) }
 {
     let mut numbers = LinkedList::new(alloc);
     for number in 0..count {

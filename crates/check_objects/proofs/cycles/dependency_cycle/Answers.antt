@@ -10,7 +10,7 @@ use Rattle.check_objects.proofs.cycles.dependency_cycle.Goals as goal
 
 pub document_indices-requires-clause-high : goal.document_indices-requires-clause-high
 document_indices-requires-clause-high c =
-    let ds = parsed_view c.args.drafts.now in
+    let ds = parsed_view c.args.parsed.now in
     λ place h.
     let below = all_hosts ds c.requires.faultless c.args.hosts.now.entries c.args.services.now.entries c.requires.hosts c.requires.services c.args.cycle.now
     c.requires.cycle (omega (arith, c.if-cycle-len.true, c.len.ensures.len)) place h in
@@ -18,14 +18,14 @@ document_indices-requires-clause-high c =
 
 pub document_indices-requires-clause-known : goal.document_indices-requires-clause-known
 document_indices-requires-clause-known c =
-    let ds = parsed_view c.args.drafts.now in
+    let ds = parsed_view c.args.parsed.now in
     let full = ap (map string_bytes) c.deref-then-cycle-len.ensures.value ∙ c.in_ok-names.ensures ∙ ap (λ l. names_of (map host l)) c.deref.ensures.value in
     λ index h.
     ap (λ l. is_known l (get_or (names_in c.args.hosts.now.entries) index [])) full ∙ hosts_listed ds c.requires.faultless c.args.hosts.now.entries c.requires.hosts index h
 
 pub document_indices-requires-else-cycle-len-clause-low : goal.document_indices-requires-else-cycle-len-clause-low
 document_indices-requires-else-cycle-len-clause-low c =
-    let ds = parsed_view c.args.drafts.now in
+    let ds = parsed_view c.args.parsed.now in
     λ place h.
     let past = no_host ds c.requires.faultless c.args.hosts.now.entries c.args.services.now.entries c.requires.hosts c.requires.services c.args.cycle.now
     c.requires.cycle (omega (arith, c.if-cycle-len.false, c.len.ensures.len)) place h in
@@ -33,7 +33,7 @@ document_indices-requires-else-cycle-len-clause-low c =
 
 pub document_indices-requires-else-cycle-len-clause-high : goal.document_indices-requires-else-cycle-len-clause-high
 document_indices-requires-else-cycle-len-clause-high c =
-    let ds = parsed_view c.args.drafts.now in
+    let ds = parsed_view c.args.parsed.now in
     λ place h.
     let below = no_more ds c.requires.faultless c.args.hosts.now.entries c.args.services.now.entries c.requires.hosts c.requires.services c.args.cycle.now
     c.requires.cycle place h in
@@ -41,7 +41,7 @@ document_indices-requires-else-cycle-len-clause-high c =
 
 pub document_indices-requires-else-cycle-len-clause-known : goal.document_indices-requires-else-cycle-len-clause-known
 document_indices-requires-else-cycle-len-clause-known c =
-    let ds = parsed_view c.args.drafts.now in
+    let ds = parsed_view c.args.parsed.now in
     let full = ap (map string_bytes) c.deref-else-cycle-len-2.ensures.value ∙ c.in_ok-names-2.ensures
     ∙ ap (λ l. full_names (map service l)) c.deref-else-cycle-len.ensures.value in
     λ index h.
@@ -50,7 +50,7 @@ document_indices-requires-else-cycle-len-clause-known c =
 
 pub returns-in_ok-indices : goal.returns-in_ok-indices
 returns-in_ok-indices c =
-    let ds = parsed_view c.args.drafts.now in
+    let ds = parsed_view c.args.parsed.now in
     let full = ap (map string_bytes) c.deref-then-cycle-len.ensures.value ∙ c.in_ok-names.ensures ∙ ap (λ l. names_of (map host l)) c.deref.ensures.value in (
       host_round ds c.requires.faultless c.args.hosts.now.entries c.args.services.now.entries c.requires.hosts c.requires.services c.args.cycle.now
           c.requires.cycle
@@ -62,7 +62,7 @@ returns-in_ok-indices c =
 
 pub returns-in_ok-indices-2 : goal.returns-in_ok-indices-2
 returns-in_ok-indices-2 c =
-    let ds = parsed_view c.args.drafts.now in
+    let ds = parsed_view c.args.parsed.now in
     let full = ap (map string_bytes) c.deref-else-cycle-len-2.ensures.value ∙ c.in_ok-names-2.ensures
     ∙ ap (λ l. full_names (map service l)) c.deref-else-cycle-len.ensures.value in
     let count = c.len-others.ensures.len in (

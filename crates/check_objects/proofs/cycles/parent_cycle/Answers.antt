@@ -16,7 +16,7 @@ hosts_within conf count numbers same cycle i h = omega (arith, same, cycle.withi
 
 pub document_indices-requires-clause-high : goal.document_indices-requires-clause-high
 document_indices-requires-clause-high c =
-    let ds = parsed_view c.args.drafts.now in
+    let ds = parsed_view c.args.parsed.now in
     λ place h.
     let below = hosts_within (configuration ds) _ c.args.cycle.now (host_count_is ds c.requires.faultless c.args.hosts.now.entries c.requires.hosts) c.requires.cycle
     place h in
@@ -24,14 +24,14 @@ document_indices-requires-clause-high c =
 
 pub document_indices-requires-clause-known : goal.document_indices-requires-clause-known
 document_indices-requires-clause-known c =
-    let ds = parsed_view c.args.drafts.now in
+    let ds = parsed_view c.args.parsed.now in
     let full = ap (map string_bytes) c.deref-2.ensures.value ∙ c.in_ok-names.ensures ∙ ap (λ l. names_of (map host l)) c.deref.ensures.value in
     λ index h.
     ap (λ l. is_known l (get_or (names_in c.args.hosts.now.entries) index [])) full ∙ hosts_listed ds c.requires.faultless c.args.hosts.now.entries c.requires.hosts index h
 
 pub returns : goal.returns
 returns c =
-    let ds = parsed_view c.args.drafts.now in
+    let ds = parsed_view c.args.parsed.now in
     let full = ap (map string_bytes) c.deref-2.ensures.value ∙ c.in_ok-names.ensures ∙ ap (λ l. names_of (map host l)) c.deref.ensures.value in (
       c.requires.cyclic,
       parent_round ds c.requires.faultless c.args.hosts.now.entries c.requires.hosts c.args.cycle.now c.requires.cycle

@@ -10,11 +10,11 @@ use Rattle.check_objects.proofs.dependency_lists.number_dependencies.Goals as go
 
 pub number_dependency-requires-clause-known : goal.number_dependency-requires-clause-known
 number_dependency-requires-clause-known g c =
-    one_of_all (has_known_ends (names_in c.args.objects.now.entries)) dependency c.args.drafts.now c.loop-draft.draft-index no_dependency
-    c.loop-draft-test.true c.requires.known
+    one_of_all (has_known_ends (names_in c.args.objects.now.entries)) dependency c.args.parsed.now c.loop-item.item-index no_dependency
+    c.loop-item-test.true c.requires.known
 
-pub loop-draft-preserved : goal.loop-draft-preserved
-loop-draft-preserved g c =
-    pushed_next (offset_dependency c.args.others (names_in c.args.objects.now.entries)) dependency c.args.numbered.now.items c.loop-draft.numbered.items
-    c.push.new.self.items c.args.drafts.now c.loop-draft.draft-index no_dependency c.number_dependency.result c.loop-draft.invariant c.loop-draft-test.true
+pub loop-item-preserved : goal.loop-item-preserved
+loop-item-preserved g c =
+    pushed_next (offset_dependency c.args.others (names_in c.args.objects.now.entries)) dependency c.args.numbered.now.items c.loop-item.numbered.items
+    c.push.new.self.items c.args.parsed.now c.loop-item.item-index no_dependency c.number_dependency.result c.loop-item.invariant c.loop-item-test.true
     c.in_ok-push.ensures.items c.number_dependency.ensures

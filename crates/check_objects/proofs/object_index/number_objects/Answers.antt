@@ -27,18 +27,18 @@ sort_services-requires-clause-distinct c =
 pub index_hosts-requires : goal.index_hosts-requires
 index_hosts-requires c =
     let order = c.in_ok-hosts.ensures ∙ ap (λ l. hosts_in_order (map host l)) c.deref.ensures.value in
-    few_names c.in_ok-names.names.keys _ _ c.in_ok-names.ensures order (few_in_order c.args.drafts.now.hosts.items c.requires.bounded)
+    few_names c.in_ok-names.names.keys _ _ c.in_ok-names.ensures order (few_in_order c.args.parsed.now.hosts.items c.requires.bounded)
 
 pub index_services-requires-clause-bounded : goal.index_services-requires-clause-bounded
 index_services-requires-clause-bounded c =
     let order = c.in_ok-hosts.ensures ∙ ap (λ l. hosts_in_order (map host l)) c.deref.ensures.value in
-    few_names c.in_ok-names.names.keys _ _ c.in_ok-names.ensures order (few_in_order c.args.drafts.now.hosts.items c.requires.bounded)
+    few_names c.in_ok-names.names.keys _ _ c.in_ok-names.ensures order (few_in_order c.args.parsed.now.hosts.items c.requires.bounded)
 
 pub index_services-requires-clause-without_semicolon : goal.index_services-requires-clause-without_semicolon
 index_services-requires-clause-without_semicolon c =
     sym (list_all-map (λ e. is_host_name e.0.0) sorted_service c.in_ok-services.services.entries)
     ∙ ap (list_all (λ e. is_host_name e.0.0)) (c.in_ok-services.ensures ∙ ap (λ l. services_in_order (map service l)) c.deref-2.ensures.value)
-    ∙ parted_in_order (map service c.args.drafts.now.services.items) c.requires.without_semicolon
+    ∙ parted_in_order (map service c.args.parsed.now.services.items) c.requires.without_semicolon
 
 pub returns-clause-hosts : goal.returns-clause-hosts
 returns-clause-hosts c =

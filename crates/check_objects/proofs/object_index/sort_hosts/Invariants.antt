@@ -6,7 +6,7 @@ use Rattle.check_objects.specs.Entries.{sorted_host}
 use Rattle.check_objects.proofs.object_index.sort_hosts.Given as goal
 use Rattle.check_objects.proofs.InsertionLemmas.{placed}
 
-abbrev pub invariant-loop-draft : goal.invariant-loop-draft
-invariant-loop-draft l =
-    placed text_order (λ h. h.name) host_body [] (map host l.drafts)
-    ≡ placed text_order (λ h. h.name) host_body (map sorted_host l.sorted.entries) (map host (drop l.draft-index l.drafts))
+abbrev pub invariant-loop-item : goal.invariant-loop-item
+invariant-loop-item l =
+    placed text_order (λ h. h.name) host_body [] (map host l.parsed)
+    ≡ placed text_order (λ h. h.name) host_body (map sorted_host l.sorted.entries) (map host (drop l.item-index l.parsed))

@@ -12,20 +12,20 @@ use Rattle.check_objects.proofs.NumberLaws.{services_placed}
 use Rattle.check_objects.proofs.InsertionLemmas.{placed}
 use Rattle.check_objects.proofs.object_index.sort_services.Goals as goal
 
-pub loop-draft-preserved : goal.loop-draft-preserved
-loop-draft-preserved c =
-    let ds = c.args.drafts.now in
-    let i = c.loop-draft.draft-index in
-    let draft = get_or ds i no_service in
-    c.loop-draft.invariant
+pub loop-item-preserved : goal.loop-item-preserved
+loop-item-preserved c =
+    let ds = c.args.parsed.now in
+    let i = c.loop-item.item-index in
+    let item = get_or ds i no_service in
+    c.loop-item.invariant
     ∙ placed_next _ pair_order (λ k. (k.0.now, k.1.now)) (λ v. v) (λ a b. refl) key_of (λ s. object_of s.check) (map service) service
-    (λ d more. refl) c.loop-draft.sorted.entries c.insert.new.self.entries (draft.host, draft.description) c.object.result ds i draft
-    (dropped_at ds i no_service c.loop-draft-test.true) c.in_ok-insert.ensures.entries refl c.object.ensures
+    (λ d more. refl) c.loop-item.sorted.entries c.insert.new.self.entries (item.host, item.description) c.object.result ds i item
+    (dropped_at ds i no_service c.loop-item-test.true) c.in_ok-insert.ensures.entries refl c.object.ensures
 
 pub returns : goal.returns
 returns c =
-    let ds = c.args.drafts.now in
-    let i = c.loop-draft.draft-index in
-    sym (c.loop-draft.invariant ∙ ap (λ l. placed pair_order key_of (λ s. object_of s.check) (map sorted_service c.loop-draft.sorted.entries)
+    let ds = c.args.parsed.now in
+    let i = c.loop-item.item-index in
+    sym (c.loop-item.invariant ∙ ap (λ l. placed pair_order key_of (λ s. object_of s.check) (map sorted_service c.loop-item.sorted.entries)
     (map service l)) (drop_all i ds (omega arith)))
     ∙ services_placed (map service ds) c.requires.distinct

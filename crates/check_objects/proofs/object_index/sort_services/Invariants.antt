@@ -7,7 +7,7 @@ use Rattle.check_objects.specs.Entries.{sorted_service}
 use Rattle.check_objects.proofs.object_index.sort_services.Given as goal
 use Rattle.check_objects.proofs.InsertionLemmas.{placed}
 
-abbrev pub invariant-loop-draft : goal.invariant-loop-draft
-invariant-loop-draft l =
-    placed pair_order key_of (λ s. object_of s.check) [] (map service l.drafts)
-    ≡ placed pair_order key_of (λ s. object_of s.check) (map sorted_service l.sorted.entries) (map service (drop l.draft-index l.drafts))
+abbrev pub invariant-loop-item : goal.invariant-loop-item
+invariant-loop-item l =
+    placed pair_order key_of (λ s. object_of s.check) [] (map service l.parsed)
+    ≡ placed pair_order key_of (λ s. object_of s.check) (map sorted_service l.sorted.entries) (map service (drop l.item-index l.parsed))

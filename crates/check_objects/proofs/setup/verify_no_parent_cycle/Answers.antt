@@ -16,13 +16,13 @@ few_links items links ds are e =
 
 pub topological_order-requires-clause-bounded : goal.topological_order-requires-clause-bounded
 topological_order-requires-clause-bounded c =
-    let ds = parsed_view c.args.drafts.now in
+    let ds = parsed_view c.args.parsed.now in
     let are = ap (map (λ l. l.items)) c.deref.ensures.value ∙ c.in_ok-links.ensures ∙ ap (map (λ h. h.parents)) c.requires.hosts in
     omega (arith, few_links (λ l. l.items) c.deref.result.now ds are c.requires.faultless)
 
 pub topological_order-requires-clause-within : goal.topological_order-requires-clause-within
 topological_order-requires-clause-within c =
-    let ds = parsed_view c.args.drafts.now in
+    let ds = parsed_view c.args.parsed.now in
     let are = ap (map (λ l. l.items)) c.deref.ensures.value ∙ c.in_ok-links.ensures ∙ ap (map (λ h. h.parents)) c.requires.hosts in
     parents_within (λ l. l.items) (configuration ds).hosts c.deref.result.now are (hosts_are_linked ds)
 

@@ -3,7 +3,7 @@ use Rattle.std.proofs.lemmas.Result.{err_from_is_err_and}
 use Rattle.check_objects.specs.Setup.{setup_of}
 use Rattle.nagsched_protocol.specs.Input.{first_line_of}
 use Rattle.nagsched_protocol.specs.Script.{with_setup_refusal}
-use Rattle.nagsched_protocol.specs.declared.line_reader.TheConstants.{KEPT_SETUP_BYTES}
+use Rattle.nagsched_protocol.specs.declared.line_reader.TheConstants.{SETUP_PREFIX_BYTES}
 use Rattle.nagsched_protocol.proofs.LiveInputLemmas.{behind_size}
 use Rattle.nagsched_run.proofs.LiveLemmas.{gives_refused, live_unwritten, reads_spend, written_spends, written_told}
 use Rattle.nagsched_run.proofs.ContinuationLemmas.{ends_short, if_later, setup_refusal, whole_gone}
@@ -18,7 +18,7 @@ continue_live-requires-clause-end g c =
 pub continue_live-requires-clause-bounded : goal.continue_live-requires-clause-bounded
 continue_live-requires-clause-bounded g c =
     let t = c.in_ok-setup.ensures in
-    rw (t.3.1.buffer_is) (behind_size KEPT_SETUP_BYTES t.0 t.2)
+    rw (t.3.1.buffer_is) (behind_size SETUP_PREFIX_BYTES t.0 t.2)
 
 pub returns-in_err-setup-clause-conversation : goal.returns-in_err-setup-clause-conversation
 returns-in_err-setup-clause-conversation g c =

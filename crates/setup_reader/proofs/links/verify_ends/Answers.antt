@@ -10,7 +10,7 @@ returns c =
     let full = ap (map string_bytes) c.deref-2.ensures.value ∙ c.in_ok-names.ensures
     ∙ ap (λ l. full_names (map service l)) c.deref.ensures.value in
     subst (IsExpectedReading (λ u. u) c.verify_both_sorts.result)
-    (same_dependencies (texts c.in_ok-services.services.keys) (full_names (map service c.args.drafts.now.services.items)) (texts c.args.hosts.now.keys)
-    (parsed_view c.args.drafts.now)
+    (same_dependencies (texts c.in_ok-services.services.keys) (full_names (map service c.args.parsed.now.services.items)) (texts c.args.hosts.now.keys)
+    (parsed_view c.args.parsed.now)
     (λ name. c.in_ok-services.ensures name ∙ ap (λ l. is_known l name) full))
     c.verify_both_sorts.ensures

@@ -23,43 +23,43 @@ same_lists : (ds : ParsedSetup) (hosts : List Host) (services : List Service) (l
     → lists ≡ (configuration ds).dependencies
 same_lists ds hosts services lists h s e = e ∙ ap (λ o. dependencies_by_number o ds) (same_objects ds hosts services h s)
 
-few_drafts : (ds : ParsedSetup) (hosts : List ParsedHost) → ds.hosts ≡ map host hosts → verification ds ≡ Ok tt → length hosts ≤ 4096
-few_drafts ds hosts same e = omega (arith, (faultless ds e).bounded, ap length same, length-map hosts host)
+few_parsed : (ds : ParsedSetup) (hosts : List ParsedHost) → ds.hosts ≡ map host hosts → verification ds ≡ Ok tt → length hosts ≤ 4096
+few_parsed ds hosts same e = omega (arith, (faultless ds e).bounded, ap length same, length-map hosts host)
 
 -- ---- the answers
 
 pub number_objects-requires-clause-bounded : goal.number_objects-requires-clause-bounded
-number_objects-requires-clause-bounded c = few_drafts (parsed_view c.args.drafts.now) c.args.drafts.now.hosts.items refl c.requires.faultless
+number_objects-requires-clause-bounded c = few_parsed (parsed_view c.args.parsed.now) c.args.parsed.now.hosts.items refl c.requires.faultless
 
 pub number_objects-requires-clause-names : goal.number_objects-requires-clause-names
-number_objects-requires-clause-names c = (once (parsed_view c.args.drafts.now) c.requires.faultless).0
+number_objects-requires-clause-names c = (once (parsed_view c.args.parsed.now) c.requires.faultless).0
 
 pub number_objects-requires-clause-keys : goal.number_objects-requires-clause-keys
-number_objects-requires-clause-keys c = (once (parsed_view c.args.drafts.now) c.requires.faultless).1
+number_objects-requires-clause-keys c = (once (parsed_view c.args.parsed.now) c.requires.faultless).1
 
 pub number_objects-requires-clause-without_semicolon : goal.number_objects-requires-clause-without_semicolon
 number_objects-requires-clause-without_semicolon c =
-    let ds = parsed_view c.args.drafts.now in
+    let ds = parsed_view c.args.parsed.now in
     parted_from ds (faultless ds c.requires.faultless)
 
 pub list_dependencies-requires-clause-bounded : goal.list_dependencies-requires-clause-bounded
 list_dependencies-requires-clause-bounded c =
-    let ds = parsed_view c.args.drafts.now in
+    let ds = parsed_view c.args.parsed.now in
     let objects = same_objects ds _ _ c.in_ok-hosts.ensures.hosts c.in_ok-hosts.ensures.services in
     subst (λ o. length o ≤ 4096) (sym objects) (few_numbered ds c.requires.faultless)
 
 pub list_dependencies-requires-clause-apart : goal.list_dependencies-requires-clause-apart
 list_dependencies-requires-clause-apart c =
-    names_apart (parsed_view c.args.drafts.now) c.requires.faultless _ _ c.in_ok-hosts.ensures.hosts c.in_ok-hosts.ensures.services
+    names_apart (parsed_view c.args.parsed.now) c.requires.faultless _ _ c.in_ok-hosts.ensures.hosts c.in_ok-hosts.ensures.services
 
 pub list_dependencies-requires-clause-of_services : goal.list_dependencies-requires-clause-of_services
 list_dependencies-requires-clause-of_services c =
-    service_ends (parsed_view c.args.drafts.now) c.requires.faultless _ _ c.in_ok-hosts.ensures.hosts c.in_ok-hosts.ensures.services
+    service_ends (parsed_view c.args.parsed.now) c.requires.faultless _ _ c.in_ok-hosts.ensures.hosts c.in_ok-hosts.ensures.services
 
 pub list_dependencies-requires-clause-of_hosts : goal.list_dependencies-requires-clause-of_hosts
 list_dependencies-requires-clause-of_hosts c =
-    host_ends (parsed_view c.args.drafts.now) c.requires.faultless _ c.in_ok-hosts.ensures.hosts
+    host_ends (parsed_view c.args.parsed.now) c.requires.faultless _ c.in_ok-hosts.ensures.hosts
 
 pub without_cycles-requires-clause-dependencies : goal.without_cycles-requires-clause-dependencies
 without_cycles-requires-clause-dependencies c =
-    same_lists (parsed_view c.args.drafts.now) _ _ _ c.in_ok-hosts.ensures.hosts c.in_ok-hosts.ensures.services c.in_ok-dependencies.ensures
+    same_lists (parsed_view c.args.parsed.now) _ _ _ c.in_ok-hosts.ensures.hosts c.in_ok-hosts.ensures.services c.in_ok-dependencies.ensures

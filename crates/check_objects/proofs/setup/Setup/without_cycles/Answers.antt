@@ -36,22 +36,22 @@ acyclic ds lists order same is = ap (λ l. has_cycle (map masters_in l)) (sym sa
 
 pub dependency_order-requires-clause-bounded : goal.dependency_order-requires-clause-bounded
 dependency_order-requires-clause-bounded c =
-    (seen_lists (λ list. list.items) (parsed_view c.args.drafts.now) _ _ c.requires.faultless c.deref.ensures.value c.requires.dependencies).0
+    (seen_lists (λ list. list.items) (parsed_view c.args.parsed.now) _ _ c.requires.faultless c.deref.ensures.value c.requires.dependencies).0
 
 pub dependency_order-requires-clause-within : goal.dependency_order-requires-clause-within
 dependency_order-requires-clause-within c =
-    (seen_lists (λ list. list.items) (parsed_view c.args.drafts.now) _ _ c.requires.faultless c.deref.ensures.value c.requires.dependencies).1
+    (seen_lists (λ list. list.items) (parsed_view c.args.parsed.now) _ _ c.requires.faultless c.deref.ensures.value c.requires.dependencies).1
 
 pub returns-in_err-verify_no_parent_cycle-in-Order : goal.returns-in_err-verify_no_parent_cycle-in-Order
 returns-in_err-verify_no_parent_cycle-in-Order c =
-    let ds = parsed_view c.args.drafts.now in
+    let ds = parsed_view c.args.parsed.now in
     let free = acyclic ds _ _ (ap (map (λ list. list.items)) c.deref.ensures.value ∙ c.requires.dependencies) (rw c.in-Order.is at c.in_ok-order.ensures) in
     let refused = parents_refuse ds _ free c.in_err-verify_no_parent_cycle-in-Order.ensures.cycle in
     search (rules, refused)
 
 pub invariant_of-result : goal.invariant_of-result
 invariant_of-result c =
-    let ds = parsed_view c.args.drafts.now in
+    let ds = parsed_view c.args.parsed.now in
     let order = rw c.in-Order.is at c.in_ok-order.ensures in
     let free = acyclic ds _ _ (ap (map (λ list. list.items)) c.deref.ensures.value ∙ c.requires.dependencies) order in
     record {
@@ -63,7 +63,7 @@ invariant_of-result c =
 
 pub returns-in_ok-verify_no_parent_cycle-in-Order : goal.returns-in_ok-verify_no_parent_cycle-in-Order
 returns-in_ok-verify_no_parent_cycle-in-Order c =
-    let ds = parsed_view c.args.drafts.now in
+    let ds = parsed_view c.args.parsed.now in
     let free = acyclic ds _ _ (ap (map (λ list. list.items)) c.deref.ensures.value ∙ c.requires.dependencies) (rw c.in-Order.is at c.in_ok-order.ensures) in
     record {
       setup =

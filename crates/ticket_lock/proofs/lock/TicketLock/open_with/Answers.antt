@@ -1,7 +1,7 @@
 use Rattle.std.proofs.Common.{rules, refl, ◌≡◌, ℕ, ◌*◌, ◌∷◌, [], Some, arith, sym, ap, ◌∙◌, subst}
 use Rattle.atomic_table.specs.Table.{opening}
 use Rattle.ticket_steps.specs.History.{replay}
-use Rattle.ticket_steps.proofs.SumLemmas.{length-counted}
+use Rattle.ticket_steps.proofs.SumLemmas.{length-numbers_from}
 use Rattle.ticket_lock.specs.declared.tokens.SeatCounts.{SeatCounts}
 use Rattle.ticket_lock.specs.Layout.{first_words}
 use Rattle.ticket_lock.specs.Rule.{ObeysRule}
@@ -30,7 +30,7 @@ new-requires g c =
 pub invariant_of-seat : goal.invariant_of-seat
 invariant_of-seat g c =
     let counts : SeatCounts = record { number = 0; count = c.args.numbers; left = c.args.numbers * c.args.draws; calls = 0 } in
-    let left = ap (λ (n : ℕ). n * c.args.draws) (length-counted 0 c.args.numbers) in
+    let left = ap (λ (n : ℕ). n * c.args.draws) (length-numbers_from 0 c.args.numbers) in
     let t = fresh_token g.K.Kept counts c.args.numbers _ _ c.in-Ok-new.ensures.ok.4 refl refl c.requires.numbers.0 tt refl refl left refl c.requires.numbers.0
     (omega (arith, c.requires.numbers.1)) (omega arith) in
     record { bare = t.bare; legal = t.legal; idle = t.idle; agreement = t.agreement; fresh_is = t.fresh_is; range = t.range; row = t.row }

@@ -1,6 +1,6 @@
 use Rattle.std.proofs.Common.{rules, refl, ◌≡◌, ℕ, ◌+◌, ◌-◌, ◌*◌, ◌≤◌, List, arith, sym, ap, ◌∙◌, length, take, drop}
-use Rattle.ticket_steps.specs.Sums.{counted}
-use Rattle.ticket_steps.proofs.SumLemmas.{drop-counted, take-counted}
+use Rattle.ticket_steps.specs.Sums.{numbers_from}
+use Rattle.ticket_steps.proofs.SumLemmas.{drop-numbers_from, take-numbers_from}
 use Rattle.ticket_lock.specs.declared.tokens.SeatCounts.{SeatCounts}
 use Rattle.ticket_lock.specs.Tokens.{caller_in}
 use Rattle.ticket_lock.specs.Views.{draws_in, view_after_split}
@@ -21,22 +21,22 @@ split_seat-other-requires g c = let s = c.args.seat in (
 )
 
 -- the last numbers of a row, and the first
-last_of_row : (ns : List ℕ) (own size given_count n : ℕ) → ns ≡ counted own size → length ns ≡ size → n ≡ given_count → given_count ≤ size
-    → drop (length ns - n) ns ≡ counted (own + (size - given_count)) given_count
+last_of_row : (ns : List ℕ) (own size given_count n : ℕ) → ns ≡ numbers_from own size → length ns ≡ size → n ≡ given_count → given_count ≤ size
+    → drop (length ns - n) ns ≡ numbers_from (own + (size - given_count)) given_count
 last_of_row ns own size given_count n row len is le =
     let kept : length ns - n ≡ size - given_count = omega (arith, len, is) in
     let left : size - (size - given_count) ≡ given_count = omega (arith, le) in
-    (λ i. drop (kept i) (row i)) ∙ drop-counted own (size - given_count) size (omega arith) ∙ ap (counted (own + (size - given_count))) left
+    (λ i. drop (kept i) (row i)) ∙ drop-numbers_from own (size - given_count) size (omega arith) ∙ ap (numbers_from (own + (size - given_count))) left
 
-first_of_row : (ns : List ℕ) (own size given_count n : ℕ) → ns ≡ counted own size → length ns ≡ size → n ≡ given_count
-    → take (length ns - n) ns ≡ counted own (size - given_count)
+first_of_row : (ns : List ℕ) (own size given_count n : ℕ) → ns ≡ numbers_from own size → length ns ≡ size → n ≡ given_count
+    → take (length ns - n) ns ≡ numbers_from own (size - given_count)
 first_of_row ns own size given_count n row len is =
     let kept : length ns - n ≡ size - given_count = omega (arith, len, is) in
-    (λ i. take (kept i) (row i)) ∙ take-counted own (size - given_count) size (omega arith)
+    (λ i. take (kept i) (row i)) ∙ take-numbers_from own (size - given_count) size (omega arith)
 
 -- the seat has a row of numbers, within those of its lock
 in_row : (g : Over) (c : After-split_seat-other g) → let s = c.args.seat in
-    (s.table_seat.me.0.seat.numbers ≡ counted s.counts.number s.counts.count) × (s.counts.number + s.counts.count ≤ 1024)
+    (s.table_seat.me.0.seat.numbers ≡ numbers_from s.counts.number s.counts.count) × (s.counts.number + s.counts.count ≤ 1024)
 in_row g c = let s = c.args.seat in let some = ltb-true 0 s.parts (sym s.fresh_is ∙ c.requires.3) in (s.row some, s.range some)
 
 pub invariant_of-split_part : goal.invariant_of-split_part
