@@ -180,7 +180,7 @@ check_fit d =
     let on = fit_optional kind.Switch as_bool true (get members.enabled.name d) (λ v. refl) in
     (λ i. a i && (b i && (m i && (on i && true)))) ∙ sym (check_read d) ∙ sym (and_true (is_some (parsed_check d)))
 
-text_fit : (name : List ℕ) (d : Data) → is_fit d (members.required name kind.Text) ≡ is_some (option_and_then as_str (get name d))
+text_fit : (name : List ℕ) (d : Data) → is_fit d (members.required_member name kind.Text) ≡ is_some (option_and_then as_str (get name d))
 text_fit name d = fit_required kind.Text as_str (get name d) (λ v. refl)
 
 host_read : (d : Data) → is_some (parsed_host d)
@@ -252,7 +252,7 @@ abbrev thresholds_fit : Data → Bool
 thresholds_fit d = list_all (is_fit d) (members.low_service_flap_threshold ∷ members.high_service_flap_threshold ∷ members.low_host_flap_threshold
     ∷ members.high_host_flap_threshold ∷ [])
 
-percent_fit : (name : List ℕ) (default : ℕ) (d : Data) → is_fit d (members.optional name (kind.Number 0 100) (default_value.Number default))
+percent_fit : (name : List ℕ) (default : ℕ) (d : Data) → is_fit d (members.optional_member name (kind.Number 0 100) (default_value.Number default))
     ≡ is_some (value_or_default whole_number default (get name d))
 percent_fit name default d = fit_optional (kind.Number 0 100) whole_number default (get name d) (λ v. refl)
 
