@@ -281,15 +281,15 @@ options_whole (Some d) options s e =
 
 -- ---- documents
 
-drafts_whole : (d : Data) (drafts : ParsedSetup) → IsSorted d → parsed_setup d ≡ Ok drafts → has_non_u64 d ≡ false
+parsed_whole : (d : Data) (parsed : ParsedSetup) → IsSorted d → parsed_setup d ≡ Ok parsed → has_non_u64 d ≡ false
 unfolding parsed_setup
-drafts_whole d drafts s e =
-    guarded_ok (has_only_members document_members d) _ _ drafts (has_non_u64 d ≡ false) (λ only members.
-    next (ok_or (options_of (get (codes "options") d)) (options_fault (get (codes "options") d))) _ drafts (has_non_u64 d ≡ false) (λ options ho ro.
-    next (parsed_list parsed_host hosts_place host_place (get (codes "hosts") d)) _ drafts (has_non_u64 d ≡ false) (λ hosts hh rh.
-    next (parsed_list parsed_service services_place service_place (get (codes "services") d)) _ drafts (has_non_u64 d ≡ false) (λ services hs rs.
-    next (parsed_dependencies part.ServiceDependencies service_letters (get (codes "service_dependencies") d)) _ drafts (has_non_u64 d ≡ false) (λ between hb rb.
-    next (parsed_dependencies part.HostDependencies host_letters (get (codes "host_dependencies") d)) _ drafts (has_non_u64 d ≡ false) (λ among ha ra.
+parsed_whole d parsed s e =
+    guarded_ok (has_only_members document_members d) _ _ parsed (has_non_u64 d ≡ false) (λ only members.
+    next (ok_or (options_of (get (codes "options") d)) (options_fault (get (codes "options") d))) _ parsed (has_non_u64 d ≡ false) (λ options ho ro.
+    next (parsed_list parsed_host hosts_place host_place (get (codes "hosts") d)) _ parsed (has_non_u64 d ≡ false) (λ hosts hh rh.
+    next (parsed_list parsed_service services_place service_place (get (codes "services") d)) _ parsed (has_non_u64 d ≡ false) (λ services hs rs.
+    next (parsed_dependencies part.ServiceDependencies service_letters (get (codes "service_dependencies") d)) _ parsed (has_non_u64 d ≡ false) (λ between hb rb.
+    next (parsed_dependencies part.HostDependencies host_letters (get (codes "host_dependencies") d)) _ parsed (has_non_u64 d ≡ false) (λ among ha ra.
     object_whole document_members d s only (
       options_whole (get (codes "options") d) options (sorted_get (codes "options") d s) (from_ok_or _ _ options ho),
       (
@@ -306,8 +306,8 @@ drafts_whole d drafts s e =
     rb) rs) rh) ro) members) e
 
 -- each number in a document that is read is a whole one
-pub whole_numbers : (document : List ℕ) (d : Data) (drafts : ParsedSetup) → tree_of document ≡ Some d → parsed_setup d ≡ Ok drafts → has_non_u64 d ≡ false
-whole_numbers document d drafts is read = drafts_whole d drafts (tree_is_sorted document d is) read
+pub whole_numbers : (document : List ℕ) (d : Data) (parsed : ParsedSetup) → tree_of document ≡ Some d → parsed_setup d ≡ Ok parsed → has_non_u64 d ≡ false
+whole_numbers document d parsed is read = parsed_whole d parsed (tree_is_sorted document d is) read
 
 -- ---- floats
 

@@ -12,9 +12,9 @@ ghost use Rattle.setup_diagnostics.specs.Numbers.{has_non_u64};
 /// no number is a float (`no_float`). The clauses of [`compact_document`](crate::compact_document) about documents
 /// without a float therefore hold of every valid setup.
 pub fn read_numbers_are_whole()
-    ensures whole { (document : List ℕ) (tree : Data) (drafts : ParsedSetup)
-        → tree_of document ≡ Some tree → parsed_setup tree ≡ Ok drafts
+    ensures whole { (document : List ℕ) (tree : Data) (parsed : ParsedSetup)
+        → tree_of document ≡ Some tree → parsed_setup tree ≡ Ok parsed
         → has_non_u64 tree ≡ false }
-    ensures no_float { (document : List ℕ) (tree : Data) (drafts : ParsedSetup)
-        → tree_of document ≡ Some tree → parsed_setup tree ≡ Ok drafts → has_float tree ≡ false }
+    ensures no_float { (document : List ℕ) (tree : Data) (parsed : ParsedSetup)
+        → tree_of document ≡ Some tree → parsed_setup tree ≡ Ok parsed → has_float tree ≡ false }
 {}
