@@ -4,16 +4,17 @@
     .ci/edits.py [--proved]        in the gate: tries the edits of each crate whose file TRIED is out of date
     tools/edits [NAME ..]          manually: tries those of these crates, or of all, and writes TRIED
 
-An edit is a file as in must-fail/, which `rt ci` tries at each run. Its outcome depends on the sources of its crate, on the edits,
-and on what the crate sees of the libraries below: their signatures with their clauses, and their definitions. TRIED has a checksum
-of these, written when the prover last refused every edit of the crate. It doesn't cover the kit: after a change of the kit, run
-tools/edits. With --proved the libraries are those that `rt ci` has just left in the tree. The last line counts the edits.
+An edit is a file as in must-fail/, which `rt ci` tries at each run. Its outcome depends on the sources of its crate, on the edits, and on what the crate sees
+of the libraries below: their signatures with their clauses, and their definitions. TRIED has a checksum of these without their lines of comment, written when
+the prover last refused every edit of the crate. It doesn't cover the kit: after a change of the kit, run tools/edits. With --proved the libraries are those
+that `rt ci` has just left in the tree. The last line counts the edits.
 """
 import hashlib
 import importlib.machinery
 import importlib.util
 import os
 import pathlib
+import re
 import shutil
 import subprocess
 import sys
@@ -23,6 +24,8 @@ from concurrent.futures import ThreadPoolExecutor
 TOP = pathlib.Path(__file__).resolve().parent.parent
 FLAGS = ["--jobs", "1"]
 SHOWS_NOTHING = "(only because a proof file names"
+# A line of an .rt or .antt file that is a comment.
+COMMENT = re.compile(rb"^[ \t]*(?://|--).*\n", re.M)
 
 
 def load_rt():
@@ -55,8 +58,15 @@ def checksum(crate):
         files += [*below.glob("specs/**/*.antt"), *below.glob(f"out/rlib/{library.name}.rlib/interface/lang/src/**/*.rt")]
     total = hashlib.sha256()
     for file in sorted([*files, *edits_of(crate)]):
-        total.update(f"{file.relative_to(TOP)}\0".encode() + hashlib.sha256(file.read_bytes()).digest())
+        text = file.read_bytes() if file.suffix == ".edit" else COMMENT.sub(b"", file.read_bytes())
+        total.update(f"{file.relative_to(TOP)}\0".encode() + hashlib.sha256(text).digest())
     return total.hexdigest() + "\n"
+
+
+def is_stale(rt, crate):
+    """Whether TRIED is out of date, or an edit doesn't fit its file any more, as when it changes a comment."""
+    fits = result_file(crate).is_file() and result_file(crate).read_text() == checksum(crate)
+    return not fits or any(rt.read_edit(str(edit), crate.folder)[1] for edit in edits_of(crate))
 
 
 def edit_results(rt, crate):
@@ -86,20 +96,18 @@ def main(arguments):
     os.chdir(TOP)
     rt = load_rt()
     crates = [crate for crate in rt.rtlib.crates_below(str(TOP)) if edits_of(crate) and (not names or crate.name in names)]
-    passed = failed = 0
-    if not names or len(crates) == len(set(names)):
-        is_ready = "--proved" in arguments or prepare(rt, crates)
-        stale = [crate for crate in crates if is_by_hand or not result_file(crate).is_file() or result_file(crate).read_text() != checksum(crate)]
-        with ThreadPoolExecutor(int(os.environ.get("RT_JOBS") or os.cpu_count() or 1)) as lanes:
-            for crate, results in zip(stale, lanes.map(lambda crate: edit_results(rt, crate) if is_ready else [(False, "a library isn't proved")], stale)):
-                print("\n".join(f"edits: {crate.name}: {line}" for _, line in results), flush=True)
-                failed += sum(not refused for refused, _ in results)
-                if is_by_hand and all(refused for refused, _ in results):
-                    result_file(crate).write_text(checksum(crate))
-        passed = sum(len(edits_of(crate)) for crate in crates) - failed
-    else:
-        print("edits: a crate that was named has no edits")
-        failed = 1
+    if names and len(crates) != len(set(names)):
+        sys.exit("edits: a crate that was named has no edits")
+    is_ready = "--proved" in arguments or prepare(rt, crates)
+    stale = [crate for crate in crates if is_by_hand or is_stale(rt, crate)]
+    failed = 0
+    with ThreadPoolExecutor(int(os.environ.get("RT_JOBS") or os.cpu_count() or 1)) as lanes:
+        for crate, results in zip(stale, lanes.map(lambda crate: edit_results(rt, crate) if is_ready else [(False, "a library isn't proved")], stale)):
+            print("\n".join(f"edits: {crate.name}: {line}" for _, line in results), flush=True)
+            failed += sum(not refused for refused, _ in results)
+            if is_by_hand and all(refused for refused, _ in results):
+                result_file(crate).write_text(checksum(crate))
+    passed = sum(len(edits_of(crate)) for crate in crates) - failed
     print(f"edits: {passed} passed, {failed} failed")
     return 1 if failed else 0
 

@@ -25,8 +25,9 @@ class Mirrors:
 
     def apply_answer(self, part: int, call: Call, answer: Answer) -> bool:
         """Whether an answer is about a mirror, which is then updated."""
-        name = object_name(call, answer)
-        if name not in self.names.get(part, ()):
+        names = self.names.get(part, ())
+        name = object_name(call, answer) if names else ""
+        if name not in names:
             return False
         if isinstance(answer, Taken):
             self._running.begin(Run((part, name), answer.run, Owner.ORIGINAL))

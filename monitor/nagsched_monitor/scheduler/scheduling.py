@@ -172,8 +172,8 @@ class Scheduling:
             number = self._store.last_call + 1
             calls = [(part, call_line(call), words) for part, call, words in planned]
             self._write(*writes, store_calls(calls))
-            for call_number, each in enumerate(calls, number):
-                self.schedulers.parts[each[0]].pending.append(StoredCall(call_number, *each))
+            for call_number, (each, (_, call, _)) in enumerate(zip(calls, planned), number):
+                self.schedulers.parts[each[0]].pending.append(StoredCall(call_number, *each, call))
 
     def make_calls(self) -> List[ObjectAnswer]:
         """Makes the stored calls, and returns the answers. Calls of a scheduler that can't be started now are made later."""
@@ -185,7 +185,7 @@ class Scheduling:
         """Takes in answers, and returns all but those of mirrors. Answers that an earlier monitor got change no times."""
         answers: List[ObjectAnswer] = []
         for stored, answer in answered:
-            call = read_call(stored.line)
+            call = read_call(stored.line) if stored.call is None else stored.call
             if not self.mirrors.apply_answer(stored.part, call, answer):
                 answers.append(self._apply_answer(stored, call, answer, is_again))
         for part, name in self.mirrors.take_missing():

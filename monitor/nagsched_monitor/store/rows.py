@@ -3,6 +3,8 @@ import hashlib
 from dataclasses import dataclass
 from typing import AbstractSet, Dict, NamedTuple, Optional, Sequence, Union
 
+from ..scheduler.protocol import Call
+
 Cell = Union[int, float, str, bytes, None]
 
 TABLES: Dict[str, str] = {
@@ -48,6 +50,7 @@ class StoredCall(NamedTuple):
     part: int
     line: str
     words: Optional[str]
+    call: Optional[Call] = None  # the call in the line, if this monitor made it
 
 
 class StoredResult(NamedTuple):
