@@ -5,8 +5,8 @@
 
 The monitor runs the site against the real clock. A plugin in sh takes the place of all plugins. The site's folder is a file system of its own, so that it can
 be filled. SECONDS is the length of a minute of the plan, 60 if it isn't given. After the plan it prints the starts of plugins per second before and after each
-trouble, and each object that had no result for longer than its interval, its limit and a minute, with the minute at which it had waited longest. The status is
-1 if there was one. Objects without active checks, with a check period, or with a dependency that can hold them back are left out. While the disk is full no
+trouble. An object that had no result for longer than its interval, its limit and a minute is printed with the minute of its longest wait, and makes the status
+1. Objects without active checks, with a check period, or with a dependency that can hold them back are left out. While the disk is full no
 result can be stored, so an object with an interval and a limit of less than a minute together waits too long then.
 """
 from __future__ import annotations

@@ -237,7 +237,7 @@ class Process(ProcessTest):
 
 class Size(SiteTest):
     def work(self, count: int) -> Counter[str]:
-        """What is done to write the file of this many objects, 15 services on each host."""
+        """Counts the calls and lines that write the file of this many objects, 15 services on each host."""
         hosts = [f"h{n:03}" for n in range(count // 16)]
         names = [*hosts, *(f"{host};s{n:02}" for host in hosts for n in range(15))]
         settings = {name: Settings(5, 1, 3) for name in names}

@@ -30,10 +30,14 @@ class Checks:
     def _objects(self) -> Dict[str, ObjectState]:
         return self._scheduling.states.objects
 
-    def has_more(self) -> bool:
-        """Whether something has to be planned at once."""
-        planned = [self._objects[name] for name in self._planned_checks if name in self._objects]
-        return bool(self._to_spread) or any(self._scheduling.is_open(obj.definition.part) for obj in planned)
+    def has_more(self, now: int) -> bool:
+        """Whether something has to be planned at once. A next check that waits to be set for later isn't urgent."""
+        urgent = [self._objects[name] for name, call in self._planned_checks.items() if call.time <= now and name in self._objects]
+        return bool(self._to_spread) or any(self._scheduling.is_open(obj.definition.part) for obj in urgent)
+
+    def has_planned(self) -> bool:
+        """Whether a next check waits to be set."""
+        return bool(self._planned_checks)
 
     def plan(self, plan: Plan, now: int, is_after_pause: bool) -> None:
         """Plans next checks, after requests have set theirs."""
@@ -128,8 +132,11 @@ class Checks:
     def plan_takes(self, plan: Plan, now: int) -> None:
         """A take for each check that is due and has a free slot."""
         states = self._scheduling.states
+        names = (states.due.due_names(now) - plan.later) | plan.at_once
+        if not names:
+            return
         free = self._scheduling.site.options.slots - sum(job.runner is None for job in states.running.plugins()) + plan.freed
-        due = collections.Counter(self._objects[name].definition.part for name in (states.due.due_names(now) - plan.later) | plan.at_once)
+        due = collections.Counter(self._objects[name].definition.part for name in names)
         for part, count in sorted(due.items()):
             if self._scheduling.is_open(part):
                 taken = max(0, min(count, free))

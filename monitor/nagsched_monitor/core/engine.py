@@ -26,7 +26,7 @@ from .run_table import Owner
 
 # The longest time between two turns that isn't a pause, in milliseconds.
 PAUSE = 10_000
-# The longest wait for the next turn, and how soon a change is stored, in milliseconds. The value 0 asks for a turn without any rest.
+# The longest wait for the next turn, and how soon a change is stored or a next check is set, in milliseconds. The value 0 asks for a turn without any rest.
 LONGEST_WAIT = 1_000
 CHANGES_WAIT = 100
 NO_REST = 0
@@ -109,10 +109,10 @@ class Engine:
     def _next_turn(self, now: int) -> int:
         running = self.scheduling.states.running
         has_run = any(self.scheduling.is_open(run.key[0]) for owner in (Owner.RESULT, Owner.NOBODY) for run in running.owned_by(owner))
-        if has_run or self.checks.has_more() or self.passive.is_deliverable():
+        if has_run or self.checks.has_more(now) or self.passive.is_deliverable():
             return NO_REST
         first = self.scheduling.states.due.first_time()
-        latest = now + (CHANGES_WAIT if self.scheduling.has_more() else LONGEST_WAIT)
+        latest = now + (CHANGES_WAIT if self.scheduling.has_more() or self.checks.has_planned() else LONGEST_WAIT)
         return latest if first is None else min(first, latest)
 
     def _make_plan(self, now: int) -> Plan:

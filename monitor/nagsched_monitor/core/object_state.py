@@ -31,17 +31,15 @@ class ObjectState:
     awaited_since: int = 0  # the moment since which a result is awaited, if none came while this monitor runs
     history: StateHistory = field(default_factory=StateHistory)
     name: str = field(init=False)
+    key: ObjectKey = field(init=False)
 
     def __post_init__(self) -> None:
         self.name = self.definition.name
-
-    @property
-    def key(self) -> ObjectKey:
-        return self.definition.part, self.name
+        self.key = self.definition.part, self.name
 
     @property
     def run(self) -> Optional[Run]:
-        return self.running.get((self.definition.part, self.name))
+        return self.running.get(self.key)
 
     def due_time(self) -> Optional[int]:
         """The time for which it waits; None if it is running, off, or has no next check."""
