@@ -7,7 +7,8 @@ use mathlib.Core.Logic.{dite}
 use native.Mathlib.Decide.{dec_le}
 use Rattle.ticket_steps.specs.declared.books.Entry.{Entry}
 use Rattle.ticket_steps.specs.History.{of}
-use Rattle.ticket_steps.specs.Sums.{counted, occurrences}
+use Rattle.ticket_steps.specs.Sums.{numbers_from, occurrences}
+use Rattle.ticket_steps.proofs.SumLemmas.{length-numbers_from}
 use Rattle.ticket_lock.specs.Callers.{Caller, caller, caller_after_split, split_part}
 use Rattle.ticket_lock.proofs.SeatLaws as seat
 use Rattle.check_sched.specs.declared.call.Call.{Call}
@@ -19,11 +20,7 @@ use Rattle.check_desk.specs.Passes.{pass_of, new_pass_with}
 
 -- a caller for the numbers from this one on, with so many calls for each
 abbrev pub rest_from : ℕ → ℕ → ℕ → Caller Call Reply
-rest_from calls n count = caller n (counted n count) (count * calls) 0 true []
-
-length-counted : (n k : ℕ) → length (counted n k) ≡ k
-length-counted n zero = refl
-length-counted n (suc k) = ap suc (length-counted (n + 1) k)
+rest_from calls n count = caller n (numbers_from n count) (count * calls) 0 true []
 
 pub new_push : (calls : ℕ) (desk : Desk) (n : ℕ) (ps : List Pass) (p : Pass) → AreNewPassesWith calls desk n ps → IsPassOf desk p
     → pass_of p ≡ new_pass_with calls (n + length ps) → AreNewPassesWith calls desk n (ps ++ p ∷ [])
@@ -42,15 +39,15 @@ pub record IsHandingOut (desk : Desk) (n : ℕ) (rest : Caller Call Reply) (ps :
 
 -- the seat of the rest stands for all numbers that are left
 pub rest_size : (calls n count : ℕ) (rest : Caller Call Reply) → rest ≡ rest_from calls n count → length rest.numbers ≡ count
-rest_size calls n count rest e = ap (λ r. length r.numbers) e ∙ length-counted n count
+rest_size calls n count rest e = ap (λ r. length r.numbers) e ∙ length-numbers_from n count
 
 -- the seat of one pass, split off the beginning of the rest
 pub own_is : (calls n count : ℕ) (rest : Caller Call Reply) → 1 < count → rest ≡ rest_from calls n count
     → caller_after_split calls (length rest.numbers - 1) rest ≡ new_pass_with calls n
 own_is calls n zero rest h e = absurd (omega arith)
 own_is calls n (suc k) rest h e =
-    let size : length (counted (n + 1) k) ≡ k = length-counted (n + 1) k in
-    let one : suc (length (counted (n + 1) k)) - (suc (length (counted (n + 1) k)) - 1) ≡ 1 = omega arith in
+    let size : length (numbers_from (n + 1) k) ≡ k = length-numbers_from (n + 1) k in
+    let one : suc (length (numbers_from (n + 1) k)) - (suc (length (numbers_from (n + 1) k)) - 1) ≡ 1 = omega arith in
     let once : 1 * calls ≡ calls = omega arith in
     rw (e, one) (ap (λ left. new_pass_with left n) once)
 
@@ -59,9 +56,9 @@ pub more_is : (calls n count : ℕ) (rest : Caller Call Reply) → 1 < count →
     → split_part calls (length rest.numbers - 1) rest ≡ rest_from calls (n + 1) (count - 1)
 more_is calls n zero rest h e = absurd (omega arith)
 more_is calls n (suc k) rest h e =
-    let size : length (counted (n + 1) k) ≡ k = length-counted (n + 1) k in
-    let one : suc (length (counted (n + 1) k)) - (suc (length (counted (n + 1) k)) - 1) ≡ 1 = omega arith in
-    let most : suc (length (counted (n + 1) k)) - 1 ≡ k = omega (arith, size) in
+    let size : length (numbers_from (n + 1) k) ≡ k = length-numbers_from (n + 1) k in
+    let one : suc (length (numbers_from (n + 1) k)) - (suc (length (numbers_from (n + 1) k)) - 1) ≡ 1 = omega arith in
+    let most : suc (length (numbers_from (n + 1) k)) - 1 ≡ k = omega (arith, size) in
     let less : suc k - 1 ≡ k = omega arith in
     rw (e, one, most, less) refl
 

@@ -6,7 +6,7 @@ use Rattle.std.proofs.lemmas.List.Concat.{flat_map-cons}
 use Rattle.std.proofs.lemmas.List.Sums.{sum_by-cons}
 use Rattle.ticket_steps.specs.declared.books.Entry.{Entry}
 use Rattle.ticket_steps.specs.History.{entry, of, IsLegal}
-use Rattle.ticket_steps.specs.Sums.{counted, occurrences}
+use Rattle.ticket_steps.specs.Sums.{numbers_from, occurrences}
 use Rattle.ticket_steps.proofs.EntryLemmas.{of-append, of-lengths, of-yes}
 use Rattle.ticket_steps.proofs.SumLemmas.{occurrences-same}
 use Rattle.check_rules.specs.declared.state.Code.{Code}
@@ -151,14 +151,14 @@ stops_counted allows moments room history desk n (p ∷ ps) (s ∷ ss) bounded n
 shifts_length : (allows : ℕ → ℕ → ℕ → Code → Type 0) (moments : List ℕ) (room : ℕ) (history : List (Entry Call Reply)) (desk : Desk) (n : ℕ)
     (ps : List Pass) (ss : List Shift)
     → AreNewPasses desk n ps
-    → AreShiftsOf allows moments room history ps ss → sum_by (λ p. length (of p history)) (counted n (length ps)) ≡ sum_by (λ s. length (shift_entries s)) ss
+    → AreShiftsOf allows moments room history ps ss → sum_by (λ p. length (of p history)) (numbers_from n (length ps)) ≡ sum_by (λ s. length (shift_entries s)) ss
 shifts_length allows moments room history desk n [] [] new are = refl
 shifts_length allows moments room history desk n [] (s ∷ ss) new are = absurd are
 shifts_length allows moments room history desk n (p ∷ ps) [] new are = absurd are
 shifts_length allows moments room history desk n (p ∷ ps) (s ∷ ss) new are =
     let here = ap length (new_history allows moments room n history p s new.1 are.0) in
     let rest = shifts_length allows moments room history desk (n + 1) ps ss new.2 are.1 in
-    let left = sum_by-cons (λ q. length (of q history)) n (counted (n + 1) (length ps)) in
+    let left = sum_by-cons (λ q. length (of q history)) n (numbers_from (n + 1) (length ps)) in
     let right = sum_by-cons (λ v. length (shift_entries v)) s ss in
     omega arith
 
