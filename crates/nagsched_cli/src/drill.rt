@@ -2,7 +2,10 @@
 //! writes the history that they made.
 
 ghost use Rattle.std.specs.Prelude.{◌≡◌, ◌<◌, ◌≤◌, OnOk, IfOk, IfErr, IfSome, length};
+ghost use Rattle.std.specs.List.{All};
+ghost use Rattle.check_book.specs.BookState.{book_opening};
 ghost use Rattle.check_book.specs.Books.{entries_of, refused_of, sched_of};
+ghost use Rattle.check_desk.specs.Desks.{AreNewPasses, IsPassOf, desk_opening, passes_of};
 ghost use Rattle.nagsched_cli.specs.Drill.{AfterDrillFault, IsDrill, IsDrillOnInput, IsDrillWritten};
 ghost use Rattle.nagsched_cli.specs.Drill.{WroteDrill, WroteDrillShort, drill_outcome};
 ghost use Rattle.nagsched_protocol.specs.DrillScript.{drill_script_of};
@@ -13,7 +16,7 @@ ghost use Rattle.nagsched_protocol.specs.Written.{IsLineWritten, IsTextWritten};
 
 use crate::scripted_plugin::ScriptedPlugin;
 use check_book::Book;
-use check_desk::Desk;
+use check_desk::{Desk, Pass};
 use check_objects::Setup;
 use check_sched::{Call, LAST_MOMENT, Reply};
 use check_workers::crew;
@@ -22,7 +25,7 @@ use nagsched_protocol::{
     read_at_most, write_refusal, write_text,
 };
 use nagsched_run::drive::Outcome;
-use std::alloc::Global;
+use std::alloc::{AllocError, Global};
 use std::io::{Read, Write};
 use std::sync::Wait;
 use std::thread::Threads;
@@ -128,15 +131,35 @@ fn work_all<H: Threads + Wait + Sync>(
         codes,
         moments,
     } = script;
-    let Ok(book) = Book::open(alloc, setup, start, room) else {
-        return Err(DriveError::Memory);
-    };
-    let Ok((desk, passes)) = Desk::open(alloc, book, workers) else {
-        return Err(DriveError::Memory);
-    };
+    let (desk, passes) = open_desk(alloc, setup, start, workers, room)?;
     match crew(rt, alloc, desk, passes, &ScriptedPlugin { codes }, &moments) {
         Ok((book, _tally)) => Ok(book),
         Err(_) => Err(DriveError::Memory),
+    }
+}
+
+/// A desk over an empty book, and a pass for each worker. An Err means out of memory.
+fn open_desk(
+    alloc: Global,
+    setup: Setup,
+    start: u64,
+    workers: u32,
+    room: usize,
+) -> Result<(Desk, Vec<Pass>), AllocError>
+    requires start { start ≤ LAST_MOMENT }
+    requires workers { (0 < workers) × (workers ≤ 64) }
+    ensures opening { IfOk result (λ made. desk_opening made.0 ≡ book_opening setup start room) }
+    ensures passes { IfOk result (λ made. passes_of made.0 ≡ workers) }
+    ensures list { IfOk result (λ made. length made.1.items ≡ workers) }
+    ensures new { IfOk result (λ made. AreNewPasses made.0 0 made.1.items) }
+    ensures own { IfOk result (λ made. All (IsPassOf made.0) made.1.items) }
+{
+    let Ok(book) = Book::open(alloc, setup, start, room) else {
+        return Err(AllocError);
+    };
+    match Desk::open(alloc, book, workers) {
+        Ok(made) => Ok(made),
+        Err(_) => Err(AllocError),
     }
 }
 
