@@ -141,3 +141,17 @@ class Periods(SiteTest):
         monitor.ask(do="enable", name="web")
         monitor.run(100)
         self.assertEqual(monitor.starts()["web"][2:], [400_000, 420_000, 480_000])
+
+
+class Turns(SiteTest):
+    def test_a_next_check_for_later_is_set_without_haste(self) -> None:
+        """It waits for the next turn, a tenth of a second at most; one for now asks for a turn at once."""
+        self.write_site([host("h")], [])
+        monitor = self.monitor(fine)
+        monitor.engine.turn()
+        now, checks, obj = monitor.clock.now, monitor.engine.checks, monitor.engine.objects["h"]
+        checks.plan_check(obj, now + 30_000, False)
+        self.assertFalse(checks.has_more(now))
+        self.assertEqual(monitor.engine._next_turn(now), now + 100)
+        checks.plan_check(obj, now, False)
+        self.assertEqual(monitor.engine._next_turn(now), 0)

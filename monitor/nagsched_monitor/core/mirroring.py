@@ -25,9 +25,8 @@ class Mirrors:
 
     def apply_answer(self, part: int, call: Call, answer: Answer) -> bool:
         """Whether an answer is about a mirror, which is then updated."""
-        names = self.names.get(part, ())
-        name = object_name(call, answer) if names else ""
-        if name not in names:
+        names = self.names.get(part)
+        if not names or (name := object_name(call, answer)) not in names:
             return False
         if isinstance(answer, Taken):
             self._running.begin(Run((part, name), answer.run, Owner.ORIGINAL))
