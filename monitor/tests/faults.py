@@ -256,8 +256,8 @@ class FaultRun:
         for run in scheduling.states.running:
             if run.owner is Owner.NOBODY:
                 wrong.append(f"nobody ends {run}")
-        states = scheduling.schedulers.states() or {}
-        for part, state in states.items():
+        for part in scheduling.schedulers.parts:
+            state = scheduling.schedulers.state(part)
             wrong += [f"known otherwise: {name}" for name in scheduling.states.apply_saved(scheduling.mirrors.apply_saved(part, json.loads(state)["objects"]))]
         wrong += self._unmonitored_objects()
         if sorted(engine.objects) != sorted(["far", "far;backup", "far;web", "gateway", "near", "near;trap", "near;web", "new"]):

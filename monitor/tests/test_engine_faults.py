@@ -192,6 +192,29 @@ class Faults(SiteTest):
         self.assertEqual([line for line in monitor.lines if "otherwise" in line], [said])
         self.assertGreater(monitor.engine.objects["web"].next, BEGIN)
 
+    def test_one_part_is_saved_at_a_time(self) -> None:
+        """Each within five minutes. A call is dropped when both saved states contain it, and a restart misses none."""
+        for part in (1, 2):
+            self.write(f"part-{part}.json", {"options": {"interval_length": 1}, "hosts": [host(f"h{part}", check_interval=10, max_check_attempts=100)]})
+        self.write("commands.json", {"h1": {"line": "true"}, "h2": {"line": "true"}})
+        monitor = self.monitor(lambda name, moment: (10, 2, "bad"))
+        monitor.run(155)
+        generations = monitor.store.generations()
+        self.assertEqual([generations[part].saved is None for part in (0, 1)], [False, True])
+        self.assertEqual(monitor.store.calls_since(0, 0)[0].id, 1)
+        monitor.run(150)
+        generations = monitor.store.generations()
+        self.assertLess(generations[0].last_call, generations[1].last_call)
+        left = [call.id for part in (0, 1) for call in monitor.store.calls_since(part, 0)]
+        self.assertEqual(sorted(left), list(range(generations[0].last_call + 1, monitor.store.last_call + 1)))
+        before = [obj.standing for obj in monitor.scheduling.states.objects.values()]
+        monitor.close()
+        after = self.monitor(fine, monitor.clock)
+        self.assertEqual([obj.standing for obj in after.scheduling.states.objects.values()], before)
+        self.assertEqual(after.scheduling.longest_unsaved(), 0)
+        after.scheduling.schedulers.parts[0].pending.append(after.store.calls_since(0, 0)[0])
+        self.assertEqual(after.scheduling.longest_unsaved(), 1)
+
     def test_a_runner_that_nobody_reaches(self) -> None:
         """The fate of its jobs is logged, and they use no slot of this machine."""
         self.write_site([host("web")], [service("web", "http", max_check_attempts=1)], monitor={"slots": 1},

@@ -129,6 +129,24 @@ class Table(SiteTest):
         monitor.close()
         self.monitor(outage, monitor.clock)
 
+    def test_a_short_check_is_written_once(self) -> None:
+        """A run that has just begun isn't written, so that a check costs one row and not two."""
+        names = [f"h{number:02}" for number in range(50)]
+        self.write_site([{"name": name, "check_interval": 10, "max_check_attempts": 3} for name in names], [], {"host_inter_check_delay_method": "s"})
+        monitor = self.monitor(lambda name, moment: (600, 0, "fine"))
+        monitor.run(20)
+        begun, rows = len(monitor.runners.started), 0
+
+        def count(statement: str) -> None:
+            nonlocal rows
+            rows += statement.startswith("INSERT OR REPLACE INTO standings")
+
+        monitor.store._database.set_trace_callback(count)
+        monitor.run(60)
+        checks = len(monitor.runners.started) - begun
+        self.assertGreater(checks, 250)
+        self.assertLess(rows, checks * 1.1)
+
     def test_no_write_of_its_own_before_a_second(self) -> None:
         monitor = self.monitor(fine)
         monitor.run(3)

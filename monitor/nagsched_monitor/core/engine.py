@@ -32,7 +32,7 @@ CHANGES_WAIT = 100
 NO_REST = 0
 # How long a check whose result was refused waits for the next one, in milliseconds.
 AFTER_REFUSAL = 60_000
-# The number of calls, and of milliseconds, after which the state is saved; and the pause before another try, in milliseconds.
+# The number of calls after which the next part is saved, the time in which each part is saved, and the pause before another try, in milliseconds.
 SAVE_CALLS = 50_000
 SAVE_AFTER = 300_000
 SAVE_AGAIN = 10_000
@@ -52,7 +52,7 @@ class Engine:
         # Answers that aren't applied yet: a fault in the middle leaves the rest to the next turn.
         self._answers: Deque[ObjectAnswer] = collections.deque()
         self._last_turn: Optional[int] = None
-        self._save_at, self._saved_call = self._now + SAVE_AFTER, store.last_call
+        self._await_save()
         self.is_stuck = False
         self._drop_results()
         self._await_results(min(clock.wall(), figures.get("written_at", 0.0)))
@@ -193,17 +193,25 @@ class Engine:
         """The milliseconds since the beginning of the last turn that stored everything it had to."""
         return self._clock.moment() - (self._now if self._last_turn is None else self._last_turn)
 
+    def _await_save(self) -> None:
+        self._save_at, self._saved_call = self._clock.moment() + SAVE_AFTER // len(self.scheduling.schedulers.parts), self.store.last_call
+
     def _save_when_due(self) -> None:
+        """Saves one part at a time, so that checks don't wait for all."""
         if self._now >= self._save_at or self.store.last_call - self._saved_call >= SAVE_CALLS:
             try:
-                self.save()
+                self.scheduling.save(self.scheduling.longest_unsaved())
+                self._await_save()
+                self.counters.count_save()
             except (NotStored, ConversationEnded) as fault:
                 self._log(f"the state isn't saved: {fault}")
                 self._save_at, self._saved_call = self._now + SAVE_AGAIN, self.store.last_call
 
     def save(self) -> None:
-        self.scheduling.save()
-        self._save_at, self._saved_call = self._clock.moment() + SAVE_AFTER, self.store.last_call
+        """Saves all parts."""
+        for part in self.scheduling.schedulers.parts:
+            self.scheduling.save(part)
+        self._await_save()
         self.counters.count_save()
 
     def close(self) -> None:

@@ -171,12 +171,12 @@ class Schedulers:
         lines = [call_line(call) for call in calls]
         return self.parts[number].run_query(lambda conversation: [read_answer(*each) for each in zip(conversation.ask_lines(lines), lines)])
 
-    def states(self) -> Dict[int, bytes]:
-        """The state of each scheduler. Raises `ConversationEnded` if one hasn't answered all calls, or can't be started."""
-        for number, part in self.parts.items():
-            if part.pending:
-                raise ConversationEnded(part.trouble or f"the scheduler of part {number + 1} hasn't answered all calls")
-        return {number: part.run_query(lambda conversation: conversation.save()) for number, part in self.parts.items()}
+    def state(self, number: int) -> bytes:
+        """The state of a part's scheduler. Raises `ConversationEnded` if it hasn't answered all calls, or can't be started."""
+        part = self.parts[number]
+        if part.pending:
+            raise ConversationEnded(part.trouble or f"the scheduler of part {number + 1} hasn't answered all calls")
+        return part.run_query(lambda conversation: conversation.save())
 
     def process_ids(self) -> List[int]:
         return [part.conversation.process_id() for part in self.parts.values() if part.conversation is not None]

@@ -15,7 +15,7 @@ from ..site.site import Site
 from ..store.rows import Generation, StoredCall, StoredChange
 from ..store.status_table import StandingTable
 from ..store.store import Store, Write
-from ..store.writes import begin_generation, end_generation, store_calls, store_change
+from ..store.writes import begin_generation, end_generation, save_generation, store_calls, store_change
 from . import migration
 from .live_process import Conversation
 from .protocol import Answer, Call, Report, Standing, Status, call_line, object_name, read_call
@@ -114,7 +114,8 @@ class Scheduling:
         opened = {part: (scheduler.generation.setup, scheduler.generation.mirrors) for part, scheduler in self.schedulers.parts.items()}
         wanted = {part: (setup, site.mirrors.get(part, frozenset())) for part, setup in enumerate(site.setups)}
         others = {part for part, setup in wanted.items() if opened.get(part) != setup}
-        changed = self._begin_parts(site, others, self.schedulers.states()) if opened != wanted else []
+        states = {part: self.schedulers.state(part) for part in opened} if opened != wanted else {}
+        changed = self._begin_parts(site, others, states) if opened != wanted else []
         self.site = site
         self.states.change_site(site.objects, self._clock.moment())
         for part in sorted(others):
@@ -223,14 +224,22 @@ class Scheduling:
 
     # ---- saving and ending
 
-    def save(self) -> None:
-        """Saves the state of each scheduler, and drops the calls before it."""
-        states = self.schedulers.states()
-        for part, state in states.items():
-            for name in self._read_state(part, state):
-                self._log(f"{name}: its scheduler has it otherwise than the monitor had; the scheduler counts")
+    def save(self, number: int) -> None:
+        """Saves the state of a part's scheduler, and drops the calls that are part of all saved states."""
+        state = self.schedulers.state(number)
+        for name in self._read_state(number, state):
+            self._log(f"{name}: its scheduler has it otherwise than the monitor had; the scheduler counts")
         self._standings.write_soon()
-        self._begin_parts(self.site, frozenset(), states)
+        part = self.schedulers.parts[number]
+        generation = part.generation._replace(saved=state, last_call=self._store.last_call)
+        others = [each.generation.last_call for each in self.schedulers.parts.values() if each is not part]
+        self._write(save_generation(generation, min(others, default=generation.last_call)))
+        part.generation = generation
+
+    def longest_unsaved(self) -> int:
+        """The part whose saved state is the oldest, among those that can be saved now if there are any."""
+        parts = self.schedulers.parts
+        return min(parts, key=lambda number: (not self.is_open(number), parts[number].generation.last_call))
 
     def process_ids(self) -> List[int]:
         return self.schedulers.process_ids()

@@ -1,7 +1,8 @@
 """The table of standings: the state of each object, for other processes that read the database, and for the monitor's next start.
 
-An object that an answer is about is marked. Marked objects are written with the next calls, those of half a second together. An object that has waited for
-more than a second is written alone. Times in the table are seconds since 1970 of the wall clock.
+An object that an answer is about is marked. Marked objects are written with the next calls, those of half a second together. A run that has just begun isn't
+written, since its result will mostly come before the next write. Objects that have waited for more than a second are written without other calls. Times in the
+table are seconds since 1970 of the wall clock.
 """
 from typing import Dict, List, Mapping, Optional, Sequence
 
@@ -24,6 +25,8 @@ class StandingTable:
         self._store, self._clock = store, clock
         self._marked: Dict[str, ObjectState] = {}
         self._marked_at: Optional[int] = None
+        # The objects of the last writes.
+        self._chosen: List[ObjectState] = []
         # Rows of objects that aren't part of the site any more.
         self._dropped: List[str] = []
 
@@ -75,12 +78,20 @@ class StandingTable:
             return ()
         wall = self._clock.wall()
         ahead = self._clock.moment() / 1000 - wall
-        return [drop_standings(self._dropped), store_standings([row_of(obj, wall, ahead) for obj in self._marked.values()])]
+        is_overdue = self.is_overdue()
+        self._chosen = [obj for obj in self._marked.values() if is_overdue or not has_just_begun(obj.run, wall)]
+        return [drop_standings(self._dropped), store_standings([row_of(obj, wall, ahead) for obj in self._chosen])]
 
     def clear_marks(self) -> None:
-        self._marked.clear()
+        """The last writes were carried out."""
+        for obj in self._chosen:
+            self._marked.pop(obj.name, None)
         self._dropped = []
-        self._marked_at = None
+        self._marked_at = self._clock.moment() if self._marked else None
+
+
+def has_just_begun(run: Optional[Run], wall: float) -> bool:
+    return run is not None and run.began_at is not None and 0 <= (wall - run.began_at) * 1000 < LONGEST
 
 
 def is_settled(standing: Standing, past: StateHistory) -> bool:

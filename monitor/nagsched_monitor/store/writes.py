@@ -49,6 +49,12 @@ def begin_generation(generation: Generation) -> Write:
     return all_of([end_generation(generation.part), insert("generations", None, *generation[:-1]), *mirrors])
 
 
+def save_generation(generation: Generation, oldest: int) -> Write:
+    """A part's scheduler with its saved state. Calls up to the oldest number are part of the saved states of all parts, and are dropped."""
+    calls = [delete(table, "id <= ?", oldest) for table in ("calls", "aside")]
+    return all_of([delete("generations", "part = ?", generation.part), insert("generations", None, *generation[:-1]), *calls])
+
+
 def end_generation(part: int) -> Write:
     """A part that the site no longer has, or that begins from its saved state: its calls are part of that."""
     return all_of(delete(table, "part = ?", part) for table in ("generations", "mirrors", "calls", "aside"))
