@@ -9,6 +9,8 @@ CONTROLS = re.compile("[\x00-\x08\x0b-\x1f\x7f-\x9f\u2028\u2029\u202a-\u202e\u20
 
 def plain_text(text: str, most: int = MOST_OUTPUT_BYTES) -> str:
     """A text without control characters, cut to a number of bytes of UTF-8."""
+    if text.isascii() and text.isprintable() and len(text) <= most:
+        return text
     cleaned = CONTROLS.sub(" ", text.replace("\r\n", "\n").replace("\t", " "))
     return cleaned.encode(errors="replace")[:most].decode(errors="ignore").rstrip("\n")
 

@@ -1,5 +1,6 @@
 """The calls to the scheduler, each a line of JSON, and its answers, each a line of words."""
 import json
+from json.encoder import encode_basestring
 from typing import Callable, Dict, NamedTuple, Optional, Union
 
 from ..faults import ConversationEnded
@@ -21,6 +22,11 @@ ENCODER = json.JSONEncoder(ensure_ascii=False, separators=(",", ":"))
 
 
 def call_line(call: Call) -> str:
+    # Nearly all calls are of these two kinds, and the encoder would take most of the time for them.
+    if isinstance(call, Take):
+        return f'["take",{call.now}]'
+    if isinstance(call, Report):
+        return f'["report",{encode_basestring(call.name)},{call.run},{call.code}]'
     return ENCODER.encode((WORDS[type(call)], *call))
 
 
