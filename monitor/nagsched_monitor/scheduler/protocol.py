@@ -1,6 +1,5 @@
 """The calls to the scheduler, each a line of JSON, and its answers, each a line of words."""
 import json
-from json.encoder import encode_basestring
 from typing import Callable, Dict, NamedTuple, Optional, Union
 
 from ..faults import ConversationEnded
@@ -26,7 +25,7 @@ def call_line(call: Call) -> str:
     if isinstance(call, Take):
         return f'["take",{call.now}]'
     if isinstance(call, Report):
-        return f'["report",{encode_basestring(call.name)},{call.run},{call.code}]'
+        return f'["report",{ENCODER.encode(call.name)},{call.run},{call.code}]'
     return ENCODER.encode((WORDS[type(call)], *call))
 
 

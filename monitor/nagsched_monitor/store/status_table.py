@@ -1,10 +1,9 @@
 """The table of standings: the state of each object, for other processes that read the database, and for the monitor's next start.
 
-An object that an answer is about is marked. Marked objects are written with the next calls, those of half a second together. A run that has just begun isn't
-written, since its result will mostly come before the next write. Objects that have waited for more than a second are written without other calls. Times in the
-table are seconds since 1970 of the wall clock.
+An object that an answer is about is marked. It is written with the first calls after half a second. A run that has just begun isn't written, since its result
+mostly comes before that. After a second an object is written without other calls. Times in the table are seconds since 1970 of the wall clock.
 """
-from typing import Dict, List, Mapping, Optional, Sequence
+from typing import Dict, Iterator, List, Mapping, Optional, Sequence, Tuple
 
 from ..core.clock import Clock
 from ..core.object_state import ObjectState
@@ -15,16 +14,17 @@ from .rows import StateHistory, StoredStanding
 from .store import Store, Write
 from .writes import drop_standings, store_standings
 
-# In milliseconds: how long a marked object waits for others, and the time after which it is written alone.
-TOGETHER = 500
+# In milliseconds: how long a marked object waits for more answers, and the time after which it is written without other calls.
+SHORTEST = 500
 LONGEST = 1_000
 
 
 class StandingTable:
     def __init__(self, store: Store, clock: Clock) -> None:
         self._store, self._clock = store, clock
-        self._marked: Dict[str, ObjectState] = {}
-        self._marked_at: Optional[int] = None
+        # Objects and the moments at which they were marked, the earliest first; whether they are all to be written with the next calls.
+        self._marked: Dict[str, Tuple[ObjectState, int]] = {}
+        self._are_all_due = False
         # The objects of the last writes.
         self._chosen: List[ObjectState] = []
         # Rows of objects that aren't part of the site any more.
@@ -47,7 +47,7 @@ class StandingTable:
             past.note(standing.state, standing.kind, stored.since if stored.since and stored.state == standing.state else self._clock.wall())
             if stored.hard_since is not None and stored.hard_state == past.hard_state:
                 past.hard_since = stored.hard_since
-        self._marked = dict(objects)
+        self._marked = {name: (obj, self._clock.moment()) for name, obj in objects.items()}
         self.write_soon()
 
     def apply_answer(self, obj: ObjectState, call: Call, answer: Answer, ended: Optional[Run]) -> None:
@@ -60,34 +60,37 @@ class StandingTable:
             begun = now if ended is None or ended.began_at is None else ended.began_at
             past.last_check, past.took = begun, max(0.0, now - begun)
             past.note(answer.state, answer.kind, now)
-        self._marked[obj.name] = obj
-        if self._marked_at is None:
-            self._marked_at = self._clock.moment()
+        self._marked.setdefault(obj.name, (obj, self._clock.moment()))
 
     def write_soon(self) -> None:
-        """Has marked objects written with the next calls, without waiting for others."""
-        self._marked_at = self._clock.moment() - LONGEST - 1
+        """Has all marked objects written with the next calls."""
+        self._are_all_due = True
 
     def is_overdue(self) -> bool:
         """Whether a marked object has waited too long for calls to be written with."""
-        return self._marked_at is not None and self._clock.moment() - self._marked_at > LONGEST
+        _, earliest = next(iter(self._marked.values()), (None, self._clock.moment()))
+        return self._are_all_due or self._clock.moment() - earliest > LONGEST
 
     def writes(self) -> Sequence[Write]:
         """The writes for the next calls."""
-        if self._marked_at is None or self._clock.moment() - self._marked_at < TOGETHER:
+        now, wall = self._clock.moment(), self._clock.wall()
+        self._chosen = list(self._due_objects(now, wall))
+        if not self._chosen and not self._are_all_due:
             return ()
-        wall = self._clock.wall()
-        ahead = self._clock.moment() / 1000 - wall
-        is_overdue = self.is_overdue()
-        self._chosen = [obj for obj in self._marked.values() if is_overdue or not has_just_begun(obj.run, wall)]
-        return [drop_standings(self._dropped), store_standings([row_of(obj, wall, ahead) for obj in self._chosen])]
+        return [drop_standings(self._dropped), store_standings([row_of(obj, wall, now / 1000 - wall) for obj in self._chosen])]
+
+    def _due_objects(self, now: int, wall: float) -> Iterator[ObjectState]:
+        for obj, since in self._marked.values():
+            if not self._are_all_due and now - since < SHORTEST:
+                return
+            if self._are_all_due or now - since >= LONGEST or not has_just_begun(obj.run, wall):
+                yield obj
 
     def clear_marks(self) -> None:
         """The last writes were carried out."""
         for obj in self._chosen:
             self._marked.pop(obj.name, None)
-        self._dropped = []
-        self._marked_at = self._clock.moment() if self._marked else None
+        self._dropped, self._are_all_due = [], False
 
 
 def has_just_begun(run: Optional[Run], wall: float) -> bool:
