@@ -3,15 +3,16 @@
 
     bench/times.py [COMMAND..]     runs `bash .ci/run` if no command is named
 
-It writes the table to bench/results/gate.md. Run it manually, in a fresh clone; it is no part of the gate. It looks at the command's
-processes twice a second, and adds up what each check used, with everything that the check started. The rest, which no check used, is
-programs and tests that run, links, and processes that ended between two looks.
+It writes the table to bench/results/gate.md, also if it is stopped by a signal. Run it manually, in a fresh clone; it is no part of the gate.
+It looks at the command's processes twice a second, and adds up what each check used, with everything that the check started. The rest, which no
+check used, is programs and tests that run, links, and processes that ended between two looks.
 """
 import collections
 import os
 import pathlib
 import re
 import resource
+import signal
 import subprocess
 import sys
 import time
@@ -132,8 +133,10 @@ def report(minutes, whole, by_clock):
 def main():
     command = sys.argv[1:] or ["bash", ".ci/run"]
     began = time.monotonic()
-    with subprocess.Popen(command) as running:
+    with subprocess.Popen(command, start_new_session=True) as running:
         times = Times(running.pid)
+        for number in (signal.SIGINT, signal.SIGTERM):
+            signal.signal(number, lambda *_: os.killpg(running.pid, signal.SIGTERM))
         while running.poll() is None:
             times.look()
             time.sleep(EVERY)
