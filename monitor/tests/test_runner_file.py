@@ -132,7 +132,8 @@ class Handing(unittest.TestCase):
         self.runners.set_remotes({"dmz": Remote("dmz", STAND_IN)})
         self.start(1, "end")
         self.assertEqual([event.why for event in self.events(1)], ["its runner ended"])
-        self.assertEqual(self.lines, ["the runner dmz ended with status 3, and 1 checks with it; another is started in 1 seconds"])
+        # On a slow machine the pause is over before the end is seen.
+        self.assertRegex("\n".join(self.lines), r"\Athe runner dmz ended with status 3, and 1 checks with it; another is started( in 1 seconds)?\Z")
         self.start(2, "there")
         self.passed = 2
         self.assertEqual([event.output for event in self.events(1)], ["there"])
