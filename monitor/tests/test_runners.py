@@ -48,7 +48,7 @@ class ManyRunners(unittest.TestCase):
     def test_a_runner_that_is_killed(self) -> None:
         for run in range(4):
             self.runners.start(Job("web", run, ["sleep", "60"], 100))
-        self.runners.flush()
+            self.runners.flush()
         self.passed = 10
         os.kill(self.runners.process_ids()[0], signal.SIGKILL)
         events = self.wait(2)
@@ -66,7 +66,7 @@ class ManyRunners(unittest.TestCase):
         jobs = [Job("web", run, ["true"], 1) for run in range(4)]
         for job in jobs:
             self.runners.start(job)
-        self.runners.flush()
+            self.runners.flush()
         self.assertTrue(all(id(job) in self.runners.job_ids() for job in jobs))
         self.assertTrue(self.runners.kill(jobs[0]))
         self.assertEqual([type(event) for event in self.wait(2)], [JobLost, JobLost])

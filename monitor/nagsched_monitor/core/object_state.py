@@ -53,6 +53,10 @@ class ObjectState:
         return now - (self.awaited_since if self.last_result is None else self.last_result) >= freshness
 
 
+# How many objects are enough for one turn.
+ENOUGH = 4
+
+
 @dataclass
 class DueQueue:
     """Objects by the times for which they wait."""
@@ -85,10 +89,11 @@ class DueQueue:
         return self._heap[0][0] if self._heap else None
 
     def second_time(self) -> Optional[int]:
-        """The time after the first one, if it is known without a search."""
-        self.first_time()
-        times = [time for time, name in self._heap[1:3] if self._times.get(name) == time]
-        return min(times) if times else None
+        """The time after the first one; None if there is none, or enough objects wait for the first one."""
+        first = self.first_time()
+        # Fewer than ENOUGH equal entries at the top, and the least one below them, are among these.
+        times = [time for time, name in self._heap[: 2**ENOUGH - 1] if self._times.get(name) == time]
+        return min((time for time in times if time != first), default=None) if times.count(first or 0) < ENOUGH else None
 
 
 class ObjectStates:

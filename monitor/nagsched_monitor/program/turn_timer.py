@@ -12,8 +12,8 @@ from ..core.clock import Clock
 
 # The least time from one turn to the next, in seconds.
 BETWEEN_TURNS = 0.05
-# How long a check waits for the next one, and a result for the next due check, in seconds. Pairs of checks are twice as far from each other.
-MOST_SHARED = 0.08
+# How long checks that are due together wait for the next ones, and a result for the next due check, in seconds.
+MOST_SHARED = 0.12
 LONGEST_UNREPORTED = 2 * MOST_SHARED
 SECOND = 1_000
 
@@ -91,7 +91,7 @@ class TurnTimer:
 def next_turn_time(begun: float, wanted: float, second: Optional[float]) -> Optional[float]:
     """The time of the next turn, even if something comes before it; None if `wanted` is so far off that a result has a turn of its own.
 
-    A check that is due waits for the next one if that is due soon. The two are due together from then on, as far as their phases allow it."""
+    Checks that are due wait for the next one if that is due soon. They are due together from then on, as far as their phases allow it."""
     rested = begun + BETWEEN_TURNS
     if wanted > begun + LONGEST_UNREPORTED:
         return None

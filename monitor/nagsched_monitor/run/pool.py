@@ -17,6 +17,8 @@ LONGEST_LINE = 1_048_576
 PAUSE, LONGEST_PAUSE = 1.0, 60.0
 # The longest delay of a plugin's result after its limit, in seconds.
 LATE = 10.0
+# How many jobs a process of this machine gets before another one is woken.
+TOGETHER = 4
 
 
 @dataclass
@@ -82,14 +84,16 @@ class RunnerPool:
     def flush(self) -> None:
         """Passes on the jobs for which there is room, with one write for each process."""
         self._start_missing()
-        now = self._clock()
+        now, given = self._clock(), 0
         process = self._least_busy()
         while self._waiting and process is not None:
             job, _ = self._waiting.popleft()
             self._number += 1
             process.jobs[self._number] = job, now + job.limit + LATE + (0.0 if self._slots is None else self._wait)
             process.unsent += b'{"job":%d,%s\n' % (self._number, job_members(tuple(job.arguments), job.limit))
-            process = self._least_busy()
+            given += 1
+            if given % TOGETHER == 0 or self._slots is not None:
+                process = self._least_busy()
         while self._slots is not None and self._waiting and now - self._waiting[0][1] >= self._wait:
             self._add_lost(JobLost(self._waiting.popleft()[0], f"the runner {self._name} didn't take it"))
         for process in list(self.processes.values()):
