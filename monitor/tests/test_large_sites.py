@@ -24,7 +24,7 @@ class LargeSites(PartedSiteTest):
         before = resource.getrusage(resource.RUSAGE_CHILDREN)
         subprocess.run(words, stderr=subprocess.DEVNULL, check=True)
         after = resource.getrusage(resource.RUSAGE_CHILDREN)
-        # It takes 7 seconds, and on a machine whose host is busy up to half a minute.
+        # It takes 9 seconds, and on a machine whose host is busy up to half a minute.
         self.assertLess(after.ru_utime + after.ru_stime - before.ru_utime - before.ru_stime, 60)
         self.assertLess(after.ru_maxrss * 1024, 600_000_000)
         return names
