@@ -8,6 +8,7 @@ It looks at the command's processes twice a second, and adds up what each check 
 check used, is programs and tests that run, links, and processes that ended between two looks.
 """
 import collections
+import contextlib
 import os
 import pathlib
 import re
@@ -135,8 +136,13 @@ def main():
     began = time.monotonic()
     with subprocess.Popen(command, start_new_session=True) as running:
         times = Times(running.pid)
+
+        def stop(*_):
+            with contextlib.suppress(ProcessLookupError):
+                os.killpg(running.pid, signal.SIGTERM)
+
         for number in (signal.SIGINT, signal.SIGTERM):
-            signal.signal(number, lambda *_: os.killpg(running.pid, signal.SIGTERM))
+            signal.signal(number, stop)
         while running.poll() is None:
             times.look()
             time.sleep(EVERY)

@@ -192,6 +192,14 @@ class Faults(SiteTest):
         self.assertEqual([line for line in monitor.lines if "otherwise" in line], [said])
         self.assertGreater(monitor.engine.objects["web"].next, BEGIN)
 
+    def test_many_calls_are_saved_sooner(self) -> None:
+        self.write_site([host("web", check_interval=10)], [])
+        monitor = self.monitor(fine)
+        with mock.patch("nagsched_monitor.core.engine.SAVE_CALLS", 10):
+            monitor.run(100)
+        self.assertIsNotNone(monitor.store.generations()[0].saved)
+        self.assertLess(len(monitor.store.calls_since(0, 0)), 12)
+
     def test_one_part_is_saved_at_a_time(self) -> None:
         """Each within five minutes. A call is dropped when both saved states contain it, and a restart misses none."""
         for part in (1, 2):

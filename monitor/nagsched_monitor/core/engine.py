@@ -52,7 +52,7 @@ class Engine:
         # Answers that aren't applied yet: a fault in the middle leaves the rest to the next turn.
         self._answers: Deque[ObjectAnswer] = collections.deque()
         self._last_turn: Optional[int] = None
-        self._await_save()
+        self._schedule_save()
         self.is_stuck = False
         self._drop_results()
         self._await_results(min(clock.wall(), figures.get("written_at", 0.0)))
@@ -193,7 +193,8 @@ class Engine:
         """The milliseconds since the beginning of the last turn that stored everything it had to."""
         return self._clock.moment() - (self._now if self._last_turn is None else self._last_turn)
 
-    def _await_save(self) -> None:
+    def _schedule_save(self) -> None:
+        """Has the next part saved at a later time, or after enough calls from now on."""
         self._save_at, self._saved_call = self._clock.moment() + SAVE_AFTER // len(self.scheduling.schedulers.parts), self.store.last_call
 
     def _save_when_due(self) -> None:
@@ -201,7 +202,7 @@ class Engine:
         if self._now >= self._save_at or self.store.last_call - self._saved_call >= SAVE_CALLS:
             try:
                 self.scheduling.save(self.scheduling.longest_unsaved())
-                self._await_save()
+                self._schedule_save()
                 self.counters.count_save()
             except (NotStored, ConversationEnded) as fault:
                 self._log(f"the state isn't saved: {fault}")
@@ -211,7 +212,7 @@ class Engine:
         """Saves all parts."""
         for part in self.scheduling.schedulers.parts:
             self.scheduling.save(part)
-        self._await_save()
+        self._schedule_save()
         self.counters.count_save()
 
     def close(self) -> None:

@@ -60,7 +60,8 @@ class StandingTable:
             begun = now if ended is None or ended.began_at is None else ended.began_at
             past.last_check, past.took = begun, max(0.0, now - begun)
             past.note(answer.state, answer.kind, now)
-        self._marked.setdefault(obj.name, (obj, self._clock.moment()))
+        _, since = self._marked.get(obj.name, (obj, self._clock.moment()))
+        self._marked[obj.name] = obj, since
 
     def write_soon(self) -> None:
         """Has all marked objects written with the next calls."""
