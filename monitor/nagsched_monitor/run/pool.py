@@ -3,11 +3,11 @@ import collections
 import os
 import subprocess
 from dataclasses import dataclass, field
-from typing import Callable, Deque, Dict, List, Optional, Sequence, Tuple
+from typing import Callable, Deque, Dict, List, Optional, Sequence, Tuple, Union
 
 from ..core.text import plain_text
 from ..program.turn_timer import Watch, write_ready
-from .jobs import Event, Job, JobLost, StuckJobEnded, job_members, read_event, read_line
+from .jobs import Event, Job, JobFinished, JobLost, StuckJobEnded, job_members, read_event, read_line
 from .runner_program import end_process
 
 READ_BYTES = 65_536
@@ -26,18 +26,14 @@ class RunnerProcess:
     """One runner process, and its jobs, each with the time at which its result is late."""
 
     process: "subprocess.Popen[bytes]"
+    # The files by which it reads jobs, and writes results.
+    reads_from: int
+    writes_to: int
     started_at: float
     jobs: Dict[int, Tuple[Job, float]] = field(default_factory=dict)
     stuck: Dict[int, Job] = field(default_factory=dict)
     unread: bytes = b""
     unsent: bytearray = field(default_factory=bytearray)
-    # The files by which it reads jobs, and writes results.
-    reads_from: int = field(init=False)
-    writes_to: int = field(init=False)
-
-    def __post_init__(self) -> None:
-        assert self.process.stdin is not None and self.process.stdout is not None
-        self.reads_from, self.writes_to = self.process.stdin.fileno(), self.process.stdout.fileno()
 
 
 class RunnerPool:
@@ -65,7 +61,8 @@ class RunnerPool:
         try:
             while len(self.processes) < self._count:
                 started = subprocess.Popen(self._arguments, stdin=subprocess.PIPE, stdout=subprocess.PIPE, bufsize=0, start_new_session=True)
-                process = RunnerProcess(started, self._clock())
+                assert started.stdin is not None and started.stdout is not None
+                process = RunnerProcess(started, started.stdin.fileno(), started.stdout.fileno(), self._clock())
                 os.set_blocking(process.writes_to, False)
                 os.set_blocking(process.reads_from, False)  # bytes that it doesn't read at once don't hold up the monitor
                 self.processes[process.writes_to] = process
@@ -137,26 +134,24 @@ class RunnerPool:
             number, members = read_line(line)
             if "error" in members:
                 self._log(f"{self._title}: {plain_text(str(members['error']))}")
-            else:
-                self._apply_result(process, number, members)
+            elif members.get("gone") is True:
+                if number in process.stuck:
+                    self._events.append(StuckJobEnded(process.stuck.pop(number)))
+            elif number in process.jobs:
+                self._end_job(process, number, read_event(process.jobs[number][0], members))
         except (ValueError, RecursionError) as error:
             self._log(f"a line of {self._title} is no result: {error}: {plain_text(line[:200].decode(errors='replace'))!r}")
             if number in process.jobs:
                 self._events.append(JobLost(process.jobs.pop(number)[0], "its runner gave no result"))
 
-    def _apply_result(self, process: RunnerProcess, number: int, members: Dict[str, object]) -> None:
-        if members.get("gone") is True:
-            if number in process.stuck:
-                self._events.append(StuckJobEnded(process.stuck.pop(number)))
-        elif number in process.jobs:
-            event = read_event(process.jobs[number][0], members)
-            job, _ = process.jobs.pop(number)
-            if isinstance(event, JobLost):
-                self._add_lost(event)
-            else:
-                self._events.append(event)
-                if event.is_stuck:
-                    process.stuck[number] = job
+    def _end_job(self, process: RunnerProcess, number: int, event: Union[JobFinished, JobLost]) -> None:
+        del process.jobs[number]
+        if isinstance(event, JobLost):
+            self._add_lost(event)
+            return
+        self._events.append(event)
+        if event.is_stuck:
+            process.stuck[number] = event.job
 
     # ---- ends
 
