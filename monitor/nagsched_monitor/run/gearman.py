@@ -3,7 +3,6 @@ import collections
 import enum
 import socket
 import struct
-from dataclasses import dataclass
 from typing import Callable, Deque, Dict, Generic, Iterator, List, NamedTuple, Optional, Protocol, Sequence, Tuple, TypeVar
 
 from ..program.turn_timer import write_ready
@@ -106,8 +105,7 @@ class JobEventKind(enum.Enum):
     FAILED = "the server or a worker gave it up"
 
 
-@dataclass(frozen=True)
-class JobEvent:
+class JobEvent(NamedTuple):
     kind: JobEventKind
     number: int
     data: bytes = b""

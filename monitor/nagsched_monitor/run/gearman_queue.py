@@ -65,14 +65,13 @@ class Queue(ServerUser[Client]):
             return
         if self.connection is None:
             self.connection = self._connect()
+        begin = time.time()  # a worker takes a job for a limited time by the wall clock
         for number in new:
-            self._pending[number].submitted_at = now
-            self.connection.submit(number, self.name, self._signer.sign(JOB, self._workload(number, self._pending[number])))
-
-    def _workload(self, number: int, job: PendingJob) -> Dict[str, Any]:
-        """The message to a worker: the job, its queue, and the time for which it is valid, by the wall clock."""
-        begin = time.time()
-        return {"job": f"{self._mark}-{number}", "words": job.arguments, "limit": job.limit, "queue": self.name, "time": begin, "until": begin + self._wait}
+            job = self._pending[number]
+            job.submitted_at = now
+            document = {"job": f"{self._mark}-{number}", "words": job.arguments, "limit": job.limit,
+                        "queue": self.name, "time": begin, "until": begin + self._wait}
+            self.connection.submit(number, self.name, self._signer.sign(JOB, document))
 
     def disconnect(self) -> None:
         """Ends the connection: the server forgets the jobs that no worker has taken, and they are submitted over the next one."""
@@ -98,7 +97,7 @@ class Queue(ServerUser[Client]):
         if happening.kind is JobEventKind.FAILED:
             return {"lost": "its worker failed"}
         document = self._signer.verified_document(RESULT, happening.data)
-        if document is None and self._signer.is_signing():
+        if document is None and self._signer.is_signing:
             return {"lost": "its worker's answer isn't signed with this site's key"}
         return read_result(document or {}, f"{self._mark}-{happening.number}") or {"lost": "its worker's answer was no result"}
 

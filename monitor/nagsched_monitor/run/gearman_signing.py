@@ -26,9 +26,7 @@ class Signer:
 
     def __init__(self, key: Optional[bytes]) -> None:
         self._key = key
-
-    def is_signing(self) -> bool:
-        return self._key is not None
+        self.is_signing = key is not None
 
     def sign(self, purpose: bytes, document: Dict[str, Any]) -> bytes:
         body = json.dumps(document).encode()
@@ -36,14 +34,11 @@ class Signer:
 
     def verified_document(self, purpose: bytes, data: bytes) -> Optional[Dict[str, Any]]:
         """The document of a message; None if it isn't signed for this purpose with this key, or isn't a document. Nothing in it is used before that."""
-        if len(data) > MOST_BYTES:
+        body = data if self._key is None else data[SIZE + 1 :]
+        if len(data) > MOST_BYTES or self._key is not None and not hmac.compare_digest(data[:SIZE], self._signature(self._key, purpose, body)):
             return None
-        if self._key is not None:
-            signature, data = data[:SIZE], data[SIZE + 1 :]
-            if not hmac.compare_digest(signature, self._signature(self._key, purpose, data)):
-                return None
         try:
-            document = json.loads(data)
+            document = json.loads(body)
         except (ValueError, RecursionError):
             return None
         return document if isinstance(document, dict) else None
@@ -94,7 +89,7 @@ class JobPolicy:
             raise Refusal("it has no command")
         if not 0 < limit <= LONGEST:
             raise Refusal("it has no limit")
-        if self._signer.is_signing():
+        if self._signer.is_signing:
             self._accept_once(document)
         return arguments, limit
 
