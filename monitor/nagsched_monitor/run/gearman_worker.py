@@ -1,5 +1,6 @@
 """A worker: it takes jobs from queues of a Gearman server, has their plugins run by a runner, and answers with their results."""
 import argparse
+import contextlib
 import os
 import pathlib
 import signal
@@ -13,7 +14,7 @@ from ..program.addresses import parse_address
 from ..program.turn_timer import FilePoller
 from .gearman import Code, Connection, Packet, ServerFault, ServerUser
 from .gearman_signing import JOB, RESULT, JobPolicy, Refusal, Signer, read_signer
-from .jobs import Event, Job, JobFinished, StuckJobEnded, event_members
+from .jobs import Job, JobFinished, StuckJobEnded, event_members
 from .pool import RunnerPool
 from .runner_program import runner_command
 from .runners import raise_file_limit
@@ -141,18 +142,15 @@ class Worker(ServerUser[Connection]):
             if now > running.late:
                 self._runner.kill(running.job)
         for event in self._runner.events():
-            self._handle_event(event)
-
-    def _handle_event(self, event: Event) -> None:
-        if isinstance(event, StuckJobEnded):
-            self._stuck.pop(id(event.job), None)
-            return
-        if isinstance(event, JobFinished) and event.is_stuck:
-            self._stuck[id(event.job)] = event.job.arguments
-        running = self._running.pop(id(event.job))
-        self._wanted = max(1, self._wanted)
-        if running.connection is self.connection:
-            self.connection.send(Code.WORK_COMPLETE, running.handle, self._signed_answer(running.number, event_members(event)))
+            if isinstance(event, StuckJobEnded):
+                self._stuck.pop(id(event.job), None)
+                continue
+            if isinstance(event, JobFinished) and event.is_stuck:
+                self._stuck[id(event.job)] = event.job.arguments
+            running = self._running.pop(id(event.job))
+            self._wanted = max(1, self._wanted)
+            if running.connection is self.connection:
+                self.connection.send(Code.WORK_COMPLETE, running.handle, self._signed_answer(running.number, event_members(event)))
 
     def _log_refusal(self, why: str) -> None:
         """Logs once a minute the number of refused jobs."""
@@ -160,17 +158,6 @@ class Worker(ServerUser[Connection]):
         if self._clock() - self._last_logged >= LOG_REFUSALS_EVERY:
             self._log(f"{self._refused} jobs were refused; the last one: {why}")
             self._refused, self._last_logged = 0, self._clock()
-
-
-def parse_arguments(given: Optional[List[str]]) -> argparse.Namespace:
-    parser = argparse.ArgumentParser(prog="nagsched-gearman-worker", description="Runs the plugins of a monitor's jobs from queues of a Gearman server.")
-    parser.add_argument("server", metavar="ADDRESS:PORT", help="where gearmand listens")
-    parser.add_argument("queues", metavar="QUEUE", nargs="+", help="a queue from which it takes jobs; those of the first one first")
-    parser.add_argument("--slots", type=int, default=SLOTS, metavar="N", help=f"how many plugins may run at once; {SLOTS} without it")
-    parser.add_argument("--key", type=pathlib.Path, metavar="FILE", help="take only jobs that are signed with the key of this file, and sign results with it")
-    parser.add_argument("--unsigned", action="store_true", help="take every job; who reaches the server runs what --only allows")
-    parser.add_argument("--only", type=pathlib.Path, metavar="FILE", help="run only command lines that fit a pattern of this file")
-    return parser.parse_args(given)
 
 
 def find_runner(only: Optional[pathlib.Path]) -> List[str]:
@@ -187,14 +174,19 @@ def find_runner(only: Optional[pathlib.Path]) -> List[str]:
 
 def log(line: str) -> None:
     """Writes a line to standard output, which doesn't block: a line that nobody reads is lost."""
-    try:
+    with contextlib.suppress(OSError):
         os.write(sys.stdout.fileno(), line.encode(errors="replace") + b"\n")
-    except OSError:
-        pass
 
 
 def main(given: Optional[List[str]] = None) -> int:
-    arguments = parse_arguments(given)
+    parser = argparse.ArgumentParser(prog="nagsched-gearman-worker", description="Runs the plugins of a monitor's jobs from queues of a Gearman server.")
+    parser.add_argument("server", metavar="ADDRESS:PORT", help="where gearmand listens")
+    parser.add_argument("queues", metavar="QUEUE", nargs="+", help="a queue from which it takes jobs; those of the first one first")
+    parser.add_argument("--slots", type=int, default=SLOTS, metavar="N", help=f"how many plugins may run at once; {SLOTS} without it")
+    parser.add_argument("--key", type=pathlib.Path, metavar="FILE", help="take only jobs that are signed with the key of this file, and sign results with it")
+    parser.add_argument("--unsigned", action="store_true", help="take every job; who reaches the server runs what --only allows")
+    parser.add_argument("--only", type=pathlib.Path, metavar="FILE", help="run only command lines that fit a pattern of this file")
+    arguments = parser.parse_args(given)
     os.set_blocking(sys.stdout.fileno(), False)
     poller = FilePoller()
     try:
