@@ -83,8 +83,17 @@ class Queue(ServerUser[Client]):
         self._run_steps(now, (self._read, self._abandon_late, self._submit_jobs))
 
     def _read(self, now: float) -> None:
-        for happening in [] if self.connection is None else self.connection.work():
-            self._handle_event(happening, now)
+        for event in [] if self.connection is None else self.connection.work():
+            job = self._pending.get(event.number)
+            if job is None:
+                continue  # it was answered
+            self._note_answer()
+            job.is_acknowledged = True
+            if event.kind is JobEventKind.TAKEN:
+                job.taken_at = now if job.taken_at is None else job.taken_at
+            elif event.kind is not JobEventKind.KNOWN:
+                del self._pending[event.number]
+                self._answer({**self._result_of(event), "job": job.number})
         if any(job.submitted_at is not None and not job.is_acknowledged and now - job.submitted_at >= SILENCE for job in self._pending.values()):
             raise ServerFault("it gives no answer")
 
@@ -109,26 +118,14 @@ class Queue(ServerUser[Client]):
         for job in again.values():
             self.add(job.number, job.arguments, job.limit, job.received_at)
 
-    def _handle_event(self, happening: JobEvent, now: float) -> None:
-        job = self._pending.get(happening.number)
-        if job is None:
-            return  # it was answered
-        self._note_answer()
-        job.is_acknowledged = True
-        if happening.kind is JobEventKind.TAKEN:
-            job.taken_at = now if job.taken_at is None else job.taken_at
-        elif happening.kind is not JobEventKind.KNOWN:
-            del self._pending[happening.number]
-            self._answer({**self._result_of(happening), "job": job.number})
-
-    def _result_of(self, happening: JobEvent) -> Dict[str, Any]:
+    def _result_of(self, event: JobEvent) -> Dict[str, Any]:
         """The result of a job that a worker has answered or that failed."""
-        if happening.kind is JobEventKind.FAILED:
+        if event.kind is JobEventKind.FAILED:
             return {"lost": "its worker failed"}
-        document = self._signer.verified_document(RESULT, happening.data)
+        document = self._signer.verified_document(RESULT, event.data)
         if document is None and self._signer.is_signing:
             return {"lost": "its worker's answer isn't signed with this site's key"}
-        return read_result(document or {}, f"{self._mark}-{happening.number}") or {"lost": "its worker's answer was no result"}
+        return read_result(document or {}, f"{self._mark}-{event.number}") or {"lost": "its worker's answer was no result"}
 
     def _abandon_late(self, now: float) -> None:
         """Abandons the jobs whose results are late, and those that no worker took in time."""

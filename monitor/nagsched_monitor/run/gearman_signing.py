@@ -7,7 +7,6 @@ import hmac
 import json
 import os
 import pathlib
-import stat
 import time
 from typing import Any, Callable, Dict, List, Optional, Sequence, Tuple
 
@@ -62,7 +61,7 @@ def read_signer(path: Optional[pathlib.Path], unsigned: bool) -> Signer:
             key = file.read(MOST_BYTES).strip()
     except OSError as error:
         raise MonitorFault(f"the key {path}: {error.strerror}") from None
-    if mode & (stat.S_IRWXG | stat.S_IRWXO):
+    if mode & 0o077:
         raise MonitorFault(f"the key {path}: others may read it; chmod 600 makes it its owner's alone")
     if len(key) < LEAST_KEY:
         raise MonitorFault(f"the key {path}: it has to have {LEAST_KEY} bytes or more")
