@@ -32,8 +32,6 @@ WAIT, BUSY, IDLE = 30.0, 0.01, 1.0
 # A round that takes longer, in seconds, ends the process by SIGALRM, and the monitor starts another.
 STUCK = 30
 
-Answer = Callable[[Dict[str, Any]], None]
-
 
 @dataclass
 class PendingJob:
@@ -52,7 +50,8 @@ class PendingJob:
 class Queue(ServerUser[Client]):
     """One queue, over a connection of its own. Its `mark` distinguishes its jobs from those of every other runner."""
 
-    def __init__(self, name: str, mark: str, wait: float, connect: Callable[[], Client], answer: Answer, log: Callable[[str], None], signer: Signer) -> None:
+    def __init__(self, name: str, mark: str, wait: float, connect: Callable[[], Client], answer: Callable[[Dict[str, Any]], None],
+                 log: Callable[[str], None], signer: Signer) -> None:
         super().__init__(connect, lambda line: log(f"queue {name}: {line}"))
         self.name, self._mark, self._wait, self._answer, self._signer = name, mark, wait, answer, signer
         # The jobs without an answer, by the numbers under which they were submitted last.
@@ -103,10 +102,11 @@ class Queue(ServerUser[Client]):
             return
         if self.connection is None:
             self.connection = self._connect()
-        begin = time.time()  # a worker takes a job for a limited time by the wall clock
+        begin = time.time()
         for number in new:
             job = self._pending[number]
             job.submitted_at = now
+            # The message to a worker: the job, its queue, and the time for which it is valid, by the wall clock.
             document = {"job": f"{self._mark}-{number}", "words": job.arguments, "limit": job.limit,
                         "queue": self.name, "time": begin, "until": begin + self._wait}
             self.connection.submit(number, self.name, self._signer.sign(JOB, document))
