@@ -127,6 +127,19 @@ class Pauses(unittest.TestCase):
             made.flush()
         self.assertTrue(3 <= len(lines) <= 7, lines)
 
+    def test_two_that_end_at_once(self) -> None:
+        """Each line says when another is started."""
+        lines: List[str] = []
+        files: Dict[int, Callable[[int], None]] = {}
+        made = RunnerPools(2, lines.append, files.__setitem__, files.__delitem__, lambda: 5.0)
+        self.addCleanup(made.close)
+        for process in made.process_ids():
+            os.kill(process, signal.SIGKILL)
+        for file in list(files):
+            self.assertTrue(select.select([file], [], [], LONG)[0])
+            files[file](file)
+        self.assertEqual(lines, ["a runner ended with status -9, and 0 checks with it; another is started in 1 seconds"] * 2)
+
 
 class StandIn(unittest.TestCase):
     """A runner of the test's own, which writes these lines for the first job."""

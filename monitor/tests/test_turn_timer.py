@@ -33,7 +33,7 @@ def turns(a_second: int, seconds: float) -> Tuple[List[float], List[float]]:
 class Turns(unittest.TestCase):
     def test_how_many_and_how_late(self) -> None:
         """At each rate: the most turns per second, and the longest delay of a check, in the first round and in later ones."""
-        for a_second, most_turns in ((1, 2), (5, 5), (8, 8), (10, 5), (12, 6), (13, 7), (18, 5), (25, 7), (40, 10), (100, 20), (500, 20)):
+        for a_second, most_turns in ((1, 2), (5, 5), (8, 8), (10, 5), (12, 6), (13, 7), (18, 5), (25, 7), (40, 5), (100, 5), (200, 5), (500, 10), (800, 20)):
             with self.subTest(a_second=a_second):
                 _, at_first = turns(a_second, INTERVAL)
                 begun, late = turns(a_second, 5 * INTERVAL)
@@ -61,10 +61,12 @@ class Second(unittest.TestCase):
         self.assertEqual((due.first_time(), due.second_time()), (5, 7))
         due.set_time("b", None)
         self.assertEqual((due.first_time(), due.second_time()), (5, 9))
-        for name in "def":
+        for number in range(ENOUGH - 1):
             self.assertEqual((due.first_time(), due.second_time()), (5, 9))
-            due.set_time(name, 5)
+            due.set_time(f"d{number}", 5)
         self.assertIsNone(due.second_time())
+        self.assertEqual(len(due.due_names(6)), ENOUGH)
+        self.assertEqual((due.first_time(), due.second_time()), (9, None))
 
 
 class Waiting(unittest.TestCase):

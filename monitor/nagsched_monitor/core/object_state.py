@@ -54,7 +54,7 @@ class ObjectState:
 
 
 # How many objects are enough for one turn.
-ENOUGH = 4
+ENOUGH = 40
 
 
 @dataclass
@@ -62,38 +62,46 @@ class DueQueue:
     """Objects by the times for which they wait."""
 
     _times: Dict[str, int] = field(default_factory=dict)
-    _heap: List[Tuple[int, str]] = field(default_factory=list)
+    # The names by times, and each of these times once. Names whose time has come are due.
+    _names: Dict[int, Set[str]] = field(default_factory=dict)
+    _heap: List[int] = field(default_factory=list)
     _due: Set[str] = field(default_factory=set)
 
     def set_time(self, name: str, time: Optional[int]) -> None:
-        if time is not None and self._times.get(name) == time:
+        before = self._times.get(name)
+        if time is not None and time == before:
             return
         self._due.discard(name)
-        if time is None:
-            self._times.pop(name, None)
-        else:
+        if before is not None:
+            del self._times[name]
+            self._names.get(before, set()).discard(name)
+        if time is not None:
             self._times[name] = time
-            heapq.heappush(self._heap, (time, name))
+            if time not in self._names:
+                self._names[time] = set()
+                heapq.heappush(self._heap, time)
+            self._names[time].add(name)
 
     def due_names(self, moment: int) -> Set[str]:
-        while self._heap and self._heap[0][0] <= moment:
-            time, name = heapq.heappop(self._heap)
-            if self._times.get(name) == time:
-                self._due.add(name)
+        while self._heap and self._heap[0] <= moment:
+            self._due |= self._names.pop(heapq.heappop(self._heap))
         return self._due
 
     def first_time(self) -> Optional[int]:
         """The earliest time after the last moment that was asked for."""
-        while self._heap and self._times.get(self._heap[0][1]) != self._heap[0][0]:
-            heapq.heappop(self._heap)
-        return self._heap[0][0] if self._heap else None
+        while self._heap and not self._names[self._heap[0]]:
+            del self._names[heapq.heappop(self._heap)]
+        return self._heap[0] if self._heap else None
 
     def second_time(self) -> Optional[int]:
         """The time after the first one; None if there is none, or enough objects wait for the first one."""
         first = self.first_time()
-        # Fewer than ENOUGH equal entries at the top, and the least one below them, are among these.
-        times = [time for time, name in self._heap[: 2**ENOUGH - 1] if self._times.get(name) == time]
-        return min((time for time in times if time != first), default=None) if times.count(first or 0) < ENOUGH else None
+        if first is None or len(self._names[first]) >= ENOUGH:
+            return None
+        heapq.heappop(self._heap)
+        second = self.first_time()
+        heapq.heappush(self._heap, first)
+        return second
 
 
 class ObjectStates:

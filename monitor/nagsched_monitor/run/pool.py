@@ -160,12 +160,11 @@ class RunnerPool:
         if process.writes_to not in self.processes:
             return  # it was seen before
         status, now = self._close_process(process), self._clock()
-        again = "another is started"
         if now >= self._not_before and now - process.started_at < self._pause:
-            again += f" in {self._pause:g} seconds"
             self._not_before, self._pause = now + self._pause, min(LONGEST_PAUSE, 2 * self._pause)
         elif now >= self._not_before:
             self._pause = PAUSE
+        again = "another is started" + (f" in {self._not_before - now:.2g} seconds" if now < self._not_before else "")
         self._log(f"{self._title} ended with status {status}, and {len(process.jobs)} checks with it; {again}")
         self._start_missing()
 
