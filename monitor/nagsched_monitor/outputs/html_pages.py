@@ -2,14 +2,12 @@
 import collections
 import datetime
 import urllib.parse
-from dataclasses import replace
-from typing import Dict, List, Mapping, Optional, Sequence, Set, Tuple
+from typing import Collection, List, Mapping, Optional, Sequence, Tuple
 
 from ..core.text import first_line
 from ..site.groups_file import Groups
-from ..store.rows import StoredStanding
-from .day_chart import day_chart, stretches
-from .status_query import ObjectStatus, SiteStatus
+from ..store.rows import StoredChange, StoredStanding
+from .status_query import DAY, ObjectStatus, SiteStatus
 from .style import CLASSES, STYLE, html_text, look_of
 
 # How often a page renews itself, in seconds.
@@ -18,21 +16,17 @@ YEAR = 31_536_000
 # The last time that has a date here, at the beginning of the year 9999.
 LAST_TIME = 253_370_764_800
 COLUMNS = ("State", "Object", "Attempt", "Since", "Next check", "Last words")
-
-# The cells of a row of a table, as HTML.
-Row = Tuple[str, ...]
+# The picture of a day: the heights of hard and soft states and of unknown ones, and the place of their lower edge.
+HIGH, LOW, THIN, BOTTOM = 44, 24, 6, 52
 
 
 def duration(seconds: float) -> str:
     """A duration, in two units at most."""
     left = max(0, round(seconds))
-    if left < 60:
-        return f"{left} s"
-    if left < 3600:
-        return f"{left // 60} min"
-    if left < 86_400:
-        return f"{left // 3600} h {left % 3600 // 60} min"
-    return f"{left // 86_400} d {left % 86_400 // 3600} h"
+    minutes, hours = left // 60, left // 3600
+    if hours:
+        return f"{hours // 24} d {hours % 24} h" if hours >= 24 else f"{hours} h {minutes % 60} min"
+    return f"{minutes} min" if minutes else f"{left} s"
 
 
 class Times:
@@ -74,23 +68,22 @@ def next_check_text(it: StoredStanding, times: Times) -> str:
     """The time of an object's next check, or why it has no next check."""
     if it.out_since is not None:
         return f"runs since {times.ago(it.out_since)}"
-    if not it.is_on:
-        return "off"
-    if it.next_check is None:
-        return "none"
+    if not it.is_on or it.next_check is None:
+        return "none" if it.is_on else "off"
     if it.next_check > times.now:
         return times.short(it.next_check)
     # A time of long ago asks for a check at once.
     return "due" if times.now - it.next_check > YEAR else f"due since {times.short(it.next_check)}"
 
 
-def object_row(it: StoredStanding, times: Times, since: Optional[float]) -> Row:
+def object_row(it: StoredStanding, times: Times, since: Optional[float]) -> Tuple[str, ...]:
+    """The cells of an object's row, as HTML."""
     attempt = "" if it.attempt is None else str(it.attempt)
     state, words = badge(it.state, it.kind, it.flapping), html_text(first_line(it.words))
     return state, link("/object?name", it.name), attempt, times.ago(since), next_check_text(it, times), words
 
 
-def table(rows: Sequence[Row], empty: str, heads: Sequence[str] = COLUMNS, name: str = "o") -> str:
+def table(rows: Sequence[Sequence[str]], empty: str, heads: Sequence[str] = COLUMNS, name: str = "o") -> str:
     """A table, or a sentence if it has no rows."""
     if not rows:
         return f"<p>{empty}</p>"
@@ -120,7 +113,10 @@ def html_page(title: str, site: str, times: Times, body: Sequence[str]) -> str:
 
 
 def figures_of(status: SiteStatus) -> str:
-    """The number of objects in each state, and the monitor's delay."""
+    """The number of objects in each state, and the monitor's delay. The line before them says so if the monitor isn't working, since they are old then."""
+    silent = status.silent_seconds()
+    since = f"for {duration(silent or 0)}" if "written_at" in status.figures else "yet"
+    silence = "" if silent is None else f'<p class="silent">The monitor has written nothing {since}: what is shown is how things stood then.</p>'
     counts = collections.Counter(str(it.state) for it in status.objects)
     order = [*CLASSES, *sorted(set(counts) - set(CLASSES))]
     states = [(f'<b class="s {look_of(state, None)[0]}">{html_text(state)}</b>', str(counts[state])) for state in order if state in counts]
@@ -132,46 +128,29 @@ def figures_of(status: SiteStatus) -> str:
         ("out", str(len(status.running_checks()))),
         ("due", str(status.due_count())),
     ]
-    return tiles(states) + tiles(keeps_up)
+    return f"{silence}\n{tiles(states)}{tiles(keeps_up)}"
 
 
-def silence_of(status: SiteStatus) -> str:
-    """A line if the monitor isn't working, since the other figures are old then."""
-    silent = status.silent_seconds()
-    if silent is None:
-        return ""
-    since = f"for {duration(silent)}" if "written_at" in status.figures else "yet"
-    return f'<p class="silent">The monitor has written nothing {since}: what is shown is how things stood then.</p>'
-
-
-def groups_of(objects: Sequence[StoredStanding], groups: Mapping[str, Groups]) -> str:
-    """A line for each host and service group: the number of its objects, and of those with problems."""
-    counts: Dict[str, List[int]] = {}
-    for it in objects:
-        for group in names_of(groups.get(it.name, {})):
-            of_group = counts.setdefault(group, [0, 0])
-            of_group[0] += it.is_problem()
-            of_group[1] += 1
-    rows = [(link("/?group", group), str(wrong), str(count)) for group, (wrong, count) in sorted(counts.items())]
+def groups_of(objects: Sequence[StoredStanding], group_names: Mapping[str, Collection[str]]) -> str:
+    """A line for each host and service group, by the groups of each object: the number of its objects, and of those with problems."""
+    members = [(group, it) for it in objects for group in group_names.get(it.name, ())]
+    counts = collections.Counter(group for group, _ in members)
+    wrong = collections.Counter(group for group, it in members if it.is_problem())
+    rows = [(link("/?group", group), str(wrong[group]), str(count)) for group, count in sorted(counts.items())]
     return f"<h2>Groups: {len(rows)}</h2>{table(rows, '', ('Group', 'Wrong', 'Objects'), 'g')}" if rows else ""
-
-
-def names_of(groups: Groups) -> Set[str]:
-    """The host and service groups of an object."""
-    return {*groups.get("host_groups", ()), *groups.get("service_groups", ())}
 
 
 def site_page(status: SiteStatus, groups: Mapping[str, Groups], group: str, site: str, zone: Optional[datetime.tzinfo]) -> str:
     """Problems, running checks, and all hosts and services; those of a group, if one is named."""
     times = Times(status.now, zone)
+    group_names = {name: {*its.get("host_groups", ()), *its.get("service_groups", ())} for name, its in groups.items()}
     if group:
-        status = replace(status, objects=[it for it in status.objects if group in names_of(groups.get(it.name, {}))])
+        status = status._replace(objects=[it for it in status.objects if group in group_names.get(it.name, ())])
     wrong, out = status.problems(), status.running_checks()
     running = ", ".join(f"{link('/object?name', it.name)} <i>{duration(times.now - (it.out_since or 0))}</i>" for it in out)
     hosts, services = ([object_row(it, times, it.since) for it in status.objects if it.is_host() == is_host] for is_host in (True, False))
     body = [
         f"<p>Group {html_text(group)}</p>" if group else "",
-        silence_of(status),
         figures_of(status),
         f"<h2>Wrong now: {len(wrong)}</h2>",
         table([object_row(it, times, it.problem_since()) for it in wrong], "Nothing is wrong."),
@@ -180,7 +159,7 @@ def site_page(status: SiteStatus, groups: Mapping[str, Groups], group: str, site
         table(hosts, "No hosts."),
         f"<h2>Services: {len(services)}</h2>",
         table(services, "No services."),
-        groups_of(status.objects, groups),
+        groups_of(status.objects, group_names),
     ]
     return html_page(f"{len(wrong)} wrong: {group or site}", site, times, body)
 
@@ -188,13 +167,40 @@ def site_page(status: SiteStatus, groups: Mapping[str, Groups], group: str, site
 # ---- the page of an object
 
 
-def legend_of(status: ObjectStatus) -> str:
-    """The states that the picture has, each by its word and colour."""
-    day = stretches(status)
+def stretches(status: ObjectStatus) -> List[StoredChange]:
+    """The day of an object, from its beginning on: what it was since which time. Without a state, no change of it is known."""
+    begin, it = status.now - DAY, status.standing
+    found = [each._replace(time=max(begin, each.time)) for each in status.changes]
+    if not found and it.since is not None and it.state not in (None, "PENDING"):
+        found = [StoredChange(0, max(begin, it.since), it.name, str(it.state), it.kind or "HARD", 1, False, it.words)]
+    return found if found and found[0].time <= begin else [StoredChange(0, begin, it.name, "", "", 0, False, ""), *found]
+
+
+def day_chart(status: ObjectStatus, times: Times) -> str:
+    """The day as a picture: time across, states by colour, hard ones high and soft ones low, and the words of each when pointed at. The states follow.
+
+    Positions across are parts of its width, so that its texts keep their size on a narrow page.
+    """
+    begin, day = times.now - DAY, stretches(status)
+    lines = ['<svg role="img" aria-label="The states of the last day">']
+    for it, end in zip(day, [*(each.time for each in day[1:]), times.now]):
+        left, right = (min(100.0, max(0.0, 100 * (time - begin) / DAY)) for time in (it.time, end))
+        name, word = look_of(it.state, it.kind)
+        height = THIN if not it.state else LOW if word == "soft" else HIGH
+        state = f"{it.state} {word}".rstrip() or "no change is known"
+        title = html_text(f"{times.short(it.time)} to {times.short(end)}: {state} {it.words[:200]}")
+        place = f'x="{left:.3f}%" width="{max(0.1, right - left):.3f}%" y="{BOTTOM - height}" height="{height}"'
+        lines.append(f'<rect class="{name}{"" if it.state else " thin"}" {place}><title>{title}</title></rect>')
+    for quarter, anchor in enumerate(("start", "middle", "middle", "middle", "end")):
+        part, time = 25 * quarter, times.short(begin + DAY * quarter / 4)
+        without_seconds = time[:-3] if time.count(":") == 2 else time[-5:]
+        lines.append(f'<line x1="{part}%" x2="{part}%" y1="{BOTTOM}" y2="{BOTTOM + 6}"></line>')
+        lines.append(f'<text x="{part}%" y="{BOTTOM + 20}" text-anchor="{anchor}">{without_seconds}</text>')
     states = sorted({(it.state, it.kind) for it in day if it.state})
     names = list(dict.fromkeys(badge(state, kind) for state, kind in states))
     names += ["a thin line where no change is known"] if not all(it.state for it in day) else []
-    return f"<p>{', '.join(names)}{'; soft ones are low' if any(kind == 'SOFT' for _, kind in states) else ''}</p>"
+    legend = f"<p>{', '.join(names)}{'; soft ones are low' if any(kind == 'SOFT' for _, kind in states) else ''}</p>"
+    return "\n".join([*lines, "</svg>", legend])
 
 
 def object_page(status: ObjectStatus, groups: Groups, site: str, zone: Optional[datetime.tzinfo]) -> str:
@@ -211,14 +217,13 @@ def object_page(status: ObjectStatus, groups: Groups, site: str, zone: Optional[
         *((kind.replace("_", " "), html_text(", ".join(names))) for kind, names in groups.items()),
     ]
     changes = [(times.short(each.time), badge(each.state, each.kind, each.flapping), str(each.attempt), html_text(first_line(each.words)))
-               for each in reversed(status.changes)]
+               for each in reversed(status.changes) if each.time >= status.now - DAY]
     body = [
         f"<h2>{html_text(it.name)} {badge(it.state, it.kind, it.flapping)}</h2>",
         tiles([pair for pair in pairs if pair[1]]),
         f"<pre>{html_text(it.words) or 'no words'}</pre>",
         "<h2>The last day</h2>",
-        day_chart(status, times.short),
-        legend_of(status),
+        day_chart(status, times),
         table(changes, "No change in the last day.", ("Time", "State", "Attempt", "Words"), "c"),
         "<p>There were more changes than these.</p>" if status.is_cut else "",
     ]

@@ -1,4 +1,6 @@
 """The figures of a site in Prometheus's text format, and as data."""
+import collections
+import itertools
 import json
 import pathlib
 from typing import Any, Dict, List, Mapping, Sequence, Tuple, Union
@@ -28,54 +30,30 @@ def label_value(text: str) -> str:
     return text.replace("\\", "\\\\").replace('"', '\\"').replace("\n", "\\n")
 
 
-def number_text(value: float) -> str:
-    return str(int(value)) if value == int(value) and abs(value) < 2**53 else repr(value)
-
-
 def family(name: str, kind: str, help_text: str, samples: Samples, site: str) -> List[str]:
     """The lines of a family. Each sample has the label `site`."""
     lines = [f"# HELP {name} {help_text}", f"# TYPE {name} {kind}"]
     for suffix, labels, value in () if samples is None else [("", {}, samples)] if isinstance(samples, (int, float)) else samples:
         inner = ",".join(f'{label}="{label_value(text)}"' for label, text in {"site": site, **labels}.items())
-        lines.append(f"{name}{suffix}{{{inner}}} {number_text(value)}")
+        number = str(int(value)) if value == int(value) and abs(value) < 2**53 else repr(value)
+        lines.append(f"{name}{suffix}{{{inner}}} {number}")
     return lines
 
 
 def latency(figures: Mapping[str, float]) -> List[Sample]:
     """The histogram of late starts: each bucket includes those before it."""
-    samples: List[Sample] = []
-    count = 0.0
-    for bound, bucket in zip((*(f"{bound:g}" for bound in BOUNDS), "+Inf"), BUCKETS):
-        count += figures.get(bucket, 0)
-        samples.append(("_bucket", {"le": bound}, count))
-    return [*samples, ("_sum", {}, figures.get("late.sum", 0)), ("_count", {}, count)]
+    bounds = (*(f"{bound:g}" for bound in BOUNDS), "+Inf")
+    counts = list(itertools.accumulate(figures.get(bucket, 0) for bucket in BUCKETS))
+    buckets: List[Sample] = [("_bucket", {"le": bound}, count) for bound, count in zip(bounds, counts)]
+    return [*buckets, ("_sum", {}, figures.get("late.sum", 0)), ("_count", {}, counts[-1])]
 
 
 def read_signs(folder: pathlib.Path) -> Signs:
     """The monitor's own signs of life; nothing if it gives no answer."""
     try:
-        signs: Signs = json.loads(control.send_request(folder, b'{"do":"signs"}', PATIENCE) or b"{}")
+        return dict(json.loads(control.send_request(folder, b'{"do":"signs"}', PATIENCE) or b"{}"))
     except (MonitorFault, ValueError):
         return {}
-    return signs
-
-
-def counted(status: SiteStatus) -> List[Family]:
-    """The facts in the database."""
-    figures, saved = status.figures, status.figures.get("saved_at")
-    results: List[Sample] = [("", {"result": result}, figures.get(f"checks.{result}", 0)) for result in RESULTS]
-    objects: List[Sample] = [("", {"state": state, "kind": kind}, count) for (state, kind), count in sorted(status.state_counts().items())]
-    return [
-        ("nagsched_checks_total", "counter", "Results that were reported, by the state of the object or why there is none.", results),
-        ("nagsched_check_latency_seconds", "histogram", "How late checks began.", latency(figures)),
-        ("nagsched_due", "gauge", "Objects whose time has come and whose check hasn't begun.", status.due_count()),
-        ("nagsched_out", "gauge", "Objects whose plugins run.", len(status.running_checks())),
-        ("nagsched_objects", "gauge", "Objects by state and kind.", objects),
-        ("nagsched_calls_total", "counter", "Calls that were made of the scheduler.", figures.get("calls", 0)),
-        ("nagsched_saves_total", "counter", "States of the scheduler that were saved.", figures.get("saves", 0)),
-        ("nagsched_seconds_since_save", "gauge", "Seconds since the state was saved last.", None if saved is None else round(max(0.0, status.now - saved), 3)),
-        ("nagsched_faults_total", "counter", "Turns that ended with a fault of the monitor's own.", figures.get("faults", 0)),
-    ]
 
 
 def signs_of_life(status: SiteStatus, signs: Signs) -> List[Family]:
@@ -98,33 +76,42 @@ def signs_of_life(status: SiteStatus, signs: Signs) -> List[Family]:
     ]
 
 
-def of_objects(status: SiteStatus, groups: Mapping[str, Groups]) -> List[Family]:
-    """The state of each object that was checked. Soft problems and flapping objects have one more series."""
+def metrics(status: SiteStatus, groups: Mapping[str, Groups], signs: Signs, site: str) -> str:
+    """All families. Each object that was checked has its state, and one more series if its problem is soft or it flaps."""
+    figures, saved = status.figures, status.figures.get("saved_at")
+    results: List[Sample] = [("", {"result": result}, figures.get(f"checks.{result}", 0)) for result in RESULTS]
+    counts = collections.Counter((str(it.state), it.kind or "NONE") for it in status.objects)
+    objects: List[Sample] = [("", {"state": state, "kind": kind}, count) for (state, kind), count in sorted(counts.items())]
     labelled = [(it, labels_of(it.name, groups)) for it in status.objects]
     states: List[Sample] = [("", labels, STATES[str(it.state)]) for it, labels in labelled if it.state in STATES]
     soft: List[Sample] = [("", labels, 1) for it, labels in labelled if it.is_problem() and it.kind == "SOFT"]
     flapping: List[Sample] = [("", labels, 1) for it, labels in labelled if it.flapping]
-    return [
+    families: List[Family] = [
+        ("nagsched_checks_total", "counter", "Results that were reported, by the state of the object or why there is none.", results),
+        ("nagsched_check_latency_seconds", "histogram", "How late checks began.", latency(figures)),
+        ("nagsched_due", "gauge", "Objects whose time has come and whose check hasn't begun.", status.due_count()),
+        ("nagsched_out", "gauge", "Objects whose plugins run.", len(status.running_checks())),
+        ("nagsched_objects", "gauge", "Objects by state and kind.", objects),
+        ("nagsched_calls_total", "counter", "Calls that were made of the scheduler.", figures.get("calls", 0)),
+        ("nagsched_saves_total", "counter", "States of the scheduler that were saved.", figures.get("saves", 0)),
+        ("nagsched_seconds_since_save", "gauge", "Seconds since the state was saved last.", None if saved is None else round(max(0.0, status.now - saved), 3)),
+        ("nagsched_faults_total", "counter", "Turns that ended with a fault of the monitor's own.", figures.get("faults", 0)),
+        *signs_of_life(status, signs),
         ("nagsched_state", "gauge", "Of a service 0 OK, 1 WARNING, 2 CRITICAL, 3 UNKNOWN; of a host 0 UP, 1 DOWN, 2 UNREACHABLE.", states),
         ("nagsched_soft", "gauge", "1 for each object whose problem is soft.", soft),
         ("nagsched_flapping", "gauge", "1 for each object that flaps.", flapping),
     ]
-
-
-def metrics(status: SiteStatus, groups: Mapping[str, Groups], signs: Signs, site: str) -> str:
-    """All families."""
-    return "".join(f"{line}\n" for each in (*counted(status), *signs_of_life(status, signs), *of_objects(status, groups)) for line in family(*each, site))
+    return "".join(f"{line}\n" for each in families for line in family(*each, site))
 
 
 def status_document(status: SiteStatus, groups: Mapping[str, Groups], site: str) -> Dict[str, Any]:
     """The content of the page, as data."""
-    figures = status.figures
     lately = ("checks_a_second", "latest_start", "latest_start_lately", "begun_at", "written_at", "calls", "saves", "saved_at")
     return {
         "site": site,
         "time": status.now,
         "is_silent": status.silent_seconds() is not None,
-        **{name: figures.get(name) for name in lately},
+        **{name: status.figures.get(name) for name in lately},
         "due": status.due_count(),
         "out": len(status.running_checks()),
         "wrong": [it.name for it in status.problems()],

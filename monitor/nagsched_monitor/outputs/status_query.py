@@ -1,11 +1,9 @@
 """A site as other processes show it, read from its database, which is opened for reading only."""
-import collections
 import pathlib
 import sqlite3
 import time
 from contextlib import closing, contextmanager
-from dataclasses import dataclass
-from typing import Counter, Iterator, List, Mapping, Optional, Sequence, Tuple
+from typing import Iterator, List, Mapping, NamedTuple, Optional, Sequence
 
 from ..store.rows import StoredChange, StoredStanding
 
@@ -20,7 +18,6 @@ SILENCE = 20
 
 MEMBERS = ", ".join(StoredStanding._fields).replace("state,", "coalesce(state, 'PENDING'),", 1)
 CUT = MEMBERS.replace("words", f"CASE WHEN length(words) > {LONGEST_WORDS} THEN substr(words, 1, {LONGEST_WORDS}) || '…' ELSE words END")
-CHANGE = "id, time, name, state, kind, attempt, flapping, words"
 PROBLEMS = "WHERE flapping OR state NOT IN ('PENDING', 'OK', 'UP')"
 
 
@@ -28,8 +25,7 @@ class StatusUnavailable(Exception):
     """The database is missing, is locked, or isn't a monitor's."""
 
 
-@dataclass(frozen=True)
-class SiteStatus:
+class SiteStatus(NamedTuple):
     """A site at one moment."""
 
     now: float
@@ -48,24 +44,17 @@ class SiteStatus:
     def due_count(self) -> int:
         return sum(it.is_due(self.now) for it in self.objects)
 
-    def state_counts(self) -> Counter[Tuple[str, str]]:
-        """The number of objects of each state and kind."""
-        return collections.Counter((str(it.state), it.kind or "NONE") for it in self.objects)
-
     def silent_seconds(self) -> Optional[float]:
         """The seconds for which the monitor has written nothing, if it counts as silent; None while it is at work."""
         silent = self.now - self.figures.get("written_at", 0.0)
         return silent if silent > SILENCE else None
 
 
-@dataclass(frozen=True)
-class ObjectStatus:
-    """An object with the changes of its last day, the earliest first."""
+class ObjectStatus(NamedTuple):
+    """An object with the changes of its last day and the last change before it, the earliest first."""
 
     now: float
     standing: StoredStanding
-    # The last change before the day, if one is stored.
-    before: Optional[StoredChange]
     changes: Sequence[StoredChange]
     # Whether there were more changes than the picture shows.
     is_cut: bool
@@ -102,10 +91,10 @@ def read_object(folder: pathlib.Path, name: str) -> Optional[ObjectStatus]:
     now = time.time()
 
     def read_changes(condition: str, most: int) -> List[StoredChange]:
-        query = f"SELECT {CHANGE} FROM changes WHERE name = ? AND time {condition} ? ORDER BY id DESC LIMIT {most}"
+        query = f"SELECT {', '.join(StoredChange._fields)} FROM changes WHERE name = ? AND time {condition} ? ORDER BY id DESC LIMIT {most}"
         return [StoredChange(*row) for row in database.execute(query, (name, now - DAY))]
 
     with open_database(folder) as database:
         found = read_standings(database, MEMBERS, "WHERE name = ?", name)
         lately, before = read_changes(">=", MOST_CHANGES + 1), read_changes("<", 1)
-    return ObjectStatus(now, found[0], before[0] if before else None, lately[:MOST_CHANGES][::-1], len(lately) > MOST_CHANGES) if found else None
+    return ObjectStatus(now, found[0], [*before, *lately[:MOST_CHANGES][::-1]], len(lately) > MOST_CHANGES) if found else None
