@@ -1,13 +1,14 @@
 """The blocks of Nagios's status file: the facts of a site's setup and its table of standings, as members that Nagios's pages read."""
 from dataclasses import dataclass, field
-from typing import Any, Dict, Iterable, List, Mapping
+from typing import Any, Dict, Iterable, List, Mapping, NamedTuple
 
+from ..site.json_files import members_by_name
 from ..store.rows import StoredStanding
 
 # Nagios's numbers for states.
 HOST_STATES = {"UP": 0, "DOWN": 1, "UNREACHABLE": 2}
 SERVICE_STATES = {"OK": 0, "WARNING": 1, "CRITICAL": 2, "UNKNOWN": 3}
-# A line feed is written as two letters, and all other control characters are left out.
+# A line feed is written as two letters, and each other control character as a space.
 PLAIN = {**{code: " " for code in (*range(32), 127)}, 10: "\\n"}
 # The checks of the last minute, of five and of fifteen, in seconds.
 SPANS = (60, 300, 900)
@@ -33,8 +34,7 @@ NO_STATS = ("active_ondemand_host_check", "active_ondemand_service_check", "cach
 Document = Mapping[str, Any]
 
 
-@dataclass
-class Settings:
+class Settings(NamedTuple):
     """The settings of an object, by the site's files."""
 
     check_interval: float = 0.0
@@ -59,15 +59,12 @@ class Program:
 
 def settings_of(setups: Iterable[Document], commands: Document, periods: Document, passive: Document) -> Dict[str, Settings]:
     """The settings of all objects by their full names, by the setups and the other files of a site."""
-    settings = {}
     period_of = periods.get("objects", {})
-    for setup in setups:
-        for it in (*setup.get("hosts", ()), *setup.get("services", ())):
-            name = f"{it['host']};{it['description']}" if "host" in it else it["name"]
-            intervals = it.get("check_interval", 5), it.get("retry_interval", 1)
-            is_passive = passive.get(name, {}).get("only", False)
-            settings[name] = Settings(*intervals, it["max_check_attempts"], command_name(commands.get(name, {})), period_of.get(name, ""), is_passive)
-    return settings
+    return {
+        name: Settings(it.get("check_interval", 5), it.get("retry_interval", 1), it["max_check_attempts"],
+                       command_name(commands.get(name, {})), period_of.get(name, ""), passive.get(name, {}).get("only", False))
+        for setup in setups for name, it in members_by_name(setup).items()
+    }
 
 
 def command_name(members: Document) -> str:

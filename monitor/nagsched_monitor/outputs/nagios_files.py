@@ -3,7 +3,6 @@
 It is a process next to the monitor. Its arguments are the site's folder, the folder of the files, and `notifies` if a command is run for changes. It reads the
 database, and sends requests to the monitor through its socket.
 """
-import collections
 import itertools
 import json
 import os
@@ -12,7 +11,7 @@ import select
 import sqlite3
 import sys
 import time
-from typing import Deque, Dict, List, Optional, Sequence, Tuple
+from typing import Dict, List, Optional, Sequence, Tuple
 
 from ..faults import MonitorFault, RequestFault
 from ..inputs import control
@@ -35,71 +34,34 @@ def log(line: str) -> None:
     print(f"nagios files: {line}", flush=True)
 
 
-class StatusReader:
-    """The parts of the database and the files of a site that the status file needs."""
-
-    def __init__(self, site: pathlib.Path, program: Program) -> None:
-        self._site, self.program = site, program
-        self._seen: Tuple[object, ...] = ()
-        # The contents of the files as they were last without a fault.
-        self._documents: Sequence[Document] = ({}, {}, {})
-        self._last_change = 0
-        self._last_state: Dict[str, str] = {}
-        self.settings: Dict[str, Settings] = {}
-
-    def read(self) -> List[StoredStanding]:
-        """The standings by name; the settings and the earlier states are brought up to date."""
-        with open_database(self._site) as database:
-            self._read_settings(database)
-            self._read_changes(database)
-            return sorted(read_standings(database, MEMBERS))
-
-    def _read_settings(self, database: sqlite3.Connection) -> None:
-        """Reads the setups and the other files of the site, if they have changed."""
-        setups = dict(database.execute("SELECT part, setup FROM generations ORDER BY id"))
-        files = [path.read_bytes() if path.exists() else b"" for path in (self._site / name for name in FILES)]
-        if self._seen == (setups, files):
-            return
-        self._seen, parts = (setups, files), [json.loads(setup) for setup in setups.values()]
-        try:
-            documents = [json.loads(file or b"{}") for file in files]
-            self.settings = settings_of(parts, *documents)
-            self._documents = documents
-        except (ValueError, AttributeError) as error:
-            log(f"the files of the site are half read: {error}")  # they are being edited, and weren't reloaded
-            self.settings = settings_of(parts, *self._documents)
-
-    def _read_changes(self, database: sqlite3.Connection) -> None:
-        """Reads the times at which objects left a state, from the new changes."""
-        for number, moment, name, state in database.execute("SELECT id, time, name, state FROM changes WHERE id > ? ORDER BY id", (self._last_change,)):
-            before = self._last_state.get(name, "OK" if ";" in name else "UP")
-            if before != state:
-                self.program.last_times.setdefault(name, {})[before] = moment
-            self._last_state[name], self._last_change = state, number
-
-
 class NagiosFiles:
     """The files of one site, while this process updates them."""
 
     def __init__(self, site: pathlib.Path, folder: pathlib.Path, notifies: bool) -> None:
         self._site, self._folder = site, folder
         folder.mkdir(parents=True, exist_ok=True)
-        self._reader = StatusReader(site, Program(os.getppid(), int(time.time()), notifies))
-        self._pipe = Pipe(folder)
-        self._waiting: Deque[Tuple[str, Request]] = collections.deque()
+        self._program = Program(os.getppid(), int(time.time()), notifies)
+        self._settings: Dict[str, Settings] = {}
+        # The setups and files that were read last, and the contents of the files as they were last without a fault.
+        self._seen: Tuple[object, ...] = ()
+        self._documents: Sequence[Document] = ({}, {}, {})
+        # The number of the last change that was read, and the state of each object after it.
+        self._last_change = 0
+        self._last_state: Dict[str, str] = {}
         self._services: Dict[str, List[str]] = {}
         self._fault: Optional[str] = None
+        self._pipe = Pipe(folder)
+        self._waiting: List[Tuple[str, Request]] = []
         # Each request has a number of its own, so that it isn't obeyed twice when it is sent twice.
         self._numbers = map(f"pipe-{os.getpid()}-{time.time_ns()}-{{}}".format, itertools.count(1))
 
     def run(self) -> None:
         """Works until its standard input ends."""
-        next_write = time.monotonic()
+        next_write = 0.0
         while True:
-            now = time.monotonic()
-            if now >= next_write:
+            if time.monotonic() >= next_write:
+                next_write = time.monotonic() + EVERY
                 self.write()
-                next_write = now + EVERY
             # While requests wait for the monitor, no more are read: the pipe holds them.
             files = [sys.stdin.fileno(), *([] if self._waiting else [self._pipe.file])]
             left = max(0.0, next_write - time.monotonic())
@@ -119,15 +81,41 @@ class NagiosFiles:
         """Writes the status file again; if that fails, the old one stays."""
         fault = None
         try:
-            standings = self._reader.read()
+            with open_database(self._site) as database:
+                self._read_settings(database)
+                self._read_changes(database)
+                standings = sorted(read_standings(database, MEMBERS))
             self._services = services_by_host(standings)
-            text = status_file(self._reader.program, self._reader.settings, standings, time.time())
+            text = status_file(self._program, self._settings, standings, time.time())
             replace_file(self._folder / "status.dat", text.encode(errors="replace"))
         except (OSError, StatusUnavailable, ValueError) as error:
             fault = f"status.dat isn't written: {error}"
             if fault != self._fault:
                 log(fault)
         self._fault = fault
+
+    def _read_settings(self, database: sqlite3.Connection) -> None:
+        """Reads the setups and the other files of the site, if they have changed."""
+        setups = dict(database.execute("SELECT part, setup FROM generations ORDER BY id"))
+        files = [path.read_bytes() if path.exists() else b"" for path in (self._site / name for name in FILES)]
+        if self._seen == (setups, files):
+            return
+        self._seen, parts = (setups, files), [json.loads(setup) for setup in setups.values()]
+        try:
+            documents = [json.loads(file or b"{}") for file in files]
+            self._settings = settings_of(parts, *documents)
+            self._documents = documents
+        except (ValueError, AttributeError) as error:
+            log(f"the files of the site are half read: {error}")  # they are being edited, and weren't reloaded
+            self._settings = settings_of(parts, *self._documents)
+
+    def _read_changes(self, database: sqlite3.Connection) -> None:
+        """Reads the times at which objects left a state, from the new changes."""
+        for number, moment, name, state in database.execute("SELECT id, time, name, state FROM changes WHERE id > ? ORDER BY id", (self._last_change,)):
+            before = self._last_state.get(name, "OK" if ";" in name else "UP")
+            if before != state:
+                self._program.last_times.setdefault(name, {})[before] = moment
+            self._last_state[name], self._last_change = state, number
 
     # ---- the pipe
 
@@ -143,19 +131,18 @@ class NagiosFiles:
     def send_requests(self) -> None:
         """Has the monitor obey the waiting requests. Requests that it doesn't answer, or can't obey now, are sent again."""
         while self._waiting:
-            some = list(itertools.islice(self._waiting, AT_ONCE))
+            some = self._waiting[:AT_ONCE]
             try:
                 answers = control.send_requests(self._site, [json.dumps(request, ensure_ascii=False).encode(errors="replace") for _, request in some])
             except MonitorFault:
                 return  # it begins, ends or reads its site; the request is sent again
             again = []
-            for asked, answer in zip(some, map(json.loads, answers)):
-                self._waiting.popleft()
+            for (name, request), answer in zip(some, map(json.loads, answers)):
                 if answer.get("again", False):
-                    again.append(asked)
+                    again.append((name, request))
                 elif "error" in answer:
-                    log(f"{asked[0]}: {asked[1].get('name', '')}: {answer['error']}")
-            self._waiting.extendleft(reversed(again))
+                    log(f"{name}: {request.get('name', '')}: {answer['error']}")
+            self._waiting[: len(answers)] = again
             if again or len(answers) < len(some):
                 return
 
@@ -173,9 +160,8 @@ def replace_file(path: pathlib.Path, data: bytes) -> None:
     """Writes a file as a whole: a reader gets the old one or this."""
     new = path.with_name(f"{path.name}.new")
     new.unlink(missing_ok=True)
-    file = os.open(new, os.O_WRONLY | os.O_CREAT | os.O_EXCL | os.O_CLOEXEC, MODE)
-    with open(file, "wb") as there:
-        os.fchmod(file, MODE)
+    with open(new, "xb", opener=lambda path, flags: os.open(path, flags, MODE)) as there:
+        os.fchmod(there.fileno(), MODE)
         there.write(data)
     new.replace(path)
 
