@@ -3,6 +3,7 @@ import datetime
 import json
 import os
 import subprocess
+import tempfile
 import time
 import warnings
 from typing import List, Optional
@@ -158,7 +159,7 @@ class Command(SiteTest):
         """One line says why it isn't started, and it is started when there is room."""
         self.keep(1)
         notifier = self.notifier(f"cat >> {self.folder}/taken")
-        for what, fault in ((subprocess, "Popen"), (changes, "file_of_bytes")):
+        for what, fault in ((subprocess, "Popen"), (tempfile, "TemporaryFile")):
             with mock.patch.object(what, fault, side_effect=OSError(28, "no room")):
                 for _ in range(3):
                     notifier.work()

@@ -7,7 +7,7 @@ import signal
 import subprocess
 import tempfile
 import time
-from typing import IO, Callable, Optional
+from typing import Callable, Optional
 
 from ..core.text import first_line
 from ..faults import NotStored
@@ -26,9 +26,8 @@ def is_change(before: Optional[Standing], now: Standing) -> bool:
     """Whether there is something to print: another state, a problem that became hard, flapping that begins or ends."""
     if before is None or before.state == "PENDING":
         return now.is_problem() or now.flapping
-    if before.state != now.state or before.flapping != now.flapping:
-        return True
-    return before.kind == "SOFT" and now.kind == "HARD" and now.is_problem()
+    became_hard = before.kind == "SOFT" and now.kind == "HARD" and now.is_problem()
+    return before.state != now.state or before.flapping != now.flapping or became_hard
 
 
 def is_important(before: Optional[Standing], now: Standing) -> bool:
@@ -58,19 +57,15 @@ class Notifier:
 
     def __init__(self, command: Optional[str], store: Store, log: Callable[[str], None], clock: Callable[[], float] = time.monotonic,
                  wall: Callable[[], float] = time.time) -> None:
-        self._command, self._store, self._log, self._clock, self._wall = command, store, log, clock, wall
+        self.command, self._store, self._log, self._clock, self._wall = command, store, log, clock, wall
         self._process: Optional["subprocess.Popen[bytes]"] = None
         # The number of the last change that the command got, and when the command is killed.
         self._last_passed, self._deadline = 0, 0.0
-        self._pause = PAUSE
-        self._not_before = 0.0
+        self._pause, self._not_before = PAUSE, 0.0
         # Why the last try failed: the command couldn't be run, or the database couldn't be read or written.
         self._trouble: Optional[str] = None
         # The last change that was accepted or is too old, if that couldn't be stored yet: it isn't passed again.
         self._to_drop: Optional[int] = None
-
-    def is_wanted(self) -> bool:
-        return self._command is not None
 
     def is_busy(self) -> bool:
         """Whether there is more to do soon."""
@@ -78,13 +73,11 @@ class Notifier:
 
     def work(self) -> None:
         """Looks after the running command, and starts it for waiting changes."""
-        if self._command is None:
-            return
         if self._process is not None:
             self._check_command(self._process)
-        if self._process is None and self._clock() >= self._not_before:
+        if self.command is not None and self._process is None and self._clock() >= self._not_before:
             try:
-                self._start_command(self._command)
+                self._start_command(self.command)
             except (OSError, NotStored) as error:  # there is no room for a file or a process now, or the database can't be read or written
                 self._retry_later(f"the command for changes waits: {error}")
 
@@ -99,7 +92,9 @@ class Notifier:
             self._drop(old[-1][0])
             waiting = [each for each in waiting if each[0] > old[-1][0]]
         if waiting:
-            with file_of_bytes("".join(f"{document}\n" for _, document in waiting).encode()) as given:
+            with tempfile.TemporaryFile() as given:
+                given.write("".join(f"{document}\n" for _, document in waiting).encode())
+                given.seek(0)
                 self._process = subprocess.Popen(["/bin/sh", "-c", command], stdin=given, start_new_session=True)
             self._last_passed, self._deadline = waiting[-1][0], self._clock() + LIMIT
 
@@ -143,11 +138,3 @@ class Notifier:
                 self._process.wait(timeout=LIMIT)
             self._deadline = self._clock()
             self._check_command(self._process)
-
-
-def file_of_bytes(data: bytes) -> IO[bytes]:
-    """A file without a name that contains these bytes, at its beginning."""
-    file = tempfile.TemporaryFile()
-    file.write(data)
-    file.seek(0)
-    return file

@@ -88,7 +88,7 @@ class Monitor:
         why = ""
         for tried in range(START_TRIES):
             time.sleep(START_PAUSE if tried else 0)
-            scheduling = Scheduling(self._program, site, self.store, self.clock, self.log, self._notifier.is_wanted())
+            scheduling = Scheduling(self._program, site, self.store, self.clock, self.log, self._notifier.command is not None)
             try:
                 scheduling.open()
                 return scheduling
