@@ -113,17 +113,16 @@ def html_page(title: str, site: str, times: Times, body: Sequence[str]) -> str:
 
 
 def figures_of(status: SiteStatus) -> str:
-    """The number of objects in each state, and the monitor's delay. The line before them says so if the monitor isn't working, since they are old then."""
+    """The number of objects in each state, and the monitor's delay. A line before them says so if they are old, since the monitor isn't working."""
     silent = status.silent_seconds()
     since = f"for {duration(silent or 0)}" if "written_at" in status.figures else "yet"
     silence = "" if silent is None else f'<p class="silent">The monitor has written nothing {since}: what is shown is how things stood then.</p>'
     counts = collections.Counter(str(it.state) for it in status.objects)
     order = [*CLASSES, *sorted(set(counts) - set(CLASSES))]
     states = [(f'<b class="s {look_of(state, None)[0]}">{html_text(state)}</b>', str(counts[state])) for state in order if state in counts]
-    figures = status.figures
-    late, latest = figures.get("latest_start_lately", 0.0), figures.get("latest_start", 0.0)
+    rate, late, latest = (status.figures.get(name, 0.0) for name in ("checks_a_second", "latest_start_lately", "latest_start"))
     keeps_up = [
-        ("checks a second", f"{figures.get('checks_a_second', 0.0):.2f}"),
+        ("checks a second", f"{rate:.2f}"),
         ("latest start behind its time", f"{late:.2f} s <i>lately, {latest:.2f} s at most</i>"),
         ("out", str(len(status.running_checks()))),
         ("due", str(status.due_count())),
@@ -177,9 +176,9 @@ def stretches(status: ObjectStatus) -> List[StoredChange]:
 
 
 def day_chart(status: ObjectStatus, times: Times) -> str:
-    """The day as a picture: time across, states by colour, hard ones high and soft ones low, and the words of each when pointed at. The states follow.
+    """The day as a picture: time across, states by colour, hard ones high and soft ones low, and the words of each when pointed at.
 
-    Positions across are parts of its width, so that its texts keep their size on a narrow page.
+    Positions across are parts of its width, so that its texts keep their size on a narrow page. A legend of its states follows.
     """
     begin, day = times.now - DAY, stretches(status)
     lines = ['<svg role="img" aria-label="The states of the last day">']

@@ -37,17 +37,14 @@ MOST_CLIENTS = 64
 HTML, JSON, METRICS, PLAIN = "text/html; charset=utf-8", "application/json", "text/plain; version=0.0.4; charset=utf-8", "text/plain; charset=utf-8"
 
 
-def is_allowed_host(given: Optional[str], names: Sequence[str]) -> bool:
-    """Whether a `Host` is an address, localhost, or one of these names; the port doesn't matter. Older clients send none."""
-    if given is None:
-        return True
+def is_allowed_host(given: str, names: Sequence[str]) -> bool:
+    """Whether a `Host` is an address, localhost, or one of these names; the port doesn't matter."""
     name = given.strip().lower()
     name = name[1:].partition("]")[0] if name.startswith("[") else name.partition(":")[0]
-    try:
+    with contextlib.suppress(ValueError):
         ipaddress.ip_address(name)
         return True
-    except ValueError:
-        return name.rstrip(".") in ("localhost", *names)
+    return name.rstrip(".") in ("localhost", *names)
 
 
 class Handler(http.server.BaseHTTPRequestHandler):
@@ -57,7 +54,7 @@ class Handler(http.server.BaseHTTPRequestHandler):
     server: "Server"
 
     def do_GET(self) -> None:
-        if not is_allowed_host(self.headers.get("Host"), self.server.names):
+        if not is_allowed_host(self.headers.get("Host", "localhost"), self.server.names):  # older clients send none
             return self.send_error(HTTPStatus.MISDIRECTED_REQUEST)
         path, _, query = self.path.partition("?")
         try:
@@ -98,32 +95,26 @@ class SiteFolder:
     """The folder of a site that the page shows."""
 
     def __init__(self, folder: pathlib.Path) -> None:
-        self._folder = folder
-        self.name = folder.resolve().name
-        self._groups = GroupsFile(folder)
+        self._folder, self._name, self._groups = folder, folder.resolve().name, GroupsFile(folder)
         self._zone: Optional[datetime.tzinfo] = None
-
-    def zone(self) -> Optional[datetime.tzinfo]:
-        """The zone of the site; if its file is faulty now, the zone before."""
-        with contextlib.suppress(SiteFault):
-            _, self._zone = read_options(self._folder)
-        return self._zone
 
     def document(self, path: str, query: str) -> Tuple[str, str]:
         """The kind and the text of the resource at a path. `KeyError` if there is nothing, `StatusUnavailable` if the database can't be read."""
         groups = self._groups.read()
+        with contextlib.suppress(SiteFault):  # while the file is faulty, the zone stays
+            _, self._zone = read_options(self._folder)
         if path == "/":
             group = urllib.parse.parse_qs(query).get("group", [""])[0]
-            return HTML, html_pages.site_page(read_site_status(self._folder), groups, group, self.name, self.zone())
+            return HTML, html_pages.site_page(read_site_status(self._folder), groups, group, self._name, self._zone)
         if path == "/status.json":
-            return JSON, json.dumps(metrics.status_document(read_site_status(self._folder), groups, self.name), ensure_ascii=False) + "\n"
+            return JSON, json.dumps(metrics.status_document(read_site_status(self._folder), groups, self._name), ensure_ascii=False) + "\n"
         if path == "/metrics":
-            return METRICS, metrics.metrics(read_site_status(self._folder), groups, metrics.read_signs(self._folder), self.name)
+            return METRICS, metrics.metrics(read_site_status(self._folder), groups, metrics.read_signs(self._folder), self._name)
         if path == "/object":
             names = urllib.parse.parse_qs(query, keep_blank_values=True).get("name", [])
             status = read_object(self._folder, names[0]) if len(names) == 1 else None
             if status is not None:
-                return HTML, html_pages.object_page(status, groups.get(status.standing.name, {}), self.name, self.zone())
+                return HTML, html_pages.object_page(status, groups.get(status.standing.name, {}), self._name, self._zone)
         raise KeyError(path)
 
 
@@ -177,8 +168,7 @@ def main() -> int:
     try:
         server = Server(parse_address(place), SiteFolder(pathlib.Path(folder)), names)
     except (MonitorFault, OSError) as fault:
-        print(f"the page on {place}: {fault}", file=sys.stderr)
-        return 1
+        sys.exit(f"the page on {place}: {fault}")
     print(f"the page is at {server.url()}", flush=True)
     while not is_ended(0):
         server.handle_request()
