@@ -60,8 +60,7 @@ class AlertPoster:
 
     def __init__(self, url: str, folder: pathlib.Path, every: float = EVERY, ends: float = ENDS) -> None:
         self._url, self._folder, self._every, self._ends = f"{url.rstrip('/')}/api/v2/alerts", folder, every, ends
-        self._site = folder.resolve().name
-        self._groups = GroupsFile(folder)
+        self._site, self._groups = folder.resolve().name, GroupsFile(folder)
         # The alerts that Alertmanager has accepted as firing, and when all are posted again.
         self._posted: Dict[Labels, Alert] = {}
         self._next_post = 0.0
@@ -84,9 +83,8 @@ class AlertPoster:
 
     def _post(self, alerts: Mapping[Labels, Alert], now: float) -> None:
         """Posts the current alerts, and ends the others. If Alertmanager doesn't take them, all are posted again."""
-        standing = [{**alert, "endsAt": timestamp(now + self._ends)} for alert in alerts.values()]
-        ended = [{**alert, "endsAt": timestamp(now)} for labels, alert in self._posted.items() if labels not in alerts]
-        all_of = ended + standing
+        all_of = [{**alert, "endsAt": timestamp(now)} for labels, alert in self._posted.items() if labels not in alerts]
+        all_of += [{**alert, "endsAt": timestamp(now + self._ends)} for alert in alerts.values()]
         for first in range(0, len(all_of), AT_ONCE):
             body = json.dumps(all_of[first : first + AT_ONCE], ensure_ascii=False).encode(errors="replace")
             urllib.request.urlopen(urllib.request.Request(self._url, body, {"Content-Type": "application/json"}), timeout=PATIENCE).close()

@@ -160,7 +160,7 @@ def replace_file(path: pathlib.Path, data: bytes) -> None:
     """Writes a file as a whole: a reader gets the old one or this."""
     new = path.with_name(f"{path.name}.new")
     new.unlink(missing_ok=True)
-    with open(new, "xb", opener=lambda path, flags: os.open(path, flags, MODE)) as there:
+    with open(new, "xb", opener=lambda name, flags: os.open(name, flags, MODE)) as there:
         os.fchmod(there.fileno(), MODE)
         there.write(data)
     new.replace(path)

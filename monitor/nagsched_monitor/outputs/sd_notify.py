@@ -5,8 +5,6 @@ import socket
 import time
 from typing import Callable, MutableMapping, Optional
 
-MICROSECOND = 1e-6
-
 
 class ServiceManager:
     """The service manager that started the monitor; without a manager nothing is sent."""
@@ -17,8 +15,8 @@ class ServiceManager:
         self._address = environment.pop("NOTIFY_SOCKET", None)
         watched, of = environment.pop("WATCHDOG_USEC", ""), environment.pop("WATCHDOG_PID", str(os.getpid()))
         is_mine = watched.isdigit() and of == str(os.getpid())
-        # Half of the time after which the monitor counts as stuck, in seconds.
-        self._interval: Optional[float] = int(watched) * MICROSECOND / 2 if is_mine else None
+        # Half of the time after which the monitor counts as stuck, in seconds. The variable has it in microseconds.
+        self._interval: Optional[float] = int(watched) / 1e6 / 2 if is_mine else None
         self._last_sent = clock()
 
     def notify_ready(self, words: str) -> None:
@@ -39,7 +37,6 @@ class ServiceManager:
             return
         # A name that begins with @ isn't the name of a file.
         address = f"\0{self._address[1:]}" if self._address.startswith("@") else self._address
-        with socket.socket(socket.AF_UNIX, socket.SOCK_DGRAM | socket.SOCK_CLOEXEC) as there:
-            there.setblocking(False)
-            with contextlib.suppress(OSError):  # the manager is gone, or doesn't read: monitoring continues without it
-                there.sendto(lines.encode(), address)
+        with socket.socket(socket.AF_UNIX, socket.SOCK_DGRAM) as there, contextlib.suppress(OSError):
+            # The manager may be gone, or not read: monitoring continues without it.
+            there.sendto(lines.encode(), socket.MSG_DONTWAIT, address)
