@@ -138,11 +138,10 @@ class Server(socketserver.ThreadingTCPServer):
         return f"http://{f'[{host}]' if ':' in host else host}:{port}/"
 
     def process_request(self, request: Any, client_address: Any) -> None:
-        if len(self._started_at) < MOST_CLIENTS:
-            self._started_at[request] = time.monotonic()
-            super().process_request(request, client_address)
-        else:
-            self.shutdown_request(request)
+        if len(self._started_at) >= MOST_CLIENTS:
+            return self.shutdown_request(request)
+        self._started_at[request] = time.monotonic()
+        super().process_request(request, client_address)
 
     def shutdown_request(self, request: Any) -> None:
         self._started_at.pop(request, None)
