@@ -12,7 +12,6 @@ from .style import CLASSES, STYLE, html_text, look_of
 
 # How often a page renews itself, in seconds.
 RENEW_EVERY = 15
-YEAR = 31_536_000
 # The last time that has a date here, at the beginning of the year 9999.
 LAST_TIME = 253_370_764_800
 COLUMNS = ("State", "Object", "Attempt", "Since", "Next check", "Last words")
@@ -73,7 +72,7 @@ def next_check_text(it: StoredStanding, times: Times) -> str:
     if it.next_check > times.now:
         return times.short(it.next_check)
     # A time of long ago asks for a check at once.
-    return "due" if times.now - it.next_check > YEAR else f"due since {times.short(it.next_check)}"
+    return "due" if times.now - it.next_check > 365 * DAY else f"due since {times.short(it.next_check)}"
 
 
 def object_row(it: StoredStanding, times: Times, since: Optional[float]) -> Tuple[str, ...]:

@@ -10,8 +10,6 @@ HOST_STATES = {"UP": 0, "DOWN": 1, "UNREACHABLE": 2}
 SERVICE_STATES = {"OK": 0, "WARNING": 1, "CRITICAL": 2, "UNKNOWN": 3}
 # A line feed is written as two letters, and each other control character as a space.
 PLAIN = {**{code: " " for code in (*range(32), 127)}, 10: "\\n"}
-# The checks of the last minute, of five and of fifteen, in seconds.
-SPANS = (60, 300, 900)
 
 # Members that are the same for every object, and for the program: the monitor has no event handlers, downtime, acknowledgements or notifications of its own.
 ZEROS = (
@@ -94,12 +92,12 @@ def block(kind: str, members: Mapping[str, object]) -> str:
 
 
 def program_block(program: Program, hosts: List[StoredStanding], services: List[StoredStanding], settings: Mapping[str, Settings], now: float) -> str:
-    """The monitor itself, and how many objects were checked within each of the spans."""
+    """The monitor itself, and how many objects were checked within the last minute, five minutes and fifteen."""
     checked = {}
     for what, all_of in (("host", hosts), ("service", services)):
         for how, is_passive in (("active_scheduled", False), ("passive", True)):
             times = [kept.last_check or 0 for kept in all_of if settings.get(kept.name, Settings()).is_passive == is_passive]
-            checked[f"{how}_{what}_check_stats"] = ",".join(str(sum(time > now - span for time in times)) for span in SPANS)
+            checked[f"{how}_{what}_check_stats"] = ",".join(str(sum(time > now - span for time in times)) for span in (60, 300, 900))
     own = {"nagios_pid": program.process, "program_start": program.started_at, "enable_notifications": int(program.has_notifications),
            "global_host_event_handler": "", "global_service_event_handler": ""}
     return block("programstatus", {**OF_PROGRAM, **own, **checked, **{f"{each}_stats": "0,0,0" for each in NO_STATS}})
