@@ -240,7 +240,7 @@ class Measured(PageTest):
         words = "PING OK - Packet loss = 0%, RTA = 0.80 ms | rta=0.8ms;100;500 pl=0%;20;60"
         fill_database(self.folder, [standing(f"host-{number:04};disk <root>", "OK", words=words) for number in range(count)])
         site = page.SiteFolder(self.folder)
-        self.assertEqual(len(Reader(site.document("/", "")[1]).tables[0]), count)
+        self.assertEqual(len(Reader((site.document("/", "") or ("", ""))[1]).tables[0]), count)
         with mock.patch.object(page, "read_site_status", with_counted_names):
             return work_of(lambda: site.document("/", ""))
 

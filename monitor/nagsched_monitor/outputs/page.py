@@ -58,11 +58,12 @@ class Handler(http.server.BaseHTTPRequestHandler):
             return self.send_error(HTTPStatus.MISDIRECTED_REQUEST)
         path, _, query = self.path.partition("?")
         try:
-            self._send(HTTPStatus.OK, *self.server.site.document(path, query))
+            document = self.server.site.document(path, query)
         except StatusUnavailable as fault:
-            self._send(HTTPStatus.SERVICE_UNAVAILABLE, PLAIN, f"{fault}\n")
-        except KeyError:
-            self.send_error(HTTPStatus.NOT_FOUND)
+            return self._send(HTTPStatus.SERVICE_UNAVAILABLE, PLAIN, f"{fault}\n")
+        if document is None:
+            return self.send_error(HTTPStatus.NOT_FOUND)
+        self._send(HTTPStatus.OK, *document)
 
     do_HEAD = do_GET
 
@@ -98,8 +99,8 @@ class SiteFolder:
         self._folder, self._name, self._groups = folder, folder.resolve().name, GroupsFile(folder)
         self._zone: Optional[datetime.tzinfo] = None
 
-    def document(self, path: str, query: str) -> Tuple[str, str]:
-        """The kind and the text of the resource at a path. `KeyError` if there is nothing, `StatusUnavailable` if the database can't be read."""
+    def document(self, path: str, query: str) -> Optional[Tuple[str, str]]:
+        """The kind and the text of the resource at a path; None if there is nothing. Raises `StatusUnavailable` if the database can't be read."""
         groups = self._groups.read()
         with contextlib.suppress(SiteFault):  # while the file is faulty, the zone stays
             _, self._zone = read_options(self._folder)
@@ -115,7 +116,7 @@ class SiteFolder:
             status = read_object(self._folder, names[0]) if len(names) == 1 else None
             if status is not None:
                 return HTML, html_pages.object_page(status, groups.get(status.standing.name, {}), self._name, self._zone)
-        raise KeyError(path)
+        return None
 
 
 class Server(socketserver.ThreadingTCPServer):
