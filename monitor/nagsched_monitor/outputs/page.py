@@ -103,7 +103,7 @@ class SiteFolder:
         """The kind and the text of the resource at a path; None if there is nothing. Raises `StatusUnavailable` if the database can't be read."""
         groups = self._groups.read()
         with contextlib.suppress(SiteFault):  # while the file is faulty, the zone stays
-            _, self._zone = read_options(self._folder)
+            self._zone = read_options(self._folder).zone
         if path == "/":
             group = urllib.parse.parse_qs(query).get("group", [""])[0]
             return HTML, html_pages.site_page(read_site_status(self._folder), groups, group, self._name, self._zone)

@@ -125,7 +125,7 @@ class Monitor:
     def _log_changes(self) -> Optional[int]:
         """Logs the changes of the turn, and has the command run for them."""
         for change in self.scheduling.pop_changes():
-            self.log(changes.change_line(change, self.site.zone))
+            self.log(changes.change_line(change, self.site.options.zone))
         self._notifier.work()
         return self.clock.moment() + BUSY_WAIT if self._notifier.is_busy() else None
 

@@ -31,7 +31,7 @@ class Command:
 def read_commands(folder: pathlib.Path, objects: Container[str], runner_of: Container[str]) -> Dict[str, Command]:
     """The command of each object. Each line can be split, and has a program that exists, unless a runner elsewhere runs it."""
     commands = {}
-    is_program.cache_clear()
+    which = functools.lru_cache(maxsize=None)(shutil.which)  # many lines have the same program
     for name, place, members in read_by_name(folder, "commands.json", ("line", "shell", "limit"), objects, required=True):
         line, shell = members.get("line"), members.get("shell", False)
         if not isinstance(line, str) or not isinstance(shell, bool):
@@ -41,12 +41,15 @@ def read_commands(folder: pathlib.Path, objects: Container[str], runner_of: Cont
         if HALF.search(line):
             raise SiteFault(f"{place}: its line has half a character")
         limit = read_seconds(members.get("limit", 60), f"{place}: limit")
-        commands[name] = Command(shell_arguments(line, place) if shell else plain_arguments(line, place, name not in runner_of), limit)
+        arguments = shell_arguments(line, place) if shell else plain_arguments(line, place)
+        if name not in runner_of and which(arguments[0]) is None:
+            raise SiteFault(f"{place}: there is no program {arguments[0]}")
+        commands[name] = Command(arguments, limit)
     return commands
 
 
-def plain_arguments(line: str, place: str, is_here: bool) -> List[str]:
-    """The words of a line that no shell runs; the first is a program that exists, if it is run here."""
+def plain_arguments(line: str, place: str) -> List[str]:
+    """The words of a line that no shell runs."""
     try:
         arguments, signs = (line.split(), []) if PLAIN.fullmatch(line) else (shlex.split(line), shell_characters(line))
     except ValueError as error:
@@ -55,15 +58,7 @@ def plain_arguments(line: str, place: str, is_here: bool) -> List[str]:
         raise SiteFault(f"{place}: its line is empty")
     if signs:
         raise SiteFault(f'{place}: only a shell gives {signs[0]} a meaning: add "shell": true, or put it in quotes')
-    if is_here and not is_program(arguments[0]):
-        raise SiteFault(f"{place}: there is no program {arguments[0]}")
     return arguments
-
-
-@functools.lru_cache(maxsize=None)
-def is_program(name: str) -> bool:
-    """Whether a program exists; the answers are forgotten when a site is read again."""
-    return shutil.which(name) is not None
 
 
 def shell_characters(line: str) -> List[str]:

@@ -40,16 +40,15 @@ class GroupsFile:
 
     def __init__(self, folder: pathlib.Path) -> None:
         self._folder = folder
-        # The state of the file when it was read; None if it didn't exist.
-        self._file_state: Optional[Tuple[int, ...]] = ()
+        # The state of the file when it was read; empty if it didn't exist.
+        self._file_state: Optional[Tuple[int, ...]] = None
         self._groups: Dict[str, Groups] = {}
 
     def read(self) -> Dict[str, Groups]:
-        try:
+        file_state: Tuple[int, ...] = ()
+        with contextlib.suppress(OSError):
             stat = (self._folder / FILE).stat()
-            file_state: Optional[Tuple[int, ...]] = (stat.st_mtime_ns, stat.st_size, stat.st_ino)
-        except OSError:
-            file_state = None
+            file_state = stat.st_mtime_ns, stat.st_size, stat.st_ino
         if file_state != self._file_state:
             with contextlib.suppress(SiteFault):
                 self._groups, self._file_state = read_groups(self._folder), file_state

@@ -38,44 +38,38 @@ def lock_for_reading(folder: pathlib.Path) -> Iterator[None]:
         os.close(lock)
 
 
-def read_object(folder: pathlib.Path, name: str, required: bool = False) -> Dict[str, Any]:
+def read_object(folder: pathlib.Path, name: str, known: Optional[Sequence[str]] = None, required: bool = False) -> Dict[str, Any]:
     """The members of a file that is a JSON object. An optional file that doesn't exist has none."""
     path = folder / name
     if not required and not path.exists():
         return {}
     try:
-        document = json.loads(path.read_bytes())
+        return members_of(json.loads(path.read_bytes()), name, known)
     except OSError as error:
         raise SiteFault(f"{name}: {error.strerror}") from None
     except (ValueError, RecursionError) as error:
         raise SiteFault(f"{name}: {error}") from None
-    return members_of(document, name)
 
 
-def members_of(value: object, place: str) -> Dict[str, Any]:
+def members_of(value: object, place: str, known: Optional[Sequence[str]] = None) -> Dict[str, Any]:
+    """The members of an object. With `known`, any other member is a fault."""
     if not isinstance(value, dict):
         raise SiteFault(f"{place}: it has to be an object")
-    return value
-
-
-def known_members(value: object, known: Sequence[str], place: str) -> Dict[str, Any]:
-    """The members of an object that has no other members than these."""
-    members = members_of(value, place)
-    for member in members:
-        if member not in known:
+    for member in value:
+        if known is not None and member not in known:
             raise SiteFault(f"{place}: a member {member!r} isn't known here")
-    return members
+    return value
 
 
 def read_by_name(
     folder: pathlib.Path, file: str, known: Sequence[str], objects: Optional[Container[str]], required: bool = False,
 ) -> Iterator[Tuple[str, str, Dict[str, Any]]]:
     """Each name in a file, its place in messages, and its members. With `objects`, a name that isn't one of them is a fault."""
-    for name, members in read_object(folder, file, required).items():
+    for name, members in read_object(folder, file, required=required).items():
         place = f"{file}: {name}"
         if objects is not None and name not in objects:
             raise SiteFault(f"{place}: there is no such object")
-        yield name, place, known_members(members, known, place)
+        yield name, place, members_of(members, place, known)
 
 
 def read_seconds(value: object, place: str, most: int = MOST_SECONDS) -> float:

@@ -7,7 +7,6 @@ intervals are 0. Each result of its original is reported to it too.
 """
 import collections
 import pathlib
-from dataclasses import dataclass
 from typing import AbstractSet, Any, Dict, FrozenSet, Mapping, Sequence, Set, Tuple
 
 from ..faults import SiteFault
@@ -25,26 +24,17 @@ JUDGING: Mapping[str, Any] = {
 Dependency = Tuple[str, FrozenSet[str], bool]
 
 
-@dataclass(frozen=True)
 class Part:
-    """The members of a part's setup that are compared."""
+    """The members of a part's setup that are compared. The setup was found to be good."""
 
-    stem: str
-    options: Mapping[str, Any]
-    objects: Mapping[str, Mapping[str, Any]]
-    dependencies: Mapping[str, AbstractSet[Dependency]]
-    # The masters whose own dependencies count too.
-    inherited_masters: AbstractSet[str]
-
-
-def part_of(stem: str, setup: Mapping[str, Any]) -> Part:
-    """A part with its setup, which was found to be good."""
-    listed = [*setup.get("service_dependencies", ()), *setup.get("host_dependencies", ())]
-    dependencies: Dict[str, Set[Dependency]] = collections.defaultdict(set)
-    for it in listed:
-        dependencies[it["dependent"]].add((it["master"], frozenset(it["criteria"].split(",")), it.get("inherits_parent", False)))
-    inherited = {it["master"] for it in listed if it.get("inherits_parent", False)}
-    return Part(stem, setup.get("options", {}), members_by_name(setup), dependencies, inherited)
+    def __init__(self, stem: str, setup: Mapping[str, Any]) -> None:
+        self.stem, self.objects = stem, members_by_name(setup)
+        self.options: Mapping[str, Any] = {**JUDGING, **setup.get("options", {})}
+        self.dependencies: Dict[str, Set[Dependency]] = collections.defaultdict(set)
+        for it in [*setup.get("service_dependencies", ()), *setup.get("host_dependencies", ())]:
+            self.dependencies[it["dependent"]].add((it["master"], frozenset(it["criteria"].split(",")), it.get("inherits_parent", False)))
+        # The masters whose own dependencies count too.
+        self.inherited_masters = {master for each in self.dependencies.values() for master, _, is_inherited in each if is_inherited}
 
 
 def read_mirrors(folder: pathlib.Path, setups: Mapping[str, Mapping[str, Any]]) -> Dict[int, AbstractSet[str]]:
@@ -54,7 +44,7 @@ def read_mirrors(folder: pathlib.Path, setups: Mapping[str, Mapping[str, Any]]) 
         if stem not in setups:
             raise SiteFault(f"{FILE}: {stem}: there is no {stem}.json")
         members_of(homes, f"{FILE}: {stem}")
-    parts = {stem: part_of(stem, setup) for stem, setup in setups.items()} if document else {}
+    parts = {stem: Part(stem, setup) for stem, setup in setups.items()} if document else {}
     for stem, homes in document.items():
         for name, home in homes.items():
             test_mirror(name, parts[stem], home, parts, document)
@@ -75,9 +65,9 @@ def test_mirror(name: str, part: Part, home: object, parts: Mapping[str, Part], 
         raise SiteFault(f"{place}: {home}.json has no such object")
     if name in document.get(home, {}):
         raise SiteFault(f"{place}: {home} has a mirror of it too, and not the original")
-    if any(part.objects[name].get(member) != value for member, value in NEVER.items()):
-        raise SiteFault(f'{place}: a mirror has "enabled":false, "check_interval":0 and "retry_interval":0')
     here, there = part.objects[name], parts[home].objects[name]
+    if any(here.get(member) != value for member, value in NEVER.items()):
+        raise SiteFault(f'{place}: a mirror has "enabled":false, "check_interval":0 and "retry_interval":0')
     has_other_masters = name in part.inherited_masters and part.dependencies.get(name) != parts[home].dependencies.get(name)
     for differs, what in (
         (here["max_check_attempts"] != there["max_check_attempts"], "max_check_attempts"),
@@ -93,6 +83,6 @@ def test_options(part: Part, homes: Sequence[Part]) -> None:
     if homes and part.options.get("max_concurrent_checks", 0) != 0:
         raise SiteFault(f"{FILE}: {part.stem}: max_concurrent_checks of a part with mirrors is 0: slots in monitor.json is the limit of all parts")
     for home in homes:
-        for option, default in JUDGING.items():
-            if part.options.get(option, default) != home.options.get(option, default):
+        for option in JUDGING:
+            if part.options[option] != home.options[option]:
                 raise SiteFault(f"{FILE}: {part.stem}: {option} isn't that of {home.stem}, by which the originals of its mirrors are judged")

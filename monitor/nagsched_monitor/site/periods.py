@@ -7,11 +7,10 @@ import calendar
 import datetime
 import graphlib
 import re
-from dataclasses import dataclass
-from typing import Dict, List, Mapping, Optional, Sequence, Tuple
+from typing import Dict, List, Mapping, NamedTuple, Optional, Sequence, Tuple
 
 from ..faults import SiteFault
-from .json_files import known_members
+from .json_files import members_of
 
 WEEKDAYS = ("monday", "tuesday", "wednesday", "thursday", "friday", "saturday", "sunday")
 CLOCK_TIMES = re.compile(r"(\d\d):(\d\d)-(\d\d):(\d\d)")
@@ -24,43 +23,31 @@ LIMITS = {"month": (1, 12), "day": (-31, 31), "nth": (-5, 5)}
 Minutes = Tuple[int, int]
 
 
-@dataclass(frozen=True)
-class Dates:
-    """Days that are described by more than their weekday: those from the first to the last that have all these values."""
+class Dates(NamedTuple):
+    """Days from the first to the last that have all these values, and their times. A plain weekday has the last rank."""
 
     rank: int
-    first: datetime.date
-    last: datetime.date
-    values: Mapping[str, int]
     times: Sequence[Minutes]
+    values: Mapping[str, int]
+    first: datetime.date = datetime.date.min
+    last: datetime.date = datetime.date.max
 
-    def includes(self, day: datetime.date) -> bool:
-        if not self.first <= day <= self.last:
-            return False
+    def include(self, day: datetime.date) -> bool:
         left = calendar.monthrange(day.year, day.month)[1] - day.day
         fitting = {"month": (day.month,), "weekday": (day.weekday(),), "day": (day.day, -left - 1), "nth": ((day.day - 1) // 7 + 1, -(left // 7) - 1)}
-        return all(value in fitting[member] for member, value in self.values.items())
+        return self.first <= day <= self.last and all(value in fitting[member] for member, value in self.values.items())
 
 
-@dataclass(frozen=True)
-class Period:
-    name: str
-    weekdays: Mapping[int, Sequence[Minutes]]
+class Period(NamedTuple):
+    """The days with times, in the order in which they count, and the periods whose times are excluded."""
+
     dates: Sequence[Dates]
     excluded: Sequence[str]
-
-    def day_times(self, day: datetime.date) -> Sequence[Minutes]:
-        """The times of a day, before other periods are excluded."""
-        for dates in self.dates:
-            if dates.includes(day):
-                return dates.times
-        return self.weekdays.get(day.weekday(), ())
 
 
 class Periods:
     def __init__(self, periods: Mapping[str, Period], zone: Optional[datetime.tzinfo]) -> None:
-        self._periods = periods
-        self._zone = zone
+        self._periods, self._zone = periods, zone
 
     def includes(self, name: str, wall: float) -> bool:
         moment = datetime.datetime.fromtimestamp(wall, self._zone)
@@ -68,9 +55,8 @@ class Periods:
 
     def _includes(self, name: str, day: datetime.date, minute: int) -> bool:
         period = self._periods[name]
-        if not any(first <= minute < last for first, last in period.day_times(day)):
-            return False
-        return not any(self._includes(other, day, minute) for other in period.excluded)
+        times = next((dates.times for dates in period.dates if dates.include(day)), ())
+        return any(first <= minute < last for first, last in times) and not any(self._includes(other, day, minute) for other in period.excluded)
 
     def active_by_name(self, wall: float) -> Dict[str, bool]:
         """Each period with whether it includes this time."""
@@ -82,11 +68,11 @@ class Periods:
 
 def read_periods(document: Mapping[str, object], file: str) -> Dict[str, Period]:
     """The periods of a document, after a test: each excluded name exists, and no period excludes itself."""
-    periods = {name: read_period(name, members, f"{file}: period {name}") for name, members in document.items()}
-    for period in periods.values():
+    periods = {name: read_period(members, f"{file}: period {name}") for name, members in document.items()}
+    for name, period in periods.items():
         for other in period.excluded:
             if other not in periods:
-                raise SiteFault(f"{file}: period {period.name}: there is no period {other}, which it excludes")
+                raise SiteFault(f"{file}: period {name}: there is no period {other}, which it excludes")
     try:
         graphlib.TopologicalSorter({name: period.excluded for name, period in periods.items()}).prepare()
     except graphlib.CycleError as error:
@@ -94,17 +80,16 @@ def read_periods(document: Mapping[str, object], file: str) -> Dict[str, Period]
     return periods
 
 
-def read_period(name: str, members: object, place: str) -> Period:
-    document = known_members(members, ("weekdays", "dates", "exclude"), place)
-    weekdays = document.get("weekdays", {})
+def read_period(members: object, place: str) -> Period:
+    document = members_of(members, place, ("weekdays", "dates", "exclude"))
+    weekdays, dates, excluded = document.get("weekdays", {}), document.get("dates", []), document.get("exclude", [])
     if not isinstance(weekdays, dict) or not set(weekdays) <= set(WEEKDAYS):
         raise SiteFault(f"{place}: weekdays has the members monday to sunday and no other")
-    times = {WEEKDAYS.index(day): read_times(texts, f"{place}: {day}") for day, texts in weekdays.items()}
-    dates, excluded = document.get("dates", []), document.get("exclude", [])
+    read = [Dates(len(KINDS), read_times(texts, f"{place}: {day}"), {"weekday": WEEKDAYS.index(day)}) for day, texts in weekdays.items()]
     if not isinstance(dates, list) or not isinstance(excluded, list) or not all(isinstance(other, str) for other in excluded):
         raise SiteFault(f"{place}: dates and exclude are lists")
-    read = [read_dates(each, f"{place}: date {index}") for index, each in enumerate(dates)]
-    return Period(name, times, sorted(read, key=lambda date: date.rank), excluded)
+    read += [read_dates(each, f"{place}: date {index}") for index, each in enumerate(dates)]
+    return Period(sorted(read, key=lambda dates: dates.rank), excluded)
 
 
 def read_times(texts: object, place: str) -> List[Minutes]:
@@ -113,10 +98,8 @@ def read_times(texts: object, place: str) -> List[Minutes]:
         raise SiteFault(f"{place}: times are a list of texts such as 09:00-17:00")
     times = []
     for text in texts:
-        match = CLOCK_TIMES.fullmatch(text) if isinstance(text, str) else None
-        if match is None:
-            raise SiteFault(f"{place}: no times: {text!r}")
-        hour, minute, last_hour, last_minute = (int(number) for number in match.groups())
+        match = CLOCK_TIMES.fullmatch(str(text))
+        hour, minute, last_hour, last_minute = map(int, match.groups()) if match else (0, 0, 0, 0)
         first, last = hour * 60 + minute, last_hour * 60 + last_minute
         if minute > 59 or last_minute > 59 or not first < last <= 24 * 60:
             raise SiteFault(f"{place}: no times: {text!r}")
@@ -133,9 +116,9 @@ def read_dates(members: object, place: str) -> Dates:
         raise SiteFault(f"{place}: a date has first and last, or day and perhaps month, or weekday, nth and perhaps month")
     rank = KINDS.index(set(given))
     if rank == 0:
-        return Dates(rank, read_day(given["first"], place), read_day(given["last"], place), {}, times)
+        return Dates(rank, times, {}, read_day(given["first"], place), read_day(given["last"], place))
     values = {member: WEEKDAYS.index(value) if member == "weekday" else read_number(value, *LIMITS[member], place) for member, value in given.items()}
-    return Dates(rank, datetime.date.min, datetime.date.max, values, times)
+    return Dates(rank, times, values)
 
 
 def read_day(text: object, place: str) -> datetime.date:

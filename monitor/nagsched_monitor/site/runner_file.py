@@ -6,12 +6,12 @@ import fnmatch
 import pathlib
 import re
 from dataclasses import dataclass
-from typing import Any, Dict, Iterable, List, Mapping, Set, Tuple
+from typing import Any, Dict, Iterable, List, Mapping, Tuple
 
 from ..faults import SiteFault
 from ..run.runner_program import find_program
 from .groups_file import Groups
-from .json_files import known_members, members_of, read_object, read_seconds, read_whole
+from .json_files import members_of, read_object, read_seconds, read_whole
 
 FILE = "runners.json"
 NAME = re.compile(r"[A-Za-z0-9_.-]{1,64}")
@@ -34,17 +34,14 @@ class Remote:
 
 def read_runners(folder: pathlib.Path, names: Iterable[str], groups: Mapping[str, Groups]) -> Tuple[Dict[str, Remote], Dict[str, str]]:
     """The runners of a site, and the runner of each object that has one: the first with a pattern that fits it."""
-    members = known_members(read_object(folder, FILE), ("runners", "objects", "slots", "wait"), FILE)
+    members = read_object(folder, FILE, ("runners", "objects", "slots", "wait"))
     commands, objects, slots = (members_of(members.get(member, {}), f"{FILE}: {member}") for member in ("runners", "objects", "slots"))
     wait = read_seconds(members.get("wait", WAIT), f"{FILE}: wait")
     for member, of in (("objects", objects), ("slots", slots)):
         for name in of:
             if name not in commands:
                 raise SiteFault(f"{FILE}: {member}: {name}: there is no such runner")
-    remotes = {}
-    for name, arguments in commands.items():
-        most = read_whole(slots.get(name, SLOTS), f"{FILE}: slots: {name}", 1, MOST_SLOTS)
-        remotes[name] = Remote(name, read_arguments(name, arguments), most, wait)
+    remotes = {name: read_remote(name, arguments, slots.get(name, SLOTS), wait) for name, arguments in commands.items()}
     by_host: Dict[str, List[str]] = {}
     for name in names:
         by_host.setdefault(name.partition(";")[0], []).append(name)
@@ -55,7 +52,8 @@ def read_runners(folder: pathlib.Path, names: Iterable[str], groups: Mapping[str
     return remotes, runner_of
 
 
-def read_arguments(name: str, arguments: Any) -> Tuple[str, ...]:
+def read_remote(name: str, arguments: Any, slots: object, wait: float) -> Remote:
+    most = read_whole(slots, f"{FILE}: slots: {name}", 1, MOST_SLOTS)
     place = f"{FILE}: runners: {name}"
     if not NAME.fullmatch(name) or name == LOCAL:
         raise SiteFault(f"{place}: the name of a runner has 1 to 64 letters, digits, dots, underscores and hyphens, and isn't {LOCAL}")
@@ -64,7 +62,7 @@ def read_arguments(name: str, arguments: Any) -> Tuple[str, ...]:
     program = find_program(arguments[0])
     if program is None:
         raise SiteFault(f"{place}: there is no program {arguments[0]}")
-    return (program, *arguments[1:])
+    return Remote(name, (program, *arguments[1:]), most, wait)
 
 
 def matching_objects(runner: str, patterns: Any, by_host: Mapping[str, List[str]], groups: Mapping[str, Groups]) -> List[str]:
@@ -72,27 +70,22 @@ def matching_objects(runner: str, patterns: Any, by_host: Mapping[str, List[str]
     place = f"{FILE}: objects: {runner}"
     if not isinstance(patterns, list) or not patterns or not all(isinstance(each, str) and each for each in patterns):
         raise SiteFault(f"{place}: it has to be a list of patterns")
-    found: List[str] = []
-    for pattern in patterns:
-        fitting = pattern_matches(pattern, by_host, groups)
+    found = {pattern: pattern_matches(pattern, by_host, groups) for pattern in patterns}
+    for pattern, fitting in found.items():
         if not fitting:
             raise SiteFault(f"{place}: no object fits {pattern}")
-        found += fitting
-    return found
+    return [name for fitting in found.values() for name in fitting]
 
 
 def pattern_matches(pattern: str, by_host: Mapping[str, List[str]], groups: Mapping[str, Groups]) -> List[str]:
     """The objects that a pattern fits: by full names, by a group, or hosts with everything on them."""
+    is_wild = any(sign in pattern for sign in "*?[")
     kind, _, rest = pattern.partition(":")
     if kind in GROUP_KINDS and rest:
-        hosts: Set[str] = {name for name, of in groups.items() if fnmatch.filter(of.get(GROUP_KINDS[kind], ()), rest)}
-    elif ";" in pattern:
-        return [name for names in by_host.values() for name in fnmatch.filter(names, pattern)] if is_wild(pattern) else [
-            name for name in by_host.get(pattern.partition(";")[0], ()) if name == pattern]
-    else:
-        hosts = set(fnmatch.filter(by_host, pattern)) if is_wild(pattern) else {pattern}
-    return [name for found in sorted(hosts) for name in by_host.get(found, [found] if found.partition(";")[0] in by_host else [])]
-
-
-def is_wild(pattern: str) -> bool:
-    return any(sign in pattern for sign in "*?[")
+        found = [name for name, of in groups.items() if fnmatch.filter(of.get(GROUP_KINDS[kind], ()), rest)]
+        return [each for name in found for each in by_host.get(name, [name])]
+    if ";" in pattern and is_wild:
+        return [name for names in by_host.values() for name in fnmatch.filter(names, pattern)]
+    if ";" in pattern:
+        return [pattern] if pattern in by_host.get(pattern.partition(";")[0], ()) else []
+    return [name for host in (fnmatch.filter(by_host, pattern) if is_wild else [pattern]) for name in by_host.get(host, ())]

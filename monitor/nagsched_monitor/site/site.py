@@ -9,26 +9,26 @@
     groups.json       the groups and contacts of objects (may be left out)
     monitor.json      options of the monitor (may be left out)
 """
-import datetime
 import json
 import pathlib
 import subprocess
 import zoneinfo
-from dataclasses import dataclass, field, replace
-from typing import AbstractSet, Any, Dict, List, Mapping, Optional, Sequence, Tuple
+from dataclasses import dataclass, replace
+from typing import AbstractSet, Any, Container, Dict, List, Mapping, Optional, Sequence, Tuple
 
 from ..faults import SiteFault
 from .command_lines import Command, read_commands
 from .groups_file import read_groups
-from .json_files import MOST_FRESH, MOST_SECONDS, known_members, lock_for_reading, members_by_name, members_of
-from .json_files import read_by_name, read_object, read_seconds, read_whole
+from .json_files import MOST_FRESH, MOST_SECONDS, lock_for_reading, members_by_name, members_of, read_by_name, read_object, read_seconds, read_whole
 from .mirror_file import read_mirrors
-from .periods import Periods, read_periods
+from .periods import Period, Periods, read_periods
 from .runner_file import Remote, read_runners
 
 # The limit for the test of a setup, in seconds.
 LIMIT = 300.0
 CODES_BY_LETTER = {"w": 1, "c": 2, "u": 3}
+# The options that are whole numbers, with their limits.
+NUMBERS = {"slots": (1, 10_000), "cached_host_check_horizon": (0, MOST_SECONDS), "keep_days": (0, 36_500)}
 
 
 @dataclass(frozen=True)
@@ -61,13 +61,14 @@ class Options:
     cached_host_check_horizon: int = 15
     timeout_code: int = 2
     keep_days: int = 90
+    # The machine's zone if it is None.
+    zone: Optional[zoneinfo.ZoneInfo] = None
 
 
 @dataclass(frozen=True)
 class Site:
     """A site that was read and found to be good."""
 
-    folder: pathlib.Path
     # The setup of each part, on one line.
     setups: Sequence[bytes]
     objects: Mapping[str, ObjectDefinition]
@@ -75,12 +76,11 @@ class Site:
     options: Options
     # The hosts that have a host as their parent, by its name.
     children: Mapping[str, Sequence[str]]
-    zone: Optional[datetime.tzinfo]
     # The objects whose results have to be fresh.
     with_freshness: Sequence[str]
     # The names of the mirrors of each part that has some.
     mirrors: Mapping[int, AbstractSet[str]]
-    runners: Mapping[str, Remote] = field(default_factory=dict)
+    runners: Mapping[str, Remote]
 
 
 def read_site(folder: pathlib.Path, program: str) -> Site:
@@ -91,10 +91,10 @@ def read_site(folder: pathlib.Path, program: str) -> Site:
         documents = {path.stem: json.loads(setup) for path, setup in zip(paths, setups)}
         mirrors = read_mirrors(folder, documents)
         objects = originals_of(documents, mirrors)
-        options, zone = read_options(folder)
+        options = read_options(folder)
         runners, runner_of = read_runners(folder, objects, read_groups(folder, objects))
         commands = read_commands(folder, objects, runner_of)
-        periods, period_of = read_period_file(folder, objects, zone)
+        periods, period_of = read_period_file(folder, objects)
         passive = read_passive(folder, objects)
     for name, definition in objects.items():
         only, freshness = passive.get(name, (False, None))
@@ -102,7 +102,7 @@ def read_site(folder: pathlib.Path, program: str) -> Site:
         objects[name] = replace(definition, command=command, period=period, runner=runner, passive_only=only, freshness=freshness)
         test_command(objects[name])
     with_freshness = [name for name, definition in objects.items() if definition.freshness is not None]
-    return Site(folder, setups, objects, periods, options, children_of(objects), zone, with_freshness, mirrors, runners)
+    return Site(setups, objects, Periods(periods, options.zone), options, children_of(objects), with_freshness, mirrors, runners)
 
 
 # ---- setups
@@ -124,19 +124,17 @@ def setup_line(path: pathlib.Path, program: str) -> bytes:
         setup = path.read_bytes()
     except OSError as error:
         raise SiteFault(f"{path.name}: {error.strerror}") from None
-    line = b""
-    for arguments in ((), ("--line",)):
-        try:
-            checked = subprocess.run([program, "check", *arguments], input=setup, stdout=subprocess.PIPE, check=False, timeout=LIMIT)
-        except (FileNotFoundError, PermissionError):
-            raise SiteFault(f"there is no program {program}: put it on the path, or name it with --program") from None
-        except OSError as error:
-            raise SiteFault(f"{program} can't be run: {error.strerror}") from None
-        except subprocess.TimeoutExpired:
-            raise SiteFault(f"{path.name}: {program} gives no answer within {LIMIT:g} seconds") from None
-        line = checked.stdout.rstrip(b"\n")
-        if checked.returncode != 0:
-            raise SiteFault(f"{path.name}: {'; '.join(line.decode(errors='replace').splitlines()) or 'the scheduler gives no answer'}")
+    try:
+        checked = subprocess.run([program, "check", "--line"], input=setup, stdout=subprocess.PIPE, check=False, timeout=LIMIT)
+    except (FileNotFoundError, PermissionError):
+        raise SiteFault(f"there is no program {program}: put it on the path, or name it with --program") from None
+    except OSError as error:
+        raise SiteFault(f"{program} can't be run: {error.strerror}") from None
+    except subprocess.TimeoutExpired:
+        raise SiteFault(f"{path.name}: {program} gives no answer within {LIMIT:g} seconds") from None
+    line = checked.stdout.rstrip(b"\n")
+    if checked.returncode != 0:
+        raise SiteFault(f"{path.name}: {'; '.join(line.decode(errors='replace').splitlines()) or 'the scheduler gives no answer'}")
     return line
 
 
@@ -174,9 +172,9 @@ def test_command(definition: ObjectDefinition) -> None:
         raise SiteFault(f"commands.json: {definition.name} has no command, which is run where no result came within its freshness")
 
 
-def read_period_file(folder: pathlib.Path, objects: Mapping[str, ObjectDefinition], zone: Optional[zoneinfo.ZoneInfo]) -> Tuple[Periods, Dict[str, str]]:
+def read_period_file(folder: pathlib.Path, objects: Container[str]) -> Tuple[Dict[str, Period], Dict[str, str]]:
     """The periods of a site, and the period of each object that has one."""
-    document = known_members(read_object(folder, "periods.json"), ("periods", "objects"), "periods.json")
+    document = read_object(folder, "periods.json", ("periods", "objects"))
     periods = read_periods(members_of(document.get("periods", {}), "periods.json: periods"), "periods.json")
     period_of = members_of(document.get("objects", {}), "periods.json: objects")
     for name, period in period_of.items():
@@ -184,10 +182,10 @@ def read_period_file(folder: pathlib.Path, objects: Mapping[str, ObjectDefinitio
             raise SiteFault(f"periods.json: {name}: there is no such object")
         if not isinstance(period, str) or period not in periods:
             raise SiteFault(f"periods.json: {name}: there is no period {period!r}")
-    return Periods(periods, zone), period_of
+    return periods, period_of
 
 
-def read_passive(folder: pathlib.Path, objects: Mapping[str, ObjectDefinition]) -> Dict[str, Tuple[bool, Optional[int]]]:
+def read_passive(folder: pathlib.Path, objects: Container[str]) -> Dict[str, Tuple[bool, Optional[int]]]:
     """For each object in the file, whether it is passive only, and its freshness in milliseconds."""
     passive = {}
     for name, place, members in read_by_name(folder, "passive.json", ("only", "freshness"), objects):
@@ -198,18 +196,15 @@ def read_passive(folder: pathlib.Path, objects: Mapping[str, ObjectDefinition]) 
     return passive
 
 
-def read_options(folder: pathlib.Path) -> Tuple[Options, Optional[zoneinfo.ZoneInfo]]:
-    """The options, and the zone of the site: the machine's if none is named."""
-    known = ("slots", "cached_host_check_horizon", "service_check_timeout_state", "keep_days", "zone")
-    members = known_members(read_object(folder, "monitor.json"), known, "monitor.json")
-    for name, least, most in (("slots", 1, 10_000), ("cached_host_check_horizon", 0, MOST_SECONDS), ("keep_days", 0, 36_500)):
+def read_options(folder: pathlib.Path) -> Options:
+    members = read_object(folder, "monitor.json", (*NUMBERS, "service_check_timeout_state", "zone"))
+    for name, (least, most) in NUMBERS.items():
         read_whole(members.get(name, 1), f"monitor.json: {name}", least, most)
-    letter = members.pop("service_check_timeout_state", "c")
+    letter, zone = members.pop("service_check_timeout_state", "c"), members.pop("zone", None)
     if not isinstance(letter, str) or letter not in CODES_BY_LETTER:
         raise SiteFault(f"monitor.json: service_check_timeout_state is w, c or u, and no {letter!r}")
-    zone = members.pop("zone", None)
     try:
         read_zone = None if zone is None else zoneinfo.ZoneInfo(zone)
     except (TypeError, ValueError, zoneinfo.ZoneInfoNotFoundError):
         raise SiteFault(f"monitor.json: there is no zone {zone!r}") from None
-    return Options(timeout_code=CODES_BY_LETTER[letter], **members), read_zone
+    return Options(**members, timeout_code=CODES_BY_LETTER[letter], zone=read_zone)
