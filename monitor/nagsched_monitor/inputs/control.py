@@ -34,7 +34,7 @@ class Client:
     unsent: bytearray = field(default_factory=bytearray)
     # The requests without an answer, the time of its last line, and whether it sends no more.
     unanswered: int = 0
-    last_line_at: float = 0.0
+    last_line_at: float = field(default_factory=time.monotonic)
     has_ended: bool = False
 
 
@@ -46,13 +46,11 @@ class ControlSocket:
         self._path = folder / NAME
         self._path.unlink(missing_ok=True)
         self._socket = socket.socket(socket.AF_UNIX, socket.SOCK_STREAM)
-        mask = os.umask(0o177)
         try:
             self._socket.bind(short_path(self._path))
+            self._path.chmod(0o600)  # nobody can connect before it listens
         except OSError as error:
             raise MonitorFault(f"{self._path}: {error.strerror or error}") from None
-        finally:
-            os.umask(mask)
         self._socket.listen(16)
         self._socket.setblocking(False)
         self._clients: Dict[int, Client] = {}
@@ -71,17 +69,17 @@ class ControlSocket:
         except BlockingIOError:
             return
         except OSError:
-            self._drop_client(file)
+            self._drop_client(client)
             return
         client.last_line_at = time.monotonic()
         client.unread += data
         if not data:
-            self._stop_reading(file, client)
+            self._stop_reading(client)
 
-    def _stop_reading(self, file: int, client: Client) -> None:
+    def _stop_reading(self, client: Client) -> None:
         if not client.has_ended:
             client.has_ended = True
-            self._unwatch(file)
+            self._unwatch(client.connection.fileno())
 
     def _accept(self) -> None:
         try:
@@ -92,61 +90,58 @@ class ControlSocket:
             connection.close()
             return
         connection.setblocking(False)
-        self._clients[connection.fileno()] = Client(connection, last_line_at=time.monotonic())
+        self._clients[connection.fileno()] = Client(connection)
         self._watch(connection.fileno(), self.read)
 
     def work(self) -> bool:
         """Passes on the lines that have come, sends answers, and forgets closed connections. Returns whether more lines wait."""
-        has_more = False
-        for file, client in list(self._clients.items()):
-            self._pass_on_lines(file, client)
-            self._send(file, client)
-            has_more |= b"\n" in client.unread
+        for client in list(self._clients.values()):
+            self._pass_on_lines(client)
+            self._send(client)
             is_idle = not client.unanswered and not client.unsent and (client.has_ended or time.monotonic() - client.last_line_at > IDLE)
             if is_idle and b"\n" not in client.unread:
-                self._drop_client(file)
-        return has_more
+                self._drop_client(client)
+        return any(b"\n" in client.unread for client in self._clients.values())
 
     def is_sending(self) -> bool:
         """Whether an answer waits for its reader."""
         return any(client.unsent for client in self._clients.values())
 
-    def _pass_on_lines(self, file: int, client: Client) -> None:
-        *lines, rest = client.unread.split(b"\n", LINES_IN_TURN)
-        client.unread = rest
+    def _pass_on_lines(self, client: Client) -> None:
+        *lines, client.unread = client.unread.split(b"\n", LINES_IN_TURN)
         for line in lines:
             client.unanswered += 1
-            self._add_request(Request(line, partial(self._reply, file, client)))
-        if len(rest) > LONGEST_LINE and b"\n" not in rest:
+            self._add_request(Request(line, partial(self._reply, client)))
+        if len(client.unread) > LONGEST_LINE and b"\n" not in client.unread:
             client.unsent += b'{"error": "the line is too long"}\n'
             client.unread = b""
-            self._stop_reading(file, client)
+            self._stop_reading(client)
 
-    def _reply(self, file: int, client: Client, answer: bytes) -> None:
+    def _reply(self, client: Client, answer: bytes) -> None:
         client.unanswered -= 1
         client.unsent += answer
         if len(client.unsent) > UNREAD_BYTES:
-            self._drop_client(file)
+            self._drop_client(client)
 
-    def _send(self, file: int, client: Client) -> None:
+    def _send(self, client: Client) -> None:
         """Sends as much as its reader accepts now."""
         try:
-            write_ready(file, client.unsent)
+            write_ready(client.connection.fileno(), client.unsent)
         except OSError:
             client.unsent.clear()  # the client reads no more
-            self._stop_reading(file, client)
+            self._stop_reading(client)
 
-    def _drop_client(self, file: int) -> None:
-        client = self._clients.pop(file, None)
-        if client is not None:
-            self._stop_reading(file, client)
+    def _drop_client(self, client: Client) -> None:
+        """Closes a connection, if it is still open."""
+        if self._clients.pop(client.connection.fileno(), None) is not None:
+            self._stop_reading(client)
             client.connection.close()
 
     def close(self) -> None:
         """Sends the remaining answers, and closes all connections."""
-        for file, client in list(self._clients.items()):
-            self._send(file, client)
-            self._drop_client(file)
+        for client in list(self._clients.values()):
+            self._send(client)
+            self._drop_client(client)
         self._unwatch(self._socket.fileno())
         self._socket.close()
         self._path.unlink(missing_ok=True)
@@ -154,7 +149,7 @@ class ControlSocket:
 
 def short_path(path: pathlib.Path) -> str:
     """The path of a socket, whose length is limited: relative to the current folder if that is shorter."""
-    return os.path.relpath(path) if len(os.path.relpath(path)) < len(str(path)) else str(path)
+    return min(str(path), os.path.relpath(path), key=len)
 
 
 def send_request(folder: pathlib.Path, request: bytes, seconds: float = 30) -> bytes:

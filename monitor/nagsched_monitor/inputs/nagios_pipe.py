@@ -6,7 +6,6 @@
 import os
 import pathlib
 import re
-import stat
 from typing import Any, Dict, List, Mapping, Sequence, Tuple
 
 from ..faults import MonitorFault, RequestFault
@@ -32,7 +31,7 @@ class Pipe:
         try:
             if not self._path.exists():
                 os.mkfifo(self._path, MODE)
-            if not stat.S_ISFIFO(self._path.stat().st_mode):
+            if not self._path.is_fifo():
                 raise MonitorFault(f"{self._path} is no pipe: move it away")
             os.chmod(self._path, MODE)
             # It is open for writing too, so that it has no end when a writer closes it.
@@ -40,7 +39,6 @@ class Pipe:
         except OSError as error:
             raise MonitorFault(f"{self._path}: {error.strerror or error}") from None
         self._unread = b""
-        self._is_skipping = False
 
     def read(self) -> List[bytes]:
         """The complete lines. A line that is too long is cut one byte after the longest length."""
@@ -48,16 +46,9 @@ class Pipe:
             data = os.read(self.file, READ_BYTES)
         except BlockingIOError:
             return []
-        *lines, self._unread = (self._unread + data).split(b"\n")
-        if lines and self._is_skipping:
-            lines.pop(0)
-            self._is_skipping = False
-        whole = [line[: LONGEST_LINE + 1] for line in lines]
-        if len(self._unread) > LONGEST_LINE:
-            if not self._is_skipping:
-                whole.append(self._unread[: LONGEST_LINE + 1])
-            self._unread, self._is_skipping = b"", True
-        return whole
+        *lines, rest = (self._unread + data).split(b"\n")
+        self._unread = rest[: LONGEST_LINE + 1]
+        return [line[: LONGEST_LINE + 1] for line in lines]
 
     def close(self) -> None:
         """Closes the pipe and removes it, so that no writer waits for a reader that doesn't come."""
@@ -65,23 +56,24 @@ class Pipe:
         self._path.unlink(missing_ok=True)
 
 
-# Each command: the request's word, the kind of object, the other members of the line, and whether it is forced. A service is a host and its description.
-AT, RESULT = ("at",), ("code", "output")
+# Each command: the request's word, the kind of object, and whether it is forced. A service is a host and its description.
 HOST, SERVICE, SERVICES = 1, 2, 0
-COMMANDS: Mapping[str, Tuple[str, int, Tuple[str, ...], bool]] = {
-    "SCHEDULE_HOST_CHECK": ("reschedule", HOST, AT, False),
-    "SCHEDULE_FORCED_HOST_CHECK": ("reschedule", HOST, AT, True),
-    "SCHEDULE_SVC_CHECK": ("reschedule", SERVICE, AT, False),
-    "SCHEDULE_FORCED_SVC_CHECK": ("reschedule", SERVICE, AT, True),
-    "SCHEDULE_HOST_SVC_CHECKS": ("reschedule", SERVICES, AT, False),
-    "SCHEDULE_FORCED_HOST_SVC_CHECKS": ("reschedule", SERVICES, AT, True),
-    "ENABLE_HOST_CHECK": ("enable", HOST, (), False),
-    "DISABLE_HOST_CHECK": ("disable", HOST, (), False),
-    "ENABLE_SVC_CHECK": ("enable", SERVICE, (), False),
-    "DISABLE_SVC_CHECK": ("disable", SERVICE, (), False),
-    "PROCESS_HOST_CHECK_RESULT": ("result", HOST, RESULT, False),
-    "PROCESS_SERVICE_CHECK_RESULT": ("result", SERVICE, RESULT, False),
+COMMANDS: Mapping[str, Tuple[str, int, bool]] = {
+    "SCHEDULE_HOST_CHECK": ("reschedule", HOST, False),
+    "SCHEDULE_FORCED_HOST_CHECK": ("reschedule", HOST, True),
+    "SCHEDULE_SVC_CHECK": ("reschedule", SERVICE, False),
+    "SCHEDULE_FORCED_SVC_CHECK": ("reschedule", SERVICE, True),
+    "SCHEDULE_HOST_SVC_CHECKS": ("reschedule", SERVICES, False),
+    "SCHEDULE_FORCED_HOST_SVC_CHECKS": ("reschedule", SERVICES, True),
+    "ENABLE_HOST_CHECK": ("enable", HOST, False),
+    "DISABLE_HOST_CHECK": ("disable", HOST, False),
+    "ENABLE_SVC_CHECK": ("enable", SERVICE, False),
+    "DISABLE_SVC_CHECK": ("disable", SERVICE, False),
+    "PROCESS_HOST_CHECK_RESULT": ("result", HOST, False),
+    "PROCESS_SERVICE_CHECK_RESULT": ("result", SERVICE, False),
 }
+# The number of words after the object: a time, or a code and the output.
+OTHER_WORDS = {"reschedule": 1, "enable": 0, "disable": 0, "result": 2}
 
 
 def requests_of(line: bytes, services: Services) -> Tuple[str, List[Request]]:
@@ -101,12 +93,12 @@ def requests_of(line: bytes, services: Services) -> Tuple[str, List[Request]]:
         raise RequestFault(f"{command}: {error}") from None
 
 
-def command_requests(rest: str, services: Services, do: str, of: int, members: Sequence[str], forced: bool) -> List[Request]:
+def command_requests(rest: str, services: Services, do: str, of: int, forced: bool) -> List[Request]:
     """The requests of a command. The text of a `ValueError` names the fault in its line."""
     count = max(of, 1)
-    total = count + len(members)
+    total = count + OTHER_WORDS[do]
     words = rest.split(";", total - 1)  # the last one may have semicolons in it
-    if members == RESULT and len(words) == total - 1:
+    if do == "result" and len(words) == total - 1:
         words.append("")  # the output may be left out
     if len(words) < total:
         raise ValueError(f"it has {total} words after it, and no {len(words)}")

@@ -34,7 +34,6 @@ if TYPE_CHECKING:
 LAST_MOMENT = 2**60
 LONGEST_NUMBER = 128
 Members = Mapping[str, Any]
-Reply = Callable[[bytes], None]
 
 
 @dataclass
@@ -42,10 +41,9 @@ class Request:
     """A line of a client, with the receiver of its answer."""
 
     line: bytes
-    reply: Reply
-    # Its answer, once it is known; None if it comes later. A request that only reads is answered even if nothing could be stored.
+    reply: Callable[[bytes], None]
+    # Its answer, once it is known; None if it comes later. An answer with the member `done` counts when the turn is stored.
     answer: Optional[Dict[str, Any]] = None
-    only_reads: bool = False
 
 
 class Requests:
@@ -107,8 +105,7 @@ class Requests:
             raise RequestFault(f"number is a text of 1 to {LONGEST_NUMBER} characters")
         if number in self._planned:
             raise AskAgain("a request with this number is being obeyed")
-        kept = self._numbers.get(number)
-        answer: Optional[Dict[str, Any]] = None if kept is None else json.loads(kept)
+        answer: Optional[Dict[str, Any]] = json.loads(self._numbers.get(number, "null"))
         return answer
 
     def _remember(self, number: str, answer: str) -> None:
@@ -125,7 +122,7 @@ class Requests:
     def refuse(self, asked: Sequence[Request], why: str) -> None:
         """Nothing of a turn was stored."""
         for request in asked:
-            if request.answer is None or not ("error" in request.answer or request.only_reads):
+            if request.answer is None or "done" in request.answer:
                 request.answer = {"error": why, "again": True}
         self.answer(asked)
 
@@ -162,14 +159,9 @@ class Requests:
             raise AskAgain("the scheduler of this object is being started again")
         return obj
 
-    def _log_line(self, text: str) -> Callable[[], None]:
-        """The action that logs a request."""
-        return partial(self.log, f"asked: {text}")
-
     # ---- the words
 
     def _plan_signs(self, members: Members, request: Request) -> Plan:
-        request.only_reads = True
         engine, wall = self.engine, self._clock.wall()
         try:
             changes, first = engine.store.waiting_changes()
@@ -196,10 +188,9 @@ class Requests:
         time = max(time, now)  # a time that is past means now
         wall_time = round(wall + (time - now) / 1000, 3)
         request.answer = {"done": "reschedule", "name": obj.name, "at": wall_time, "on": obj.on or forced}
-        then = partial(setattr, obj, "operator_check", (time, forced))
-        log_text = f"reschedule {obj.name} at {wall_time:.0f}{' forced' * forced}"
         calls: List[PlannedCall] = [(obj.definition.part, Reschedule(obj.name, time, forced), None)]
-        return Plan(calls, then=[then, self._log_line(log_text)], at_once={obj.name} if time <= now else set())
+        log = partial(self.log, f"asked: reschedule {obj.name} at {wall_time:.0f}{' forced' * forced}")
+        return Plan(calls, then=[partial(setattr, obj, "operator_check", (time, forced)), log], at_once={obj.name} if time <= now else set())
 
     def _plan_switch(self, members: Members, request: Request, on: Optional[bool]) -> Plan:
         obj, checks = self._find_open_object(members), self.engine.checks
@@ -208,7 +199,7 @@ class Requests:
         word, will_be = members["do"], obj.definition.enabled if on is None else on
         request.answer = {"done": word, "name": obj.name, "on": checks.is_to_be_enabled(obj.definition, will_be)}
         calls: List[PlannedCall] = [(obj.definition.part, call, None) for call in checks.switch_calls(obj, will_be)]
-        return Plan(calls, [set_switch(obj.name, on)], [partial(checks.apply_switch, obj, on), self._log_line(f"{word} {obj.name}")])
+        return Plan(calls, [set_switch(obj.name, on)], [partial(checks.apply_switch, obj, on), partial(self.log, f"asked: {word} {obj.name}")])
 
     def _plan_result(self, members: Members, request: Request) -> Plan:
         obj = self._find_object(members)
@@ -223,7 +214,7 @@ class Requests:
         result = StoredResult(self.engine.store.last_result + self._results, obj.name, code, plain_text(output, MOST_OUTPUT_BYTES))
         request.answer = {"done": "result", "name": obj.name}
         write = store_result(obj.name, code, result.words, result.id)
-        return Plan(writes=[write], then=[partial(self._add_result, result), self._log_line(f"result {obj.name} {code}")])
+        return Plan(writes=[write], then=[partial(self._add_result, result), partial(self.log, f"asked: result {obj.name} {code}")])
 
     def _add_result(self, result: StoredResult) -> None:
         self.engine.store.last_result = max(self.engine.store.last_result, result.id)
@@ -238,7 +229,7 @@ class Requests:
 
     def _plan_stop(self, members: Members, request: Request) -> Plan:
         request.answer = {"done": "stop"}
-        return Plan(then=[self.stop, self._log_line("stop")])
+        return Plan(then=[self.stop, partial(self.log, "asked: stop")])
 
 
 def encode_answer(answer: Mapping[str, Any]) -> bytes:
