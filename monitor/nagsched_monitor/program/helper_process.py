@@ -26,8 +26,7 @@ def is_ended(seconds: Optional[float]) -> bool:
 
 class HelperProcess:
     def __init__(self, module: str, arguments: Sequence[str], log: Callable[[str], None], clock: Callable[[], float] = time.monotonic) -> None:
-        self._module, self._arguments, self._log, self._clock = module, arguments, log, clock
-        self._name = module.rpartition(".")[2]
+        self._command, self._name, self._log, self._clock = module_command(module, list(arguments)), module.rpartition(".")[2], log, clock
         self._process: Optional["subprocess.Popen[bytes]"] = None
         self._started_at = self._not_before = clock()
         self._pause = PAUSE
@@ -46,7 +45,7 @@ class HelperProcess:
         if self._clock() >= self._not_before:
             self._started_at = self._clock()
             try:
-                self._process = subprocess.Popen(module_command(self._module, list(self._arguments)), stdin=subprocess.PIPE)
+                self._process = subprocess.Popen(self._command, stdin=subprocess.PIPE)
             except OSError as error:  # there is no room for a process now
                 self._not_before = self._started_at + LONGEST_PAUSE
                 self._log(f"{self._name} can't be begun: {error}; it is tried again")
@@ -55,6 +54,6 @@ class HelperProcess:
         return None if self._process is None else self._process.pid
 
     def close(self) -> None:
-        process, self._process = self._process, None
-        if process is not None:
-            end_process(process)
+        if self._process is not None:
+            end_process(self._process)
+            self._process = None

@@ -1,5 +1,6 @@
 """The options and commands of `nagsched-monitor`."""
 import argparse
+import contextlib
 import datetime
 import json
 import os
@@ -24,10 +25,8 @@ CODES = {"OK": 0, "UP": 0, "WARNING": 1, "CRITICAL": 2, "DOWN": 2, "UNKNOWN": 3}
 
 def parse_time(text: str) -> float:
     """A time from the command line: seconds since 1970, or a date and time in this machine's zone, such as 2026-11-27T18:00."""
-    try:
+    with contextlib.suppress(ValueError):
         return float(text)
-    except ValueError:
-        pass
     try:
         return datetime.datetime.fromisoformat(text).timestamp()
     except ValueError:
@@ -83,11 +82,6 @@ def parse_arguments(given: Optional[List[str]]) -> argparse.Namespace:
     return parser.parse_args(given)
 
 
-def request_members(arguments: argparse.Namespace) -> Dict[str, Any]:
-    given = {member: getattr(arguments, member, None) for member in ("name", "at", "force", "code", "output")}
-    return {"do": arguments.command, **{member: value for member, value in given.items() if value is not None}}
-
-
 def clock_time(seconds: float) -> str:
     """A time in this machine's zone."""
     return datetime.datetime.fromtimestamp(round(seconds)).astimezone().isoformat(sep=" ", timespec="seconds")
@@ -120,7 +114,9 @@ def print_status(arguments: argparse.Namespace) -> int:
 
 def send_request(arguments: argparse.Namespace) -> int:
     """Sends a request to the running monitor, and prints its answer."""
-    answer = json.loads(control.send_request(arguments.folder, json.dumps(request_members(arguments)).encode()) or b'{"error": "the monitor ended"}')
+    given = {member: getattr(arguments, member, None) for member in ("name", "at", "force", "code", "output")}
+    request = {"do": arguments.command, **{member: value for member, value in given.items() if value is not None}}
+    answer = json.loads(control.send_request(arguments.folder, json.dumps(request).encode()) or b'{"error": "the monitor ended"}')
     if "error" in answer:
         raise MonitorFault(answer["error"])
     print(answer_text(answer))

@@ -10,9 +10,8 @@ from ..core.clock import Clock, SystemClock
 from ..core.engine import Engine
 from ..faults import ConversationEnded, MonitorFault, NotStored
 from ..inputs import control
-from ..inputs.requests import encode_answer
-from ..outputs import changes
-from ..outputs.changes import Notifier
+from ..inputs.requests import Request, encode_answer
+from ..outputs.changes import Notifier, change_line
 from ..outputs.sd_notify import ServiceManager
 from ..run.runners import RunnerPools, raise_file_limit
 from ..scheduler.scheduling import Scheduling
@@ -65,10 +64,6 @@ class Monitor:
         self.loop.after = [self._log_changes, self._apply_reload, self._serve_clients]
         self.loop.chores = [self._drop_old_changes, self._service_manager.notify_alive, *(process.work for process in self._helpers)]
 
-    @property
-    def site(self) -> Site:
-        return self.scheduling.site
-
     def _make_helpers(self, arguments: argparse.Namespace) -> List[HelperProcess]:
         """The processes next to the monitor that its options ask for."""
         folder, asked = str(arguments.folder), []
@@ -110,11 +105,12 @@ class Monitor:
     def run(self) -> int:
         """Works until it is asked to stop; returns the exit status."""
         self._install_signal_handlers()
-        self.log(f"begins: {len(self.site.objects)} objects, {len(self.site.setups)} parts")
+        site = self.scheduling.site
+        self.log(f"begins: {len(site.objects)} objects, {len(site.setups)} parts")
         for obj in self.engine.objects.values():
             if obj.standing is not None and obj.standing.is_problem():
                 self.log(f"at the start {obj.name} is {obj.standing.state} {obj.standing.kind} {obj.standing.attempt}")
-        self._service_manager.notify_ready(f"{len(self.site.objects)} objects")
+        self._service_manager.notify_ready(f"{len(site.objects)} objects")
         return self.loop.run()
 
     def _serve_clients(self) -> Optional[int]:
@@ -125,7 +121,7 @@ class Monitor:
     def _log_changes(self) -> Optional[int]:
         """Logs the changes of the turn, and has the command run for them."""
         for change in self.scheduling.pop_changes():
-            self.log(changes.change_line(change, self.site.options.zone))
+            self.log(change_line(change, self.scheduling.site.options.zone))
         self._notifier.work()
         return self.clock.moment() + BUSY_WAIT if self._notifier.is_busy() else None
 
@@ -138,7 +134,7 @@ class Monitor:
         self._poller.watch(there.fileno(), lambda _: there.recv(4_096))
         for number in (signal.SIGINT, signal.SIGTERM):
             signal.signal(number, lambda *_: self.loop.stop())
-        signal.signal(signal.SIGHUP, lambda *_: self._site_reader.add_request(None))
+        signal.signal(signal.SIGHUP, lambda *_: self._site_reader.add_request(Request(b"", lambda answer: None)))
 
     def _drop_old_changes(self) -> None:
         """Drops old changes, each hour but the first. A clock that jumped by more than a day drops nothing."""
@@ -148,7 +144,7 @@ class Monitor:
         self._dropped_at = now
         if 0 <= since < DAY:
             try:
-                self.store.write(drop_changes_before(now - self.site.options.keep_days * DAY))
+                self.store.write(drop_changes_before(now - self.scheduling.site.options.keep_days * DAY))
             except NotStored as fault:
                 self.log(str(fault))
 
@@ -168,8 +164,7 @@ class Monitor:
             answer = {"error": str(fault)}
             self.log(f"the site isn't taken over: {fault}")
         for request in asked:
-            if request is not None:
-                request.reply(encode_answer(answer))
+            request.reply(encode_answer(answer))
         return 0
 
     def _change_site(self, site: Site) -> Dict[str, Any]:

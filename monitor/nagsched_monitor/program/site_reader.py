@@ -30,17 +30,17 @@ class SiteReader:
         self._thread: Optional[threading.Thread] = None
         self._result: ReadResult = ""
         # The requests before it began, and those since: the files may have changed for the later ones.
-        self._requests: List[Optional[Request]] = []
-        self._next_requests: List[Optional[Request]] = []
+        self._requests: List[Request] = []
+        self._next_requests: List[Request] = []
 
-    def add_request(self, request: Optional[Request]) -> None:
+    def add_request(self, request: Request) -> None:
         """Has the site read; requests that come meanwhile wait for the next reading."""
         self._next_requests.append(request)
 
     def is_busy(self) -> bool:
         return self._thread is not None
 
-    def work(self) -> Optional[Tuple[ReadResult, List[Optional[Request]]]]:
+    def work(self) -> Optional[Tuple[ReadResult, List[Request]]]:
         """Begins it if somebody requested it. Returns the result, once, and the requests for it."""
         if self._thread is None and self._next_requests:
             self._requests, self._next_requests = self._next_requests, []

@@ -46,9 +46,14 @@ def read_runners(folder: pathlib.Path, names: Iterable[str], groups: Mapping[str
     for name in names:
         by_host.setdefault(name.partition(";")[0], []).append(name)
     runner_of: Dict[str, str] = {}
-    for name, patterns in objects.items():
-        for fitting in matching_objects(name, patterns, by_host, groups):
-            runner_of.setdefault(fitting, name)
+    for runner, patterns in objects.items():
+        if not isinstance(patterns, list) or not patterns or not all(isinstance(each, str) and each for each in patterns):
+            raise SiteFault(f"{FILE}: objects: {runner}: it has to be a list of patterns")
+        for pattern in patterns:
+            fitting = matching_objects(pattern, by_host, groups)
+            if not fitting:
+                raise SiteFault(f"{FILE}: objects: {runner}: no object fits {pattern}")
+            runner_of.update((name, runner) for name in fitting if name not in runner_of)
     return remotes, runner_of
 
 
@@ -65,19 +70,7 @@ def read_remote(name: str, arguments: Any, slots: object, wait: float) -> Remote
     return Remote(name, (program, *arguments[1:]), most, wait)
 
 
-def matching_objects(runner: str, patterns: Any, by_host: Mapping[str, List[str]], groups: Mapping[str, Groups]) -> List[str]:
-    """The objects that one of these patterns fits. A pattern that fits none is a fault."""
-    place = f"{FILE}: objects: {runner}"
-    if not isinstance(patterns, list) or not patterns or not all(isinstance(each, str) and each for each in patterns):
-        raise SiteFault(f"{place}: it has to be a list of patterns")
-    found = {pattern: pattern_matches(pattern, by_host, groups) for pattern in patterns}
-    for pattern, fitting in found.items():
-        if not fitting:
-            raise SiteFault(f"{place}: no object fits {pattern}")
-    return [name for fitting in found.values() for name in fitting]
-
-
-def pattern_matches(pattern: str, by_host: Mapping[str, List[str]], groups: Mapping[str, Groups]) -> List[str]:
+def matching_objects(pattern: str, by_host: Mapping[str, List[str]], groups: Mapping[str, Groups]) -> List[str]:
     """The objects that a pattern fits: by full names, by a group, or hosts with everything on them."""
     is_wild = any(sign in pattern for sign in "*?[")
     kind, _, rest = pattern.partition(":")
