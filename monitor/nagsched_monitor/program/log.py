@@ -1,4 +1,5 @@
 """The log: lines on standard output, written by a separate thread, so that the monitor never waits for a reader that doesn't read them."""
+import contextlib
 import os
 import queue
 import threading
@@ -35,16 +36,12 @@ class Log:
 
     def _print(self, line: str) -> None:
         data = line.encode(errors="replace") + b"\n"
-        try:
+        with contextlib.suppress(OSError):  # the disk is full, or nobody reads any more
             while data:
                 data = data[os.write(self._file, data) :]
-        except OSError:
-            pass  # the disk is full, or nobody reads any more
 
     def close(self, seconds: float = 2.0) -> None:
         """Writes the remaining lines, within a number of seconds."""
-        try:
+        with contextlib.suppress(queue.Full):
             self._lines.put(None, timeout=seconds)
-        except queue.Full:
-            return
-        self._thread.join(seconds)
+            self._thread.join(seconds)

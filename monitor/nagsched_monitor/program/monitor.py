@@ -2,7 +2,6 @@
 import argparse
 import os
 import signal
-import socket
 import time
 from typing import Any, Dict, List, Optional
 
@@ -127,11 +126,9 @@ class Monitor:
 
     def _install_signal_handlers(self) -> None:
         """Each signal ends the waiting for files, by a byte that comes."""
-        self._signals = there, back = socket.socketpair()
-        there.setblocking(False)
-        back.setblocking(False)
-        signal.set_wakeup_fd(back.fileno(), warn_on_full_buffer=False)
-        self._poller.watch(there.fileno(), lambda _: there.recv(4_096))
+        there, back = os.pipe2(os.O_NONBLOCK | os.O_CLOEXEC)
+        signal.set_wakeup_fd(back, warn_on_full_buffer=False)
+        self._poller.watch(there, lambda _: os.read(there, 4_096))
         for number in (signal.SIGINT, signal.SIGTERM):
             signal.signal(number, lambda *_: self.loop.stop())
         signal.signal(signal.SIGHUP, lambda *_: self._site_reader.add_request(Request(b"", lambda answer: None)))

@@ -63,10 +63,9 @@ def plain_arguments(line: str, place: str) -> List[str]:
 
 def shell_characters(line: str) -> List[str]:
     """The characters in a line, outside of quotes, that only a shell gives a meaning."""
-    signs = ";|&<>()"
-    lexer = shlex.shlex(line, posix=True, punctuation_chars=signs)
+    lexer = shlex.shlex(line, posix=True, punctuation_chars=True)
     lexer.whitespace_split, lexer.commenters = True, ""
-    return [word for word in lexer if word and not word.strip(signs)]
+    return [word for word in lexer if word and not word.strip(lexer.punctuation_chars)]
 
 
 def shell_arguments(line: str, place: str) -> List[str]:

@@ -30,9 +30,8 @@ def read_groups(folder: pathlib.Path, objects: Optional[Container[str]] = None) 
 def labels_of(name: str, groups: Mapping[str, Groups]) -> Dict[str, str]:
     """An object as labels of an alert or a series: its host and service, and its groups between commas, such as `,linux,web,`."""
     host, _, service = name.partition(";")
-    labels = {"host": host, **({"service": service} if service else {})}
-    labels.update((kind, f",{','.join(names)},") for kind, names in groups.get(name, {}).items() if names)
-    return labels
+    lists = {kind: f",{','.join(names)}," for kind, names in groups.get(name, {}).items() if names}
+    return {"host": host, **({"service": service} if service else {}), **lists}
 
 
 class GroupsFile:
