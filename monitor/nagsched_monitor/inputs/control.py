@@ -69,8 +69,7 @@ class ControlSocket:
         except BlockingIOError:
             return
         except OSError:
-            self._drop_client(client)
-            return
+            data = b""  # the client has gone
         client.last_line_at = time.monotonic()
         client.unread += data
         if not data:
