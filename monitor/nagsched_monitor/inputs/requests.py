@@ -213,12 +213,9 @@ class Requests:
         self._results += 1
         result = StoredResult(self.engine.store.last_result + self._results, obj.name, code, plain_text(output, MOST_OUTPUT_BYTES))
         request.answer = {"done": "result", "name": obj.name}
-        write = store_result(obj.name, code, result.words, result.id)
-        return Plan(writes=[write], then=[partial(self._add_result, result), partial(self.log, f"asked: result {obj.name} {code}")])
-
-    def _add_result(self, result: StoredResult) -> None:
-        self.engine.store.last_result = max(self.engine.store.last_result, result.id)
-        self.engine.passive.add(result)
+        note = partial(setattr, self.engine.store, "last_result", result.id)
+        log = partial(self.log, f"asked: result {obj.name} {code}")
+        return Plan(writes=[store_result(obj.name, code, result.words, result.id)], then=[note, partial(self.engine.passive.add, result), log])
 
     def _save_now(self, request: Request) -> None:
         try:

@@ -5,8 +5,7 @@
 import fnmatch
 import pathlib
 import re
-from dataclasses import dataclass
-from typing import Any, Dict, Iterable, List, Mapping, Tuple
+from typing import Any, Dict, Iterable, List, Mapping, NamedTuple, Tuple
 
 from ..faults import SiteFault
 from ..run.runner_program import find_program
@@ -22,8 +21,7 @@ SLOTS, WAIT, MOST_SLOTS = 32, 30.0, 10_000
 GROUP_KINDS = {"hostgroup": "host_groups", "servicegroup": "service_groups"}
 
 
-@dataclass(frozen=True)
-class Remote:
+class Remote(NamedTuple):
     """A runner elsewhere: the command that reaches it, the number of checks that it has at once, and the wait for it, in seconds."""
 
     name: str
