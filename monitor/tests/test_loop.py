@@ -4,6 +4,7 @@ import unittest
 from typing import List
 from unittest import mock
 
+from nagsched_monitor.inputs.requests import Request
 from nagsched_monitor.program.log import MOST_LINES, Log
 from nagsched_monitor.program.loop import BROKEN
 
@@ -43,6 +44,19 @@ class Faults(SiteTest):
             self.assertIn("the monitor has a fault: KeyError", monitor.ask(do="reschedule", name="web")["error"])
         monitor.work(70)
         self.assertEqual(len(monitor.starts()["web"]), 2)
+
+    def test_a_fault_after_a_turn_was_stored(self) -> None:
+        """Its requests aren't stored again, and the next turn answers them."""
+        self.write_site([host("web")], [])
+        monitor = self.monitor(fine)
+        monitor.work(10)
+        answers: List[bytes] = []
+        monitor.engine.add_request(Request(b'{"do":"result","name":"web","code":0,"output":"fine"}', answers.append))
+        with mock.patch.object(monitor.scheduling, "make_calls", side_effect=KeyError("what")):
+            monitor.loop.run_turn()
+        self.assertEqual(answers, [])
+        monitor.loop.run_turn()
+        self.assertEqual((len(answers), monitor.store.last_result), (1, 1))
 
     def test_what_is_done_every_second(self) -> None:
         self.write_site([host("web")], [])

@@ -48,7 +48,9 @@ class Engine:
         self.checks = Checks(scheduling, self.passive, store.switches(), clock, log)
         self.plugins = PluginRuns(scheduling, runners, clock, log, self.counters)
         self.requests = Requests(self, clock)
+        # Requests that wait for a turn, and those that are stored and not answered yet.
         self._requests: List[Request] = []
+        self._stored_requests: List[Request] = []
         # Answers that aren't applied yet: a fault in the middle leaves the rest to the next turn.
         self._answers: Deque[ObjectAnswer] = collections.deque()
         self._last_turn: Optional[int] = None
@@ -82,6 +84,8 @@ class Engine:
         if self.is_stuck:
             self._log("the database takes writes again")
         self.is_stuck = False
+        self._stored_requests += self._requests  # a fault in the rest of this turn doesn't have them stored again
+        self._requests = []
         for follow in plan.then:
             follow()
         self._answers.extend(self.scheduling.make_calls())
@@ -89,8 +93,8 @@ class Engine:
             self._apply(self._answers.popleft())
         for follow in plan.last:
             follow()
-        self.requests.answer(self._requests)
-        self._requests = []
+        self.requests.answer(self._stored_requests)
+        self._stored_requests = []
         self.runners.flush()
         self._last_turn = now
         self._save_when_due()
