@@ -183,6 +183,7 @@ class Words(SiteTest):
             (b'{"do":"reschedule"}', "name"), (b'{"do":"reschedule","name":"x"}', "no object 'x'"),
             (b'{"do":"reschedule","name":"web","at":"now"}', "at is"), (b'{"do":"reschedule","name":"web","at":-1e30}', "no time"),
             (b'{"do":"reschedule","name":"web","at":1e400}', "no time"), (b'{"do":"reschedule","name":"web","force":1}', "force"),
+            (b'{"do":"reschedule","name":"web","at":1795766400000}', "no time"),
             (b'{"do":"reschedule","name":"web;trap","force":true}', "no command"),
             (b'{"do":"enable","name":"web;trap"}', "no command"), (b'{"do":"enable","name":["web"]}', "name"),
             (b'{"do":"result","name":"web","code":4}', "4"), (b'{"do":"result","name":"web","code":true}', "True"),

@@ -3,6 +3,8 @@ import time
 from typing import Protocol
 
 MILLISECOND = 1_000_000
+# The last time that has a date here, at the beginning of the year 9999, in seconds since 1970.
+LAST_TIME = 253_370_764_800
 
 
 class Clock(Protocol):

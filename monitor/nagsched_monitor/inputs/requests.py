@@ -16,7 +16,7 @@ from dataclasses import dataclass
 from functools import partial
 from typing import TYPE_CHECKING, Any, Callable, Dict, List, Mapping, Optional, Sequence, Set, Tuple
 
-from ..core.clock import Clock
+from ..core.clock import LAST_TIME, Clock
 from ..core.object_state import ObjectState
 from ..core.mirroring import PlannedCall
 from ..core.passive import MOST_WAITING
@@ -31,7 +31,6 @@ from ..store.writes import MOST_REQUESTS, set_switch, store_request, store_resul
 if TYPE_CHECKING:
     from ..core.engine import Engine
 
-LAST_MOMENT = 2**60
 LONGEST_NUMBER = 128
 Members = Mapping[str, Any]
 
@@ -180,8 +179,8 @@ class Requests:
         at, forced = members.get("at", wall), members.get("force", False)
         if isinstance(at, bool) or not isinstance(at, (int, float)) or not isinstance(forced, bool):
             raise RequestFault("at is a number of seconds since 1970, and force is true or false")
-        time = now + round((at - wall) * 1000) if abs(at) < LAST_MOMENT / 1000 else -1
-        if not FIRST_TIME <= time <= LAST_MOMENT:
+        time = now + round((at - wall) * 1000) if abs(at) < LAST_TIME else -1
+        if time < FIRST_TIME:
             raise RequestFault(f"no time at which a check can be: {at!r}")
         if obj.definition.command is None:
             raise RequestFault(f"{obj.name} has no command")

@@ -4,6 +4,7 @@ import datetime
 import urllib.parse
 from typing import Collection, List, Mapping, Optional, Sequence, Tuple
 
+from ..core.clock import LAST_TIME
 from ..core.text import first_line
 from ..site.groups_file import Groups
 from ..store.rows import StoredChange, StoredStanding
@@ -12,8 +13,6 @@ from .style import CLASSES, STYLE, html_text, look_of
 
 # How often a page renews itself, in seconds.
 RENEW_EVERY = 15
-# The last time that has a date here, at the beginning of the year 9999.
-LAST_TIME = 253_370_764_800
 COLUMNS = ("State", "Object", "Attempt", "Since", "Next check", "Last words")
 # The picture of a day: the heights of hard and soft states and of unknown ones, and the place of their lower edge.
 HIGH, LOW, THIN, BOTTOM = 44, 24, 6, 52
