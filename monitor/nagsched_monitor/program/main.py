@@ -19,7 +19,10 @@ from ..store.rows import StoredStanding
 from . import addresses
 from .log import Log
 from .monitor import Monitor
+from .site_reader import LIMIT as READING_LIMIT
 
+# How long a command waits for its answer, in seconds. A reload first reads the site.
+PATIENCE, RELOAD_PATIENCE = 30.0, READING_LIMIT + 30.0
 CODES = {"OK": 0, "UP": 0, "WARNING": 1, "CRITICAL": 2, "DOWN": 2, "UNKNOWN": 3}
 
 
@@ -116,7 +119,8 @@ def send_request(arguments: argparse.Namespace) -> int:
     """Sends a request to the running monitor, and prints its answer."""
     given = {member: getattr(arguments, member, None) for member in ("name", "at", "force", "code", "output")}
     request = {"do": arguments.command, **{member: value for member, value in given.items() if value is not None}}
-    answer = json.loads(control.send_request(arguments.folder, json.dumps(request).encode()) or b'{"error": "the monitor ended"}')
+    patience = RELOAD_PATIENCE if arguments.command == "reload" else PATIENCE
+    answer = json.loads(control.send_request(arguments.folder, json.dumps(request).encode(), patience) or b'{"error": "the monitor ended"}')
     if "error" in answer:
         raise MonitorFault(answer["error"])
     print(answer_text(answer))

@@ -153,6 +153,7 @@ class Monitor:
         if read is None:
             return self.clock.moment() + BUSY_WAIT if self._site_reader.is_busy() else None
         site, asked = read
+        answer: Dict[str, Any] = {"error": "the monitor has a fault"}
         try:
             if isinstance(site, str):
                 raise MonitorFault(site)
@@ -160,8 +161,9 @@ class Monitor:
         except (MonitorFault, NotStored) as fault:
             answer = {"error": str(fault)}
             self.log(f"the site isn't taken over: {fault}")
-        for request in asked:
-            request.reply(encode_answer(answer))
+        finally:
+            for request in asked:
+                request.reply(encode_answer(answer))
         return 0
 
     def _change_site(self, site: Site) -> Dict[str, Any]:
