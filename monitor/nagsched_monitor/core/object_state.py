@@ -53,8 +53,9 @@ class ObjectState:
         return now - (self.awaited_since if self.last_result is None else self.last_result) >= freshness
 
 
-# How many objects are enough for one turn.
+# How many objects are enough for one turn, and how long the first of them waits for others, in milliseconds.
 ENOUGH = 40
+LONGEST_SHARING = 200
 
 
 @dataclass
@@ -93,15 +94,16 @@ class DueQueue:
             del self._names[heapq.heappop(self._heap)]
         return self._heap[0] if self._heap else None
 
-    def second_time(self) -> Optional[int]:
-        """The time after the first one; None if there is none, or enough objects wait for the first one."""
-        first = self.first_time()
-        if first is None or len(self._names[first]) >= ENOUGH:
-            return None
-        heapq.heappop(self._heap)
-        second = self.first_time()
-        heapq.heappush(self._heap, first)
-        return second
+    def shared_time(self) -> Optional[int]:
+        """The time at which enough objects are due for one turn, or at which the last of those is due that share a turn with the first."""
+        times: List[int] = []
+        count = 0
+        while count < ENOUGH and (time := self.first_time()) is not None and time <= (times or [time])[0] + LONGEST_SHARING:
+            count += len(self._names[time])
+            times.append(heapq.heappop(self._heap))
+        for time in times:
+            heapq.heappush(self._heap, time)
+        return times[-1] if times else None
 
 
 class ObjectStates:

@@ -46,7 +46,7 @@ class Loop:
             wanted = begun + AFTER_FAULT
             self._handle_fault()
         if self.status is None:
-            self._timer.wait(begun, wanted, self._engine.scheduling.states.due.second_time())
+            self._timer.wait(begun, wanted, self._engine.scheduling.states.due.shared_time())
 
     def _turn(self, begun: int) -> int:
         wanted = [each() for each in self.before]

@@ -9,12 +9,12 @@ import time
 from typing import Callable, Dict, Optional, Protocol
 
 from ..core.clock import Clock
+from ..core.object_state import LONGEST_SHARING
 
 # The least time from one turn to the next, in seconds.
 BETWEEN_TURNS = 0.05
-# How long checks that are due together wait for the next ones, and a result for the next due check, in seconds.
-MOST_SHARED = 0.12
-LONGEST_UNREPORTED = 2 * MOST_SHARED
+# How far off a due check may be so that results wait for its turn, in seconds.
+LONGEST_UNREPORTED = 0.25
 SECOND = 1_000
 
 # Calls a reader when a file can be read.
@@ -68,15 +68,15 @@ class TurnTimer:
     def __init__(self, clock: Clock, poller: Poller) -> None:
         self._clock, self._poller = clock, poller
 
-    def wait(self, begun: int, wanted: int, second: Optional[int]) -> None:
+    def wait(self, begun: int, wanted: int, shared: Optional[int]) -> None:
         """Waits for the next turn, and has files read until then.
 
-        `begun` is when the last turn began. `wanted` is the latest moment for the next one, 0 for at once. `second` is when the check after that one is
-        due. All are moments."""
+        `begun` is when the last turn began. `wanted` is the moment at which something is due, 0 for at once. `shared` is when the checks are due that
+        share a turn. All are moments."""
         if wanted == 0:
             self._poller.wait(0)
             return
-        next_turn = next_turn_time(begun / SECOND, wanted / SECOND, None if second is None else second / SECOND)
+        next_turn = next_turn_time(begun / SECOND, wanted / SECOND, None if shared is None else shared / SECOND)
         self._sleep_until(begun / SECOND + BETWEEN_TURNS if next_turn is None else next_turn)
         if self._poller.wait(0) or next_turn is not None or not self._poller.wait(wanted - self._clock.moment()):
             return
@@ -88,13 +88,12 @@ class TurnTimer:
         self._poller.sleep(at * SECOND - self._clock.moment())
 
 
-def next_turn_time(begun: float, wanted: float, second: Optional[float]) -> Optional[float]:
+def next_turn_time(begun: float, wanted: float, shared: Optional[float]) -> Optional[float]:
     """The time of the next turn, even if something comes before it; None if `wanted` is so far off that a result has a turn of its own.
 
-    Checks that are due wait for the next one if that is due soon. They are due together from then on, as far as their phases allow it."""
-    rested = begun + BETWEEN_TURNS
+    Checks that are due wait for the next ones that share their turn. They are due together from then on, as far as their phases allow it."""
     if wanted > begun + LONGEST_UNREPORTED:
         return None
-    if second is not None and rested < second <= wanted + MOST_SHARED:
-        return second
-    return max(rested, wanted)
+    if shared is not None and wanted <= shared <= wanted + LONGEST_SHARING / SECOND:
+        wanted = shared
+    return max(begun + BETWEEN_TURNS, wanted)
