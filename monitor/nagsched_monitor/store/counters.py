@@ -19,7 +19,7 @@ The names of the stored figures, and their meanings:
 """
 import bisect
 import collections
-from typing import DefaultDict, Deque, Dict, Mapping, Optional, Tuple
+from typing import DefaultDict, Deque, Dict, Mapping, Tuple
 
 from ..core.clock import Clock
 
@@ -41,7 +41,7 @@ class Counters:
         # Since this monitor began: the number of results, and the most milliseconds by which a check was late.
         self.result_count = self.latest_start = 0
         self._written: Dict[str, float] = {}
-        self._written_at: Optional[int] = None
+        self._written_at = clock.moment() - EVERY
         # At moments of the last minute: the number of results until then, and the latest start since the moment before.
         self._moments: Deque[Tuple[int, int, int]] = collections.deque([(clock.moment(), 0, 0)])
         self._latest_lately = 0
@@ -67,7 +67,7 @@ class Counters:
         self._values["saved_at"] = self._clock.wall()
 
     def are_due(self, now: int) -> bool:
-        return self._written_at is None or now - self._written_at >= EVERY
+        return now - self._written_at >= EVERY
 
     def changed_figures(self, calls: int) -> Dict[str, float]:
         """The figures that have changed since they were written last. `calls` is the number of calls so far."""

@@ -3,7 +3,8 @@
 An object that an answer is about is marked. It is written with the first calls after half a second. A run that has just begun isn't written, since its result
 mostly comes before that. After a second an object is written without other calls. Times in the table are seconds since 1970 of the wall clock.
 """
-from typing import Dict, Iterator, List, Mapping, Optional, Sequence, Tuple
+import itertools
+from typing import Dict, List, Mapping, Optional, Tuple
 
 from ..core.clock import Clock
 from ..core.object_state import ObjectState
@@ -22,9 +23,8 @@ LONGEST = 1_000
 class StandingTable:
     def __init__(self, store: Store, clock: Clock) -> None:
         self._store, self._clock = store, clock
-        # Objects and the moments at which they were marked, the earliest first; whether they are all to be written with the next calls.
+        # Objects and the moments at which they were marked, the earliest first. The moment 0 is for those to be written with the next calls.
         self._marked: Dict[str, Tuple[ObjectState, int]] = {}
-        self._are_all_due = False
         # The objects of the last writes.
         self._chosen: List[ObjectState] = []
         # Rows of objects that aren't part of the site any more.
@@ -47,8 +47,7 @@ class StandingTable:
             past.note(standing.state, standing.kind, stored.since if stored.since and stored.state == standing.state else self._clock.wall())
             if stored.hard_since is not None and stored.hard_state == past.hard_state:
                 past.hard_since = stored.hard_since
-        self._marked = {name: (obj, self._clock.moment()) for name, obj in objects.items()}
-        self.write_soon()
+        self._marked = {name: (obj, 0) for name, obj in objects.items()}
 
     def apply_answer(self, obj: ObjectState, call: Call, answer: Answer, ended: Optional[Run]) -> None:
         """Takes in the changes of an object from an answer, and marks the object. `ended` is its run before."""
@@ -60,38 +59,30 @@ class StandingTable:
             begun = now if ended is None or ended.began_at is None else ended.began_at
             past.last_check, past.took = begun, max(0.0, now - begun)
             past.note(answer.state, answer.kind, now)
-        _, since = self._marked.get(obj.name, (obj, self._clock.moment()))
-        self._marked[obj.name] = obj, since
+        self._marked.setdefault(obj.name, (obj, self._clock.moment()))
 
     def write_soon(self) -> None:
         """Has all marked objects written with the next calls."""
-        self._are_all_due = True
+        self._marked = {name: (obj, 0) for name, (obj, _) in self._marked.items()}
 
     def is_overdue(self) -> bool:
         """Whether a marked object has waited too long for calls to be written with."""
-        _, earliest = next(iter(self._marked.values()), (None, self._clock.moment()))
-        return self._are_all_due or self._clock.moment() - earliest > LONGEST
+        now = self._clock.moment()
+        _, earliest = next(iter(self._marked.values()), (None, now))
+        return now - earliest > LONGEST
 
-    def writes(self) -> Sequence[Write]:
+    def writes(self) -> List[Write]:
         """The writes for the next calls."""
         now, wall = self._clock.moment(), self._clock.wall()
-        self._chosen = list(self._due_objects(now, wall))
-        if not self._chosen and not self._are_all_due:
-            return ()
+        due = itertools.takewhile(lambda marked: now - marked[1] >= SHORTEST, self._marked.values())
+        self._chosen = [obj for obj, since in due if now - since >= LONGEST or not has_just_begun(obj.run, wall)]
         return [drop_standings(self._dropped), store_standings([row_of(obj, wall, now / 1000 - wall) for obj in self._chosen])]
-
-    def _due_objects(self, now: int, wall: float) -> Iterator[ObjectState]:
-        for obj, since in self._marked.values():
-            if not self._are_all_due and now - since < SHORTEST:
-                return
-            if self._are_all_due or now - since >= LONGEST or not has_just_begun(obj.run, wall):
-                yield obj
 
     def clear_marks(self) -> None:
         """The last writes were carried out."""
         for obj in self._chosen:
             self._marked.pop(obj.name, None)
-        self._dropped, self._are_all_due = [], False
+        self._dropped = []
 
 
 def has_just_begun(run: Optional[Run], wall: float) -> bool:

@@ -36,23 +36,22 @@ class Store:
 
     def __init__(self, folder: pathlib.Path, log: Callable[[str], None] = lambda line: None) -> None:
         self.path, self._log = folder / "monitor.db", log
-        self._lock: Optional[int] = lock_site(folder)
-        try:
-            self._open_database()
-            self._verify()
-        except sqlite3.Error as error:
-            self.close()
-            raise MonitorFault(f"{self.path}: {error}") from None
-        except MonitorFault:
-            self.close()
-            raise
+        with contextlib.ExitStack() as opened:
+            opened.callback(os.close, lock_site(folder))
+            try:
+                self._open_database(opened)
+                self._verify()
+            except sqlite3.Error as error:
+                raise MonitorFault(f"{self.path}: {error}") from None
+            self._opened = opened.pop_all()
         self.last_call = max(self._greatest("calls"), self._greatest("generations", "last_call"))
         self.last_result = self._greatest("passive")
 
-    def _open_database(self) -> None:
+    def _open_database(self, opened: contextlib.ExitStack) -> None:
         """Opens the database, which is for its owner only, and has a table for everything."""
         os.close(os.open(self.path, os.O_RDWR | os.O_CREAT | os.O_CLOEXEC, 0o600))
         self._database = database = sqlite3.connect(self.path, isolation_level=None, timeout=5)
+        opened.callback(database.close)
         for setting in ("journal_mode=WAL", "synchronous=FULL", "wal_autocheckpoint=1000"):
             database.execute(f"PRAGMA {setting}")
         database.execute("BEGIN IMMEDIATE")
@@ -80,11 +79,7 @@ class Store:
         database.execute(f"PRAGMA user_version = {VERSION}")
 
     def close(self) -> None:
-        if self._lock is not None:
-            if hasattr(self, "_database"):
-                self._database.close()
-            os.close(self._lock)
-            self._lock = None
+        self._opened.close()
 
     # ---- reading
 
@@ -187,9 +182,8 @@ class Store:
             self._database.execute("COMMIT")
         except sqlite3.Error as error:
             self.last_call = last_call
-            with contextlib.suppress(sqlite3.Error):
-                if self._database.in_transaction:
-                    self._database.execute("ROLLBACK")
+            with contextlib.suppress(sqlite3.Error):  # there may be no transaction any more
+                self._database.execute("ROLLBACK")
             raise NotStored(f"{self.path}: {error}") from None
 
     def insert(self, table: str, number: Optional[int], cells: Sequence[Cell]) -> None:

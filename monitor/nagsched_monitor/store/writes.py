@@ -20,12 +20,7 @@ def delete(table: str, condition: str, *cells: Cell) -> Write:
 
 def all_of(writes: Iterable[Write]) -> Write:
     several = list(writes)
-
-    def carry_out(store: Store) -> None:
-        for write in several:
-            write(store)
-
-    return carry_out
+    return lambda store: [write(store) for write in several]
 
 
 def store_calls(calls: Sequence[Tuple[int, str, Optional[str]]]) -> Write:
