@@ -14,22 +14,19 @@ def state_of(standing: Optional[Standing]) -> str:
 def hosts_to_check(obj: ObjectState, before: Optional[Standing], now: Standing, objects: Mapping[str, ObjectState],
                    children: Sequence[str]) -> List[ObjectState]:
     """The hosts that have to be checked after a result of an object; `children` are the hosts that have it as a parent."""
-    if obj.definition.host is None:
-        return relatives_to_check(state_of(before) in UP_STATES, now, [objects[name] for name in obj.definition.parents if name in objects],
-                                  [objects[name] for name in children])
-    host = objects.get(obj.definition.host)
-    return [host] if host is not None and is_host_check_needed(state_of(before), now, state_of(host.standing)) else []
+    was, is_problem = state_of(before), now.is_problem()
+    if obj.definition.host is not None:
+        host = objects.get(obj.definition.host)
+        return [host] if host is not None and is_host_check_needed(was, now, state_of(host.standing)) else []
+    if (was in UP_STATES) != is_problem:
+        return []
+    # The parents and children that a host's result affects. A host that was never checked counts as up.
+    expected = ("UNREACHABLE",) if is_problem else UP_STATES
+    parents = [objects[name] for name in obj.definition.parents if name in objects]
+    odd_parents = [each for each in parents if (state_of(each.standing) in UP_STATES) != is_problem]
+    return odd_parents + [objects[name] for name in children if state_of(objects[name].standing) not in expected]
 
 
 def is_host_check_needed(was: str, now: Standing, host: str) -> bool:
     """Whether a service's result asks for its host: a new or other problem while the host is up or was never checked, or an OK while it isn't up."""
     return now.state != was and host in UP_STATES if now.is_problem() else host != "UP"
-
-
-def relatives_to_check(was_well: bool, now: Standing, parents: Sequence[ObjectState], children: Sequence[ObjectState]) -> List[ObjectState]:
-    """The parents and children that a host's result affects. A host that was never checked counts as up."""
-    if was_well != now.is_problem():
-        return []
-    expected = ("UNREACHABLE",) if now.is_problem() else UP_STATES
-    odd_parents = [each for each in parents if (state_of(each.standing) in UP_STATES) != now.is_problem()]
-    return odd_parents + [each for each in children if state_of(each.standing) not in expected]

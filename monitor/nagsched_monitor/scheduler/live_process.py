@@ -44,10 +44,9 @@ class Conversation:
 
     def begin(self, lines: Sequence[str]) -> None:
         """Sends as much of these lines as there is room for now."""
-        if lines:
-            self._unsent += "\n".join(lines).encode() + b"\n"
-            self._unanswered += len(lines)
-            self._write()
+        self._unsent += "\n".join(lines).encode() + b"\n"
+        self._unanswered += len(lines)
+        self._write()
 
     def finish(self) -> List[str]:
         """The answers to all lines whose sending has begun. There can't be more answers, since each answers a line that was sent."""

@@ -5,16 +5,15 @@ from typing import AbstractSet, Any, Dict, List, Mapping, Tuple
 
 from ..faults import MonitorFault
 from ..site.site import Site
+from .protocol import ENCODER
 
 Member = Dict[str, Any]
-# The states of schedulers by their parts.
-States = Mapping[int, bytes]
 # The limit for the program's test of a state, in seconds.
 LIMIT = 60.0
 
 
-def merge_states(states: States, mirrored: Mapping[int, AbstractSet[str]], site: Site, moment: int) -> Dict[int, bytes]:
-    """The state from which each part of a site begins, from the states of the current parts, and the names of their mirrors.
+def merge_states(states: Mapping[int, bytes], mirrored: Mapping[int, AbstractSet[str]], site: Site, moment: int) -> Dict[int, bytes]:
+    """The state from which each part of a site begins, from the states of the schedulers of the current parts, and the names of their mirrors.
 
     A mirror has the state of its original. Run numbers continue from the greatest number of all parts, so that no late result fits a run of another part."""
     found: Dict[str, Tuple[int, Member]] = {}
@@ -30,8 +29,7 @@ def merge_states(states: States, mirrored: Mapping[int, AbstractSet[str]], site:
             members[definition.part].append(member if part == definition.part else without_run(member, moment))
     for part, names in site.mirrors.items():
         members[part].extend(as_mirror(found[name][1]) for name in sorted(names) if name in found)
-    documents = {part: {"format": 1, "objects": of_part, "runs": runs, "start": moment} for part, of_part in members.items()}
-    return {part: json.dumps(document, ensure_ascii=False, separators=(",", ":")).encode() for part, document in documents.items()}
+    return {part: ENCODER.encode({"format": 1, "objects": of_part, "runs": runs, "start": moment}).encode() for part, of_part in members.items()}
 
 
 def without_run(member: Member, moment: int) -> Member:
