@@ -239,7 +239,7 @@ class FaultRun:
     def _look(self) -> None:
         """Facts that hold at any time."""
         now = self.clock.now
-        for run in self.monitor.scheduling.states.running:
+        for run in self.monitor.scheduling.states.running.values():
             is_owned = run.owner in (Owner.PLUGIN, Owner.RESULT)
             if is_owned and (run.deadline is None or run.deadline < now - 60_000):
                 self.wrong.append(f"{self._now():g} s: a run without a deadline, or past it: {run}")
@@ -253,11 +253,11 @@ class FaultRun:
         wrong += [f"not accepted: {number} of {name}" for number, (_, name) in enumerate(RESULTS) if f"result {number} of {name}" not in self.accepted]
         wrong += [f"result still waits: {result}" for result in self.monitor.store.waiting_results()]
         wrong += [f"never told: {document}" for document in self.documents - self.taken]
-        for run in scheduling.states.running:
+        for run in scheduling.states.running.values():
             if run.owner is Owner.NOBODY:
                 wrong.append(f"nobody ends {run}")
-        for part in scheduling.schedulers.parts:
-            state = scheduling.schedulers.state(part)
+        for part, scheduler in scheduling.parts.items():
+            state = scheduler.state()
             wrong += [f"known otherwise: {name}" for name in scheduling.states.apply_saved(scheduling.mirrors.apply_saved(part, json.loads(state)["objects"]))]
         wrong += self._unmonitored_objects()
         if sorted(engine.objects) != sorted(["far", "far;backup", "far;web", "gateway", "near", "near;trap", "near;web", "new"]):

@@ -144,10 +144,10 @@ class PartedSiteTest(SiteTest):
 
     def assert_mirrors_stand(self, monitor: SimulatedMonitor) -> None:
         """Each mirror has the standing of its original, according to the schedulers."""
-        schedulers = monitor.scheduling.schedulers
+        schedulers = monitor.scheduling.parts
         for part, names in monitor.site.mirrors.items():
-            for name, answer in zip(sorted(names), schedulers.query(part, [Status(name) for name in sorted(names)])):
-                (original,) = schedulers.query(monitor.site.objects[name].part, [Status(name)])
+            for name, answer in zip(sorted(names), schedulers[part].query([Status(name) for name in sorted(names)])):
+                (original,) = schedulers[monitor.site.objects[name].part].query([Status(name)])
                 assert isinstance(answer, Standing) and isinstance(original, Standing)
                 self.assertEqual((standing_parts(answer), answer.next), (standing_parts(original), None), (part, name))
 

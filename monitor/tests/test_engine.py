@@ -2,13 +2,7 @@
 import collections
 from typing import Dict, Tuple
 
-from nagsched_monitor.scheduler.schedulers import Schedulers
-
 from .simulated import BEGIN, SimulatedClock, SimulatedMonitor, SiteTest, fine, host, service
-
-
-def schedulers_of(monitor: SimulatedMonitor) -> Schedulers:
-    return monitor.scheduling.schedulers
 
 
 class Pauses(SiteTest):

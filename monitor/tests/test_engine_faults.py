@@ -7,14 +7,9 @@ from unittest import mock
 from nagsched_monitor.faults import ConversationEnded, NotStored
 from nagsched_monitor.run.jobs import Job, JobFinished, JobLost, StuckJobEnded
 from nagsched_monitor.scheduler.live_process import Conversation
-from nagsched_monitor.scheduler.schedulers import Schedulers
 from nagsched_monitor.site.site import read_site
 
 from .simulated import BEGIN, PROGRAM, SimulatedMonitor, SiteTest, fine, host, service
-
-
-def schedulers_of(monitor: SimulatedMonitor) -> Schedulers:
-    return monitor.scheduling.schedulers
 
 
 class Faults(SiteTest):
@@ -58,7 +53,7 @@ class Faults(SiteTest):
         self.write_site([host("web")], [service("web", "http")])
         monitor = self.monitor(fine)
         monitor.run(70)
-        with mock.patch.object(schedulers_of(monitor), "_converse", side_effect=ConversationEnded("no room for a process")):
+        with mock.patch.object(monitor.scheduling, "_converse", side_effect=ConversationEnded("no room for a process")):
             os.kill(monitor.scheduling.process_ids()[0], signal.SIGKILL)
             monitor.run(120)
             self.assertTrue(monitor.ask(do="disable", name="web")["again"])
@@ -73,7 +68,7 @@ class Faults(SiteTest):
         monitor = self.monitor(fine)
         monitor.run(70)
         self.write_site([host("web"), host("new")], [])
-        with mock.patch.object(schedulers_of(monitor), "_converse", side_effect=ConversationEnded("no room for a process")):
+        with mock.patch.object(monitor.scheduling, "_converse", side_effect=ConversationEnded("no room for a process")):
             monitor.engine.reload(read_site(self.folder, PROGRAM))
             self.assertEqual((set(monitor.engine.objects), set(monitor.site.objects)), ({"web", "new"}, {"web", "new"}))
             monitor.run(20)
@@ -220,7 +215,7 @@ class Faults(SiteTest):
         after = self.monitor(fine, monitor.clock)
         self.assertEqual([obj.standing for obj in after.scheduling.states.objects.values()], before)
         self.assertEqual(after.scheduling.longest_unsaved(), 0)
-        after.scheduling.schedulers.parts[0].pending.append(after.store.calls_since(0, 0)[0])
+        after.scheduling.parts[0].pending.append(after.store.calls_since(0, 0)[0])
         self.assertEqual(after.scheduling.longest_unsaved(), 1)
 
     def test_a_runner_that_nobody_reaches(self) -> None:

@@ -60,7 +60,7 @@ class Killed(ProcessTest):
         self.addCleanup(scheduling.close)
         told = []
         for name in ("root", "h0", "h1", "h2"):
-            first, second = [scheduling.schedulers.query(part, [Status(name)])[0] for part in (0, 1)]
+            first, second = [scheduling.parts[part].query([Status(name)])[0] for part in (0, 1)]
             assert isinstance(first, Standing) and isinstance(second, Standing)
             self.assertEqual(standing_parts(first), standing_parts(second), name)
             told.append(first.state)

@@ -71,7 +71,7 @@ class PassiveResults(SiteTest):
         self.write_site([host("web")], [trap], passive={"web;trap": {"only": True, "freshness": 90}})
         monitor = self.monitor(lambda name, moment: (8_000, 0, "fine"))
         monitor.run(70)
-        with mock.patch.object(monitor.scheduling.schedulers, "_converse", side_effect=ConversationEnded("no room")):
+        with mock.patch.object(monitor.scheduling, "_converse", side_effect=ConversationEnded("no room")):
             os.kill(monitor.scheduling.process_ids()[0], signal.SIGKILL)
             monitor.run(50)
         monitor.run(20)

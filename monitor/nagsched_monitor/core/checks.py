@@ -3,7 +3,7 @@ import collections
 from functools import partial
 from typing import Callable, Dict, List, Mapping, Optional, Tuple
 
-from ..scheduler.protocol import Call, Enable, Reschedule, Standing, Take
+from ..scheduler.protocol import Enable, Reschedule, Standing, Take
 from ..scheduler.scheduling import Scheduling
 from ..site.site import ObjectDefinition
 from . import phases
@@ -16,34 +16,21 @@ from .phases import HOST_FIRST, RESULT_FIRST, WINDOW
 
 
 class Checks:
-    def __init__(self, scheduling: Scheduling, passive: PassiveResults, operator: Mapping[str, bool], clock: Clock, log: Callable[[str], None]) -> None:
+    def __init__(self, scheduling: Scheduling, passive: PassiveResults, operator: Dict[str, bool], clock: Clock, log: Callable[[str], None]) -> None:
         self._scheduling, self._passive, self._clock, self._log = scheduling, passive, clock, log
-        self._operator_switches: Dict[str, bool] = dict(operator)
+        self._objects = scheduling.states.objects
+        self._operator_switches = operator
         # The next checks that wait to be set, and the objects that were switched on.
-        self._planned_checks: Dict[str, Reschedule] = {}
+        self.planned_checks: Dict[str, Reschedule] = {}
         self._to_spread: List[str] = []
         # The periods that include the minute for which they were looked at last.
         self._periods: Mapping[str, bool] = {}
         self._minute: Optional[int] = None
 
-    @property
-    def _objects(self) -> Dict[str, ObjectState]:
-        return self._scheduling.states.objects
-
     def has_more(self, now: int) -> bool:
         """Whether something has to be planned at once. A next check that waits to be set for later isn't urgent."""
-        urgent = [self._objects[name] for name, call in self._planned_checks.items() if call.time <= now and name in self._objects]
+        urgent = [self._objects[name] for name, call in self.planned_checks.items() if call.time <= now and name in self._objects]
         return bool(self._to_spread) or any(self._scheduling.is_open(obj.definition.part) for obj in urgent)
-
-    def has_planned(self) -> bool:
-        """Whether a next check waits to be set."""
-        return bool(self._planned_checks)
-
-    def plan(self, plan: Plan, now: int, is_after_pause: bool) -> None:
-        """Plans next checks, after requests have set theirs."""
-        self._plan_freshness(now)
-        self._plan_spread(is_after_pause, now)
-        self._plan_planned_checks(plan, now)
 
     # ---- switches and periods
 
@@ -71,10 +58,6 @@ class Checks:
         plan.then.append(partial(setattr, self, "_minute", minute if len(opened) == len(changed) else None))
         plan.then.append(partial(self._to_spread.extend, [obj.name for obj in changed if not obj.on]))
 
-    def switch_calls(self, obj: ObjectState, on: bool) -> List[Call]:
-        wanted = self.is_to_be_enabled(obj.definition, on)
-        return [Enable(obj.name, wanted)] if obj.on != wanted else []
-
     def apply_switch(self, obj: ObjectState, on: Optional[bool]) -> None:
         """An operator's switch was stored; None if it was removed."""
         if on is None:
@@ -88,24 +71,21 @@ class Checks:
 
     def plan_check(self, obj: ObjectState, time: int, forced: bool) -> None:
         """Has the next check of an object set, with the next plan."""
-        self._planned_checks[obj.name] = Reschedule(obj.name, time, forced)
+        self.planned_checks[obj.name] = Reschedule(obj.name, time, forced)
 
-    def drop_planned_check(self, name: str) -> None:
-        """An operator sets the next check of this object."""
-        self._planned_checks.pop(name, None)
-
-    def _plan_planned_checks(self, plan: Plan, now: int) -> None:
+    def plan_planned_checks(self, plan: Plan, now: int) -> None:
+        """Sets next checks, after requests have set theirs."""
         left: Dict[str, Reschedule] = {}
-        for name, call in self._planned_checks.items():
+        for name, call in self.planned_checks.items():
             obj = self._objects.get(name)
             if obj is not None and not self._scheduling.is_open(obj.definition.part):
                 left[name] = call
             elif obj is not None and obj.run is None:
                 plan.calls.append((obj.definition.part, call, None))
                 (plan.at_once if call.time <= now else plan.later).add(name)
-        plan.then.append(partial(setattr, self, "_planned_checks", left))
+        plan.then.append(partial(setattr, self, "planned_checks", left))
 
-    def _plan_freshness(self, now: int) -> None:
+    def plan_freshness(self, now: int) -> None:
         """Asks for a check of each object that had no result within its freshness, which runs its command."""
         for name in self._scheduling.site.with_freshness:
             obj = self._objects[name]
@@ -113,7 +93,7 @@ class Checks:
                 self._log(f"{name}: no result for {(obj.definition.freshness or 0) / 1000:g} seconds; its command is run")
                 self.plan_check(obj, now, True)
 
-    def _plan_spread(self, is_after_pause: bool, now: int) -> None:
+    def plan_spread(self, is_after_pause: bool, now: int) -> None:
         """Spreads the overdue checks after a pause, and the checks of objects that were switched on."""
         names = self._objects if is_after_pause else [name for name in self._to_spread if name in self._objects]
         overdue: List[Tuple[int, str, ObjectState]] = []
@@ -149,16 +129,13 @@ class Checks:
             pass  # an operator set it while the check ran
         elif obj.operator_check is not None and obj.operator_check[0] > now:
             self.plan_check(obj, *obj.operator_check)
-        elif obj.on and not standing.is_soft_problem():
+        elif obj.on and not (standing.is_problem() and standing.kind == "SOFT"):
             time = phases.time_back_in_phase(obj.phase, obj.definition.check_interval, standing.next, now)
             if time is not None:
                 self.plan_check(obj, time, obj.forced)
         for host in hosts_to_check(obj, before, standing, self._objects, self._scheduling.site.children.get(obj.name, ())):
-            self._check_host(host, now)
-
-    def _check_host(self, host: ObjectState, now: int) -> None:
-        """Has a host checked now, unless a result came recently or its check is running, off or already asked for."""
-        horizon = self._scheduling.site.options.cached_host_check_horizon * 1000
-        is_fresh = host.last_result is not None and now - host.last_result < horizon
-        if not is_fresh and host.run is None and host.on and host.next not in (HOST_FIRST, RESULT_FIRST):
-            self.plan_check(host, HOST_FIRST, host.forced)
+            # It is checked now, unless a result came recently or its check is running, off or already asked for.
+            horizon = self._scheduling.site.options.cached_host_check_horizon * 1000
+            is_fresh = host.last_result is not None and now - host.last_result < horizon
+            if not is_fresh and host.run is None and host.on and host.next not in (HOST_FIRST, RESULT_FIRST):
+                self.plan_check(host, HOST_FIRST, host.forced)

@@ -5,12 +5,12 @@ simulate a day in seconds.
 """
 import collections
 from functools import partial
-from typing import Callable, Deque, Dict, List, Optional
+from typing import Callable, Deque, List, Optional, Sequence
 
 from ..faults import ConversationEnded, NotStored
 from ..inputs.requests import Request, Requests
 from ..run.jobs import Runners
-from ..scheduler.protocol import Abandon, Freed, Refused, Report, Reschedule, Standing, Taken, call_line
+from ..scheduler.protocol import Abandon, Call, Freed, Refused, Report, Reschedule, Standing, Taken, call_line
 from ..scheduler.scheduling import ObjectAnswer, Scheduling
 from ..site.site import Site
 from ..store.counters import Counters
@@ -22,14 +22,13 @@ from .object_state import ObjectState
 from .passive import PassiveResults
 from .plan import Plan
 from .plugin_runs import MARGIN, PluginRuns
-from .run_table import Owner
+from .run_table import Owner, Run
 
 # The longest time between two turns that isn't a pause, in milliseconds.
 PAUSE = 10_000
-# The longest wait for the next turn, and how soon a change is stored or a next check is set, in milliseconds. The value 0 asks for a turn without any rest.
+# The longest wait for the next turn, and how soon a change is stored or a next check is set, in milliseconds.
 LONGEST_WAIT = 1_000
 CHANGES_WAIT = 100
-NO_REST = 0
 # How long a check whose result was refused waits for the next one, in milliseconds.
 AFTER_REFUSAL = 60_000
 # The number of calls after which the next part is saved, the time in which each part is saved, and the pause before another try, in milliseconds.
@@ -41,6 +40,7 @@ SAVE_AGAIN = 10_000
 class Engine:
     def __init__(self, scheduling: Scheduling, runners: Runners, store: Store, clock: Clock, log: Callable[[str], None]) -> None:
         self.scheduling, self.store, self.runners, self._clock, self._log = scheduling, store, runners, clock, log
+        self.objects = scheduling.states.objects
         self._now = clock.moment()
         figures = store.figures()
         self.counters = Counters(figures, clock)
@@ -61,14 +61,10 @@ class Engine:
 
     def _await_results(self, until: float) -> None:
         """Awaits the result of each object since its last one, without the time in which no monitor ran. If it had none, since its part began."""
-        starts = {part: scheduler.generation.start for part, scheduler in self.scheduling.schedulers.parts.items()}
+        starts = {part: scheduler.generation.start for part, scheduler in self.scheduling.parts.items()}
         for obj in self.objects.values():
             last = obj.history.last_check
             obj.awaited_since = starts.get(obj.definition.part, self._now) if last is None else self._now - round(max(0.0, until - last) * 1000)
-
-    @property
-    def objects(self) -> Dict[str, ObjectState]:
-        return self.scheduling.states.objects
 
     # ---- a turn
 
@@ -114,9 +110,9 @@ class Engine:
         running = self.scheduling.states.running
         has_run = any(self.scheduling.is_open(run.key[0]) for owner in (Owner.RESULT, Owner.NOBODY) for run in running.owned_by(owner))
         if has_run or self.checks.has_more(now) or self.passive.is_deliverable():
-            return NO_REST
+            return 0  # the next turn comes without any rest
         first = self.scheduling.states.due.first_time()
-        latest = now + (CHANGES_WAIT if self.scheduling.has_more() or self.checks.has_planned() else LONGEST_WAIT)
+        latest = now + (CHANGES_WAIT if self.scheduling.has_more() or self.checks.planned_checks else LONGEST_WAIT)
         return latest if first is None else min(first, latest)
 
     def _make_plan(self, now: int) -> Plan:
@@ -127,7 +123,9 @@ class Engine:
         self.passive.plan_reports(plan, now)
         self.checks.plan_periods(plan)
         self._plan_requests(plan)
-        self.checks.plan(plan, now, self._last_turn is None or now - self._last_turn > PAUSE)
+        self.checks.plan_freshness(now)
+        self.checks.plan_spread(self._last_turn is None or now - self._last_turn > PAUSE, now)
+        self.checks.plan_planned_checks(plan, now)
         self.passive.plan_takes(plan, now)
         self.checks.plan_takes(plan, now)
         if self.counters.are_due(now):
@@ -145,7 +143,7 @@ class Engine:
             plan.calls += step.calls
             for _, call, _ in step.calls:
                 if isinstance(call, Reschedule):
-                    self.checks.drop_planned_check(call.name)
+                    self.checks.planned_checks.pop(call.name, None)  # an operator's time counts
             plan.writes += step.writes
             plan.then += step.then
             plan.last += step.last
@@ -154,30 +152,29 @@ class Engine:
     # ---- answers
 
     def _apply(self, object_answer: ObjectAnswer) -> None:
-        call, answer, obj = object_answer.call, object_answer.answer, object_answer.object
-        if obj is None:
-            if isinstance(answer, Refused):
-                self._log(f"{call_line(call)} was refused: {answer.why}")
+        call, answer, obj, before, run = object_answer
+        if isinstance(answer, Refused):
+            self._apply_refusal(call, answer, obj, run)
+        elif obj is None:
+            return
         elif isinstance(answer, Taken):
             self._apply_take(obj)
-        elif isinstance(answer, Refused):
-            self._apply_refusal(object_answer, obj, answer)
         elif isinstance(call, Abandon) and isinstance(answer, Freed):
             self.counters.count_result("given_up")
         elif isinstance(call, Report) and isinstance(answer, Standing):
             self.counters.count_result(answer.state)
             obj.last_result = self._now
-            self.checks.apply_result(obj, object_answer.before, answer, self._now)
+            self.checks.apply_result(obj, before, answer, self._now)
 
-    def _apply_refusal(self, object_answer: ObjectAnswer, obj: ObjectState, answer: Refused) -> None:
-        call = object_answer.call
-        if not isinstance(call, (Report, Abandon)):
-            self._log(f"{obj.name}: {call_line(call)} was refused: {answer.why}")
+    def _apply_refusal(self, call: Call, answer: Refused, obj: Optional[ObjectState], run: Optional[Run]) -> None:
+        if obj is None or not isinstance(call, (Report, Abandon)):
+            about = "" if obj is None else f"{obj.name}: "
+            self._log(f"{about}{call_line(call)} was refused: {answer.why}")
             return
         self._log(f"{obj.name}: the result of run {call.run} came too late ({answer.why})")
         self.counters.count_result("refused")
-        if object_answer.run is not None and object_answer.run.number == call.run:
-            object_answer.run.owner, object_answer.run.retry_at = Owner.NOBODY, self._now + AFTER_REFUSAL
+        if run is not None and run.number == call.run:
+            run.owner, run.retry_at = Owner.NOBODY, self._now + AFTER_REFUSAL
 
     def _apply_take(self, obj: ObjectState) -> None:
         """Gives a run its owner: the passive result that waits, the plugin that still runs, or a new one."""
@@ -187,7 +184,7 @@ class Engine:
         if obj.operator_check is not None and obj.last_due is not None and obj.last_due >= obj.operator_check[0]:
             obj.operator_check = None
         if obj.name in self.passive:
-            run.owner, run.result, run.deadline = Owner.RESULT, self.passive.first_result(obj.name), self._now + MARGIN
+            run.owner, run.deadline = Owner.RESULT, self._now + MARGIN
         elif obj.definition.command is not None:
             self.plugins.start(obj, run, obj.definition.command)
         else:
@@ -199,22 +196,20 @@ class Engine:
 
     def _schedule_save(self) -> None:
         """Has the next part saved at a later time, or after enough calls from now on."""
-        self._save_at, self._saved_call = self._clock.moment() + SAVE_AFTER // len(self.scheduling.schedulers.parts), self.store.last_call
+        self._save_at, self._saved_call = self._clock.moment() + SAVE_AFTER // len(self.scheduling.parts), self.store.last_call
 
     def _save_when_due(self) -> None:
         """Saves one part at a time, so that checks don't wait for all."""
         if self._now >= self._save_at or self.store.last_call - self._saved_call >= SAVE_CALLS:
             try:
-                self.scheduling.save(self.scheduling.longest_unsaved())
-                self._schedule_save()
-                self.counters.count_save()
+                self.save([self.scheduling.longest_unsaved()])
             except (NotStored, ConversationEnded) as fault:
                 self._log(f"the state isn't saved: {fault}")
                 self._save_at, self._saved_call = self._now + SAVE_AGAIN, self.store.last_call
 
-    def save(self) -> None:
-        """Saves all parts."""
-        for part in self.scheduling.schedulers.parts:
+    def save(self, parts: Optional[Sequence[int]] = None) -> None:
+        """Saves these parts, or all."""
+        for part in self.scheduling.parts if parts is None else parts:
             self.scheduling.save(part)
         self._schedule_save()
         self.counters.count_save()

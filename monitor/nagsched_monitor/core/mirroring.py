@@ -34,7 +34,7 @@ class Mirrors:
         elif isinstance(call, Reschedule):
             self._expected.add((part, name))
         elif isinstance(call, Report):
-            self._running.end((part, name))
+            self._running.pop((part, name), None)
         return True
 
     def apply_saved(self, part: int, members: Sequence[Mapping[str, Any]]) -> List[Mapping[str, Any]]:
@@ -50,7 +50,7 @@ class Mirrors:
         for run in self._running.owned_by(Owner.ORIGINAL):
             part, name = run.key
             if part in others or name not in names.get(part, ()):
-                self._running.end(run.key)
+                self._running.pop(run.key, None)
         return Mirrors(names, self._running)
 
     def take_missing(self) -> List[ObjectKey]:
@@ -59,15 +59,14 @@ class Mirrors:
         return left
 
     def take_calls(self, moment: int) -> List[PlannedCall]:
-        places = [(part, name) for part, names in self.names.items() for name in sorted(names) if self._running.get((part, name)) is None]
-        return [call for part, name in places for call in forced_take(part, name, MIRROR_FIRST, moment)]
+        missing = [(part, name) for part, names in self.names.items() for name in sorted(each for each in names if (part, each) not in self._running)]
+        return [call for part, name in missing for call in forced_take(part, name, MIRROR_FIRST, moment)]
 
     def report_calls(self, original: int, report: Report, words: str, moment: int) -> List[PlannedCall]:
         """The calls that report a result to an object, in its part, and to its mirrors, which are taken again after that."""
         whole: List[PlannedCall] = [(original, report, words)]
         for part in self.parts_of(report.name):
-            run = self._running.get((part, report.name))
-            assert run is not None
+            run = self._running[part, report.name]
             whole += [(part, Report(report.name, run.number, report.code), None), *forced_take(part, report.name, MIRROR_FIRST, moment)]
         return whole
 

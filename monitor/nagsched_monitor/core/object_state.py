@@ -114,14 +114,14 @@ class ObjectStates:
 
     def change_site(self, objects: Mapping[str, ObjectDefinition], now: int) -> None:
         """Takes over another site, and keeps the state of the objects that stay. A check of an object that moves to another part is abandoned there."""
-        before, self.objects, self.due = self.objects, {}, DueQueue()
+        before, self.due = dict(self.objects), DueQueue()
+        self.objects.clear()
         for name, definition in objects.items():
             earlier = before.pop(name, None) or ObjectState(definition, self.running, definition.enabled, awaited_since=now)
-            self.objects[name] = self._state_in_new_site(earlier, definition, now)
+            self.objects[name] = obj = self._state_in_new_site(earlier, definition, now)
+            self.due.set_time(name, obj.due_time())
         for obj in before.values():
             self.end_run(obj)
-        for obj in self.objects.values():
-            self._set_due(obj)
 
     def _state_in_new_site(self, earlier: ObjectState, definition: ObjectDefinition, now: int) -> ObjectState:
         if earlier.definition.part != definition.part:
@@ -135,7 +135,7 @@ class ObjectStates:
 
     def end_run(self, obj: ObjectState) -> None:
         """Ends an object's run. A plugin that still runs has no owner any more, and the next run of the object waits for it."""
-        run = self.running.end(obj.key)
+        run = self.running.pop(obj.key, None)
         if run is not None and run.job is not None:
             self.running.leftover_jobs[obj.name] = run.job
 
@@ -152,14 +152,11 @@ class ObjectStates:
                 others.append(obj.name)
             obj.on, obj.forced, obj.next, _ = saved
             if number is None:
-                self.running.end(obj.key)
+                self.running.pop(obj.key, None)
             elif run is None or run.number != number:
                 self.running.begin(Run(obj.key, number))
-            self._set_due(obj)
+            self.due.set_time(obj.name, obj.due_time())
         return others
-
-    def _set_due(self, obj: ObjectState) -> None:
-        self.due.set_time(obj.name, obj.due_time())
 
     def apply_answer(self, obj: ObjectState, call: Call, answer: Answer) -> None:
         if isinstance(answer, Taken):
@@ -170,12 +167,12 @@ class ObjectStates:
         elif isinstance(answer, Standing):
             obj.standing, obj.next = answer, answer.next
             if isinstance(call, Report):
-                self.running.end(obj.key)
+                self.running.pop(obj.key, None)
         elif isinstance(answer, Freed) and isinstance(call, Abandon):
-            self.running.end(obj.key)
+            self.running.pop(obj.key, None)
             obj.next = answer.next
         elif isinstance(answer, Done) and isinstance(call, Reschedule):
             obj.next, obj.forced = call.time, call.forced
         elif isinstance(answer, Done) and isinstance(call, Enable):
             obj.on = call.on
-        self._set_due(obj)
+        self.due.set_time(obj.name, obj.due_time())

@@ -1,13 +1,14 @@
 """Passive results that wait: each is reported as the result of a check that is taken for it."""
 import collections
 from functools import partial
-from typing import Container, Deque, Dict, Iterable, List
+from typing import Container, Deque, Dict, Iterable, Iterator, List
 
 from ..scheduler.protocol import Report, Take
 from ..scheduler.scheduling import Scheduling
 from ..store.rows import StoredResult
 from ..store.writes import drop_result
 from .mirroring import forced_take
+from .object_state import ObjectState
 from .plan import Plan
 from .phases import RESULT_FIRST
 from .run_table import Owner
@@ -33,39 +34,38 @@ class PassiveResults:
     def __contains__(self, name: object) -> bool:
         return name in self._results
 
-    def first_result(self, name: str) -> StoredResult:
-        return self._results[name][0]
-
     def is_deliverable(self) -> bool:
         """Whether an object can be taken for its result now."""
-        return any(self._is_takeable(name) for name in self._results)
+        return any(obj.next != RESULT_FIRST for obj in self._takeable_objects())
 
-    def _is_takeable(self, name: str) -> bool:
-        obj = self._scheduling.states.objects.get(name)
-        return obj is not None and obj.run is None and obj.next != RESULT_FIRST and self._scheduling.is_open(obj.definition.part)
+    def _takeable_objects(self) -> Iterator[ObjectState]:
+        """The objects that have a result, aren't running, and whose schedulers can be called."""
+        for name in self._results:
+            obj = self._scheduling.states.objects[name]
+            if obj.run is None and self._scheduling.is_open(obj.definition.part):
+                yield obj
 
     def plan_takes(self, plan: Plan, now: int) -> None:
         """Takes each object that has a result and isn't running."""
-        for name in self._results:
-            obj = self._scheduling.states.objects[name]
-            if self._is_takeable(name):
-                plan.calls += forced_take(obj.definition.part, name, RESULT_FIRST, now)
-            elif obj.next == RESULT_FIRST and obj.run is None and self._scheduling.is_open(obj.definition.part):
+        for obj in self._takeable_objects():
+            if obj.next != RESULT_FIRST:
+                plan.calls += forced_take(obj.definition.part, obj.name, RESULT_FIRST, now)
+            else:
                 plan.calls.append((obj.definition.part, Take(now), None))  # the limit of running checks was reached when it had to be taken
-                plan.later.add(name)
+                plan.later.add(obj.name)
 
     def plan_reports(self, plan: Plan, now: int) -> None:
         """Reports the results for which their objects were taken."""
         for run in self._scheduling.states.running.owned_by(Owner.RESULT):
             part, name = run.key
-            obj, result = self._scheduling.states.objects.get(name), run.result
-            if result is None or obj is None or not self._scheduling.is_reportable(run.key):
+            if name not in self._results or not self._scheduling.is_reportable(run.key):
                 continue
+            result = self._results[name][0]
             plan.calls += self._scheduling.mirrors.report_calls(part, Report(name, run.number, result.code), result.words, now)
             plan.writes.append(drop_result(result.id))
             plan.then.append(partial(self._remove_first, result))
             if len(self._results[name]) > 1:
-                plan.calls += forced_take(obj.definition.part, name, RESULT_FIRST, now)
+                plan.calls += forced_take(part, name, RESULT_FIRST, now)
 
     def _remove_first(self, result: StoredResult) -> None:
         results = self._results[result.name]

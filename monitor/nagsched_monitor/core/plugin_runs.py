@@ -89,7 +89,7 @@ class PluginRuns:
     def plan(self, plan: Plan, now: int) -> None:
         """Reports the results of plugins. Events that can't be reported now stay."""
         left: List[Event] = []
-        runs = {id(run.job): run for run in self._scheduling.states.running}
+        runs = {id(run.job): run for run in self._scheduling.states.running.values()}
         for event in self._events:
             run = runs.get(id(event.job))
             if isinstance(event, StuckJobEnded) or run is None:

@@ -1,10 +1,9 @@
 """The one table of running checks: each run with its owner and its deadline. A check that isn't in it doesn't run."""
 import enum
 from dataclasses import dataclass
-from typing import Dict, Iterator, List, Optional, Tuple
+from typing import Dict, List, Optional, Tuple
 
 from ..run.jobs import Job
-from ..store.rows import StoredResult
 
 # A part and the full name of an object in it.
 ObjectKey = Tuple[int, str]
@@ -29,34 +28,24 @@ class Run:
     # The moment after which it is abandoned; None for a mirror's, which ends with the next result of its original.
     deadline: Optional[int] = None
     job: Optional[Job] = None
-    result: Optional[StoredResult] = None
     forced: bool = False  # as the next try then is
     retry_at: Optional[int] = None  # the moment at which its check is made again if it is abandoned; None for at once
     began_at: Optional[float] = None  # when it was taken, in seconds since 1970 of the wall clock
 
 
-class RunTable:
+class RunTable(Dict[ObjectKey, Run]):
     """All runs of a site, by their objects: each has one at most."""
 
     def __init__(self) -> None:
-        self._runs: Dict[ObjectKey, Run] = {}
+        super().__init__()
         # Plugins whose runs are over, by the names of their objects: no second plugin is started while they run.
         self.leftover_jobs: Dict[str, Job] = {}
 
     def begin(self, run: Run) -> None:
-        self._runs[run.key] = run
-
-    def end(self, place: ObjectKey) -> Optional[Run]:
-        return self._runs.pop(place, None)
-
-    def get(self, place: ObjectKey) -> Optional[Run]:
-        return self._runs.get(place)
-
-    def __iter__(self) -> Iterator[Run]:
-        return iter(list(self._runs.values()))
+        self[run.key] = run
 
     def plugins(self) -> List[Job]:
         return [run.job for run in self.owned_by(Owner.PLUGIN) if run.job is not None] + list(self.leftover_jobs.values())
 
     def owned_by(self, owner: Owner) -> List[Run]:
-        return [run for run in self._runs.values() if run.owner is owner]
+        return [run for run in self.values() if run.owner is owner]

@@ -24,7 +24,7 @@ from ..core.plan import Plan
 from ..core.phases import FIRST_TIME
 from ..core.text import MOST_OUTPUT_BYTES, plain_text
 from ..faults import AskAgain, ConversationEnded, MonitorFault, NotStored, RequestFault
-from ..scheduler.protocol import Reschedule
+from ..scheduler.protocol import Enable, Reschedule
 from ..store.rows import StoredResult
 from ..store.writes import MOST_REQUESTS, set_switch, store_request, store_result
 
@@ -195,9 +195,9 @@ class Requests:
         obj, checks = self._find_open_object(members), self.engine.checks
         if on and obj.definition.command is None:
             raise RequestFault(f"{obj.name} has no command")
-        word, will_be = members["do"], obj.definition.enabled if on is None else on
-        request.answer = {"done": word, "name": obj.name, "on": checks.is_to_be_enabled(obj.definition, will_be)}
-        calls: List[PlannedCall] = [(obj.definition.part, call, None) for call in checks.switch_calls(obj, will_be)]
+        word, wanted = members["do"], checks.is_to_be_enabled(obj.definition, obj.definition.enabled if on is None else on)
+        request.answer = {"done": word, "name": obj.name, "on": wanted}
+        calls: List[PlannedCall] = [(obj.definition.part, Enable(obj.name, wanted), None)] if obj.on != wanted else []
         return Plan(calls, [set_switch(obj.name, on)], [partial(checks.apply_switch, obj, on), partial(self.log, f"asked: {word} {obj.name}")])
 
     def _plan_result(self, members: Members, request: Request) -> Plan:

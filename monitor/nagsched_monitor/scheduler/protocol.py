@@ -41,10 +41,8 @@ Taken = NamedTuple("Taken", [("run", int), ("name", str)])
 PutOff = NamedTuple("PutOff", [("next", Optional[int]), ("name", str)])
 Freed = NamedTuple("Freed", [("next", int), ("name", str)])
 Done = NamedTuple("Done", [("name", str)])
-
-
-class Idle(NamedTuple):
-    """No check begins: none is due, or as many run as may."""
+Idle = NamedTuple("Idle", [])  # no check begins: none is due, or as many run as may
+Refused = NamedTuple("Refused", [("why", str)])  # it changed nothing: for example, its result comes too late, or the scheduler couldn't read it
 
 
 class Standing(NamedTuple):
@@ -58,15 +56,6 @@ class Standing(NamedTuple):
 
     def is_problem(self) -> bool:
         return self.state not in ("PENDING", "OK", "UP")
-
-    def is_soft_problem(self) -> bool:
-        return self.is_problem() and self.kind == "SOFT"
-
-
-class Refused(NamedTuple):
-    """The call was refused and changed nothing: for example, its result comes too late, or the scheduler couldn't read it."""
-
-    why: str
 
 
 Answer = Union[Taken, PutOff, Idle, Standing, Freed, Done, Refused]

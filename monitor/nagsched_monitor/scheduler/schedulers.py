@@ -1,17 +1,17 @@
-"""The processes of all schedulers. A scheduler that ends is started again from the stored calls, so that its callers don't notice.
+"""The process of a part's scheduler. A scheduler that ends is started again from the stored calls, so that its callers don't notice.
 
 A call is made once: it waits until its scheduler has answered it. A scheduler that is started again makes the stored calls before it again, which gives the
 same runs. A call after which a scheduler ends twice, if it is the only one that was sent, is set aside.
 """
 import collections
-from typing import Callable, Deque, Dict, List, Mapping, Optional, Sequence, Tuple, TypeVar
+from typing import Callable, Deque, List, Optional, Sequence, Tuple, TypeVar
 
 from ..core.clock import Clock
 from ..faults import ConversationEnded, NotStored
 from ..store.rows import Generation, StoredCall
 from ..store.store import Store
 from ..store.writes import set_aside
-from .live_process import AT_ONCE, GRACE, Conversation
+from .live_process import AT_ONCE, Conversation
 from .protocol import Answer, Call, Refused, call_line, read_answer
 
 # How often a scheduler is restarted in one exchange, and the pause before the next exchange does so, in milliseconds.
@@ -120,67 +120,29 @@ class PartScheduler:
         self._log(f"call {stored.id} is set aside, since the scheduler of part {stored.part + 1} ends after it: {stored.line}")
         return [(stored, Refused("it was set aside"))]
 
-    def run_query(self, what: Callable[[Conversation], Value]) -> Value:
+    def _run_query(self, what: Callable[[Conversation], Value], tries: int = TRIES) -> Value:
         """Carries out an action that changes nothing and isn't stored. Raises `ConversationEnded` if no scheduler can be started for it."""
-        for left in reversed(range(TRIES)):
-            try:
-                return what(self._open_conversation())
-            except ConversationEnded as error:
-                self.close_conversation()
-                if not left:
-                    raise
-                self._log(f"{error}; it is started again")
-        raise AssertionError
+        try:
+            return what(self._open_conversation())
+        except ConversationEnded as error:
+            self.close_conversation()
+            if tries == 1:
+                raise
+            self._log(f"{error}; it is started again")
+        return self._run_query(what, tries - 1)
+
+    def query(self, calls: Sequence[Call]) -> List[Answer]:
+        """The answers to calls that change nothing, and aren't stored."""
+        lines = [call_line(call) for call in calls]
+        return self._run_query(lambda conversation: [read_answer(*each) for each in zip(conversation.ask_lines(lines), lines)])
+
+    def state(self) -> bytes:
+        """The scheduler's state. Raises `ConversationEnded` if it hasn't answered all calls, or can't be started."""
+        if self.pending:
+            raise ConversationEnded(self.trouble or f"the scheduler of part {self.generation.part + 1} hasn't answered all calls")
+        return self._run_query(lambda conversation: conversation.save())
 
     def close_conversation(self, grace: float = 0.0) -> None:
         if self.conversation is not None:
             self.conversation.close(grace)
         self.conversation, self._sent = None, []
-
-
-class Schedulers:
-    def __init__(self, program: str, store: Store, clock: Clock, log: Callable[[str], None], converse: ConversationFactory = Conversation) -> None:
-        self._program, self._store, self._clock, self._log, self._converse = program, store, clock, log, converse
-        self.parts: Dict[int, PartScheduler] = {}
-
-    def _start(self, generation: Generation) -> Conversation:
-        return self._converse(self._program, generation.setup, generation.start, generation.saved)
-
-    def open(self, generations: Mapping[int, Generation]) -> None:
-        """Continues with these generations. A part with the same setup stays open."""
-        before, self.parts = self.parts, {}
-        for number, generation in generations.items():
-            part = before.get(number)
-            if part is not None and (part.generation.setup, part.generation.mirrors) == (generation.setup, generation.mirrors):
-                part.generation = generation
-                self.parts[number] = before.pop(number)
-            else:
-                self.parts[number] = PartScheduler(generation, self._store, self._clock, self._log, self._start)
-        for part in before.values():
-            part.close_conversation()
-
-    def exchange(self) -> List[AnsweredCall]:
-        """Makes the waiting calls, and returns their answers. Calls of a scheduler that can't be started now continue to wait."""
-        waiting = [part for part in self.parts.values() if part.pending]
-        for part in waiting:
-            part.begin()
-        return [answered for part in waiting for answered in part.finish()]
-
-    def query(self, number: int, calls: Sequence[Call]) -> List[Answer]:
-        """The answers to calls that change nothing, and aren't stored."""
-        lines = [call_line(call) for call in calls]
-        return self.parts[number].run_query(lambda conversation: [read_answer(*each) for each in zip(conversation.ask_lines(lines), lines)])
-
-    def state(self, number: int) -> bytes:
-        """The state of a part's scheduler. Raises `ConversationEnded` if it hasn't answered all calls, or can't be started."""
-        part = self.parts[number]
-        if part.pending:
-            raise ConversationEnded(part.trouble or f"the scheduler of part {number + 1} hasn't answered all calls")
-        return part.run_query(lambda conversation: conversation.save())
-
-    def process_ids(self) -> List[int]:
-        return [part.conversation.process_id() for part in self.parts.values() if part.conversation is not None]
-
-    def close(self) -> None:
-        for part in self.parts.values():
-            part.close_conversation(GRACE)

@@ -1,6 +1,6 @@
 """The schedulers of a site and their answers: calls are first stored together, then made together, and then their answers are applied."""
 import json
-from typing import AbstractSet, Callable, List, Mapping, NamedTuple, Optional, Sequence
+from typing import AbstractSet, Callable, Dict, List, Mapping, NamedTuple, Optional, Sequence
 
 from ..outputs import changes
 
@@ -17,9 +17,9 @@ from ..store.status_table import StandingTable
 from ..store.store import Store, Write
 from ..store.writes import begin_generation, end_generation, save_generation, store_calls, store_change
 from . import migration
-from .live_process import Conversation
+from .live_process import GRACE, Conversation
 from .protocol import Answer, Call, Report, Standing, Status, call_line, object_name, read_call
-from .schedulers import AnsweredCall, ConversationFactory, Schedulers
+from .schedulers import ConversationFactory, PartScheduler
 
 
 class ObjectAnswer(NamedTuple):
@@ -35,11 +35,11 @@ class ObjectAnswer(NamedTuple):
 class Scheduling:
     def __init__(self, program: str, site: Site, store: Store, clock: Clock, log: Callable[[str], None], notified: bool,
                  converse: ConversationFactory = Conversation) -> None:
-        self._program, self._store, self._clock, self._log, self._has_command = program, store, clock, log, notified
+        self._program, self._store, self._clock, self._log, self._has_command, self._converse = program, store, clock, log, notified, converse
         self.site = site
         self.states = ObjectStates()
         self.mirrors = Mirrors({}, self.states.running)
-        self.schedulers = Schedulers(program, store, clock, log, converse)
+        self.parts: Dict[int, PartScheduler] = {}
         # Writes that wait for the next calls.
         self._pending_writes: List[Write] = []
         self._standings = StandingTable(store, clock)
@@ -58,29 +58,44 @@ class Scheduling:
         self._standings.read(self.states.objects)
         self.mirrors = Mirrors({part: generation.mirrors for part, generation in generations.items()}, self.states.running)
         self._stored_changes = self._store.changes_after(min((generation.last_call for generation in generations.values()), default=0))
-        self.schedulers.open(generations)
+        self._open_parts(generations, generations.keys())
         self._resume()
         for line in self._change_site(self.site):
             self._log(line)
         self._query_unknown()
         self._standings.settle(self.states.objects)
 
+    def _start(self, generation: Generation) -> Conversation:
+        return self._converse(self._program, generation.setup, generation.start, generation.saved)
+
+    def _open_parts(self, generations: Mapping[int, Generation], others: AbstractSet[int]) -> None:
+        """Continues with these generations. Parts that aren't others stay open."""
+        before, self.parts = self.parts, {}
+        for number, generation in generations.items():
+            if number in others:
+                self.parts[number] = PartScheduler(generation, self._store, self._clock, self._log, self._start)
+            else:
+                self.parts[number] = before.pop(number)
+                self.parts[number].generation = generation
+        for part in before.values():
+            part.close_conversation()
+
     def _resume(self) -> None:
-        for number, part in self.schedulers.parts.items():
+        for number, part in self.parts.items():
             part.pending.extend(self._store.calls_since(number, part.last_answered))
             if part.generation.saved is not None:
                 self._read_state(number, part.generation.saved)
                 # The states of objects are known before calls are made again: a result with the same state isn't a change.
                 own = [name for name in members_by_name(json.loads(part.generation.setup)) if name not in part.generation.mirrors]
                 self._query_standings(number, own)
-        self._apply_answers(self.schedulers.exchange(), is_again=True)
-        for number, part in self.schedulers.parts.items():
+        self._exchange(is_again=True)
+        for number, part in self.parts.items():
             if part.pending:
                 raise ConversationEnded(f"the scheduler of part {number + 1} can't be opened: {part.trouble}")
 
     def _query_unknown(self) -> None:
         """Asks for the standing of each object whose standing isn't known yet, and takes its first time as its phase."""
-        for part in self.schedulers.parts:
+        for part in self.parts:
             self._query_standings(part, [obj.name for obj in self.states.objects.values() if obj.definition.part == part])
         for obj in self.states.objects.values():
             if obj.phase is None and obj.next is not None and obj.next >= FIRST_TIME:
@@ -90,7 +105,7 @@ class Scheduling:
         """Asks for the standings of these objects of a part that aren't known. The calls aren't stored, since they change nothing."""
         calls = [Status(name) for name in names if name in self.states.objects and self.states.objects[name].standing is None]
         if calls:
-            for call, answer in zip(calls, self.schedulers.query(part, calls)):
+            for call, answer in zip(calls, self.parts[part].query(calls)):
                 self.states.apply_answer(self.states.objects[call.name], call, answer)
 
     def reload(self, site: Site) -> List[str]:
@@ -111,86 +126,86 @@ class Scheduling:
 
     def _change_site(self, site: Site) -> List[str]:
         """Takes over a site. Parts with another setup begin from the combined states of all parts."""
-        opened = {part: (scheduler.generation.setup, scheduler.generation.mirrors) for part, scheduler in self.schedulers.parts.items()}
+        opened = {part: (scheduler.generation.setup, scheduler.generation.mirrors) for part, scheduler in self.parts.items()}
         wanted = {part: (setup, site.mirrors.get(part, frozenset())) for part, setup in enumerate(site.setups)}
         others = {part for part, setup in wanted.items() if opened.get(part) != setup}
-        states = {part: self.schedulers.state(part) for part in opened} if opened != wanted else {}
-        changed = self._begin_parts(site, others, states) if opened != wanted else []
+        changed = self._begin_parts(site, others) if opened != wanted else []
         self.site = site
         self.states.change_site(site.objects, self._clock.moment())
         for part in sorted(others):
-            saved = self.schedulers.parts[part].generation.saved
-            if saved is not None:
-                self._read_state(part, saved)
+            self._read_state(part, self.parts[part].generation.saved)
         for obj in self.states.objects.values():
             if obj.definition.part in others:
                 obj.standing = None
         return changed
 
-    def _begin_parts(self, site: Site, others: AbstractSet[int], states: Mapping[int, bytes]) -> List[str]:
+    def _begin_parts(self, site: Site, others: AbstractSet[int]) -> List[str]:
         """Begins these parts of a site from scratch, from the combined states; the others continue from theirs. All earlier calls are dropped."""
+        states = {part: scheduler.state() for part, scheduler in self.parts.items()}
         moment, last_call = self._clock.moment(), self._store.last_call
         begun = migration.merge_states(states, self.mirrors.names, site, moment) if states and others else {}
         changed = [line for part in sorted(begun.keys() & others) for line in migration.carry_over(self._program, site, part, begun[part])]
         generations = {
             part: Generation(part, setup, moment, begun.get(part), last_call, site.mirrors.get(part, frozenset()))
-            if part in others else self.schedulers.parts[part].generation._replace(saved=states[part], last_call=last_call)
+            if part in others else self.parts[part].generation._replace(saved=states[part], last_call=last_call)
             for part, setup in enumerate(site.setups)
         }
-        gone = [part for part in self.schedulers.parts if part not in generations]
+        gone = [part for part in self.parts if part not in generations]
         self._write(*map(end_generation, gone), *map(begin_generation, generations.values()))
         self.mirrors = self.mirrors.change_site(site.mirrors, others)
-        self.schedulers.open(generations)
+        self._open_parts(generations, others)
         return changed
 
     def _write(self, *writes: Write) -> None:
         """Writes these, with all that waits to be written."""
-        standings = self._standings.writes()
-        self._store.write(*self._pending_writes, *standings, *writes)
+        self._store.write(*self._pending_writes, *self._standings.writes(), *writes)
         self._pending_writes = []
-        if standings:
-            self._standings.clear_marks()
+        self._standings.clear_marks()
 
-    def _read_state(self, part: int, state: bytes) -> List[str]:
+    def _read_state(self, part: int, state: Optional[bytes]) -> List[str]:
         """Reads a scheduler's state, which counts. Returns the names of the objects whose known switch, forced mark, next check or run was different."""
-        return self.states.apply_saved(self.mirrors.apply_saved(part, json.loads(state)["objects"]))
+        members = [] if state is None else json.loads(state)["objects"]
+        return self.states.apply_saved(self.mirrors.apply_saved(part, members))
 
     # ---- calls
 
     def is_open(self, part: int) -> bool:
         """Whether calls of a part can be made now: its scheduler has answered all earlier ones."""
-        return not self.schedulers.parts[part].pending
+        return not self.parts[part].pending
 
     def is_reportable(self, key: ObjectKey) -> bool:
         """Whether a result of an object can be reported now, to it and to its mirrors."""
         part, name = key
         mirrors = self.mirrors.parts_of(name)
-        return all(map(self.is_open, [part, *mirrors])) and all(self.states.running.get((other, name)) is not None for other in mirrors)
+        return all(map(self.is_open, [part, *mirrors])) and all((other, name) in self.states.running for other in mirrors)
 
     def store_calls(self, planned: Sequence[PlannedCall], writes: Sequence[Write] = ()) -> None:
         """Stores these calls with the other writes; the next `make_calls` makes them. If something can't be stored, nothing is, and `NotStored` is raised."""
         if planned or writes or self.has_more():
-            number = self._store.last_call + 1
-            calls = [(part, call_line(call), words) for part, call, words in planned]
-            self._write(*writes, store_calls(calls))
-            for call_number, (each, (_, call, _)) in enumerate(zip(calls, planned), number):
-                self.schedulers.parts[each[0]].pending.append(StoredCall(call_number, *each, call))
+            first = self._store.last_call + 1
+            calls = [StoredCall(number, part, call_line(call), words, call) for number, (part, call, words) in enumerate(planned, first)]
+            self._write(*writes, store_calls([stored[1:4] for stored in calls]))
+            for stored in calls:
+                self.parts[stored.part].pending.append(stored)
 
     def make_calls(self) -> List[ObjectAnswer]:
         """Makes the stored calls, and returns the answers. Calls of a scheduler that can't be started now are made later."""
-        if self._has_unknown and all(map(self.is_open, self.schedulers.parts)):
+        if self._has_unknown and all(map(self.is_open, self.parts)):
             self._query_new()
-        return self._apply_answers(self.schedulers.exchange())
+        return self._exchange()
 
-    def _apply_answers(self, answered: Sequence[AnsweredCall], is_again: bool = False) -> List[ObjectAnswer]:
-        """Takes in answers, and returns all but those of mirrors. Answers that an earlier monitor got change no times."""
+    def _exchange(self, is_again: bool = False) -> List[ObjectAnswer]:
+        """Makes the waiting calls, and returns all answers but those of mirrors. Answers that an earlier monitor got change no times."""
+        waiting = [part for part in self.parts.values() if part.pending]
+        for part in waiting:
+            part.begin()
         answers: List[ObjectAnswer] = []
-        for stored, answer in answered:
+        for stored, answer in [answered for part in waiting for answered in part.finish()]:
             call = read_call(stored.line) if stored.call is None else stored.call
             if not self.mirrors.apply_answer(stored.part, call, answer):
                 answers.append(self._apply_answer(stored, call, answer, is_again))
-        for part, name in self.mirrors.take_missing():
-            self._log(f"the scheduler of part {part + 1} took another object than the mirror of {name}; it is tried again")
+        for number, name in self.mirrors.take_missing():
+            self._log(f"the scheduler of part {number + 1} took another object than the mirror of {name}; it is tried again")
         return answers
 
     def _apply_answer(self, stored: StoredCall, call: Call, answer: Answer, is_again: bool) -> ObjectAnswer:
@@ -226,23 +241,23 @@ class Scheduling:
 
     def save(self, number: int) -> None:
         """Saves the state of a part's scheduler, and drops the calls that are part of all saved states."""
-        state = self.schedulers.state(number)
+        state = self.parts[number].state()
         for name in self._read_state(number, state):
             self._log(f"{name}: its scheduler has it otherwise than the monitor had; the scheduler counts")
         self._standings.write_soon()
-        part = self.schedulers.parts[number]
+        part = self.parts[number]
         generation = part.generation._replace(saved=state, last_call=self._store.last_call)
-        others = [each.generation.last_call for each in self.schedulers.parts.values() if each is not part]
+        others = [each.generation.last_call for each in self.parts.values() if each is not part]
         self._write(save_generation(generation, min(others, default=generation.last_call)))
         part.generation = generation
 
     def longest_unsaved(self) -> int:
         """The part whose saved state is the oldest, among those that can be saved now if there are any."""
-        parts = self.schedulers.parts
-        return min(parts, key=lambda number: (not self.is_open(number), parts[number].generation.last_call))
+        return min(self.parts, key=lambda number: (not self.is_open(number), self.parts[number].generation.last_call))
 
     def process_ids(self) -> List[int]:
-        return self.schedulers.process_ids()
+        return [part.conversation.process_id() for part in self.parts.values() if part.conversation is not None]
 
     def close(self) -> None:
-        self.schedulers.close()
+        for part in self.parts.values():
+            part.close_conversation(GRACE)
