@@ -73,8 +73,8 @@ class Checks:
         """Has the next check of an object set, with the next plan."""
         self.planned_checks[obj.name] = Reschedule(obj.name, time, forced)
 
-    def plan_planned_checks(self, plan: Plan, now: int) -> None:
-        """Sets next checks, after requests have set theirs."""
+    def plan_next_checks(self, plan: Plan, now: int) -> None:
+        """Sets the next checks that wait, after requests have set theirs."""
         left: Dict[str, Reschedule] = {}
         for name, call in self.planned_checks.items():
             obj = self._objects.get(name)

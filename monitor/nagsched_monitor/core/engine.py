@@ -125,7 +125,7 @@ class Engine:
         self._plan_requests(plan)
         self.checks.plan_freshness(now)
         self.checks.plan_spread(self._last_turn is None or now - self._last_turn > PAUSE, now)
-        self.checks.plan_planned_checks(plan, now)
+        self.checks.plan_next_checks(plan, now)
         self.passive.plan_takes(plan, now)
         self.checks.plan_takes(plan, now)
         if self.counters.are_due(now):
