@@ -96,14 +96,14 @@ class Checks:
     def plan_spread(self, is_after_pause: bool, now: int) -> None:
         """Spreads the overdue checks after a pause, and the checks of objects that were switched on."""
         names = self._objects if is_after_pause else [name for name in self._to_spread if name in self._objects]
-        overdue: List[Tuple[int, str, ObjectState]] = []
+        overdue: List[Tuple[int, str]] = []
         for obj in (self._objects[name] for name in names if name not in self._passive):
             due = obj.due_time()
             never = obj.next is None and obj.run is None and obj.on and obj.definition.check_interval > 0
             if never or due is not None and due < now:
-                overdue.append((now if due is None else due, obj.name, obj))
-        overdue.sort(key=lambda each: each[:2])
-        for place, (_, _, obj) in enumerate(overdue):
+                overdue.append((now if due is None else due, obj.name))
+        for place, (_, name) in enumerate(sorted(overdue)):
+            obj = self._objects[name]
             time = now + min(obj.definition.check_interval or WINDOW, WINDOW) * place // len(overdue)
             self.plan_check(obj, time, obj.forced)
             obj.phase = time if obj.phase is None else obj.phase

@@ -16,12 +16,11 @@ def merge_states(states: Mapping[int, bytes], mirrored: Mapping[int, AbstractSet
     """The state from which each part of a site begins, from the states of the schedulers of the current parts, and the names of their mirrors.
 
     A mirror has the state of its original. Run numbers continue from the greatest number of all parts, so that no late result fits a run of another part."""
-    found: Dict[str, Tuple[int, Member]] = {}
-    runs = 0
-    for part, state in states.items():
-        document = json.loads(state)
-        runs = max(runs, document["runs"])
-        found.update((it["name"], (part, it)) for it in document["objects"] if it["name"] not in mirrored.get(part, ()))
+    saved = {part: json.loads(state) for part, state in states.items()}
+    runs = max(document["runs"] for document in saved.values())
+    found: Dict[str, Tuple[int, Member]] = {
+        it["name"]: (part, it) for part, document in saved.items() for it in document["objects"] if it["name"] not in mirrored.get(part, ())
+    }
     members: Dict[int, List[Member]] = {part: [] for part in range(len(site.setups))}
     for name, definition in site.objects.items():
         if name in found:
