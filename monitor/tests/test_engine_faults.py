@@ -9,7 +9,7 @@ from nagsched_monitor.run.jobs import Job, JobFinished, JobLost, StuckJobEnded
 from nagsched_monitor.scheduler.live_process import Conversation
 from nagsched_monitor.site.site import read_site
 
-from .simulated import BEGIN, PROGRAM, SimulatedMonitor, SiteTest, fine, host, service
+from .simulated import BEGIN, PROGRAM, SiteTest, fine, host, service
 
 
 class Faults(SiteTest):

@@ -82,9 +82,7 @@ class PluginRuns:
                 self._log(f"{run.key[1]}: run {run.number} gave no result in time")
                 self._runners.kill(run.job)
                 run.deadline = now + MARGIN
-        for name, job in list(running.leftover_jobs.items()):
-            if id(job) not in ended and id(job) not in there:
-                del running.leftover_jobs[name]
+        running.leftover_jobs = {name: job for name, job in running.leftover_jobs.items() if id(job) in ended or id(job) in there}
 
     def plan(self, plan: Plan, now: int) -> None:
         """Reports the results of plugins. Events that can't be reported now stay."""

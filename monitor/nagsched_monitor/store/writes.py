@@ -3,7 +3,7 @@ import json
 from typing import Iterable, Mapping, Optional, Sequence, Tuple
 
 from .rows import Cell, Generation, StoredChange, StoredStanding, row_number
-from .store import Store, Write
+from .store import Write
 
 # The number of stored answers to numbered requests.
 MOST_REQUESTS = 1_000
