@@ -61,10 +61,9 @@ class Engine:
 
     def _await_results(self, until: float) -> None:
         """Awaits the result of each object since its last one, without the time in which no monitor ran. If it had none, since its part began."""
-        starts = {part: scheduler.generation.start for part, scheduler in self.scheduling.parts.items()}
         for obj in self.objects.values():
-            last = obj.history.last_check
-            obj.awaited_since = starts.get(obj.definition.part, self._now) if last is None else self._now - round(max(0.0, until - last) * 1000)
+            start, last = self.scheduling.parts[obj.definition.part].generation.start, obj.history.last_check
+            obj.awaited_since = start if last is None else self._now - round(max(0.0, until - last) * 1000)
 
     # ---- a turn
 
