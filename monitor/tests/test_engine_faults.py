@@ -76,6 +76,31 @@ class Faults(SiteTest):
         self.assertEqual([len(monitor.starts()[name]) for name in ("web", "new")], [4, 3])
         self.assertIsNotNone(monitor.engine.objects["new"].phase)
 
+    def test_a_database_that_cant_be_read_at_a_reload(self) -> None:
+        """The site is taken over as a whole, and the waiting result of an object that is gone is dropped."""
+        self.write_site([host("web"), host("old")], [])
+        monitor = self.monitor(fine)
+        monitor.run(70)
+        monitor.add_result("old", 0, "fine")
+        self.write_site([host("web")], [])
+        with mock.patch.object(monitor.store, "standings", side_effect=NotStored("disk I/O error")):
+            monitor.engine.reload(read_site(self.folder, PROGRAM))
+        self.assertEqual((set(monitor.engine.objects), monitor.engine.passive.count, monitor.store.waiting_results()), ({"web"}, 0, []))
+        monitor.run(60)
+        self.assertEqual(len(monitor.starts()["web"]), 3)
+
+    def test_a_reschedule_that_isn_t_stored(self) -> None:
+        """It changes nothing: the next check that waits to be set is set with the next turn that is stored."""
+        self.write_site([host("web")], [])
+        monitor = self.monitor(fine)
+        monitor.run(70)
+        web, moment = monitor.engine.objects["web"], monitor.clock.now + 20_000
+        monitor.engine.checks.plan_check(web, moment, False)
+        with mock.patch.object(monitor.store, "write", side_effect=NotStored("disk full")):
+            self.assertTrue(monitor.ask(do="reschedule", name="web", at=monitor.clock.wall() + 5)["again"])
+        monitor.run(1)
+        self.assertEqual(web.next, moment)
+
     def test_a_call_after_which_the_scheduler_ends(self) -> None:
         """It is set aside with its number, the others continue, and it doesn't hold up a start."""
         self.write_site([host("web", max_check_attempts=5), host("db")], [])

@@ -78,9 +78,11 @@ class Checks:
         left: Dict[str, Reschedule] = {}
         for name, call in self.planned_checks.items():
             obj = self._objects.get(name)
-            if obj is not None and not self._scheduling.is_open(obj.definition.part):
+            if obj is None or name in plan.requested:
+                continue
+            if not self._scheduling.is_open(obj.definition.part):
                 left[name] = call
-            elif obj is not None and obj.run is None:
+            elif obj.run is None:
                 plan.calls.append((obj.definition.part, call, None))
                 (plan.at_once if call.time <= now else plan.later).add(name)
         plan.then.append(partial(setattr, self, "planned_checks", left))

@@ -140,9 +140,7 @@ class Engine:
         for request in self._requests:
             step = self.requests.plan(request)
             plan.calls += step.calls
-            for _, call, _ in step.calls:
-                if isinstance(call, Reschedule):
-                    self.checks.planned_checks.pop(call.name, None)  # an operator's time counts
+            plan.requested |= {call.name for _, call, _ in step.calls if isinstance(call, Reschedule)}
             plan.writes += step.writes
             plan.then += step.then
             plan.last += step.last

@@ -18,3 +18,5 @@ class Plan:
     freed: int = 0
     at_once: Set[str] = field(default_factory=set)
     later: Set[str] = field(default_factory=set)
+    # The objects whose next checks are set by requests, which count.
+    requested: Set[str] = field(default_factory=set)

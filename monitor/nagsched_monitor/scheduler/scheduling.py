@@ -9,7 +9,7 @@ from ..core.mirroring import Mirrors, PlannedCall
 from ..core.object_state import ObjectState, ObjectStates
 from ..core.phases import FIRST_TIME
 from ..core.run_table import ObjectKey, Run
-from ..faults import ConversationEnded
+from ..faults import ConversationEnded, NotStored
 from ..site.json_files import members_by_name
 from ..site.site import Site
 from ..store.rows import Generation, StoredCall, StoredChange
@@ -113,7 +113,10 @@ class Scheduling:
         changed = self._change_site(site)
         self._has_unknown = True
         self._query_new()
-        self._standings.settle(self.states.objects)
+        try:
+            self._standings.settle(self.states.objects)
+        except NotStored as fault:
+            self._log(f"since when objects are in their states isn't known: {fault}")
         return changed
 
     def _query_new(self) -> None:

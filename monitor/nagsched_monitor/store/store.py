@@ -41,11 +41,11 @@ class Store:
             try:
                 self._open_database(opened)
                 self._verify()
+                self.last_call = max(self._greatest("calls"), self._greatest("generations", "last_call"))
+                self.last_result = self._greatest("passive")
             except sqlite3.Error as error:
                 raise MonitorFault(f"{self.path}: {error}") from None
             self._opened = opened.pop_all()
-        self.last_call = max(self._greatest("calls"), self._greatest("generations", "last_call"))
-        self.last_result = self._greatest("passive")
 
     def _open_database(self, opened: contextlib.ExitStack) -> None:
         """Opens the database, which is for its owner only, and has a table for everything."""
