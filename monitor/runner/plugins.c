@@ -2,20 +2,23 @@
 #define _GNU_SOURCE
 #include <errno.h>
 #include <signal.h>
+#include <stddef.h>
 #include <stdio.h>
-#include <stdlib.h>
 #include <string.h>
 #include <sys/epoll.h>
+#include <sys/mman.h>
 #include <sys/wait.h>
 #include <time.h>
 #include <unistd.h>
 
 #include "runner.h"
 
-enum { READ_BYTES = 65536 };
+enum { READ_BYTES = 65536, PLUGINS_AT_ONCE = 64 };
 
 const char RESULTS;
 static char unsent[MOST_UNSENT];
+/* Plugins that aren't used, each with the next one after it. */
+static struct plugin *unused;
 
 double now(void) {
     struct timespec time;
@@ -103,12 +106,40 @@ void fail(struct runner *runner, long long job, const char *program, int error) 
         end_line(runner, write_result(next_line(runner), job, (struct ending){"failed", 0, false}, why, none));
 }
 
+/* Makes more plugins, in memory that new processes don't get: then a write to it after a fork copies no page. */
+static void make_plugins(void) {
+    struct plugin *made = mmap(NULL, PLUGINS_AT_ONCE * sizeof *made, PROT_READ | PROT_WRITE, MAP_PRIVATE | MAP_ANONYMOUS, -1, 0);
+    if (made == MAP_FAILED)
+        return;
+    madvise(made, PLUGINS_AT_ONCE * sizeof *made, MADV_DONTFORK);
+    for (int i = 0; i < PLUGINS_AT_ONCE; i++)
+        plugin_free(&made[i]);
+}
+
+struct plugin *plugin_new(void) {
+    if (unused == NULL)
+        make_plugins();
+    struct plugin *plugin = unused;
+    if (plugin == NULL)
+        return NULL;
+    unused = plugin->after;
+    memset(plugin, 0, offsetof(struct plugin, output));
+    plugin->output.file = plugin->errors.file = -1;
+    plugin->output.length = plugin->errors.length = 0;
+    return plugin;
+}
+
+void plugin_free(struct plugin *plugin) {
+    plugin->after = unused;
+    unused = plugin;
+}
+
 static void forget(const struct runner *runner, struct plugin *plugin) {
     plugin->before->after = plugin->after;
     plugin->after->before = plugin->before;
     close_stream(runner, &plugin->output);
     close_stream(runner, &plugin->errors);
-    free(plugin);
+    plugin_free(plugin);
 }
 
 /* How a process with this status ended. */

@@ -194,13 +194,14 @@ static int fork_plugin(char *const *words, struct started *started, const int *o
     struct entry *entry = &table[started->place];
     pid_t runner = getpid();
     entry->error = 0;
-    started->process = fork();
-    if (started->process < 0)
+    pid_t process = fork();
+    if (process < 0)
         return errno;
-    if (started->process == 0)
+    if (process == 0) /* it has no `started` */
         become(words, entry, runner, output[1], errors[1]);
-    setpgid(started->process, started->process); /* the new process does so too: the first of the two decides */
-    entry->group = started->process;
+    setpgid(process, process); /* the new process does so too: the first of the two decides */
+    entry->group = process;
+    started->process = process;
     started->output = output[0];
     started->errors = errors[0];
     return 0;

@@ -10,7 +10,6 @@
 #include <math.h>
 #include <signal.h>
 #include <stdio.h>
-#include <stdlib.h>
 #include <string.h>
 #include <sys/epoll.h>
 #include <sys/signalfd.h>
@@ -44,10 +43,11 @@ static void add(struct runner *runner, struct plugin *plugin) {
 }
 
 static void start(struct runner *runner, const struct job *job) {
-    struct plugin *plugin = calloc(1, sizeof *plugin);
+    struct plugin *plugin = plugin_new();
     int error = plugin == NULL ? ENOMEM : process_start(job->words, &plugin->started);
     if (error != 0) {
-        free(plugin);
+        if (plugin != NULL)
+            plugin_free(plugin);
         fail(runner, job->number, job->words[0], error);
         return;
     }

@@ -57,6 +57,10 @@ bool poll_for(const struct runner *runner, int how, int file, unsigned events, c
 /* Writes the waiting results, as far as they are read. */
 void send_results(struct runner *runner);
 
+/* A plugin without a process; NULL if there is no memory. And its end. */
+struct plugin *plugin_new(void);
+void plugin_free(struct plugin *plugin);
+
 /* Reads the available bytes of a stream, and stores its beginning. */
 void read_stream(const struct runner *runner, struct stream *stream);
 
