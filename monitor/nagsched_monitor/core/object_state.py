@@ -54,7 +54,7 @@ class ObjectState:
 
 
 # How many objects are enough for one turn, and how long the first of them waits for others, in milliseconds.
-ENOUGH = 40
+ENOUGH = 32
 LONGEST_SHARING = 200
 
 
