@@ -18,7 +18,8 @@ def turns(a_second: int, seconds: float) -> Tuple[List[float], List[float]]:
     begun, late = [0.0], []
     while begun[-1] < seconds:
         first = waiting[0]
-        shared = max(time for time in heapq.nsmallest(ENOUGH, waiting) if time <= first + LONGEST_SHARING / 1000)
+        window = LONGEST_SHARING / 1000 / min(2, waiting.count(first))
+        shared = max(time for time in heapq.nsmallest(ENOUGH, waiting) if time <= first + window)
         now = next_turn_time(begun[-1], first, shared)
         # The results of this turn have a turn of their own if the next one is far off.
         begun.append(begun[-1] + BETWEEN_TURNS if now is None else now)
@@ -62,6 +63,12 @@ class Shared(unittest.TestCase):
         self.assertEqual((due.first_time(), due.shared_time()), (5, 5 + LONGEST_SHARING))
         due.set_time("c", None)
         self.assertEqual((due.first_time(), due.shared_time()), (5, 7))
+        due.set_time("f", 5 + LONGEST_SHARING)
+        self.assertEqual(due.shared_time(), 5 + LONGEST_SHARING)
+        due.set_time("g", 5)
+        self.assertEqual(due.shared_time(), 7)  # two that are due together wait half as long
+        due.set_time("f", None)
+        due.set_time("g", None)
         for number in range(ENOUGH - 1):
             self.assertEqual((due.first_time(), due.shared_time()), (5, 7))
             due.set_time(f"e{number}", 5)

@@ -53,7 +53,7 @@ class ObjectState:
         return now - (self.awaited_since if self.last_result is None else self.last_result) >= freshness
 
 
-# How many objects are enough for one turn, and how long the first of them waits for others, in milliseconds.
+# How many objects are enough for one turn, and how long one object waits for others, in milliseconds. Objects that are due together wait half as long.
 ENOUGH = 32
 LONGEST_SHARING = 200
 
@@ -96,14 +96,17 @@ class DueQueue:
 
     def shared_time(self) -> Optional[int]:
         """The time at which enough objects are due for one turn, or at which the last of those is due that share a turn with the first."""
+        first = self.first_time()
+        if first is None:
+            return None
         times: List[int] = []
-        count = 0
-        while count < ENOUGH and (time := self.first_time()) is not None and time <= (times or [time])[0] + LONGEST_SHARING:
+        count, latest = 0, first + LONGEST_SHARING // min(2, len(self._names[first]))
+        while count < ENOUGH and (time := self.first_time()) is not None and time <= latest:
             count += len(self._names[time])
             times.append(heapq.heappop(self._heap))
         for time in times:
             heapq.heappush(self._heap, time)
-        return times[-1] if times else None
+        return times[-1]
 
 
 class ObjectStates:
