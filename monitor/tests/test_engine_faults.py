@@ -83,7 +83,8 @@ class Faults(SiteTest):
         monitor.run(70)
         monitor.add_result("old", 0, "fine")
         self.write_site([host("web")], [])
-        with mock.patch.object(monitor.store, "standings", side_effect=NotStored("disk I/O error")):
+        unreadable = NotStored("disk I/O error")
+        with mock.patch.multiple(monitor.store, standings=mock.Mock(side_effect=unreadable), calls_since=mock.Mock(side_effect=unreadable)):
             monitor.engine.reload(read_site(self.folder, PROGRAM))
         self.assertEqual((set(monitor.engine.objects), monitor.engine.passive.count, monitor.store.waiting_results()), ({"web"}, 0, []))
         monitor.run(60)

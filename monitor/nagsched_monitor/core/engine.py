@@ -68,7 +68,7 @@ class Engine:
     # ---- a turn
 
     def turn(self) -> int:
-        """Does all the work that is due now, and returns the latest moment for the next turn."""
+        """Does all the work that is due now, and returns the moment for which the next turn is wanted."""
         now = self._now = self._clock.moment()
         self.plugins.collect_events(now)
         plan = self._make_plan(now)

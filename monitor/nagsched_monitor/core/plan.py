@@ -18,5 +18,5 @@ class Plan:
     freed: int = 0
     at_once: Set[str] = field(default_factory=set)
     later: Set[str] = field(default_factory=set)
-    # The objects whose next checks are set by requests, which count.
+    # The objects whose next checks are set by requests: nothing else sets them in this turn.
     requested: Set[str] = field(default_factory=set)

@@ -18,7 +18,7 @@ class Loop:
 
     def __init__(self, engine: Engine, timer: TurnTimer, clock: Clock, log: Callable[[str], None]) -> None:
         self._engine, self._timer, self._clock, self._log = engine, timer, clock, log
-        # Actions before each turn, after it, and every second. Those before and after a turn return the latest moment for the next turn, or None.
+        # Actions before each turn, after it, and every second. Those before and after a turn return the moment for which the next one is wanted, or None.
         self.before: List[Callable[[], Optional[int]]] = []
         self.after: List[Callable[[], Optional[int]]] = []
         self.chores: List[Callable[[], None]] = []

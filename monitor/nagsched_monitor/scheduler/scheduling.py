@@ -120,11 +120,11 @@ class Scheduling:
         return changed
 
     def _query_new(self) -> None:
-        """Asks for the standings of new objects. If their scheduler can't be started now, the request follows with the next calls."""
+        """Asks for the standings of new objects. If they can't be had now, they are asked for with the next calls."""
         try:
             self._query_unknown()
             self._has_unknown = False
-        except ConversationEnded as error:
+        except (ConversationEnded, NotStored) as error:
             self._log(f"how new objects stand isn't known yet: {error}")
 
     def _change_site(self, site: Site) -> List[str]:
