@@ -177,11 +177,11 @@ class Pauses(SiteTest):
         begun = []
         for second in range(220):
             now[0] = float(second)
-            before = beside.process_id()
+            before = beside._process
             beside.work()
             if beside._process is not None:
                 beside._process.wait(timeout=30)
-                if beside.process_id() != before:
+                if beside._process is not before:
                     begun.append(second)
         self.assertEqual(begun, [0, 5, 15, 35, 75, 135, 195])
         self.assertEqual(LONGEST_PAUSE, 60)
@@ -197,20 +197,20 @@ class Pauses(SiteTest):
         with mock.patch.object(subprocess, "Popen", side_effect=BlockingIOError(11, "no room")) as tried:
             for now[0] in (0.0, 1.0, 59.0):
                 beside.work()
-            self.assertEqual((tried.call_count, beside.process_id()), (1, None))
+            self.assertEqual((tried.call_count, beside._process), (1, None))
         self.assertEqual(lines, ["faults can't be begun: [Errno 11] no room; it is tried again"])
         now[0] = 60.0
         beside.work()
-        self.assertIsNotNone(beside.process_id())
+        self.assertIsNotNone(beside._process)
 
 
 class Places(SiteTest):
     def test_addresses_of_web_servers(self) -> None:
         for given in ("http://localhost:9093", "https://alerts.example.org/alertmanager/", "http://[::1]:9093"):
-            test_url(given, "--alertmanager")
+            test_url(given)
         for given in ("localhost:9093", "file:///etc/passwd", "http://", "", "//here", "ftp://here"):
             with self.assertRaisesRegex(MonitorFault, "--alertmanager: it has to be an address", msg=given):
-                test_url(given, "--alertmanager")
+                test_url(given)
 
     def test_places(self) -> None:
         for given, place, own in (

@@ -172,7 +172,7 @@ class Textfile(SiteTest):
             (self.folder / "monitor.db").write_text("this is no database")
             return len(seen) == 3
 
-        with mock.patch.object(textfile, "is_ended", is_ended), mock.patch.object(textfile, "ignore_signals"), mock.patch("builtins.print") as said:
+        with mock.patch.object(textfile, "is_ended", is_ended), mock.patch("builtins.print") as said:
             with mock.patch.object(sys, "argv", ["textfile", str(self.folder), str(file)]):
                 self.assertEqual(textfile.main(), 0)
         self.assertEqual((seen, file.exists(), said.call_count), ([[]] * 3, False, 1))

@@ -13,7 +13,7 @@ import urllib.request
 from typing import Any, Dict, FrozenSet, List, Mapping, Optional, Tuple
 
 from ..core.text import first_line
-from ..program.helper_process import ignore_signals, is_ended
+from ..program.helper_process import is_ended
 from ..site.groups_file import Groups, GroupsFile, labels_of
 from .status_query import PROBLEMS, SiteStatus, StatusUnavailable, read_site_status
 
@@ -93,7 +93,6 @@ class AlertPoster:
 
 def main() -> int:
     url, folder = sys.argv[1:]
-    ignore_signals()
     poster = AlertPoster(url, pathlib.Path(folder))
     while not is_ended(LOOK_EVERY):
         poster.post_due()

@@ -23,7 +23,7 @@ from typing import Any, Dict, Optional, Sequence, Tuple
 
 from ..faults import MonitorFault, SiteFault
 from ..program.addresses import parse_address
-from ..program.helper_process import ignore_signals, is_ended
+from ..program.helper_process import is_ended
 from ..site.groups_file import GroupsFile
 from ..site.site import read_options
 from . import html_pages, metrics
@@ -164,7 +164,6 @@ class Server(socketserver.ThreadingTCPServer):
 
 def main() -> int:
     place, folder, *names = sys.argv[1:]
-    ignore_signals()
     try:
         server = Server(parse_address(place), SiteFolder(pathlib.Path(folder)), names)
     except (MonitorFault, OSError) as fault:

@@ -5,7 +5,7 @@ Its arguments are the site's folder and the file.
 import pathlib
 import sys
 
-from ..program.helper_process import ignore_signals, is_ended
+from ..program.helper_process import is_ended
 from ..site.groups_file import GroupsFile
 from .metrics import metrics, read_signs
 from .nagios_files import replace_file
@@ -17,7 +17,6 @@ EVERY = 15.0
 
 def main() -> int:
     folder, file = map(pathlib.Path, sys.argv[1:])
-    ignore_signals()
     groups, site, trouble = GroupsFile(folder), folder.resolve().name, ""
     while True:
         try:

@@ -26,8 +26,8 @@ def is_loopback(given: str) -> bool:
     return ipaddress.ip_address(parse_address(given)[0]).is_loopback
 
 
-def test_url(given: str, of: str) -> None:
-    """Raises `MonitorFault` if an address isn't one of a web server."""
+def test_url(given: str) -> None:
+    """Raises `MonitorFault` if the address of an Alertmanager isn't one of a web server."""
     url = urllib.parse.urlsplit(given)
     if url.scheme not in ("http", "https") or not url.hostname:
-        raise MonitorFault(f"{of}: it has to be an address such as http://localhost:9093, not {given!r}")
+        raise MonitorFault(f"--alertmanager: it has to be an address such as http://localhost:9093, not {given!r}")

@@ -1,11 +1,10 @@
 """A process next to the monitor, which starts it, restarts it if it ends, and ends with it. It ends when its standard input does."""
 import os
 import select
-import signal
 import subprocess
 import sys
 import time
-from typing import Callable, Optional, Sequence
+from typing import Callable, List, Optional
 
 from ..run.runner_program import end_process, module_command
 
@@ -13,20 +12,14 @@ from ..run.runner_program import end_process, module_command
 PAUSE, LONGEST_PAUSE = 5.0, 60.0
 
 
-def ignore_signals() -> None:
-    """For such a process: Ctrl-C and SIGTERM are for the monitor, with which it ends."""
-    for number in (signal.SIGINT, signal.SIGTERM):
-        signal.signal(number, signal.SIG_IGN)
-
-
-def is_ended(seconds: Optional[float]) -> bool:
+def is_ended(seconds: float) -> bool:
     """For such a process: waits for this time, or until the monitor has ended, and returns whether it has."""
     return bool(select.select([sys.stdin], [], [], seconds)[0]) and not os.read(sys.stdin.fileno(), 4_096)
 
 
 class HelperProcess:
-    def __init__(self, module: str, arguments: Sequence[str], log: Callable[[str], None], clock: Callable[[], float] = time.monotonic) -> None:
-        self._command, self._name, self._log, self._clock = module_command(module, list(arguments)), module.rpartition(".")[2], log, clock
+    def __init__(self, module: str, arguments: List[str], log: Callable[[str], None], clock: Callable[[], float] = time.monotonic) -> None:
+        self._command, self._name, self._log, self._clock = module_command(module, arguments), module.rpartition(".")[2], log, clock
         self._process: Optional["subprocess.Popen[bytes]"] = None
         self._started_at = self._not_before = clock()
         self._pause = PAUSE
@@ -49,9 +42,6 @@ class HelperProcess:
             except OSError as error:  # there is no room for a process now
                 self._not_before = self._started_at + LONGEST_PAUSE
                 self._log(f"{self._name} can't be begun: {error}; it is tried again")
-
-    def process_id(self) -> Optional[int]:
-        return None if self._process is None else self._process.pid
 
     def close(self) -> None:
         if self._process is not None:

@@ -142,7 +142,7 @@ def main(given: Optional[List[str]] = None) -> int:
         if arguments.page is not None:
             addresses.parse_address(arguments.page)
         for url in arguments.alertmanager:
-            addresses.test_url(url, "--alertmanager")
+            addresses.test_url(url)
         log = Log()
         monitor = Monitor(arguments, log)
     except (MonitorFault, StatusUnavailable, NotStored, OSError, sqlite3.Error) as fault:
