@@ -4,7 +4,7 @@ import json
 import os
 import pathlib
 import signal
-from typing import Any, Callable, Dict, List, Optional, Sequence, Set, Tuple
+from typing import Any, Callable, Dict, List, Mapping, Optional, Sequence, Set, Tuple
 
 from nagsched_monitor.core.phases import TOLERANCE
 from nagsched_monitor.core.run_table import Owner
@@ -206,12 +206,12 @@ class FaultRun:
         return True
 
     def _ask(self, request: Dict[str, Any]) -> bool:
-        answers: List[bytes] = []
+        answers: List[Mapping[str, Any]] = []
         self.monitor.engine.add_request(Request(json.dumps(request).encode(), answers.append))
         for _ in range(3):
             self.monitor.loop.run_turn()
             if answers:
-                return not json.loads(answers[0]).get("again", False)
+                return not answers[0].get("again", False)
         return False
 
     def _result(self, number: int, name: str) -> Callable[[], bool]:

@@ -5,7 +5,7 @@ import unittest
 from typing import Any, Callable, Dict, List, Optional, Tuple
 
 
-from nagsched_monitor.program.turn_timer import FilePoller
+from nagsched_monitor.program.poller import FilePoller
 from nagsched_monitor.run.gearman import Code, Packet
 from nagsched_monitor.run.gearman_signing import JOB, RESULT, JobPolicy, Signer
 from nagsched_monitor.run.gearman_worker import Worker
@@ -79,6 +79,7 @@ class WorkerTest(unittest.TestCase):
         self.connections: List[StandInConnection] = []
         self.faults: List[Exception] = []
         self.passed = 0.0
+        self.poller = FilePoller()
         self.last = 0
 
     def connect(self) -> Any:
@@ -91,10 +92,9 @@ class WorkerTest(unittest.TestCase):
         def clock() -> float:
             return time.monotonic() + self.passed
 
-        self.poller = FilePoller()
         if runner is None:
             command = [words] if words else [os.environ["NAGSCHED_RUNNER"]]
-            runner = RunnerPool("worker", command, 1, None, 0.0, self.lines.append, self.poller.watch, self.poller.unwatch, clock)
+            runner = RunnerPool("worker", command, 1, None, 0.0, self.lines.append, self.poller, clock)
             self.addCleanup(runner.close)
         self.runner = runner
         self.worker = Worker(self.connect, ["dmz"], slots, self.signer, JobPolicy(self.signer, ["dmz"]), runner, self.lines.append, clock)

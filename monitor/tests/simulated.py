@@ -6,13 +6,13 @@ import pathlib
 import tempfile
 import unittest
 from dataclasses import dataclass, field
-from typing import Any, Callable, Dict, List, Optional, Set, Tuple
+from typing import Any, Callable, Dict, List, Mapping, Optional, Set, Tuple
 
 from nagsched_monitor.core.engine import Engine
 from nagsched_monitor.core.run_table import Owner
 from nagsched_monitor.inputs.requests import Request
 from nagsched_monitor.program.loop import Loop
-from nagsched_monitor.program.turn_timer import TurnTimer
+from nagsched_monitor.program.poller import FilePoller
 from nagsched_monitor.run.jobs import Event, Job, JobFinished, JobLost
 from nagsched_monitor.scheduler.live_process import Conversation
 from nagsched_monitor.scheduler.schedulers import ConversationFactory
@@ -87,12 +87,12 @@ class SimulatedRunners:
         return is_there
 
 
-@dataclass
-class SimulatedPoller:
+class SimulatedPoller(FilePoller):
     """Time passes at once; the only events are the ends of plugins."""
 
-    clock: SimulatedClock
-    runners: SimulatedRunners
+    def __init__(self, clock: SimulatedClock, runners: SimulatedRunners) -> None:
+        super().__init__()
+        self.clock, self.runners = clock, runners
 
     def wait(self, milliseconds: float) -> bool:
         until = self.clock.now + max(0, round(milliseconds))
@@ -130,7 +130,7 @@ class SimulatedMonitor:
         self.runners = SimulatedRunners(self.clock, plugin)
         self.engine = Engine(self.scheduling, self.runners, self.store, self.clock, self.log)
         self.engine.requests.log = self.log
-        self.loop = Loop(self.engine, TurnTimer(self.clock, SimulatedPoller(self.clock, self.runners)), self.clock, self.log)
+        self.loop = Loop(self.engine, SimulatedPoller(self.clock, self.runners), self.clock, self.log)
         self.loop.after = [self.take_changes]
 
     def log(self, line: str) -> None:
@@ -166,12 +166,12 @@ class SimulatedMonitor:
 
     def ask_line(self, line: bytes) -> Dict[str, Any]:
         """The answer to a request, after the turn in which it is obeyed."""
-        answers: List[bytes] = []
+        answers: List[Mapping[str, Any]] = []
         self.engine.add_request(Request(line, answers.append))
         self.engine.requests.begin_turn()
         self.engine.turn()
         self.take_changes()
-        answer: Dict[str, Any] = json.loads(answers[0])
+        answer: Dict[str, Any] = json.loads(json.dumps(answers[0]))
         return answer
 
     def ask(self, **members: Any) -> Dict[str, Any]:

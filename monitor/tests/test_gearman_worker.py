@@ -138,7 +138,7 @@ class Runner(WorkerTest):
     """The runner of a worker."""
 
     def process(self) -> int:
-        (process,) = self.runner.processes.values()
+        (process,) = self.runner.processes
         return int(process.process.pid)
 
     def test_one_that_is_killed(self) -> None:
@@ -175,11 +175,10 @@ class Runner(WorkerTest):
         """No second one is started next to it until it has ended."""
         script = """read l; echo '{"job":1,"code":9,"end":"limit","output":"","stuck":true}'; read l; echo '{"job":2,"code":0,"end":"exited","output":""}'
                     echo '{"job":1,"gone":true}'; read l; echo '{"job":3,"code":0,"end":"exited","output":"fine"}'; read l"""
-        runner = RunnerPool("worker", ["/bin/sh", "-c", script], 1, None, 0.0, self.lines.append, lambda file, read: None, lambda file: None, time.monotonic)
+        runner = RunnerPool("worker", ["/bin/sh", "-c", script], 1, None, 0.0, self.lines.append, self.poller, time.monotonic)
         self.addCleanup(runner.close)
         self.start_worker(1, runner=runner)
         said = []
-        self.poller.watch(next(iter(runner.processes)), runner.read)
         for count, word in enumerate(("hangs", "hangs", "other", "hangs"), 1):
             self.job([word])
             said.append(self.results(count)[-1]["output"])

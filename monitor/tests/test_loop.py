@@ -1,7 +1,7 @@
 """The actions around a turn: a fault of the monitor's own is caught, logged and counted; the log holds up nobody."""
 import os
 import unittest
-from typing import List
+from typing import Any, List
 from unittest import mock
 
 from nagsched_monitor.inputs.requests import Request
@@ -50,7 +50,7 @@ class Faults(SiteTest):
         self.write_site([host("web")], [])
         monitor = self.monitor(fine)
         monitor.work(10)
-        answers: List[bytes] = []
+        answers: List[Any] = []
         monitor.engine.add_request(Request(b'{"do":"result","name":"web","code":0,"output":"fine"}', answers.append))
         with mock.patch.object(monitor.scheduling, "make_calls", side_effect=KeyError("what")):
             monitor.loop.run_turn()

@@ -1,6 +1,6 @@
 """Requests to a monitor: each word, and each faulty line, which gets an error and changes nothing."""
 import json
-from typing import Any, Dict, List
+from typing import Any, Dict, List, Mapping
 from unittest import mock
 
 
@@ -115,13 +115,12 @@ class Words(SiteTest):
         """The sender's answer says that it may send again, and nothing that was accepted is lost."""
         with mock.patch.object(requests, "MOST_WAITING", 3):
             engine = self.monitored.engine
-            answers: List[bytes] = []
+            answers: List[Mapping[str, Any]] = []
             for number in range(5):
                 line = json.dumps({"do": "result", "name": "web;trap", "code": 2 * (number % 2), "output": f"number {number}"})
                 engine.add_request(Request(line.encode(), answers.append))
             self.monitored.run(0.5)
-        told = [json.loads(answer) for answer in answers]
-        self.assertEqual([answer.get("again", False) for answer in told], [False, False, False, True, True])
+        self.assertEqual([answer.get("again", False) for answer in answers], [False, False, False, True, True])
         self.assertEqual([change.words for _, change in self.monitored.changes], ["number 1", "number 2"])
         self.assertEqual(passive.MOST_WAITING, 10_000)
 
@@ -166,7 +165,7 @@ class Words(SiteTest):
 
     def test_others(self) -> None:
         words = self.monitored.engine.requests
-        words.stop, words.reload = lambda: self.asked.append("stop"), lambda request: request.reply(b'{"done":"reload"}')
+        words.stop, words.reload = lambda: self.asked.append("stop"), lambda request: request.reply({"done": "reload"})
         self.assertEqual(self.ask(do="reload"), {"done": "reload"})
         self.assertEqual(self.ask(do="stop"), {"done": "stop"})
         self.assertEqual(self.asked, ["stop"])

@@ -1,12 +1,12 @@
 """Runners elsewhere: which object goes to which, each way in which the file can be wrong, and that an absent runner holds up no other."""
 import pathlib
-import select
 import sys
 import time
 import unittest
-from typing import Any, Callable, Dict, List, Tuple
+from typing import Any, Dict, List, Tuple
 
 from nagsched_monitor.faults import SiteFault
+from nagsched_monitor.program.poller import FilePoller
 from nagsched_monitor.run.jobs import Job, JobFinished, JobLost
 from nagsched_monitor.run.runners import RunnerPools
 from nagsched_monitor.site.runner_file import Remote, read_runners
@@ -83,22 +83,23 @@ class Handing(unittest.TestCase):
 
     def setUp(self) -> None:
         self.lines: List[str] = []
-        self.files: Dict[int, Callable[[int], None]] = {}
+        self.poller = FilePoller()
         self.passed = 0.0
-        self.runners = RunnerPools(1, self.lines.append, self.files.__setitem__, self.files.__delitem__, lambda: time.monotonic() + self.passed)
+        self.runners = RunnerPools(1, self.lines.append, self.poller, lambda: time.monotonic() + self.passed)
         self.addCleanup(self.runners.close)
 
     def events(self, count: int) -> List[Any]:
         events: List[Any] = []
         for _ in range(900):
             self.runners.flush()
-            for file in select.select(list(self.files), [], [], 0.1)[0]:
-                if file in self.files:
-                    self.files[file](file)
+            self.poller.wait(100)
             events += self.runners.events()
             if len(events) >= count:
                 break
         return events
+
+    def process_ids(self) -> List[int]:
+        return [process.pid for process in self.runners.processes()]
 
     def start(self, run: int, word: str, runner: str = "dmz") -> None:
         self.runners.start(Job(f"{runner}-1", run, [word], 10, runner or None))
@@ -141,15 +142,15 @@ class Handing(unittest.TestCase):
     def test_other_runners(self) -> None:
         """The same runner again changes nothing. Another command, or no runner, ends it, and its jobs are lost."""
         self.runners.set_remotes({"dmz": Remote("dmz", STAND_IN, 1)})
-        before = self.runners.process_ids()
+        before = self.process_ids()
         self.runners.set_remotes({"dmz": Remote("dmz", STAND_IN, 1)})
-        self.assertEqual(self.runners.process_ids(), before)
+        self.assertEqual(self.process_ids(), before)
         self.start(1, "wait")
         self.start(2, "wait")
         self.runners.flush()
         self.runners.set_remotes({"dmz": Remote("dmz", (*STAND_IN, "other"), 1)})
         self.assertEqual(sorted(event.job.run for event in self.runners.events()), [1, 2])
-        self.assertEqual((len(self.runners.process_ids()), self.runners.process_ids()[0]), (2, before[0]))
-        self.assertNotEqual(self.runners.process_ids(), before)
+        self.assertEqual((len(self.process_ids()), self.process_ids()[0]), (2, before[0]))
+        self.assertNotEqual(self.process_ids(), before)
         self.runners.set_remotes({})
-        self.assertEqual((self.runners.process_ids(), self.lines), (before[:1], []))
+        self.assertEqual((self.process_ids(), self.lines), (before[:1], []))

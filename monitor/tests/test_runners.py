@@ -1,19 +1,18 @@
 """The runner processes of a monitor: each job is finished or lost, for any fate of its runner."""
 import os
 import pathlib
-import select
 import signal
 import subprocess
 import tempfile
 import threading
 import time
 import unittest
-from typing import Any, Callable, Dict, List
+from typing import Any, List
 from unittest import mock
 
+from nagsched_monitor.program.poller import FilePoller
 from nagsched_monitor.run.jobs import Job, JobFinished, JobLost, StuckJobEnded
 from nagsched_monitor.run.runners import RunnerPools
-from nagsched_monitor.site.runner_file import LOCAL
 
 from .waiting import LONG, becomes_true
 
@@ -21,9 +20,9 @@ from .waiting import LONG, becomes_true
 class ManyRunners(unittest.TestCase):
     def setUp(self) -> None:
         self.lines: List[str] = []
-        self.files: Dict[int, Callable[[int], None]] = {}
+        self.poller = FilePoller()
         self.passed = 0.0
-        self.runners = RunnerPools(2, self.lines.append, self.files.__setitem__, self.files.__delitem__, lambda: time.monotonic() + self.passed)
+        self.runners = RunnerPools(2, self.lines.append, self.poller, lambda: time.monotonic() + self.passed)
         self.addCleanup(self.runners.close)
 
     def wait(self, count: int) -> List[Any]:
@@ -31,13 +30,16 @@ class ManyRunners(unittest.TestCase):
 
         def came() -> bool:
             self.runners.flush()
-            for file in select.select(self.files, [], [], 0.1)[0]:
-                self.files[file](file)
+            self.poller.wait(100)
             events.extend(self.runners.events())
             return len(events) >= count
 
         becomes_true(came)
         return events
+
+    def process_ids(self) -> List[int]:
+        self.runners.flush()
+        return [process.pid for process in self.runners.processes()]
 
     def test_jobs_come_back(self) -> None:
         for run in range(20):
@@ -50,17 +52,17 @@ class ManyRunners(unittest.TestCase):
             self.runners.start(Job("web", run, ["sleep", "60"], 100))
             self.runners.flush()
         self.passed = 10
-        os.kill(self.runners.process_ids()[0], signal.SIGKILL)
+        os.kill(self.process_ids()[0], signal.SIGKILL)
         events = self.wait(2)
         self.assertEqual([type(event) for event in events], [JobLost, JobLost])
-        self.assertEqual(len(self.runners.process_ids()), 2)
+        self.assertEqual(len(self.process_ids()), 2)
         self.assertIn("2 checks with it", self.lines[0])
         self.runners.start(Job("db", 9, ["true"], 10))
         self.assertEqual([event.job.name for event in self.wait(1)], ["db"])
 
     def test_one_that_stands_still(self) -> None:
         """It is killed with the job that is late; its other jobs are lost, and others run its next jobs."""
-        stopped = self.runners.process_ids()
+        stopped = self.process_ids()
         for process in stopped:
             os.kill(process, signal.SIGSTOP)
         jobs = [Job("web", run, ["true"], 1) for run in range(4)]
@@ -73,13 +75,13 @@ class ManyRunners(unittest.TestCase):
         self.assertEqual([id(job) in self.runners.job_ids() for job in jobs], [False, True, False, True])
         self.assertFalse(self.runners.kill(jobs[0]))
         self.assertTrue(self.runners.kill(jobs[1]))
-        self.assertFalse(set(stopped) & set(self.runners.process_ids()))
+        self.assertFalse(set(stopped) & set(self.process_ids()))
         self.runners.start(Job("db", 9, ["true"], 10))
         self.assertIn("db", [event.job.name for event in self.wait(3)])
 
     def test_one_that_reads_no_jobs(self) -> None:
         """Jobs that don't fit into its pipe wait, and don't hold up the monitor."""
-        for process in self.runners.process_ids():
+        for process in self.process_ids():
             os.kill(process, signal.SIGSTOP)
             self.addCleanup(os.kill, process, signal.SIGCONT)
         for run in range(40):
@@ -88,56 +90,52 @@ class ManyRunners(unittest.TestCase):
         handing.start()
         handing.join(10)
         self.assertFalse(handing.is_alive())
-        for process in self.runners.process_ids():
+        for process in self.process_ids():
             os.kill(process, signal.SIGCONT)
         self.assertEqual(sorted(event.job.run for event in self.wait(40)), list(range(40)))
 
     def test_no_room_for_another_one(self) -> None:
         """One line says so. Jobs go to the remaining runners. If there is no runner, they wait until there is room."""
-        first, second = self.runners.process_ids()
+        first, second = self.process_ids()
         self.passed = 10
         with mock.patch.object(subprocess, "Popen", side_effect=BlockingIOError(11, "no room")):
             for process, left in ((first, [second]), (second, [])):
                 os.kill(process, signal.SIGKILL)
-                self.assertTrue(becomes_true(lambda: self.wait(0) == [] and self.runners.process_ids() == left))
+                self.assertTrue(becomes_true(lambda: self.wait(0) == [] and self.process_ids() == left))
             job = Job("web", 1, ["true"], 10)
             self.runners.start(job)
             self.assertEqual((self.wait(0), id(job) in self.runners.job_ids()), ([], True))
         self.assertEqual([line for line in self.lines if "no room" in line], ["a runner can't be started: [Errno 11] no room; it is tried again"])
         self.passed = 20
         self.assertEqual([type(event) for event in self.wait(1)], [JobFinished])
-        self.assertEqual(len(self.runners.process_ids()), 2)
+        self.assertEqual(len(self.process_ids()), 2)
 
 
 class Pauses(unittest.TestCase):
     def test_one_that_ends_at_once(self) -> None:
         """It is started again after a pause that grows: no storm of processes and of lines."""
         lines: List[str] = []
-        files: Dict[int, Callable[[int], None]] = {}
-        now = [0.0]
+        now, poller = [0.0], FilePoller()
         with mock.patch.dict(os.environ, {"NAGSCHED_RUNNER": "/bin/false"}):
-            made = RunnerPools(1, lines.append, files.__setitem__, files.__delitem__, lambda: now[0])
+            made = RunnerPools(1, lines.append, poller, lambda: now[0])
         self.addCleanup(made.close)
         for _ in range(600):
             now[0] += 0.1
-            for process in made._pools[LOCAL].processes.values():
-                process.process.wait()
-            for file, read in list(files.items()):
-                read(file)
+            for process in made.processes():
+                process.wait()
+            poller.wait(0)
             made.flush()
         self.assertTrue(3 <= len(lines) <= 7, lines)
 
     def test_two_that_end_at_once(self) -> None:
         """Each line says when another is started."""
         lines: List[str] = []
-        files: Dict[int, Callable[[int], None]] = {}
-        made = RunnerPools(2, lines.append, files.__setitem__, files.__delitem__, lambda: 5.0)
+        poller = FilePoller()
+        made = RunnerPools(2, lines.append, poller, lambda: 5.0)
         self.addCleanup(made.close)
-        for process in made.process_ids():
-            os.kill(process, signal.SIGKILL)
-        for file in list(files):
-            self.assertTrue(select.select([file], [], [], LONG)[0])
-            files[file](file)
+        for process in made.processes():
+            process.kill()
+        self.assertTrue(becomes_true(lambda: poller.wait(100) and not made.processes()))
         self.assertEqual(lines, ["a runner ended with status -9, and 0 checks with it; another is started in 1 seconds"] * 2)
 
 
@@ -152,9 +150,9 @@ class StandIn(unittest.TestCase):
         runner.write_text(f"#!/bin/sh\nread line\ncat {folder.name}/answers\nread line\nread line\nread line\n")
         runner.chmod(0o700)
         self.lines: List[str] = []
-        files: Dict[int, Callable[[int], None]] = {}
+        poller = FilePoller()
         with mock.patch.dict(os.environ, {"NAGSCHED_RUNNER": str(runner)}):
-            made = RunnerPools(1, self.lines.append, files.__setitem__, files.__delitem__)
+            made = RunnerPools(1, self.lines.append, poller)
         self.addCleanup(made.close)
         self.jobs = [Job("web", run, ["true"], 10) for run in (1, 2)]
         for job in self.jobs:
@@ -163,8 +161,7 @@ class StandIn(unittest.TestCase):
         events: List[Any] = []
 
         def came() -> bool:
-            for file in select.select(files, [], [], 0.1)[0]:
-                files[file](file)
+            poller.wait(100)
             events.extend(made.events())
             return len(events) >= count
 

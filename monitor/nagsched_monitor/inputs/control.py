@@ -3,16 +3,17 @@
 No client holds up the monitor or another client. A limited number of its lines is passed on in one turn, and answers that it doesn't read wait, up to a
 limit.
 """
+import json
 import os
 import pathlib
 import socket
 import time
 from dataclasses import dataclass, field
 from functools import partial
-from typing import Callable, Dict, List, Sequence
+from typing import Any, Callable, List, Mapping, Sequence
 
 from ..faults import MonitorFault
-from ..program.turn_timer import Watch, write_ready
+from ..program.poller import FilePoller, write_ready
 from .requests import Request
 
 NAME = "monitor.socket"
@@ -39,10 +40,10 @@ class Client:
 
 
 class ControlSocket:
-    """The socket of a monitor. The caller watches its files, and calls `work` in each turn."""
+    """The socket of a monitor. Its loop calls `work` in each turn."""
 
-    def __init__(self, folder: pathlib.Path, ask: Callable[[Request], None], watch: Watch, unwatch: Callable[[int], None]) -> None:
-        self._add_request, self._watch, self._unwatch = ask, watch, unwatch
+    def __init__(self, folder: pathlib.Path, ask: Callable[[Request], None], poller: FilePoller) -> None:
+        self._add_request, self._poller = ask, poller
         self._path = folder / NAME
         self._path.unlink(missing_ok=True)
         self._socket = socket.socket(socket.AF_UNIX, socket.SOCK_STREAM)
@@ -53,32 +54,8 @@ class ControlSocket:
             raise MonitorFault(f"{self._path}: {error.strerror or error}") from None
         self._socket.listen(16)
         self._socket.setblocking(False)
-        self._clients: Dict[int, Client] = {}
-        watch(self._socket.fileno(), self.read)
-
-    def read(self, file: int) -> None:
-        """Takes a new connection, or reads what a client sent."""
-        if file == self._socket.fileno():
-            self._accept()
-            return
-        client = self._clients[file]
-        if b"\n" in client.unread:
-            return  # earlier lines have their turn first
-        try:
-            data = client.connection.recv(READ_BYTES)
-        except BlockingIOError:
-            return
-        except OSError:
-            data = b""  # the client has gone
-        client.last_line_at = time.monotonic()
-        client.unread += data
-        if not data:
-            self._stop_reading(client)
-
-    def _stop_reading(self, client: Client) -> None:
-        if not client.has_ended:
-            client.has_ended = True
-            self._unwatch(client.connection.fileno())
+        self._clients: List[Client] = []
+        poller.watch(self._socket.fileno(), self._accept)
 
     def _accept(self) -> None:
         try:
@@ -89,22 +66,39 @@ class ControlSocket:
             connection.close()
             return
         connection.setblocking(False)
-        self._clients[connection.fileno()] = Client(connection)
-        self._watch(connection.fileno(), self.read)
+        client = Client(connection)
+        self._clients.append(client)
+        self._poller.watch(connection.fileno(), partial(self._read, client))
+
+    def _read(self, client: Client) -> None:
+        if b"\n" in client.unread:
+            return  # earlier lines have their turn first
+        try:
+            data = client.connection.recv(READ_BYTES)
+        except OSError:
+            data = b""  # the client has gone
+        client.last_line_at = time.monotonic()
+        client.unread += data
+        if not data:
+            self._stop_reading(client)
+
+    def _stop_reading(self, client: Client) -> None:
+        client.has_ended = True
+        self._poller.unwatch(client.connection.fileno())
 
     def work(self) -> bool:
         """Passes on the lines that have come, sends answers, and forgets closed connections. Returns whether more lines wait."""
-        for client in list(self._clients.values()):
+        for client in self._clients:
             self._pass_on_lines(client)
             self._send(client)
-            is_idle = not client.unanswered and not client.unsent and (client.has_ended or time.monotonic() - client.last_line_at > IDLE)
-            if is_idle and b"\n" not in client.unread:
+            is_answered = not client.unanswered and not client.unsent and b"\n" not in client.unread
+            if is_answered and (client.has_ended or time.monotonic() - client.last_line_at > IDLE):
                 self._drop_client(client)
-        return any(b"\n" in client.unread for client in self._clients.values())
+        return any(b"\n" in client.unread for client in self._clients)
 
     def is_sending(self) -> bool:
         """Whether an answer waits for its reader."""
-        return any(client.unsent for client in self._clients.values())
+        return any(client.unsent for client in self._clients)
 
     def _pass_on_lines(self, client: Client) -> None:
         *lines, client.unread = client.unread.split(b"\n", LINES_IN_TURN)
@@ -116,11 +110,12 @@ class ControlSocket:
             client.unread = b""
             self._stop_reading(client)
 
-    def _reply(self, client: Client, answer: bytes) -> None:
+    def _reply(self, client: Client, answer: Mapping[str, Any]) -> None:
+        """Has an answer sent, unless too many earlier ones are unread. One answer may be of any length."""
         client.unanswered -= 1
-        client.unsent += answer
         if len(client.unsent) > UNREAD_BYTES:
             self._drop_client(client)
+        client.unsent += json.dumps(answer, ensure_ascii=False).encode() + b"\n"
 
     def _send(self, client: Client) -> None:
         """Sends as much as its reader accepts now."""
@@ -131,17 +126,16 @@ class ControlSocket:
             self._stop_reading(client)
 
     def _drop_client(self, client: Client) -> None:
-        """Closes a connection, if it is still open."""
-        if self._clients.pop(client.connection.fileno(), None) is not None:
-            self._stop_reading(client)
-            client.connection.close()
+        self._clients = [each for each in self._clients if each is not client]
+        self._stop_reading(client)
+        client.connection.close()
 
     def close(self) -> None:
         """Sends the remaining answers, and closes all connections."""
-        for client in list(self._clients.values()):
+        for client in self._clients:
             self._send(client)
             self._drop_client(client)
-        self._unwatch(self._socket.fileno())
+        self._poller.unwatch(self._socket.fileno())
         self._socket.close()
         self._path.unlink(missing_ok=True)
 

@@ -40,7 +40,7 @@ class Request:
     """A line of a client, with the receiver of its answer."""
 
     line: bytes
-    reply: Callable[[bytes], None]
+    reply: Callable[[Mapping[str, Any]], None]
     # Its answer, once it is known; None if it comes later. An answer with the member `done` counts when the turn is stored.
     answer: Optional[Dict[str, Any]] = None
 
@@ -116,7 +116,7 @@ class Requests:
         """Answers the requests of a turn whose answers are known."""
         for request in asked:
             if request.answer is not None:
-                request.reply(encode_answer(request.answer))
+                request.reply(request.answer)
 
     def refuse(self, asked: Sequence[Request], why: str) -> None:
         """Nothing of a turn was stored."""
@@ -226,7 +226,3 @@ class Requests:
     def _plan_stop(self, members: Members, request: Request) -> Plan:
         request.answer = {"done": "stop"}
         return Plan(then=[self.stop, partial(self.log, "asked: stop")])
-
-
-def encode_answer(answer: Mapping[str, Any]) -> bytes:
-    return json.dumps(answer, ensure_ascii=False).encode() + b"\n"

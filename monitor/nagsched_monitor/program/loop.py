@@ -1,13 +1,19 @@
-"""The loop of a monitor: one turn after another, the chores of every second, and the handling of a turn's exceptions."""
+"""The loop of a monitor: one turn after another, the waiting between them, the chores of every second, and the handling of a turn's exceptions.
+
+A turn costs far more than one more check in it, so events that come close together share one.
+"""
 import traceback
 from typing import Callable, List, Optional
 
 from ..core.clock import Clock
 from ..core.engine import Engine
-from .turn_timer import TurnTimer
+from ..core.object_state import LONGEST_SHARING
+from .poller import FilePoller
 
+# All times are in milliseconds. The least time from one turn to the next, and how far off a due check may be so that results wait for its turn.
+BETWEEN_TURNS, LONGEST_UNREPORTED = 50, 250
 CHORES_EVERY = 1_000
-# The wait after a turn that raised an exception, in milliseconds; the number of such turns in a row after which the process ends, and its status then.
+# The wait after a turn that raised an exception; the number of such turns in a row after which the process ends, and its status then.
 AFTER_FAULT = 1_000
 MOST_FAULTS = 3
 BROKEN = 70
@@ -16,8 +22,8 @@ BROKEN = 70
 class Loop:
     """Turns, and the actions around them."""
 
-    def __init__(self, engine: Engine, timer: TurnTimer, clock: Clock, log: Callable[[str], None]) -> None:
-        self._engine, self._timer, self._clock, self._log = engine, timer, clock, log
+    def __init__(self, engine: Engine, poller: FilePoller, clock: Clock, log: Callable[[str], None]) -> None:
+        self._engine, self._poller, self._clock, self._log = engine, poller, clock, log
         # Actions before each turn, after it, and every second. Those before and after a turn return the moment for which the next one is wanted, or None.
         self.before: List[Callable[[], Optional[int]]] = []
         self.after: List[Callable[[], Optional[int]]] = []
@@ -46,7 +52,7 @@ class Loop:
             wanted = begun + AFTER_FAULT
             self._handle_fault()
         if self.status is None:
-            self._timer.wait(begun, wanted, self._engine.scheduling.states.due.shared_time())
+            self.wait(begun, wanted, self._engine.scheduling.states.due.shared_time())
 
     def _turn(self, begun: int) -> int:
         wanted = [each() for each in self.before]
@@ -67,3 +73,33 @@ class Loop:
         if self._faults >= MOST_FAULTS:
             self._log(f"{MOST_FAULTS} turns in a row ended like this: the monitor ends with status {BROKEN}")
             self.status = BROKEN
+
+    def wait(self, begun: int, wanted: int, shared: Optional[int]) -> None:
+        """Waits for the next turn, and has files read until then.
+
+        `begun` is when the last turn began. `wanted` is the moment at which something is due, 0 for at once. `shared` is when the checks are due that
+        share a turn. All are moments."""
+        if wanted == 0:
+            self._poller.wait(0)
+            return
+        next_turn = next_turn_time(begun, wanted, shared)
+        self._sleep_until(begun + BETWEEN_TURNS if next_turn is None else next_turn)
+        if self._poller.wait(0) or next_turn is not None or not self._poller.wait(wanted - self._clock.moment()):
+            return
+        now = self._clock.moment()
+        self._sleep_until(wanted if wanted <= now + LONGEST_UNREPORTED else now + BETWEEN_TURNS)
+        self._poller.wait(0)
+
+    def _sleep_until(self, at: float) -> None:
+        self._poller.sleep(at - self._clock.moment())
+
+
+def next_turn_time(begun: float, wanted: float, shared: Optional[float]) -> Optional[float]:
+    """The time of the next turn, even if something comes before it; None if `wanted` is so far off that a result has a turn of its own.
+
+    Checks that are due wait for the next ones that share their turn. They are due together from then on, as far as their phases allow it."""
+    if wanted > begun + LONGEST_UNREPORTED:
+        return None
+    if shared is not None and wanted <= shared <= wanted + LONGEST_SHARING:
+        wanted = shared
+    return max(begun + BETWEEN_TURNS, wanted)

@@ -135,23 +135,16 @@ def test_site(arguments: argparse.Namespace) -> int:
 
 def main(given: Optional[List[str]] = None) -> int:
     arguments = parse_arguments(given)
-    log: Optional[Log] = None
-    try:
-        if arguments.command is not None:
-            return {"test": test_site, "status": print_status}.get(arguments.command, send_request)(arguments)
-        if arguments.page is not None:
-            addresses.parse_address(arguments.page)
-        for url in arguments.alertmanager:
-            addresses.test_url(url)
-        log = Log()
-        monitor = Monitor(arguments, log)
-    except (MonitorFault, StatusUnavailable, NotStored, OSError, sqlite3.Error) as fault:
-        if log is not None:
-            log.close()
-        print(f"nagsched-monitor: {fault}", file=sys.stderr)
-        return 1
-    try:
-        return monitor.run()
-    finally:
-        monitor.close()
-        log.close()
+    with contextlib.closing(Log()) as log:
+        try:
+            if arguments.command is not None:
+                return {"test": test_site, "status": print_status}.get(arguments.command, send_request)(arguments)
+            if arguments.page is not None:
+                addresses.parse_address(arguments.page)
+            for url in arguments.alertmanager:
+                addresses.test_url(url)
+            monitor = Monitor(arguments, log)
+        except (MonitorFault, StatusUnavailable, NotStored, OSError, sqlite3.Error) as fault:
+            sys.exit(f"nagsched-monitor: {fault}")  # which is printed after the lines of the log
+        with contextlib.closing(monitor):
+            return monitor.run()

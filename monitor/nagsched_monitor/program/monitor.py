@@ -3,13 +3,13 @@ import argparse
 import os
 import signal
 import time
-from typing import Any, Dict, List, Optional
+from typing import Any, Dict, Generator, List, Optional, Sequence
 
 from ..core.clock import Clock, SystemClock
 from ..core.engine import Engine
 from ..faults import ConversationEnded, MonitorFault, NotStored
 from ..inputs import control
-from ..inputs.requests import Request, encode_answer
+from ..inputs.requests import Request
 from ..outputs.changes import Notifier, change_line
 from ..outputs.sd_notify import ServiceManager
 from ..run.runners import RunnerPools, raise_file_limit
@@ -21,8 +21,8 @@ from . import addresses
 from .helper_process import HelperProcess
 from .log import Log
 from .loop import Loop
-from .site_reader import SiteReader
-from .turn_timer import FilePoller, TurnTimer
+from .poller import FilePoller
+from .site_reader import read_apart
 
 DAY = 86_400
 # How soon the next turn comes while a command for changes runs or a client reads, in milliseconds.
@@ -36,31 +36,31 @@ FILES_OF_PLUGIN, OTHER_FILES = 4, 100
 class Monitor:
     """A monitor of one site, while it runs."""
 
-    def __init__(self, arguments: argparse.Namespace, log: Optional[Log] = None) -> None:
-        folder, self._program = arguments.folder, arguments.program
-        self.log = Log() if log is None else log
+    def __init__(self, arguments: argparse.Namespace, log: Log) -> None:
+        self._folder, self._program, self.log = arguments.folder, arguments.program, log
         self._service_manager = ServiceManager()
         self._file_limit = raise_file_limit()
         self._poller = FilePoller()
-        watch, unwatch = self._poller.watch, self._poller.unwatch
-        site = read_site(folder, self._program)
+        site = read_site(self._folder, self._program)
         self._test_slots(site)
-        self.store = Store(folder, self.log)
+        self.store = Store(self._folder, self.log)
         self.clock: Clock = SystemClock(self.store.last_moment())
         self._notifier = Notifier(arguments.on_change, self.store, self.log)
         self.scheduling = self._open_scheduling(site)
-        self.runners = RunnerPools(len(os.sched_getaffinity(0)), self.log, watch, unwatch)
+        self.runners = RunnerPools(len(os.sched_getaffinity(0)), self.log, self._poller)
         self.runners.set_remotes(site.runners)
         self.engine = Engine(self.scheduling, self.runners, self.store, self.clock, self.log)
-        self.control = control.ControlSocket(folder, self.engine.add_request, watch, unwatch)
-        self._site_reader = SiteReader(folder, self._program)
-        self.loop = Loop(self.engine, TurnTimer(self.clock, self._poller), self.clock, self.log)
+        self.control = control.ControlSocket(self._folder, self.engine.add_request, self._poller)
+        # The reload that goes on, and the requests since it began: the files may have changed for them.
+        self._reload: Optional[Generator[bool, None, None]] = None
+        self._reload_requests: List[Request] = []
+        self.loop = Loop(self.engine, self._poller, self.clock, self.log)
         self._helpers = self._make_helpers(arguments)
         self._dropped_at = self.clock.wall()
         requests = self.engine.requests
-        requests.log, requests.stop, requests.reload = self.log, self.loop.stop, self._site_reader.add_request
+        requests.log, requests.stop, requests.reload = self.log, self.loop.stop, self._request_reload
         self.loop.before = [self._serve_clients]
-        self.loop.after = [self._log_changes, self._apply_reload, self._serve_clients]
+        self.loop.after = [self._log_changes, self._continue_reload, self._serve_clients]
         self.loop.chores = [self._drop_old_changes, self._service_manager.notify_alive, *(process.work for process in self._helpers)]
 
     def _make_helpers(self, arguments: argparse.Namespace) -> List[HelperProcess]:
@@ -128,10 +128,10 @@ class Monitor:
         """Each signal ends the waiting for files, by a byte that comes."""
         there, back = os.pipe2(os.O_NONBLOCK | os.O_CLOEXEC)
         signal.set_wakeup_fd(back, warn_on_full_buffer=False)
-        self._poller.watch(there, lambda _: os.read(there, 4_096))
+        self._poller.watch(there, lambda: os.read(there, 4_096))
         for number in (signal.SIGINT, signal.SIGTERM):
             signal.signal(number, lambda *_: self.loop.stop())
-        signal.signal(signal.SIGHUP, lambda *_: self._site_reader.add_request(Request(b"", lambda answer: None)))
+        signal.signal(signal.SIGHUP, lambda *_: self._request_reload(Request(b"", lambda answer: None)))
 
     def _drop_old_changes(self) -> None:
         """Drops old changes, each hour but the first. A clock that jumped by more than a day drops nothing."""
@@ -147,24 +147,32 @@ class Monitor:
 
     # ---- another site
 
-    def _apply_reload(self) -> Optional[int]:
-        """Takes over the site that was read; if it is faulty, the old one stays."""
-        read = self._site_reader.work()
-        if read is None:
-            return self.clock.moment() + BUSY_WAIT if self._site_reader.is_busy() else None
-        site, asked = read
+    def _request_reload(self, request: Request) -> None:
+        self._reload_requests.append(request)
+
+    def _continue_reload(self) -> Optional[int]:
+        """Works on the reload that goes on, or begins one that was requested."""
+        if self._reload is None and self._reload_requests:
+            asked, self._reload_requests = self._reload_requests, []
+            self._reload = self._take_over_site(asked)
+        if self._reload is None:
+            return None
+        if next(self._reload, False):
+            return self.clock.moment() + BUSY_WAIT
+        self._reload = None
+        return 0
+
+    def _take_over_site(self, asked: Sequence[Request]) -> Generator[bool, None, None]:
+        """Has the site read, yielding True meanwhile, and takes it over. If it is faulty, the old one stays."""
         answer: Dict[str, Any] = {"error": "the monitor has a fault"}
         try:
-            if isinstance(site, str):
-                raise MonitorFault(site)
-            answer = self._change_site(site)
+            answer = self._change_site((yield from read_apart(self._folder, self._program)))
         except (MonitorFault, NotStored) as fault:
             answer = {"error": str(fault)}
             self.log(f"the site isn't taken over: {fault}")
         finally:
             for request in asked:
-                request.reply(encode_answer(answer))
-        return 0
+                request.reply(answer)
 
     def _change_site(self, site: Site) -> Dict[str, Any]:
         self._test_slots(site)
@@ -180,7 +188,8 @@ class Monitor:
         """Ends: running plugins are killed, and their checks are abandoned at the next start."""
         self._service_manager.notify_stopping()
         self.control.close()
-        self._site_reader.close()
+        if self._reload is not None:
+            self._reload.close()  # ends its process
         for process in self._helpers:
             process.close()
         self.runners.close()

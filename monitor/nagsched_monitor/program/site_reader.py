@@ -2,84 +2,53 @@
 
 The process writes the site to its standard output as a Python `pickle`, or why it is refused.
 """
+import os
 import pathlib
 import pickle
-import signal
 import subprocess
 import sys
-import threading
-from typing import List, Optional, Tuple, Union
+import time
+from typing import Generator, Union
 
 from ..faults import MonitorFault
-from ..inputs.requests import Request
 from ..run.runner_program import module_command
 from ..site.site import Site, read_site
 
 # The limit for reading a site, in seconds.
 LIMIT = 300.0
 
-ReadResult = Union[Site, str]
 
-
-class SiteReader:
-    """The reading of a site, for the clients that requested it: a thread waits for the process."""
-
-    def __init__(self, folder: pathlib.Path, program: str) -> None:
-        self._command = module_command("program.site_reader", [str(folder), program])
-        self._process: Optional["subprocess.Popen[bytes]"] = None
-        self._thread: Optional[threading.Thread] = None
-        self._result: ReadResult = ""
-        # The requests before it began, and those since: the files may have changed for the later ones.
-        self._requests: List[Request] = []
-        self._next_requests: List[Request] = []
-
-    def add_request(self, request: Request) -> None:
-        """Has the site read; requests that come meanwhile wait for the next reading."""
-        self._next_requests.append(request)
-
-    def is_busy(self) -> bool:
-        return self._thread is not None
-
-    def work(self) -> Optional[Tuple[ReadResult, List[Request]]]:
-        """Begins it if somebody requested it. Returns the result, once, and the requests for it."""
-        if self._thread is None and self._next_requests:
-            self._requests, self._next_requests = self._next_requests, []
-            self._thread = threading.Thread(target=self._run, daemon=True)
-            self._thread.start()
-        elif self._thread is not None and not self._thread.is_alive():
-            self._thread = None
-            return self._result, self._requests
-        return None
-
-    def _run(self) -> None:
-        try:
-            self._process = subprocess.Popen(self._command, stdin=subprocess.DEVNULL, stdout=subprocess.PIPE, start_new_session=True)
-            self._result = pickle.loads(self._process.communicate(timeout=LIMIT)[0])
-        except subprocess.TimeoutExpired:
-            self._result = f"the site wasn't read within {LIMIT:g} seconds"
-        except OSError as error:
-            self._result = f"the site can't be read: {error}"
-        except Exception:  # the process ended in the middle of the output
-            self._result = "the site can't be read"
-        self.close()
-
-    def close(self) -> None:
-        if self._process is not None:
-            self._process.kill()
-
-
-def read_or_fault(folder: pathlib.Path, program: str) -> ReadResult:
-    """The site of a folder, or why it is refused: no fault in it ends a running monitor."""
+def read_apart(folder: pathlib.Path, program: str) -> Generator[bool, None, Site]:
+    """The site of a folder, which a separate process reads: yields True until it has. Raises `MonitorFault` if the site is refused or can't be read."""
+    end = time.monotonic() + LIMIT
     try:
-        return read_site(folder, program)
-    except MonitorFault as fault:
-        return str(fault)
-    except Exception as error:
-        return f"the site can't be read: {type(error).__name__}: {' '.join(str(error).split())}"
+        with open(os.memfd_create("site"), "w+b") as output:  # a file in memory needs no room on a disk
+            command = module_command("program.site_reader", [str(folder), program])
+            process = subprocess.Popen(command, stdin=subprocess.DEVNULL, stdout=output, start_new_session=True)
+            try:
+                while process.poll() is None and time.monotonic() < end:
+                    yield True
+            finally:
+                process.kill()
+            output.seek(0)
+            result: Union[Site, str] = pickle.load(output) if process.returncode == 0 else "the site can't be read"
+    except OSError as error:
+        raise MonitorFault(f"the site can't be read: {error}") from None
+    if process.returncode is None:
+        raise MonitorFault(f"the site wasn't read within {LIMIT:g} seconds")
+    if isinstance(result, str):
+        raise MonitorFault(result)
+    return result
 
 
 def main() -> int:
-    signal.signal(signal.SIGINT, signal.SIG_IGN)  # it ends with the monitor
+    """Writes the site of a folder, or why it is refused."""
     folder, program = sys.argv[1:]
-    sys.stdout.buffer.write(pickle.dumps(read_or_fault(pathlib.Path(folder), program)))
+    try:
+        result: Union[Site, str] = read_site(pathlib.Path(folder), program)
+    except MonitorFault as fault:
+        result = str(fault)
+    except Exception as error:  # any exception: monitoring continues
+        result = f"the site can't be read: {type(error).__name__}: {' '.join(str(error).split())}"
+    sys.stdout.buffer.write(pickle.dumps(result))
     return 0

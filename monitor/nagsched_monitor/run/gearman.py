@@ -5,7 +5,7 @@ import socket
 import struct
 from typing import Callable, Deque, Dict, Generic, Iterator, List, NamedTuple, Optional, Protocol, Sequence, Tuple, TypeVar
 
-from ..program.turn_timer import write_ready
+from ..program.poller import write_ready
 
 READ_BYTES = 262_144
 # The longest packet, in bytes; a longer one ends the connection.

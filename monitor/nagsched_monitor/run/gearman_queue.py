@@ -19,7 +19,7 @@ from typing import Any, Callable, Dict, List, Optional
 
 from ..faults import MonitorFault
 from ..program.addresses import parse_address
-from ..program.turn_timer import write_ready
+from ..program.poller import write_ready
 from .gearman import Client, JobEvent, JobEventKind, ServerClient, ServerFault, ServerUser
 from .gearman_signing import JOB, RESULT, Signer, read_signer
 from .jobs import Job, event_members, read_event

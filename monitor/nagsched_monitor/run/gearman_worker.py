@@ -11,7 +11,7 @@ from typing import Any, Callable, Dict, List, NamedTuple, Optional, Sequence
 
 from ..faults import MonitorFault
 from ..program.addresses import parse_address
-from ..program.turn_timer import FilePoller
+from ..program.poller import FilePoller
 from .gearman import Code, Connection, Packet, ServerFault, ServerUser
 from .gearman_signing import JOB, RESULT, JobPolicy, Refusal, Signer, read_signer
 from .jobs import Job, JobFinished, StuckJobEnded, event_members
@@ -194,7 +194,7 @@ def main(given: Optional[List[str]] = None) -> int:
         if not 1 <= arguments.slots <= MOST_SLOTS:
             raise MonitorFault(f"--slots: it has to be a number from 1 to {MOST_SLOTS}")
         raise_file_limit()
-        runner = RunnerPool("worker", find_runner(arguments.only), 1, None, 0.0, log, poller.watch, poller.unwatch, time.monotonic)
+        runner = RunnerPool("worker", find_runner(arguments.only), 1, None, 0.0, log, poller, time.monotonic)
     except MonitorFault as fault:
         print(f"nagsched-gearman-worker: {fault}", file=sys.stderr)
         return 1
@@ -219,6 +219,6 @@ def run_worker(worker: Worker, poller: FilePoller) -> None:
         if worker.connection is not watched:
             watched = worker.connection
             if watched is not None:
-                poller.watch(watched.fileno(), lambda file: None)
+                poller.watch(watched.fileno(), lambda: None)
         poller.wait(20 if watched is None or watched.is_sending() else TURN)
     worker.turn()

@@ -5,7 +5,6 @@ from typing import Any, Dict, List, NamedTuple, Optional, Protocol, Sequence, Se
 
 from ..core.text import plain_text
 
-READER = json.JSONDecoder()
 ENDS = ("exited", "signal", "limit", "failed")
 
 
@@ -95,7 +94,7 @@ def read_text(members: Dict[str, Any], name: str) -> str:
 
 def read_line(line: bytes) -> Tuple[int, Dict[str, Any]]:
     """The number of the job in a runner's line, -1 if it says an error, and its members. Raises `ValueError` or `RecursionError` if it can't be read."""
-    members = READER.decode(line.decode())
+    members = json.loads(line.decode())
     if not isinstance(members, dict):
         raise ValueError("it is no object")
     number = -1 if "error" in members else members.get("job")

@@ -3,10 +3,11 @@ import collections
 import os
 import subprocess
 from dataclasses import dataclass, field
+from functools import partial
 from typing import Callable, Deque, Dict, List, Optional, Sequence, Tuple, Union
 
 from ..core.text import plain_text
-from ..program.turn_timer import Watch, write_ready
+from ..program.poller import FilePoller, write_ready
 from .jobs import Event, Job, JobFinished, JobLost, StuckJobEnded, job_members, read_event, read_line
 from .runner_program import end_process
 
@@ -40,14 +41,13 @@ class RunnerPool:
     """Processes of one command. Without `slots` they have any number of jobs at once, and a job waits for them without a limit."""
 
     def __init__(self, name: str, arguments: Sequence[str], count: int, slots: Optional[int], wait: float, log: Callable[[str], None],
-                 watch: Watch, unwatch: Callable[[int], None], clock: Callable[[], float]) -> None:
+                 poller: FilePoller, clock: Callable[[], float]) -> None:
         self._name, self._arguments, self._count, self._slots, self._wait = name, arguments, count, slots, wait
-        self._log, self._watch, self._unwatch, self._clock = log, watch, unwatch, clock
+        self._log, self._poller, self._clock = log, poller, clock
         self._title = "a runner" if slots is None else f"the runner {name}"
         self._events: List[Event] = []
         self._number = 0
-        # By the files to which they write.
-        self.processes: Dict[int, RunnerProcess] = {}
+        self.processes: List[RunnerProcess] = []
         # The jobs that no process has got yet, each with the time at which it came.
         self._waiting: Deque[Tuple[Job, float]] = collections.deque()
         self._cannot_start = False
@@ -65,8 +65,8 @@ class RunnerPool:
                 process = RunnerProcess(started, started.stdin.fileno(), started.stdout.fileno(), self._clock())
                 os.set_blocking(process.writes_to, False)
                 os.set_blocking(process.reads_from, False)  # bytes that it doesn't read at once don't hold up the monitor
-                self.processes[process.writes_to] = process
-                self._watch(process.writes_to, self.read)
+                self.processes.append(process)
+                self._poller.watch(process.writes_to, partial(self._read, process))
             self._cannot_start = False
         except OSError as error:
             if not self._cannot_start:
@@ -92,40 +92,36 @@ class RunnerPool:
             if given % TOGETHER == 0 or self._slots is not None:
                 process = self._least_busy()
         while self._slots is not None and self._waiting and now - self._waiting[0][1] >= self._wait:
-            self._add_lost(JobLost(self._waiting.popleft()[0], f"the runner {self._name} didn't take it"))
-        for process in list(self.processes.values()):
+            self._add_event(JobLost(self._waiting.popleft()[0], f"the runner {self._name} didn't take it"))
+        for process in list(self.processes):
             try:
                 write_ready(process.reads_from, process.unsent)
             except OSError:
-                self._restart(process)
+                self._end(process)
 
     def _least_busy(self) -> Optional[RunnerProcess]:
         """The process that has the fewest jobs, if it has room for one more."""
-        least = min(self.processes.values(), key=lambda process: len(process.jobs), default=None)
+        least = min(self.processes, key=lambda process: len(process.jobs), default=None)
         return least if least is None or self._slots is None or len(least.jobs) < self._slots else None
 
-    def _add_lost(self, event: JobLost) -> None:
-        if not event.is_local:
+    def _add_event(self, event: Union[JobFinished, JobLost]) -> None:
+        if isinstance(event, JobLost) and not event.is_local:
             self._log(f"{event.job.name}: run {event.job.run} is given up: {event.why}")
         self._events.append(event)
 
     # ---- results
 
-    def read(self, file: int) -> None:
-        process = self.processes[file]
-        try:
-            data = os.read(file, READ_BYTES)
-        except BlockingIOError:
-            return
+    def _read(self, process: RunnerProcess) -> None:
+        data = os.read(process.writes_to, READ_BYTES)
         if not data:
-            self._restart(process)
+            self._end(process)
             return
         *lines, process.unread = (process.unread + data).split(b"\n")
         for line in lines:
             self._handle_line(process, line)
         if len(process.unread) > LONGEST_LINE:
             self._log(f"{self._title} wrote a line of more than {LONGEST_LINE} bytes; it is killed")
-            self._restart(process)
+            self._end(process)
 
     def _handle_line(self, process: RunnerProcess, line: bytes) -> None:
         """One line of a runner. A faulty line is logged, and the run that it is about is lost, if that can be read."""
@@ -138,27 +134,20 @@ class RunnerPool:
                 if number in process.stuck:
                     self._events.append(StuckJobEnded(process.stuck.pop(number)))
             elif number in process.jobs:
-                self._end_job(process, number, read_event(process.jobs[number][0], members))
+                event = read_event(process.jobs[number][0], members)
+                del process.jobs[number]
+                self._add_event(event)
+                if isinstance(event, JobFinished) and event.is_stuck:
+                    process.stuck[number] = event.job
         except (ValueError, RecursionError) as error:
             self._log(f"a line of {self._title} is no result: {error}: {plain_text(line[:200].decode(errors='replace'))!r}")
             if number in process.jobs:
                 self._events.append(JobLost(process.jobs.pop(number)[0], "its runner gave no result"))
 
-    def _end_job(self, process: RunnerProcess, number: int, event: Union[JobFinished, JobLost]) -> None:
-        del process.jobs[number]
-        if isinstance(event, JobLost):
-            self._add_lost(event)
-            return
-        self._events.append(event)
-        if event.is_stuck:
-            process.stuck[number] = event.job
-
     # ---- ends
 
-    def _restart(self, process: RunnerProcess) -> None:
-        """Starts another process in place of one that has ended, after a pause."""
-        if process.writes_to not in self.processes:
-            return  # it was seen before
+    def _end(self, process: RunnerProcess) -> None:
+        """Has another process started in place of one that has ended, after a pause."""
         status, now = self._close_process(process), self._clock()
         if now >= self._not_before and now - process.started_at < self._pause:
             self._not_before, self._pause = now + self._pause, min(LONGEST_PAUSE, 2 * self._pause)
@@ -166,12 +155,11 @@ class RunnerPool:
             self._pause = PAUSE
         again = "another is started" + (f" in {self._not_before - now:.2g} seconds" if now < self._not_before else "")
         self._log(f"{self._title} ended with status {status}, and {len(process.jobs)} checks with it; {again}")
-        self._start_missing()
 
     def _close_process(self, process: RunnerProcess) -> object:
         """Ends a process, and returns its status; its jobs are lost."""
-        del self.processes[process.writes_to]
-        self._unwatch(process.writes_to)
+        self.processes.remove(process)
+        self._poller.unwatch(process.writes_to)
         self._events.extend(JobLost(job) for job, _ in process.jobs.values())
         self._events.extend(StuckJobEnded(job) for job in process.stuck.values())
         process.process.kill()
@@ -179,11 +167,10 @@ class RunnerPool:
 
     def kill(self, job: Job) -> bool:
         """Kills the process that has this job, since it gives no answer. A job that no process has yet is lost. Returns False if it isn't here."""
-        for process in self.processes.values():
+        for process in self.processes:
             if any(job is each for each, _ in process.jobs.values()):
                 self._log(f"{self._title} gave no result in time: it is killed, and {len(process.jobs)} checks with it")
                 self._close_process(process)
-                self._start_missing()
                 return True
         waiting = [each for each in self._waiting if each[0] is job]
         for each in waiting:
@@ -193,7 +180,7 @@ class RunnerPool:
 
     def close(self) -> None:
         """Ends all processes; their jobs, and the jobs that wait, are lost."""
-        for process in list(self.processes.values()):
+        for process in list(self.processes):
             self._close_process(process)
         while self._waiting:
             self._events.append(JobLost(self._waiting.popleft()[0]))
@@ -205,9 +192,9 @@ class RunnerPool:
         return events
 
     def jobs(self) -> List[Job]:
-        return [job for process in self.processes.values() for job, _ in process.jobs.values()] + [job for job, _ in self._waiting]
+        return [job for process in self.processes for job, _ in process.jobs.values()] + [job for job, _ in self._waiting]
 
     def process_counts(self) -> Dict[str, int]:
         now = self._clock()
-        stuck = sum(any(late < now for _, late in process.jobs.values()) for process in self.processes.values())
+        stuck = sum(any(late < now for _, late in process.jobs.values()) for process in self.processes)
         return {"running": len(self.processes), "wanted": self._count, "stuck": stuck, "waiting": len(self._waiting)}

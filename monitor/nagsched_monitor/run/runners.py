@@ -1,10 +1,11 @@
 """All runners of a monitor: those of this machine, one for each processor, and one for each runner elsewhere. No line of a runner ends the monitor."""
 import resource
+import subprocess
 import time
 from functools import partial
 from typing import Callable, Dict, List, Mapping, Set
 
-from ..program.turn_timer import Watch
+from ..program.poller import FilePoller
 from ..site.runner_file import LOCAL, Remote
 from .jobs import Event, Job, JobLost
 from .pool import RunnerPool
@@ -19,11 +20,8 @@ def raise_file_limit() -> int:
 
 
 class RunnerPools:
-    """All of them. `watch` calls a reader when a file can be read."""
-
-    def __init__(self, count: int, log: Callable[[str], None], watch: Watch, unwatch: Callable[[int], None],
-                 clock: Callable[[], float] = time.monotonic) -> None:
-        self._pool = partial(RunnerPool, log=log, watch=watch, unwatch=unwatch, clock=clock)
+    def __init__(self, count: int, log: Callable[[str], None], poller: FilePoller, clock: Callable[[], float] = time.monotonic) -> None:
+        self._pool = partial(RunnerPool, log=log, poller=poller, clock=clock)
         self._pools: Dict[str, RunnerPool] = {LOCAL: self._pool(LOCAL, runner_command(), count, None, 0.0)}
         self._remotes: Dict[str, Remote] = {}
         # The last events of pools that were removed.
@@ -64,14 +62,13 @@ class RunnerPools:
     def process_counts(self) -> Dict[str, Dict[str, int]]:
         return {name: pool.process_counts() for name, pool in self._pools.items()}
 
-    def process_ids(self) -> List[int]:
-        return [process.process.pid for pool in self._pools.values() for process in pool.processes.values()]
+    def processes(self) -> List["subprocess.Popen[bytes]"]:
+        return [process.process for pool in self._pools.values() for process in pool.processes]
 
     def close(self) -> None:
         """Ends the runners, which kill the running plugins."""
-        processes = [process.process for pool in self._pools.values() for process in pool.processes.values()]
-        for process in processes:
+        for process in self.processes():
             assert process.stdin is not None
             process.stdin.close()
-        for process in processes:
+        for process in self.processes():
             end_process(process)

@@ -7,18 +7,19 @@ from unittest import mock
 
 from nagsched_monitor.core.clock import SystemClock
 from nagsched_monitor.core.object_state import ENOUGH, LONGEST_SHARING, DueQueue
-from nagsched_monitor.program.turn_timer import BETWEEN_TURNS, FilePoller, TurnTimer, next_turn_time
+from nagsched_monitor.program.loop import BETWEEN_TURNS, Loop, next_turn_time
+from nagsched_monitor.program.poller import FilePoller
 
-INTERVAL = 10.0
+INTERVAL = 10_000
 
 
-def turns(a_second: int, seconds: float) -> Tuple[List[float], List[float]]:
+def turns(a_second: int, until: int) -> Tuple[List[float], List[float]]:
     """The turns of this many checks per second, each object every ten seconds, spread evenly at first; and the delay of each check of the last ten seconds."""
-    waiting = [number / a_second for number in range(round(a_second * INTERVAL))]
+    waiting = [1_000 * number / a_second for number in range(a_second * INTERVAL // 1_000)]
     begun, late = [0.0], []
-    while begun[-1] < seconds:
+    while begun[-1] < until:
         first = waiting[0]
-        window = LONGEST_SHARING / 1000 / min(2, waiting.count(first))
+        window = LONGEST_SHARING / min(2, waiting.count(first))
         shared = max(time for time in heapq.nsmallest(ENOUGH, waiting) if time <= first + window)
         now = next_turn_time(begun[-1], first, shared)
         # The results of this turn have a turn of their own if the next one is far off.
@@ -26,7 +27,7 @@ def turns(a_second: int, seconds: float) -> Tuple[List[float], List[float]]:
         if now is None:
             begun.append(first)
         while waiting[0] <= begun[-1]:
-            late += [begun[-1] - waiting[0]] if begun[-1] > seconds - INTERVAL else []
+            late += [begun[-1] - waiting[0]] if begun[-1] > until - INTERVAL else []
             heapq.heapreplace(waiting, begun[-1] + INTERVAL)
     return begun, late
 
@@ -38,20 +39,20 @@ class Turns(unittest.TestCase):
             with self.subTest(a_second=a_second):
                 _, at_first = turns(a_second, INTERVAL)
                 begun, late = turns(a_second, 5 * INTERVAL)
-                self.assertLessEqual(max(at_first), LONGEST_SHARING / 1000 + 1e-6)
-                self.assertLessEqual(sorted(late)[len(late) * 95 // 100], 1e-6)
-                self.assertLessEqual(len([each for each in begun if each > 4 * INTERVAL]) / INTERVAL, most_turns + 1)
+                self.assertLessEqual(max(at_first), LONGEST_SHARING + 1e-3)
+                self.assertLessEqual(sorted(late)[len(late) * 95 // 100], 1e-3)
+                self.assertLessEqual(len([each for each in begun if each > 4 * INTERVAL]) * 1_000 / INTERVAL, most_turns + 1)
 
     def test_checks_that_are_due_soon_after_each_other_share_a_turn_from_then_on(self) -> None:
         begun, late = turns(18, 3 * INTERVAL)
         self.assertAlmostEqual(max(late), 0)
-        self.assertEqual(len([each for each in begun if 20 <= each < 29.9]), 44)
+        self.assertEqual(len([each for each in begun if 20_000 <= each < 29_900]), 44)
 
     def test_a_turn_isn_t_begun_before_the_last_one_is_rested(self) -> None:
-        self.assertEqual(next_turn_time(1.0, 1.01, None), 1.0 + BETWEEN_TURNS)
-        self.assertEqual(next_turn_time(1.0, 1.01, 1.04), 1.0 + BETWEEN_TURNS)
-        self.assertEqual(next_turn_time(1.0, 1.01, 1.2), 1.2)
-        self.assertIsNone(next_turn_time(1.0, 2.0, 2.01))
+        self.assertEqual(next_turn_time(1_000, 1_010, None), 1_000 + BETWEEN_TURNS)
+        self.assertEqual(next_turn_time(1_000, 1_010, 1_040), 1_000 + BETWEEN_TURNS)
+        self.assertEqual(next_turn_time(1_000, 1_010, 1_200), 1_200)
+        self.assertIsNone(next_turn_time(1_000, 2_000, 2_010))
 
 
 class Shared(unittest.TestCase):
@@ -84,20 +85,20 @@ class Waiting(unittest.TestCase):
         self.addCleanup(os.close, self.back)
         self.read: List[bytes] = []
         self.poller = FilePoller()
-        self.poller.watch(self.there, lambda file: self.read.append(os.read(file, 10)))
+        self.poller.watch(self.there, lambda: self.read.append(os.read(self.there, 10)))
         self.clock = SystemClock()
-        self.timer = TurnTimer(self.clock, self.poller)
+        self.loop = Loop(mock.Mock(), self.poller, self.clock, lambda line: None)
 
     def test_what_came_since_the_last_turn_has_a_turn_at_once(self) -> None:
         os.write(self.back, b"x")
         begun = self.clock.moment()
-        self.timer.wait(begun, begun + 60_000, None)
+        self.loop.wait(begun, begun + 60_000, None)
         self.assertLess(self.clock.moment() - begun, 10_000)
         self.assertEqual(self.read, [b"x"])
 
     def test_a_turn_that_is_wanted_begins_with_nothing_to_read(self) -> None:
         begun = self.clock.moment()
-        self.timer.wait(begun, begun + 300, None)
+        self.loop.wait(begun, begun + 300, None)
         self.assertGreaterEqual(self.clock.moment() - begun, 299)
         self.assertEqual(self.read, [])
 
@@ -105,12 +106,12 @@ class Waiting(unittest.TestCase):
         """There is no rest before it, and available input is read."""
         os.write(self.back, b"x")
         with mock.patch.object(self.poller, "sleep", side_effect=AssertionError):
-            self.timer.wait(self.clock.moment(), 0, None)
+            self.loop.wait(self.clock.moment(), 0, None)
         self.assertEqual(self.read, [b"x"])
 
     def test_a_file_that_isn_t_watched_any_more(self) -> None:
         self.poller.unwatch(self.there)
         os.write(self.back, b"x")
         begun = self.clock.moment()
-        self.timer.wait(begun, begun, None)
+        self.loop.wait(begun, begun, None)
         self.assertEqual(self.read, [])
