@@ -14,6 +14,7 @@ from nagsched_monitor.inputs.requests import Request
 from nagsched_monitor.program.loop import Loop
 from nagsched_monitor.program.poller import FilePoller
 from nagsched_monitor.run.jobs import Event, Job, JobFinished, JobLost
+from nagsched_monitor.run.runners import RunnerPools
 from nagsched_monitor.scheduler.live_process import Conversation
 from nagsched_monitor.scheduler.schedulers import ConversationFactory
 from nagsched_monitor.scheduler.scheduling import Scheduling
@@ -44,7 +45,7 @@ class SimulatedClock:
 
 
 @dataclass
-class SimulatedRunners:
+class SimulatedRunners(RunnerPools):
     """Runs no process: each job ends when the clock comes to its end."""
 
     clock: SimulatedClock
@@ -79,12 +80,10 @@ class SimulatedRunners:
     def process_counts(self) -> Dict[str, Dict[str, int]]:
         return {}
 
-    def kill(self, job: Job) -> bool:
+    def kill(self, job: Job) -> None:
         """Its plugin is killed, and lost."""
-        is_there = id(job) in self.job_ids()
         self._ends = [(self.clock.now, number, JobLost(job)) if event.job is job else (end, number, event) for end, number, event in self._ends]
         heapq.heapify(self._ends)
-        return is_there
 
 
 class SimulatedPoller(FilePoller):

@@ -41,9 +41,9 @@ class Socket(SiteTest):
         return connection
 
     def turn(self, made: control.ControlSocket) -> bool:
-        """One turn of the loop around it, which reads what can be read."""
+        """One turn of the loop around it, which reads what can be read. Returns whether more lines wait."""
         self.poller.wait(0)
-        return made.work()
+        return made.work() == 0
 
     def await_clients(self, made: control.ControlSocket, count: int) -> None:
         self.assertTrue(becomes_true(lambda: not self.turn(made) and len(made._clients) == count))
@@ -98,7 +98,7 @@ class Socket(SiteTest):
             return read == size
 
         self.assertTrue(becomes_true(is_read))
-        self.assertFalse(made.is_sending())
+        self.assertIsNone(made.work())
 
     def test_an_answer_of_any_length(self) -> None:
         """It comes whole. A client that leaves more than the limit unread is dropped with its next answer."""

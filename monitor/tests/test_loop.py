@@ -40,7 +40,7 @@ class Faults(SiteTest):
         """It gets an error, and the turn continues."""
         self.write_site([host("web")], [])
         monitor = self.monitor(fine)
-        with mock.patch.object(monitor.engine.requests, "_find_open_object", side_effect=KeyError("what")):
+        with mock.patch.object(monitor.engine.requests, "_find_object", side_effect=KeyError("what")):
             self.assertIn("the monitor has a fault: KeyError", monitor.ask(do="reschedule", name="web")["error"])
         monitor.work(70)
         self.assertEqual(len(monitor.starts()["web"]), 2)

@@ -9,7 +9,7 @@ from typing import Callable, Deque, List, Optional, Sequence
 
 from ..faults import ConversationEnded, NotStored
 from ..inputs.requests import Request, Requests
-from ..run.jobs import Runners
+from ..run.runners import RunnerPools
 from ..scheduler.protocol import Abandon, Call, Freed, Refused, Report, Reschedule, Standing, Taken, call_line
 from ..scheduler.scheduling import ObjectAnswer, Scheduling
 from ..site.site import Site
@@ -38,7 +38,7 @@ SAVE_AGAIN = 10_000
 
 
 class Engine:
-    def __init__(self, scheduling: Scheduling, runners: Runners, store: Store, clock: Clock, log: Callable[[str], None]) -> None:
+    def __init__(self, scheduling: Scheduling, runners: RunnerPools, store: Store, clock: Clock, log: Callable[[str], None]) -> None:
         self.scheduling, self.store, self.runners, self._clock, self._log = scheduling, store, runners, clock, log
         self.objects = scheduling.states.objects
         self._now = clock.moment()

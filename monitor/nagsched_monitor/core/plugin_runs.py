@@ -3,7 +3,8 @@ import collections
 from functools import partial
 from typing import Callable, Counter, Dict, List, Union
 
-from ..run.jobs import Event, Job, JobFinished, JobLost, Runners, StuckJobEnded
+from ..run.jobs import Event, Job, JobFinished, JobLost, StuckJobEnded
+from ..run.runners import RunnerPools
 from ..scheduler.protocol import Abandon, Report, Reschedule
 from ..scheduler.scheduling import Scheduling
 from ..site.command_lines import Command
@@ -28,7 +29,7 @@ SWEEP = 1_000
 
 
 class PluginRuns:
-    def __init__(self, scheduling: Scheduling, runners: Runners, clock: Clock, log: Callable[[str], None], counters: Counters) -> None:
+    def __init__(self, scheduling: Scheduling, runners: RunnerPools, clock: Clock, log: Callable[[str], None], counters: Counters) -> None:
         self._scheduling, self._runners, self._clock, self._log, self._counters = scheduling, runners, clock, log, counters
         self._events: List[Event] = []
         # Plugins that were killed and haven't ended, by the names of their objects.

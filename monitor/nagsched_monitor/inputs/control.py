@@ -10,7 +10,7 @@ import socket
 import time
 from dataclasses import dataclass, field
 from functools import partial
-from typing import Any, Callable, List, Mapping, Sequence
+from typing import Any, Callable, List, Mapping, Optional, Sequence
 
 from ..faults import MonitorFault
 from ..program.poller import FilePoller, write_ready
@@ -24,6 +24,8 @@ LINES_IN_TURN = 64
 UNREAD_BYTES = 1024 * 1024
 MOST_CLIENTS = 200
 IDLE = 300.0
+# How soon the next turn comes while an answer waits for its reader, in milliseconds.
+SENDING_WAIT = 100
 
 
 @dataclass
@@ -86,19 +88,17 @@ class ControlSocket:
         client.has_ended = True
         self._poller.unwatch(client.connection.fileno())
 
-    def work(self) -> bool:
-        """Passes on the lines that have come, sends answers, and forgets closed connections. Returns whether more lines wait."""
+    def work(self) -> Optional[int]:
+        """Passes on the lines that have come, sends answers, and forgets closed connections. Returns how long the next turn may wait, or None."""
         for client in self._clients:
             self._pass_on_lines(client)
             self._send(client)
             is_answered = not client.unanswered and not client.unsent and b"\n" not in client.unread
             if is_answered and (client.has_ended or time.monotonic() - client.last_line_at > IDLE):
                 self._drop_client(client)
-        return any(b"\n" in client.unread for client in self._clients)
-
-    def is_sending(self) -> bool:
-        """Whether an answer waits for its reader."""
-        return any(client.unsent for client in self._clients)
+        if any(b"\n" in client.unread for client in self._clients):
+            return 0
+        return SENDING_WAIT if any(client.unsent for client in self._clients) else None
 
     def _pass_on_lines(self, client: Client) -> None:
         *lines, client.unread = client.unread.split(b"\n", LINES_IN_TURN)

@@ -143,18 +143,15 @@ class Requests:
                 raise RequestFault(f"a member {member!r} isn't known here")
         return members
 
-    def _find_object(self, members: Members) -> ObjectState:
+    def _find_object(self, members: Members, is_called: bool = True) -> ObjectState:
+        """The object of a request. If its scheduler is called for the request, the scheduler has to be open."""
         name = members.get("name")
         if not isinstance(name, str):
             raise RequestFault("name is the full name of an object")
         obj = self.engine.objects.get(name)
         if obj is None:
             raise RequestFault(f"there is no object {name!r}")
-        return obj
-
-    def _find_open_object(self, members: Members) -> ObjectState:
-        obj = self._find_object(members)
-        if not self.engine.scheduling.is_open(obj.definition.part):
+        if is_called and not self.engine.scheduling.is_open(obj.definition.part):
             raise AskAgain("the scheduler of this object is being started again")
         return obj
 
@@ -174,7 +171,7 @@ class Requests:
         return Plan()
 
     def _plan_reschedule(self, members: Members, request: Request) -> Plan:
-        obj = self._find_open_object(members)
+        obj = self._find_object(members)
         now, wall = self._clock.moment(), self._clock.wall()
         at, forced = members.get("at", wall), members.get("force", False)
         if isinstance(at, bool) or not isinstance(at, (int, float)) or not isinstance(forced, bool):
@@ -192,7 +189,7 @@ class Requests:
         return Plan(calls, then=[partial(setattr, obj, "operator_check", (time, forced)), log], at_once={obj.name} if time <= now else set())
 
     def _plan_switch(self, members: Members, request: Request, on: Optional[bool]) -> Plan:
-        obj, checks = self._find_open_object(members), self.engine.checks
+        obj, checks = self._find_object(members), self.engine.checks
         if on and obj.definition.command is None:
             raise RequestFault(f"{obj.name} has no command")
         word, wanted = members["do"], checks.is_to_be_enabled(obj.definition, obj.definition.enabled if on is None else on)
@@ -201,7 +198,7 @@ class Requests:
         return Plan(calls, [set_switch(obj.name, on)], [partial(checks.apply_switch, obj, on), partial(self.log, f"asked: {word} {obj.name}")])
 
     def _plan_result(self, members: Members, request: Request) -> Plan:
-        obj = self._find_object(members)
+        obj = self._find_object(members, is_called=False)
         code, output = members.get("code"), members.get("output", "")
         if isinstance(code, bool) or not isinstance(code, int) or not 0 <= code <= 3:
             raise RequestFault(f"no code from 0 to 3: {code!r}")

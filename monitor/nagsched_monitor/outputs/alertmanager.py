@@ -13,7 +13,7 @@ import urllib.request
 from typing import Any, Dict, FrozenSet, List, Mapping, Optional, Tuple
 
 from ..core.text import first_line
-from ..program.helper_process import is_ended
+from ..run.processes import is_ended
 from ..site.groups_file import Groups, GroupsFile, labels_of
 from .status_query import PROBLEMS, SiteStatus, StatusUnavailable, read_site_status
 

@@ -16,7 +16,7 @@ from typing import Dict, List, Optional, Sequence, Tuple
 from ..faults import MonitorFault, RequestFault
 from ..inputs import control
 from ..inputs.nagios_pipe import Pipe, Request, requests_of
-from ..program.helper_process import is_ended
+from ..run.processes import is_ended
 from ..store.rows import StoredStanding
 from .nagios_blocks import Document, Program, Settings, settings_of, status_file
 from .status_query import MEMBERS, StatusUnavailable, open_database, read_standings

@@ -23,7 +23,7 @@ from typing import Any, Dict, Optional, Sequence, Tuple
 
 from ..faults import MonitorFault, SiteFault
 from ..program.addresses import parse_address
-from ..program.helper_process import is_ended
+from ..run.processes import is_ended
 from ..site.groups_file import GroupsFile
 from ..site.site import read_options
 from . import html_pages, metrics

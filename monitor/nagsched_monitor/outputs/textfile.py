@@ -5,7 +5,7 @@ Its arguments are the site's folder and the file.
 import pathlib
 import sys
 
-from ..program.helper_process import is_ended
+from ..run.processes import is_ended
 from ..site.groups_file import GroupsFile
 from .metrics import metrics, read_signs
 from .nagios_files import replace_file

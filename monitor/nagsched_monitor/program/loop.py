@@ -24,7 +24,7 @@ class Loop:
 
     def __init__(self, engine: Engine, poller: FilePoller, clock: Clock, log: Callable[[str], None]) -> None:
         self._engine, self._poller, self._clock, self._log = engine, poller, clock, log
-        # Actions before each turn, after it, and every second. Those before and after a turn return the moment for which the next one is wanted, or None.
+        # Actions before each turn, after it, and every second. Those before and after a turn return how long the next one may wait, or None.
         self.before: List[Callable[[], Optional[int]]] = []
         self.after: List[Callable[[], Optional[int]]] = []
         self.chores: List[Callable[[], None]] = []
@@ -55,15 +55,15 @@ class Loop:
             self.wait(begun, wanted, self._engine.scheduling.states.due.shared_time())
 
     def _turn(self, begun: int) -> int:
-        wanted = [each() for each in self.before]
+        waits = [each() for each in self.before]
         self._engine.requests.begin_turn()
-        wanted.append(self._engine.turn())
-        wanted += [each() for each in self.after]
+        wanted = self._engine.turn()
+        waits += [each() for each in self.after]
         if begun >= self._chores_at:
             self._chores_at = begun + CHORES_EVERY
             for chore in self.chores:
                 chore()
-        return min(moment for moment in wanted if moment is not None)
+        return 0 if 0 in waits else min([wanted, *(self._clock.moment() + wait for wait in waits if wait is not None)])
 
     def _handle_fault(self) -> None:
         self._faults += 1

@@ -18,14 +18,14 @@ from ..site.site import Site, read_site
 from ..store.store import Store
 from ..store.writes import drop_changes_before
 from . import addresses
-from .helper_process import HelperProcess
+from ..run.processes import HelperProcess
 from .log import Log
 from .loop import Loop
 from .poller import FilePoller
 from .site_reader import read_apart
 
 DAY = 86_400
-# How soon the next turn comes while a command for changes runs or a client reads, in milliseconds.
+# How soon the next turn comes while a command for changes runs or the site is read, in milliseconds.
 BUSY_WAIT = 100
 # The number of tries to open the schedulers, and the pause between two tries, in seconds.
 START_TRIES, START_PAUSE = 10, 1.0
@@ -58,9 +58,9 @@ class Monitor:
         self._helpers = self._make_helpers(arguments)
         self._dropped_at = self.clock.wall()
         requests = self.engine.requests
-        requests.log, requests.stop, requests.reload = self.log, self.loop.stop, self._request_reload
-        self.loop.before = [self._serve_clients]
-        self.loop.after = [self._log_changes, self._continue_reload, self._serve_clients]
+        requests.log, requests.stop, requests.reload = self.log, self.loop.stop, lambda request: self._reload_requests.append(request)
+        self.loop.before = [self.control.work]
+        self.loop.after = [self._log_changes, self._continue_reload, self.control.work]
         self.loop.chores = [self._drop_old_changes, self._service_manager.notify_alive, *(process.work for process in self._helpers)]
 
     def _make_helpers(self, arguments: argparse.Namespace) -> List[HelperProcess]:
@@ -112,17 +112,12 @@ class Monitor:
         self._service_manager.notify_ready(f"{len(site.objects)} objects")
         return self.loop.run()
 
-    def _serve_clients(self) -> Optional[int]:
-        """Takes in the requests that have come, and sends answers."""
-        has_more = self.control.work()
-        return 0 if has_more else self.clock.moment() + BUSY_WAIT if self.control.is_sending() else None
-
     def _log_changes(self) -> Optional[int]:
         """Logs the changes of the turn, and has the command run for them."""
         for change in self.scheduling.pop_changes():
             self.log(change_line(change, self.scheduling.site.options.zone))
         self._notifier.work()
-        return self.clock.moment() + BUSY_WAIT if self._notifier.is_busy() else None
+        return BUSY_WAIT if self._notifier.is_busy() else None
 
     def _install_signal_handlers(self) -> None:
         """Each signal ends the waiting for files, by a byte that comes."""
@@ -131,7 +126,7 @@ class Monitor:
         self._poller.watch(there, lambda: os.read(there, 4_096))
         for number in (signal.SIGINT, signal.SIGTERM):
             signal.signal(number, lambda *_: self.loop.stop())
-        signal.signal(signal.SIGHUP, lambda *_: self._request_reload(Request(b"", lambda answer: None)))
+        signal.signal(signal.SIGHUP, lambda *_: self._reload_requests.append(Request(b"", lambda answer: None)))
 
     def _drop_old_changes(self) -> None:
         """Drops old changes, each hour but the first. A clock that jumped by more than a day drops nothing."""
@@ -147,42 +142,37 @@ class Monitor:
 
     # ---- another site
 
-    def _request_reload(self, request: Request) -> None:
-        self._reload_requests.append(request)
-
     def _continue_reload(self) -> Optional[int]:
         """Works on the reload that goes on, or begins one that was requested."""
         if self._reload is None and self._reload_requests:
-            asked, self._reload_requests = self._reload_requests, []
-            self._reload = self._take_over_site(asked)
+            self._reload = self._take_over_site()
         if self._reload is None:
             return None
         if next(self._reload, False):
-            return self.clock.moment() + BUSY_WAIT
+            return BUSY_WAIT
         self._reload = None
         return 0
 
-    def _take_over_site(self, asked: Sequence[Request]) -> Generator[bool, None, None]:
+    def _take_over_site(self) -> Generator[bool, None, None]:
         """Has the site read, yielding True meanwhile, and takes it over. If it is faulty, the old one stays."""
+        asked, self._reload_requests = self._reload_requests, []
         answer: Dict[str, Any] = {"error": "the monitor has a fault"}
         try:
-            answer = self._change_site((yield from read_apart(self._folder, self._program)))
+            site = yield from read_apart(self._folder, self._program)
+            self._test_slots(site)
+            before = set(self.engine.objects)
+            changed = self.engine.reload(site)
+            self.runners.set_remotes(site.runners)
+            new, dropped = sorted(set(site.objects) - before), sorted(before - set(site.objects))
+            for line in (*(f"new: {name}" for name in new), *(f"dropped: {name}" for name in dropped), *changed):
+                self.log(line)
+            answer = {"done": "reload", "new": new, "dropped": dropped, "changed": changed}
         except (MonitorFault, NotStored) as fault:
             answer = {"error": str(fault)}
             self.log(f"the site isn't taken over: {fault}")
         finally:
             for request in asked:
                 request.reply(answer)
-
-    def _change_site(self, site: Site) -> Dict[str, Any]:
-        self._test_slots(site)
-        before = set(self.engine.objects)
-        changed = self.engine.reload(site)
-        self.runners.set_remotes(site.runners)
-        new, dropped = sorted(set(site.objects) - before), sorted(before - set(site.objects))
-        for line in (*(f"new: {name}" for name in new), *(f"dropped: {name}" for name in dropped), *changed):
-            self.log(line)
-        return {"done": "reload", "new": new, "dropped": dropped, "changed": changed}
 
     def close(self) -> None:
         """Ends: running plugins are killed, and their checks are abandoned at the next start."""

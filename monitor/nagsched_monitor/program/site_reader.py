@@ -11,7 +11,7 @@ import time
 from typing import Generator, Union
 
 from ..faults import MonitorFault
-from ..run.runner_program import module_command
+from ..run.processes import module_command
 from ..site.site import Site, read_site
 
 # The limit for reading a site, in seconds.

@@ -16,7 +16,7 @@ from .gearman import Code, Connection, Packet, ServerFault, ServerUser
 from .gearman_signing import JOB, RESULT, JobPolicy, Refusal, Signer, read_signer
 from .jobs import Job, JobFinished, StuckJobEnded, event_members
 from .pool import RunnerPool
-from .runner_program import runner_command
+from .processes import runner_command
 from .runners import raise_file_limit
 
 # In seconds: the time between two signs of life of the server, the delay after its limit at which a result is late, and the time that running plugins have

@@ -1,7 +1,7 @@
 """Jobs for runners, and their answers. `docs/scaling.md` describes the lines between the two."""
 import functools
 import json
-from typing import Any, Dict, List, NamedTuple, Optional, Protocol, Sequence, Set, Tuple, Union
+from typing import Any, Dict, NamedTuple, Optional, Sequence, Tuple, Union
 
 from ..core.text import plain_text
 
@@ -47,17 +47,6 @@ class StuckJobEnded(NamedTuple):
 
 
 Event = Union[JobFinished, JobLost, StuckJobEnded]
-
-
-class Runners(Protocol):
-    """Runners, as the engine sees them."""
-
-    def start(self, job: Job) -> None: ...  # from the next `flush` on
-    def flush(self) -> None: ...
-    def events(self) -> List[Event]: ...  # the events since the last call
-    def job_ids(self) -> Set[int]: ...  # the identities of the jobs that runners have, or will get
-    def kill(self, job: Job) -> bool: ...  # the runner that has this job; its running jobs are lost
-    def process_counts(self) -> Dict[str, Dict[str, int]]: ...  # for the runners of each name: how many run, are wanted, are stopped, and how many checks wait
 
 
 @functools.lru_cache(maxsize=50_000)

@@ -9,7 +9,7 @@ from typing import Callable, Deque, Dict, List, Optional, Sequence, Tuple, Union
 from ..core.text import plain_text
 from ..program.poller import FilePoller, write_ready
 from .jobs import Event, Job, JobFinished, JobLost, StuckJobEnded, job_members, read_event, read_line
-from .runner_program import end_process
+from .processes import end_process
 
 READ_BYTES = 65_536
 # The longest line of a runner, in bytes. A longer line ends its runner.
@@ -56,7 +56,7 @@ class RunnerPool:
 
     def _start_missing(self) -> None:
         """Starts the processes that are missing. If there is no room for one now, a later flush tries again."""
-        if len(self.processes) >= self._count or self._clock() < self._not_before:
+        if self._clock() < self._not_before:
             return
         try:
             while len(self.processes) < self._count:
@@ -81,16 +81,16 @@ class RunnerPool:
     def flush(self) -> None:
         """Passes on the jobs for which there is room, with one write for each process."""
         self._start_missing()
-        now, given = self._clock(), 0
-        process = self._least_busy()
-        while self._waiting and process is not None:
-            job, _ = self._waiting.popleft()
-            self._number += 1
-            process.jobs[self._number] = job, now + job.limit + LATE + (0.0 if self._slots is None else self._wait)
-            process.unsent += b'{"job":%d,%s\n' % (self._number, job_members(tuple(job.arguments), job.limit))
-            given += 1
-            if given % TOGETHER == 0 or self._slots is not None:
-                process = self._least_busy()
+        now, together = self._clock(), TOGETHER if self._slots is None else 1
+        while self._waiting and self.processes:
+            process = min(self.processes, key=lambda each: len(each.jobs))
+            if self._slots is not None and len(process.jobs) >= self._slots:
+                break
+            for _ in range(min(together, len(self._waiting))):
+                job = self._waiting.popleft()[0]
+                self._number += 1
+                process.jobs[self._number] = job, now + job.limit + LATE + self._wait
+                process.unsent += b'{"job":%d,%s\n' % (self._number, job_members(tuple(job.arguments), job.limit))
         while self._slots is not None and self._waiting and now - self._waiting[0][1] >= self._wait:
             self._add_event(JobLost(self._waiting.popleft()[0], f"the runner {self._name} didn't take it"))
         for process in list(self.processes):
@@ -98,11 +98,6 @@ class RunnerPool:
                 write_ready(process.reads_from, process.unsent)
             except OSError:
                 self._end(process)
-
-    def _least_busy(self) -> Optional[RunnerProcess]:
-        """The process that has the fewest jobs, if it has room for one more."""
-        least = min(self.processes, key=lambda process: len(process.jobs), default=None)
-        return least if least is None or self._slots is None or len(least.jobs) < self._slots else None
 
     def _add_event(self, event: Union[JobFinished, JobLost]) -> None:
         if isinstance(event, JobLost) and not event.is_local:
@@ -130,9 +125,8 @@ class RunnerPool:
             number, members = read_line(line)
             if "error" in members:
                 self._log(f"{self._title}: {plain_text(str(members['error']))}")
-            elif members.get("gone") is True:
-                if number in process.stuck:
-                    self._events.append(StuckJobEnded(process.stuck.pop(number)))
+            elif number in process.stuck and members.get("gone") is True:
+                self._events.append(StuckJobEnded(process.stuck.pop(number)))
             elif number in process.jobs:
                 event = read_event(process.jobs[number][0], members)
                 del process.jobs[number]
@@ -165,18 +159,16 @@ class RunnerPool:
         process.process.kill()
         return end_process(process.process)
 
-    def kill(self, job: Job) -> bool:
-        """Kills the process that has this job, since it gives no answer. A job that no process has yet is lost. Returns False if it isn't here."""
-        for process in self.processes:
+    def kill(self, job: Job) -> None:
+        """Kills the process that has this job, since it gives no answer. A job that no process has yet is lost."""
+        for process in list(self.processes):
             if any(job is each for each, _ in process.jobs.values()):
                 self._log(f"{self._title} gave no result in time: it is killed, and {len(process.jobs)} checks with it")
                 self._close_process(process)
-                return True
-        waiting = [each for each in self._waiting if each[0] is job]
-        for each in waiting:
-            self._waiting.remove(each)
-            self._events.append(JobLost(job, "its runner can't be started"))
-        return bool(waiting)
+        for waiting in list(self._waiting):
+            if waiting[0] is job:
+                self._waiting.remove(waiting)
+                self._events.append(JobLost(job, "its runner can't be started"))
 
     def close(self) -> None:
         """Ends all processes; their jobs, and the jobs that wait, are lost."""

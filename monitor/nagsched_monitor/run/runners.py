@@ -9,7 +9,7 @@ from ..program.poller import FilePoller
 from ..site.runner_file import LOCAL, Remote
 from .jobs import Event, Job, JobLost
 from .pool import RunnerPool
-from .runner_program import end_process, runner_command
+from .processes import end_process, runner_command
 
 
 def raise_file_limit() -> int:
@@ -39,6 +39,7 @@ class RunnerPools:
                 self._pools[name] = self._pool(name, remote.arguments, 1, remote.slots, remote.wait)
 
     def start(self, job: Job) -> None:
+        """Has a job run from the next `flush` on."""
         pool = self._pools.get(job.runner or LOCAL)
         if pool is None:
             self._events.append(JobLost(job, f"there is no runner {job.runner}"))
@@ -50,16 +51,21 @@ class RunnerPools:
             pool.flush()
 
     def job_ids(self) -> Set[int]:
+        """The identities of the jobs that runners have, or will get."""
         return {id(job) for pool in self._pools.values() for job in pool.jobs()} | {id(event.job) for event in self._events}
 
-    def kill(self, job: Job) -> bool:
-        return any(pool.kill(job) for pool in list(self._pools.values()))
+    def kill(self, job: Job) -> None:
+        """Kills the runner that has this job; its running jobs are lost."""
+        for pool in self._pools.values():
+            pool.kill(job)
 
     def events(self) -> List[Event]:
+        """The events since the last call."""
         events, self._events = self._events, []
         return events + [event for pool in self._pools.values() for event in pool.events()]
 
     def process_counts(self) -> Dict[str, Dict[str, int]]:
+        """For the runners of each name: how many run, are wanted, are stuck, and how many checks wait."""
         return {name: pool.process_counts() for name, pool in self._pools.items()}
 
     def processes(self) -> List["subprocess.Popen[bytes]"]:

@@ -8,7 +8,7 @@ import re
 from typing import Any, Dict, Iterable, List, Mapping, NamedTuple, Tuple
 
 from ..faults import SiteFault
-from ..run.runner_program import find_program
+from ..run.processes import find_program
 from .groups_file import Groups
 from .json_files import members_of, read_object, read_seconds, read_whole
 

@@ -11,7 +11,7 @@ from typing import Any, List, Tuple
 from unittest import mock
 
 from nagsched_monitor.faults import MonitorFault
-from nagsched_monitor.program.helper_process import LONGEST_PAUSE, HelperProcess
+from nagsched_monitor.run.processes import LONGEST_PAUSE, HelperProcess
 from nagsched_monitor.program.addresses import is_loopback, parse_address, test_url
 
 from .simulated import PROGRAM, SiteTest

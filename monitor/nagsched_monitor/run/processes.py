@@ -1,0 +1,94 @@
+"""The programs of this package: how they are found, and how their processes begin and end."""
+import contextlib
+import os
+import pathlib
+import select
+import shutil
+import subprocess
+import sys
+import time
+from typing import Callable, List, Optional
+
+from ..faults import MonitorFault
+
+# The folder of the package, and the folders of its programs: installed next to the package, or built in the tree.
+FOLDER = pathlib.Path(__file__).resolve().parent.parent.parent
+PROGRAM_FOLDERS = (FOLDER, FOLDER / "out")
+# The limit for the end of a process, in seconds.
+GRACE = 5.0
+# The least time from one start of a helper to the next, in seconds. It doubles up to the longest. After a process that ran that long, it is the first again.
+PAUSE, LONGEST_PAUSE = 5.0, 60.0
+
+
+def find_program(name: str) -> Optional[str]:
+    """The path of a program: of this package, or one on the path. None if it isn't found."""
+    beside = [str(place / name) for place in PROGRAM_FOLDERS if "/" not in name and name.startswith("nagsched-") and os.access(place / name, os.X_OK)]
+    return beside[0] if beside else shutil.which(name)
+
+
+def runner_command() -> List[str]:
+    """The command of a runner of this machine: the variable NAGSCHED_RUNNER, or the program that was built. Raises `MonitorFault` if it isn't found."""
+    program = os.environ.get("NAGSCHED_RUNNER") or find_program("nagsched-runner")
+    if program is None:
+        raise MonitorFault(f"there is no {FOLDER}/nagsched-runner: build it with monitor/build_runner.sh, or name one in the variable NAGSCHED_RUNNER")
+    return [program]
+
+
+def module_command(module: str, arguments: List[str]) -> List[str]:
+    """The command that runs a module of this package as a process next to the monitor. No variable and no folder of its caller decides what it imports.
+
+    Ctrl-C and SIGTERM are for the monitor, with which it ends."""
+    code = (f"import signal, sys; signal.signal(signal.SIGINT, signal.SIG_IGN); signal.signal(signal.SIGTERM, signal.SIG_IGN); "
+            f"sys.path.insert(0, {str(FOLDER)!r}); import nagsched_monitor.{module} as it; sys.exit(it.main())")
+    return [sys.executable, "-I", "-c", code, *arguments]
+
+
+def end_process(process: "subprocess.Popen[bytes]") -> object:
+    """The exit status of a process after its pipes are closed. It is killed if it doesn't end, and nobody waits for it if that doesn't help."""
+    for pipe in (process.stdin, process.stdout):
+        if pipe is not None:
+            pipe.close()
+    for _ in range(2):
+        with contextlib.suppress(subprocess.TimeoutExpired):
+            return process.wait(timeout=GRACE)
+        process.kill()
+    return "unknown"
+
+
+class HelperProcess:
+    """A process next to the monitor, which starts it, restarts it if it ends, and ends with it. It ends when its standard input does."""
+
+    def __init__(self, module: str, arguments: List[str], log: Callable[[str], None], clock: Callable[[], float] = time.monotonic) -> None:
+        self._command, self._name, self._log, self._clock = module_command(module, arguments), module.rpartition(".")[2], log, clock
+        self._process: Optional["subprocess.Popen[bytes]"] = None
+        self._started_at = self._not_before = clock()
+        self._pause = PAUSE
+
+    def work(self) -> None:
+        """Starts the process if it doesn't run."""
+        if self._process is not None:
+            status = self._process.poll()
+            if status is None:
+                return
+            self._pause = PAUSE if self._clock() - self._started_at >= LONGEST_PAUSE else self._pause
+            self._not_before = self._started_at + self._pause
+            self._pause = min(LONGEST_PAUSE, 2 * self._pause)
+            self._log(f"{self._name} ended with status {status}; it is begun again")
+            self.close()
+        if self._clock() >= self._not_before:
+            self._started_at = self._clock()
+            try:
+                self._process = subprocess.Popen(self._command, stdin=subprocess.PIPE)
+            except OSError as error:  # there is no room for a process now
+                self._not_before = self._started_at + LONGEST_PAUSE
+                self._log(f"{self._name} can't be begun: {error}; it is tried again")
+
+    def close(self) -> None:
+        if self._process is not None:
+            end_process(self._process)
+            self._process = None
+
+
+def is_ended(seconds: float) -> bool:
+    """For a helper's process: waits for this time, or until the monitor has ended, and returns whether it has."""
+    return bool(select.select([sys.stdin], [], [], seconds)[0]) and not os.read(sys.stdin.fileno(), 4_096)
