@@ -21,6 +21,25 @@ LINE = re.compile(r"\[\d{1,20}\] ([A-Z][A-Z0-9_]*)(?:;(.*))?")
 Request = Dict[str, Any]
 Services = Mapping[str, Sequence[str]]
 
+# Each command: the request's word, the kind of object, and whether it is forced. A service is a host and its description.
+HOST, SERVICE, SERVICES = 1, 2, 0
+COMMANDS: Mapping[str, Tuple[str, int, bool]] = {
+    "SCHEDULE_HOST_CHECK": ("reschedule", HOST, False),
+    "SCHEDULE_FORCED_HOST_CHECK": ("reschedule", HOST, True),
+    "SCHEDULE_SVC_CHECK": ("reschedule", SERVICE, False),
+    "SCHEDULE_FORCED_SVC_CHECK": ("reschedule", SERVICE, True),
+    "SCHEDULE_HOST_SVC_CHECKS": ("reschedule", SERVICES, False),
+    "SCHEDULE_FORCED_HOST_SVC_CHECKS": ("reschedule", SERVICES, True),
+    "ENABLE_HOST_CHECK": ("enable", HOST, False),
+    "DISABLE_HOST_CHECK": ("disable", HOST, False),
+    "ENABLE_SVC_CHECK": ("enable", SERVICE, False),
+    "DISABLE_SVC_CHECK": ("disable", SERVICE, False),
+    "PROCESS_HOST_CHECK_RESULT": ("result", HOST, False),
+    "PROCESS_SERVICE_CHECK_RESULT": ("result", SERVICE, False),
+}
+# The number of words after the object: a time, or a code and the output.
+OTHER_WORDS = {"reschedule": 1, "enable": 0, "disable": 0, "result": 2}
+
 
 class Pipe:
     """The pipe in a folder. The caller waits for its file to be readable, and then calls `read`."""
@@ -54,26 +73,6 @@ class Pipe:
         """Closes the pipe and removes it, so that no writer waits for a reader that doesn't come."""
         os.close(self.file)
         self._path.unlink(missing_ok=True)
-
-
-# Each command: the request's word, the kind of object, and whether it is forced. A service is a host and its description.
-HOST, SERVICE, SERVICES = 1, 2, 0
-COMMANDS: Mapping[str, Tuple[str, int, bool]] = {
-    "SCHEDULE_HOST_CHECK": ("reschedule", HOST, False),
-    "SCHEDULE_FORCED_HOST_CHECK": ("reschedule", HOST, True),
-    "SCHEDULE_SVC_CHECK": ("reschedule", SERVICE, False),
-    "SCHEDULE_FORCED_SVC_CHECK": ("reschedule", SERVICE, True),
-    "SCHEDULE_HOST_SVC_CHECKS": ("reschedule", SERVICES, False),
-    "SCHEDULE_FORCED_HOST_SVC_CHECKS": ("reschedule", SERVICES, True),
-    "ENABLE_HOST_CHECK": ("enable", HOST, False),
-    "DISABLE_HOST_CHECK": ("disable", HOST, False),
-    "ENABLE_SVC_CHECK": ("enable", SERVICE, False),
-    "DISABLE_SVC_CHECK": ("disable", SERVICE, False),
-    "PROCESS_HOST_CHECK_RESULT": ("result", HOST, False),
-    "PROCESS_SERVICE_CHECK_RESULT": ("result", SERVICE, False),
-}
-# The number of words after the object: a time, or a code and the output.
-OTHER_WORDS = {"reschedule": 1, "enable": 0, "disable": 0, "result": 2}
 
 
 def requests_of(line: bytes, services: Services) -> Tuple[str, List[Request]]:

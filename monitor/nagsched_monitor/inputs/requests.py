@@ -76,21 +76,19 @@ class Requests:
 
     def plan(self, request: Request) -> Plan:
         """The step of a request. A refused request has an empty step and its answer."""
+        step, number = Plan(), None
         try:
             members = self._read_request(request.line)
             number = members.pop("number", None)
             request.answer = None if number is None else self._earlier_answer(number)
-            if request.answer is not None:
-                return Plan()
-            step = self._planners[members["do"]][0](members, request)
+            if request.answer is None:
+                step = self._planners[members["do"]][0](members, request)
         except RequestFault as fault:
             request.answer = {"error": str(fault), **({"again": True} if isinstance(fault, AskAgain) else {})}
-            return Plan()
         except Exception as error:  # any exception: one request doesn't hold up the others
             for line in traceback.format_exc().rstrip().split("\n"):
                 self.log(f"fault: {line}")
             request.answer = {"error": f"the monitor has a fault: {type(error).__name__}: {error}"}
-            return Plan()
         if number is not None and request.answer is not None and (step.calls or step.writes):
             answer = json.dumps(request.answer, ensure_ascii=False)
             step.writes.append(store_request(number, answer))

@@ -23,6 +23,7 @@ from .site_reader import LIMIT as READING_LIMIT
 
 # How long a command waits for its answer, in seconds. A reload first reads the site.
 PATIENCE, RELOAD_PATIENCE = 30.0, READING_LIMIT + 30.0
+OBJECT = "a host's name, or host;description of a service"
 CODES = {"OK": 0, "UP": 0, "WARNING": 1, "CRITICAL": 2, "DOWN": 2, "UNKNOWN": 3}
 
 
@@ -48,9 +49,6 @@ def default_program() -> str:
     """The program nagsched: on the path, or next to the script that was started."""
     beside = pathlib.Path(sys.argv[0]).parent / "nagsched"
     return str(beside) if shutil.which("nagsched") is None and os.access(beside, os.X_OK) else "nagsched"
-
-
-OBJECT = "a host's name, or host;description of a service"
 
 
 def parse_arguments(given: Optional[List[str]]) -> argparse.Namespace:

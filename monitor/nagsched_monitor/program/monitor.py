@@ -3,7 +3,7 @@ import argparse
 import os
 import signal
 import time
-from typing import Any, Dict, Generator, List, Optional, Sequence
+from typing import Any, Callable, Dict, Generator, List, Optional, Sequence
 
 from ..core.clock import Clock, SystemClock
 from ..core.engine import Engine
@@ -19,7 +19,6 @@ from ..store.store import Store
 from ..store.writes import drop_changes_before
 from . import addresses
 from ..run.processes import HelperProcess
-from .log import Log
 from .loop import Loop
 from .poller import FilePoller
 from .site_reader import read_apart
@@ -36,7 +35,7 @@ FILES_OF_PLUGIN, OTHER_FILES = 4, 100
 class Monitor:
     """A monitor of one site, while it runs."""
 
-    def __init__(self, arguments: argparse.Namespace, log: Log) -> None:
+    def __init__(self, arguments: argparse.Namespace, log: Callable[[str], None]) -> None:
         self._folder, self._program, self.log = arguments.folder, arguments.program, log
         self._service_manager = ServiceManager()
         self._file_limit = raise_file_limit()
