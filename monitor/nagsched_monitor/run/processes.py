@@ -37,7 +37,7 @@ def runner_command() -> List[str]:
 def module_command(module: str, arguments: List[str]) -> List[str]:
     """The command that runs a module of this package as a process next to the monitor. No variable and no folder of its caller decides what it imports.
 
-    Ctrl-C and SIGTERM are for the monitor, with which it ends."""
+    The process ignores Ctrl-C and SIGTERM, which are for the monitor."""
     code = (f"import signal, sys; signal.signal(signal.SIGINT, signal.SIG_IGN); signal.signal(signal.SIGTERM, signal.SIG_IGN); "
             f"sys.path.insert(0, {str(FOLDER)!r}); import nagsched_monitor.{module} as it; sys.exit(it.main())")
     return [sys.executable, "-I", "-c", code, *arguments]
