@@ -77,6 +77,8 @@ class ControlSocket:
             return  # earlier lines have their turn first
         try:
             data = client.connection.recv(READ_BYTES)
+        except BlockingIOError:
+            return
         except OSError:
             data = b""  # the client has gone
         client.last_line_at = time.monotonic()
