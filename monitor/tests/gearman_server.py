@@ -24,7 +24,7 @@ class FarEnd:
         self._unread, self._unsent = b"", bytearray()
         self.is_closed = False
 
-    def send(self, code: Code, *parts: bytes) -> None:
+    def send(self, code: int, *parts: bytes) -> None:
         self._unsent += response(code, *parts)
         self._flush()
 

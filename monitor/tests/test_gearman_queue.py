@@ -75,6 +75,25 @@ class OneQueue(unittest.TestCase):
         self.pass_by()
         self.assertEqual([(it["job"], it["code"]) for it in self.answers], [(1, 0)])
 
+    def test_packets_about_no_job(self) -> None:
+        """Names and packets that nobody knows change nothing."""
+        self.add()
+        self.pass_by()
+        job = self.take()
+        for code, data in ((Code.WORK_COMPLETE, b"H:unknown\0x"), (Code.WORK_STATUS, b"H:unknown\0000\0001"), (Code.JOB_CREATED, b"H:more"), (99, b"?")):
+            job.client.send(code, data)
+        self.pass_by()
+        self.assertEqual(self.answers, [])
+        self.server.answer(job)
+        self.pass_by()
+        self.assertEqual(self.ends(), [(1, "exited", "fine")])
+
+    def test_lines_that_are_no_jobs(self) -> None:
+        several = [b"", b"[", b"[]", b"{}", b'{"job":"a","words":[],"limit":1}', b'{"job":1,"words":1,"limit":1}', b"[" * 100_000, b"\xff"]
+        for line in several:
+            self.queue.add_line(line)
+        self.assertEqual(self.answers, [{"error": "the line is no job"}] * len(several))
+
     def test_a_server_that_is_restarted(self) -> None:
         """Unanswered jobs are submitted again, and an answer of the old server's worker isn't accepted for them."""
         self.add(2)
@@ -103,6 +122,18 @@ class OneQueue(unittest.TestCase):
         self.server.answer(self.take())
         self.pass_by()
         self.assertEqual(self.ends()[2:], [(3, "exited", "fine")])
+
+    def test_a_server_that_goes_while_a_worker_has_a_job(self) -> None:
+        """The job waits for a worker again, and is abandoned when it has waited long enough in all."""
+        self.add()
+        self.pass_by()
+        self.take()
+        self.pass_by(WAIT)
+        self.assertEqual(self.answers, [])
+        self.server.restart()
+        self.server.is_there = False
+        self.pass_by()
+        self.assertEqual(self.ends(), [(1, "lost", "the server of the queue dmz wasn't reached")])
 
     def test_a_server_that_gives_no_answer(self) -> None:
         """Another connection is tried; jobs of the first one aren't answered twice."""

@@ -97,8 +97,17 @@ class Working(WorkerTest):
         self.assertTrue(self.turns_until(lambda: bool(worker.running)))
         worker.is_stopping = True
         self.job(["true"])
-        self.assertTrue(self.turns_until(lambda: not worker.running))
+        gearman_worker.run_worker(worker, self.server, self.poller)
         self.assertEqual(([it["output"] for it in self.results(1)], len(self.jobs)), (["fine\n"], 1))
+
+    def test_it_stops_in_time(self) -> None:
+        worker = self.start_worker(1)
+        self.job(["sleep", "60"], limit=60)
+        self.assertTrue(self.turns_until(lambda: bool(worker.running)))
+        worker.is_stopping = True
+        with mock.patch.object(gearman_worker, "STOPPING", 0.1):
+            gearman_worker.run_worker(worker, self.server, self.poller)
+        self.assertEqual((self.answers, len(worker.running)), ([], 1))
 
     def test_what_is_no_command(self) -> None:
         several: List[Dict[str, Any]] = [{"words": []}, {"words": "true"}, {"words": [1]}, {"words": ["a\0b"]}, {"words": None}, {"limit": 0}, {"limit": -1},

@@ -18,15 +18,16 @@ from ..faults import MonitorFault
 from ..program.addresses import parse_address
 from ..program.log import Log
 from ..program.turn_timer import FilePoller, write_ready
-from .gearman import BUSY, IDLE, Code, Server, connect
+from .gearman import BUSY, IDLE, READ_BYTES, Code, Server, connect
 from .gearman_signing import JOB, RESULT, Signer, read_signer
 from .jobs import Job, event_members, read_event
 
-READ_BYTES = 65_536
 # In seconds: the delay of a result after its limit, and a job's longest wait for a worker.
 GRACE, WAIT = 15.0, 30.0
 # A turn that takes longer, in seconds, ends the process by SIGALRM, and the monitor starts another.
 STUCK = 30
+# What comes within this time, in milliseconds, shares a turn.
+TOGETHER = 5
 
 
 class Queue:
@@ -68,9 +69,7 @@ class Queue:
         """Handles what comes from the server, submits new jobs, and abandons late ones."""
         for code, parts in self._server.turn():
             if code == Code.CONNECTED:
-                self._unnamed.clear()
-                self._named.clear()
-                again, self._pending = self._pending, {}
+                again, self._pending, self._unnamed, self._named = self._pending, {}, collections.deque(), {}
                 for job, wait_until in again.values():
                     self._submit(job, wait_until)
             elif code == Code.JOB_CREATED and self._unnamed:
@@ -139,6 +138,7 @@ def run(arguments: argparse.Namespace, log: Log) -> None:
         queue.turn()
         write_ready(results, unsent)  # results are written while the monitor reads them; the others wait
         poller.wait(BUSY if unsent or server.unsent else IDLE)
+        poller.sleep(TOGETHER)
 
 
 def main() -> int:

@@ -29,8 +29,7 @@ class Signer:
     """Signs documents and opens signed ones, with a key; without a key they stay unchanged."""
 
     def __init__(self, key: Optional[bytes]) -> None:
-        self._key = key
-        self.is_signing = key is not None
+        self._key, self.is_signing = key, key is not None
 
     def sign(self, purpose: bytes, document: Dict[str, Any]) -> bytes:
         body = json.dumps(document).encode()

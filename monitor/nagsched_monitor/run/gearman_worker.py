@@ -114,7 +114,7 @@ class Worker:
 
 
 def run(arguments: argparse.Namespace, log: Log) -> None:
-    """Works until it is asked to stop; running plugins may then end."""
+    """Makes the worker, and has it work."""
     if not 1 <= arguments.slots <= MOST_SLOTS:
         raise MonitorFault(f"--slots: it has to be a number from 1 to {MOST_SLOTS}")
     place, signer, poller = parse_address(arguments.server, "server"), read_signer(arguments.key, arguments.unsigned), FilePoller()
@@ -130,6 +130,13 @@ def run(arguments: argparse.Namespace, log: Log) -> None:
     for number in (signal.SIGINT, signal.SIGTERM):
         signal.signal(number, lambda *_: setattr(worker, "is_stopping", True))
     log(f"begins: {arguments.slots} slots, queues {', '.join(arguments.queues)}")
+    run_worker(worker, server, poller)
+    runner.close()
+    log("ends")
+
+
+def run_worker(worker: Worker, server: Server, poller: FilePoller) -> None:
+    """Works until it is asked to stop; running plugins may then end."""
     stop_at = None
     while stop_at is None or time.monotonic() < stop_at and worker.running:
         worker.turn()
@@ -137,8 +144,6 @@ def run(arguments: argparse.Namespace, log: Log) -> None:
             stop_at = time.monotonic() + STOPPING
         poller.wait(BUSY if server.unsent else IDLE)
     worker.turn()
-    runner.close()
-    log("ends")
 
 
 def main(given: Optional[List[str]] = None) -> int:
