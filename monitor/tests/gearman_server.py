@@ -119,7 +119,8 @@ class StandInServer:
             self.waiting.insert(0, job)
 
     def restart(self) -> None:
-        """Another server in its place, which knows no job."""
+        """Another server in its place, which knows no job, and gives the same names to others."""
+        self.jobs = 0
         self.waiting.clear()
         for client in self.clients:
             client.close()

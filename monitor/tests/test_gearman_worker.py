@@ -121,7 +121,8 @@ class Working(WorkerTest):
 
     def test_what_is_no_job(self) -> None:
         """Each is answered, and the worker continues."""
-        self.jobs += [b"", b"[]", b"1", b"\xff", b'{"job":1}', b'{"job":[]}', b"[" * 100_000, b'{"a":' * 100_000, b'{"limit":1' + 400 * b"0" + b"}", b"x" * 2_000_000, b'"' * 3]
+        self.jobs += [b"", b"[]", b"1", b"\xff", b'{"job":1}', b'{"job":[]}', b"[" * 100_000, b'{"a":' * 100_000, b'{"limit":1' + 400 * b"0" + b"}",
+                      b"x" * 2_000_000, b'"' * 3]
         count = len(self.jobs)
         self.start_worker()
         self.assertTrue(self.turns_until(lambda: len(self.answers) == count))
