@@ -1,100 +1,109 @@
-"""The protocol of a Gearman server: each packet in both directions, in pieces of any size, and servers that don't speak it. No gearmand is needed."""
+"""The protocol of a Gearman server: packets in both directions, in pieces of any size, and servers that don't speak it. No gearmand is needed."""
 import socket
 import unittest
-from typing import List, Tuple
+from functools import partial
+from typing import List, Optional
 
-from nagsched_monitor.run.gearman import HEADER, LONGEST_PACKET, REQUEST, RESPONSE, Code, Connection, JobEvent, JobEventKind, ServerClient, ServerFault
+from nagsched_monitor.program.poller import FilePoller
+from nagsched_monitor.run.gearman import HEADER, LONGEST_PACKET, REQUEST, RESPONSE, Code, Packet, Server, connect
 
+from .gearman_server import response
 from .waiting import becomes_true
-
-
-def response(code: int, *parts: bytes) -> bytes:
-    body = b"\0".join(parts)
-    return HEADER.pack(RESPONSE, code, len(body)) + body
 
 
 class Protocol(unittest.TestCase):
     def setUp(self) -> None:
         self.listening = socket.create_server(("127.0.0.1", 0))
         self.addCleanup(self.listening.close)
-        self.unread = b""
+        self.place = self.listening.getsockname()
+        self.lines: List[str] = []
+        self.begin_server()
+
+    def begin_server(self) -> None:
+        self.server = Server(partial(connect, self.place), FilePoller(), self.lines.append)
+        self.addCleanup(self.server.disconnect)
 
     def accepted(self) -> socket.socket:
+        """The other end of the connection, after its first packet."""
+        self.assertEqual(list(self.server.turn()), [(Code.CONNECTED, [])])
         there, _ = self.listening.accept()
         there.settimeout(30)
         self.addCleanup(there.close)
         return there
 
-    def client(self) -> Tuple[ServerClient, socket.socket]:
-        client = ServerClient(self.listening.getsockname())
-        self.addCleanup(client.close)
-        return client, self.accepted()
-
-    def requests(self, there: socket.socket, count: int) -> List[Tuple[int, bytes]]:
-        """This many packets of the client."""
-        packets: List[Tuple[int, bytes]] = []
-        while len(packets) < count:
-            while len(self.unread) < HEADER.size or len(self.unread) < HEADER.size + HEADER.unpack_from(self.unread)[2]:
-                self.unread += there.recv(1 << 20)
-            magic, code, size = HEADER.unpack_from(self.unread)
-            self.assertEqual(magic, REQUEST)
-            packets.append((code, self.unread[HEADER.size : HEADER.size + size]))
-            self.unread = self.unread[HEADER.size + size :]
-        return packets
-
-    def happenings(self, client: ServerClient, count: int) -> List[JobEvent]:
-        came: List[JobEvent] = []
+    def packets(self, count: int) -> List[Packet]:
+        came: List[Packet] = []
 
         def is_there() -> bool:
-            came.extend(client.work())
+            came.extend(self.server.turn())
             return len(came) >= count
 
         self.assertTrue(becomes_true(is_there))
         return came
 
-    def test_jobs_and_their_ends(self) -> None:
-        client, there = self.client()
-        for number in (7, 8, 9):
-            client.submit(number, "dmz", b"job %d\0more" % number)
-        client.work()
-        self.assertEqual(self.requests(there, 3), [(Code.SUBMIT_JOB, b"dmz\0\0job %d\0more" % number) for number in (7, 8, 9)])
-        there.sendall(b"".join(response(Code.JOB_CREATED, b"H:%d" % number) for number in (7, 8, 9)))
-        there.sendall(response(Code.WORK_STATUS, b"H:8", b"0", b"1") + response(Code.WORK_COMPLETE, b"H:8", b"a\0b\0c") + response(Code.WORK_FAIL, b"H:7"))
-        there.sendall(response(Code.WORK_COMPLETE, b"H:8", b"again") + response(Code.WORK_COMPLETE, b"H:unknown", b"x") + response(99, b"what is this?"))
-        there.sendall(response(Code.WORK_COMPLETE, b"H:9", b""))
-        self.assertEqual(self.happenings(client, 7), [
-            JobEvent(JobEventKind.KNOWN, 7), JobEvent(JobEventKind.KNOWN, 8), JobEvent(JobEventKind.KNOWN, 9), JobEvent(JobEventKind.TAKEN, 8),
-            JobEvent(JobEventKind.COMPLETE, 8, b"a\0b\0c"),
-            JobEvent(JobEventKind.FAILED, 7), JobEvent(JobEventKind.COMPLETE, 9, b"")])
+    def test_packets_that_are_sent(self) -> None:
+        there = self.accepted()
+        for number in (7, 8):
+            self.server.send(Code.SUBMIT_JOB, b"dmz", b"", b"job %d\0more" % number)
+        self.server.send(Code.PRE_SLEEP)
+        wanted = b"".join(HEADER.pack(REQUEST, code, len(body)) + body for code, body in (
+            (Code.ECHO_REQ, b"?"), (Code.SUBMIT_JOB, b"dmz\0\0job 7\0more"), (Code.SUBMIT_JOB, b"dmz\0\0job 8\0more"), (Code.PRE_SLEEP, b"")))
+        sent = b""
 
-    def test_a_packet_in_pieces(self) -> None:
-        client, there = self.client()
-        client.submit(1, "dmz", b"job")
-        client.work()
-        came: List[JobEvent] = []
-        for byte in response(Code.JOB_CREATED, b"H:1") + response(Code.WORK_COMPLETE, b"H:1", b"fine"):
+        def is_sent() -> bool:
+            nonlocal sent
+            list(self.server.turn())
+            sent += there.recv(1 << 20)
+            return len(sent) >= len(wanted)
+
+        self.assertTrue(becomes_true(is_sent))
+        self.assertEqual(sent, wanted)
+
+    def test_packets_in_pieces(self) -> None:
+        """Those that come at once, and byte by byte. Data may have zero bytes, and codes may be unknown."""
+        there = self.accepted()
+        said = [(Code.JOB_CREATED, [b"H:1"]), (Code.WORK_STATUS, [b"H:1", b"0", b"1"]), (Code.WORK_COMPLETE, [b"H:1", b"a\0b\0c"]), (Code.WORK_FAIL, [b"H:2"]),
+                (99, [b"what is this?"]), (Code.NOOP, [b""]), (Code.JOB_ASSIGN, [b"H:3", b"dmz", b"\0"]), (Code.WORK_COMPLETE, [b"H:4", b""])]
+        sent = b"".join(response(code, *parts) for code, parts in said)
+        there.sendall(sent)
+        self.assertEqual(self.packets(len(said)), said)
+        came: List[Packet] = []
+        for byte in sent:
             there.sendall(bytes([byte]))
-            came += client.work()
-        came += self.happenings(client, 2 - len(came)) if len(came) < 2 else []
-        self.assertEqual(came, [JobEvent(JobEventKind.KNOWN, 1), JobEvent(JobEventKind.COMPLETE, 1, b"fine")])
+            came += self.server.turn()
+        came += self.packets(len(said) - len(came))
+        self.assertEqual(came, said)
 
     def test_more_than_the_connection_takes_at_once(self) -> None:
-        client, there = self.client()
-        for number in range(5_000):
-            client.submit(number, "dmz", b"x" * 1_000)
+        there = self.accepted()
+        list(self.server.turn())
+        for _ in range(5_000):
+            self.server.send(Code.SUBMIT_JOB, b"dmz", b"", b"x" * 1_000)
         got = 0
         there.settimeout(0.01)
 
         def is_sent() -> bool:
             nonlocal got
-            client.work()
+            list(self.server.turn())
             try:
                 got += len(there.recv(1 << 20))
             except socket.timeout:
                 pass
-            return got == 5_000 * (HEADER.size + 1_005)
+            return got == HEADER.size + 1 + 5_000 * (HEADER.size + 1_005)
 
         self.assertTrue(becomes_true(is_sent))
+
+    def lost(self, said: Optional[bytes]) -> str:
+        """What the log says when a server says this, or isn't there."""
+        self.lines.clear()
+        self.begin_server()
+        if said is not None:
+            there = self.accepted()
+            there.sendall(said)
+            there.shutdown(socket.SHUT_WR)
+        self.assertTrue(becomes_true(lambda: list(self.server.turn()) is not None and bool(self.lines)))
+        self.assertIsNone(self.server.connection)
+        return self.lines[0]
 
     def test_what_is_no_server(self) -> None:
         """The connection is lost, with a reason; nothing waits."""
@@ -103,20 +112,8 @@ class Protocol(unittest.TestCase):
             (HEADER.pack(RESPONSE, Code.NOOP, LONGEST_PACKET + 1), "it isn't a Gearman server"), (response(Code.ERROR, b"queue", b"is full"), "queue is full"),
             (response(Code.JOB_ASSIGN, b"H:1"), "H:1"), (b"", "lost connection"),
         ):
-            connection = Connection(self.listening.getsockname())
-            there = self.accepted()
-            there.sendall(said)
-            there.close()
-            with self.subTest(why), self.assertRaisesRegex(ServerFault, why):
-                while True:
-                    connection.flush()
-                    connection.read()
-            connection.close()
-        place = self.listening.getsockname()
+            with self.subTest(why):
+                self.assertEqual(self.lost(said), f"the server isn't reached: {why}")
         self.listening.close()
-        with self.assertRaises(ServerFault):
-            connection = Connection(place)
-            self.addCleanup(connection.close)
-            while True:
-                connection.flush()
-                connection.read()
+        with self.subTest("nobody listens"):
+            self.assertIn("Connection refused", self.lost(None))

@@ -1,12 +1,12 @@
 """Which jobs a worker accepts: signed jobs of its queues, in their time, and each once. No server is needed."""
+import json
 import os
 import random
 import time
 from typing import Any, Callable, Dict, List, Optional
-from unittest import mock
 
 from nagsched_monitor.run.gearman_signing import JOB, RESULT, SKEW, JobPolicy, Refusal, Signer
-from nagsched_monitor.run.gearman_worker import LOG_REFUSALS_EVERY, NOT_SIGNED, Worker
+from nagsched_monitor.run.gearman_worker import LOG_REFUSALS_EVERY
 from nagsched_monitor.run.jobs import Event, Job, JobFinished
 
 from .one_worker import WorkerTest
@@ -19,11 +19,12 @@ FORGED = int(os.environ.get("FORGED", "4000"))
 class Ran:
     """A runner that starts nothing: each job ends at once."""
 
-    def __init__(self, run: Callable[[List[str], float], Dict[str, Any]]) -> None:
+    def __init__(self, run: Callable[[List[str]], None]) -> None:
         self._run, self._events = run, list[Event]()
+        self.processes: List[Any] = []
 
     def start(self, job: Job) -> None:
-        self._run(list(job.arguments), job.limit)
+        self._run(list(job.arguments))
         self._events.append(JobFinished(job, "exited", 0, ""))
 
     def flush(self) -> None:
@@ -41,12 +42,15 @@ class Signed(WorkerTest):
 
     def refused(self, *jobs: bytes) -> List[Optional[str]]:
         """Why each of these is refused; None if it was run."""
-        worker = Worker(mock.Mock(), [], 1, self.signer, JobPolicy(self.signer, ["dmz", "lan"], lambda: self.now), mock.Mock(), self.lines.append)
+        ran: List[List[str]] = []
         told: List[Optional[str]] = []
+        self.start_worker(1, runner=Ran(ran.append))
         for job in jobs:
-            answer = worker.start_job(mock.Mock(), b"handle", job)
-            document = None if answer is None else self.signer.verified_document(RESULT, answer)
-            told.append(None if answer is None else NOT_SIGNED.decode() if document is None else document["lost"].partition(": ")[2])
+            self.jobs.append(job)
+            count = len(self.answers) + 1
+            self.assertTrue(self.turns_until(lambda: len(self.answers) == count))
+            told.append(json.loads(self.answers[-1].partition(b" ")[2]).get("lost", ": ").partition(": ")[2] or None)
+        self.assertEqual(len(ran), told.count(None))
         return told
 
     def signed(self, **members: Any) -> bytes:
@@ -57,14 +61,13 @@ class Signed(WorkerTest):
         self.now = time.time()
 
     def test_signatures(self) -> None:
-        document, bare = self.document(["true"], time=self.now, until=self.now + 30), NOT_SIGNED.decode()
+        document, bare = self.document(["true"], time=self.now, until=self.now + 30), "it is too long, or isn't signed with this site's key"
         whole = self.signer.sign(JOB, document)
         body = whole.partition(b" ")[2]
         several = [body, Signer(b"another key of 16 bytes").sign(JOB, document), self.signer.sign(RESULT, document), whole[:-1], whole + b" ",
                    b"0" * 64 + b" " + body, whole[1:],
                    whole[:64], whole.replace(b"true", b"fals"), whole.upper(), b"", b" ", whole[:64] + b"\t" + body[:-1]]
-        self.assertEqual(self.refused(*several), [bare] * len(several))
-        self.assertEqual(self.refused(whole), [None])
+        self.assertEqual(self.refused(*several, whole, whole), [bare] * len(several) + [None, "it was taken before"])
 
     def test_a_job_comes_twice(self) -> None:
         self.assertEqual(self.refused(self.signed(job="one"), self.signed(job="one"), self.signed(job="other"), self.signed(job="other", words=["false"])),
@@ -97,9 +100,10 @@ class Signed(WorkerTest):
             several: List[Any] = [None, "1", True, [], float("nan"), float("inf"), 10**400, -(10**400)]
             for value in several:
                 self.assertFalse(is_taken(**{member: value}))
+
+    def test_numbers(self) -> None:
         numbers: List[Any] = [None, 1, ["a"], {}]
-        for number in numbers:
-            self.assertFalse(is_taken(job=number))
+        self.assertEqual(self.refused(*(self.signed(job=number) for number in numbers)), ["it names no job"] * len(numbers))
 
     def test_what_it_remembers(self) -> None:
         """A job is remembered as long as it would be accepted, and no longer."""
@@ -117,10 +121,6 @@ class Signed(WorkerTest):
         chance = random.Random(3)
         good: List[bytes] = []
         ran: List[List[str]] = []
-
-        def run(words: List[str], limit: float) -> Dict[str, Any]:
-            ran.append(words)
-            return {"end": "exited", "code": 0, "output": ""}
 
         def forged() -> bytes:
             how, whole = chance.randrange(8), bytearray(chance.choice(good))
@@ -143,7 +143,7 @@ class Signed(WorkerTest):
             return bytes(whole)
 
         begun = time.monotonic()
-        self.start_worker(8, runner=Ran(run))
+        self.start_worker(8, runner=Ran(ran.append))
         good += [self.signer.sign(JOB, self.document(["run", str(number)])) for number in range(20)]
         self.jobs += good
         self.assertTrue(self.turns_until(lambda: len(ran) == len(good)))

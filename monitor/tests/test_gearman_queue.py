@@ -3,9 +3,11 @@ import json
 import random
 import unittest
 from typing import Any, Dict, List
+from unittest import mock
 
-from nagsched_monitor.run.gearman import RETRY, JobEvent, JobEventKind
-from nagsched_monitor.run.gearman_queue import GRACE, SILENCE, Queue
+from nagsched_monitor.program.poller import FilePoller
+from nagsched_monitor.run.gearman import ECHO_EVERY, RETRY, Code, Server
+from nagsched_monitor.run.gearman_queue import GRACE, Queue
 from nagsched_monitor.run.gearman_signing import JOB, RESULT, Signer
 
 from .gearman_server import ServedJob, StandInServer
@@ -20,18 +22,29 @@ class OneQueue(unittest.TestCase):
         self.lines: List[str] = []
         self.now = 1000.0
         self.last = 0
-        self.queue = Queue("dmz", "mark", WAIT, self.server.connect, self.answers.append, self.lines.append, self.server.signer)
+        clock = mock.patch("time.monotonic", lambda: self.now)
+        clock.start()
+        self.addCleanup(clock.stop)
+        self.begin_queue()
+
+    def begin_queue(self) -> None:
+        server = Server(self.server.connect, FilePoller(), self.lines.append)
+        self.queue = Queue("dmz", "mark", WAIT, server, self.answers.append, self.server.signer)
+        self.addCleanup(self.server.restart)
+        self.addCleanup(server.disconnect)
 
     def add(self, count: int = 1) -> None:
         for _ in range(count):
             self.last += 1
-            self.queue.add(self.last, ["plugin", str(self.last)], LIMIT, self.now)
+            self.queue.add_line(json.dumps({"job": self.last, "words": ["plugin", str(self.last)], "limit": LIMIT}).encode())
 
     def pass_by(self, seconds: float = 0) -> None:
-        """Lets this many seconds pass, while the queue works."""
+        """Lets this many seconds pass, while the queue and the server work."""
         self.now += seconds
         for _ in range(2):
-            self.queue.work(self.now)
+            self.queue.turn()
+            self.server.turn()
+        self.queue.turn()
 
     def take(self) -> ServedJob:
         job = self.server.take()
@@ -50,7 +63,6 @@ class OneQueue(unittest.TestCase):
             self.server.answer(job, output=str(number))
         self.pass_by()
         self.assertEqual(self.ends(), [(number, "exited", str(number)) for number in range(1, 6)])
-        self.assertFalse(self.queue.is_busy())
 
     def test_an_answer_that_comes_twice(self) -> None:
         self.add()
@@ -62,6 +74,25 @@ class OneQueue(unittest.TestCase):
         self.server.answer(job, code=2)
         self.pass_by()
         self.assertEqual([(it["job"], it["code"]) for it in self.answers], [(1, 0)])
+
+    def test_packets_about_no_job(self) -> None:
+        """Names and packets that nobody knows change nothing."""
+        self.add()
+        self.pass_by()
+        job = self.take()
+        for code, data in ((Code.WORK_COMPLETE, b"H:unknown\0x"), (Code.WORK_STATUS, b"H:unknown\0000\0001"), (Code.JOB_CREATED, b"H:more"), (99, b"?")):
+            job.client.send(code, data)
+        self.pass_by()
+        self.assertEqual(self.answers, [])
+        self.server.answer(job)
+        self.pass_by()
+        self.assertEqual(self.ends(), [(1, "exited", "fine")])
+
+    def test_lines_that_are_no_jobs(self) -> None:
+        several = [b"", b"[", b"[]", b"{}", b'{"job":"a","words":[],"limit":1}', b'{"job":1,"words":1,"limit":1}', b"[" * 100_000, b"\xff"]
+        for line in several:
+            self.queue.add_line(line)
+        self.assertEqual(self.answers, [{"error": "the line is no job"}] * len(several))
 
     def test_a_server_that_is_restarted(self) -> None:
         """Unanswered jobs are submitted again, and an answer of the old server's worker isn't accepted for them."""
@@ -76,7 +107,7 @@ class OneQueue(unittest.TestCase):
             self.server.answer(self.take(), output="new")
         self.pass_by()
         self.assertEqual(self.ends(), [(1, "exited", "new"), (2, "exited", "new")])
-        self.assertEqual(self.lines, ["queue dmz: the server isn't reached: lost connection", "queue dmz: the server is reached again"])
+        self.assertEqual(self.lines, ["the server isn't reached: lost connection", "the server is reached again"])
 
     def test_a_server_that_isn_t_there(self) -> None:
         self.server.is_there = False
@@ -92,15 +123,27 @@ class OneQueue(unittest.TestCase):
         self.pass_by()
         self.assertEqual(self.ends()[2:], [(3, "exited", "fine")])
 
+    def test_a_server_that_goes_while_a_worker_has_a_job(self) -> None:
+        """The job waits for a worker again, and is abandoned when it has waited long enough in all."""
+        self.add()
+        self.pass_by()
+        self.take()
+        self.pass_by(WAIT)
+        self.assertEqual(self.answers, [])
+        self.server.restart()
+        self.server.is_there = False
+        self.pass_by()
+        self.assertEqual(self.ends(), [(1, "lost", "the server of the queue dmz wasn't reached")])
+
     def test_a_server_that_gives_no_answer(self) -> None:
         """Another connection is tried; jobs of the first one aren't answered twice."""
         self.server.is_silent = True
         self.add()
         self.pass_by()
-        self.pass_by(SILENCE)
+        self.pass_by(ECHO_EVERY)
         self.server.is_silent = False
         self.pass_by(RETRY)
-        self.assertEqual(len(self.server.clients), 2)
+        self.assertEqual(self.server.connections, 2)
         self.server.answer(self.take())
         self.pass_by()
         self.assertEqual(self.ends(), [(1, "exited", "fine")])
@@ -173,12 +216,12 @@ class OneQueue(unittest.TestCase):
             self.pass_by()
             self.server.answer(self.take(), **wrong)
             self.pass_by()
-        self.assertEqual({(end, output) for _, end, output in self.ends()}, {("lost", "its worker's answer was no result")})
+        self.assertEqual({(end, output.partition(":")[0]) for _, end, output in self.ends()}, {("lost", "its worker's answer was no result")})
         self.assertEqual(len(self.answers), len(several))
 
     def answer_with(self, data: bytes) -> None:
         job = self.take()
-        job.client.come.append(JobEvent(JobEventKind.COMPLETE, job.number, data))
+        job.client.send(Code.WORK_COMPLETE, job.handle, data)
         self.pass_by()
 
     def test_answers_that_are_not_signed(self) -> None:
@@ -192,23 +235,26 @@ class OneQueue(unittest.TestCase):
             self.add()
             self.pass_by()
             self.answer_with(data)
-        self.assertEqual({(end, words) for _, end, words in self.ends()}, {("lost", "its worker's answer isn't signed with this site's key")})
+        why = "its worker's answer was no result: it is too long, or isn't signed with this site's key"
+        self.assertEqual({(end, words) for _, end, words in self.ends()}, {("lost", why)})
         self.add()
         self.pass_by()
         self.answer_with(good)
-        self.assertEqual(self.ends()[-1], (len(bad) + 1, "lost", "its worker's answer was no result"))
+        self.assertEqual(self.ends()[-1], (len(bad) + 1, "lost", "its worker's answer was no result: it is of another job"))
 
     def test_a_site_without_signatures(self) -> None:
         self.server.signer = Signer(None)
-        self.queue = Queue("dmz", "mark", WAIT, self.server.connect, self.answers.append, self.lines.append, self.server.signer)
+        self.begin_queue()
+        self.pass_by()
         self.add(2)
         self.pass_by()
         self.answer_with(b'{"job":"mark-1","code":1,"end":"exited","output":"fine","stderr":"words"}')
         self.answer_with(b"[" * 100_000)
         self.assertEqual(self.answers, [{"job": 1, "code": 1, "end": "exited", "output": "fine", "stderr": "words"},
-                                        {"job": 2, "lost": "its worker's answer was no result"}])
+                                        {"job": 2, "lost": "its worker's answer was no result: it names no job"}])
 
     def test_a_result_that_a_worker_lost(self) -> None:
+        self.pass_by()
         self.add()
         self.pass_by()
         self.answer_with(self.server.signer.sign(RESULT, {"job": "mark-1", "lost": "no room"}))
@@ -218,7 +264,7 @@ class OneQueue(unittest.TestCase):
         self.add()
         self.pass_by()
         job = self.take()
-        job.client.come.append(JobEvent(JobEventKind.FAILED, job.number))
+        job.client.send(Code.WORK_FAIL, job.handle)
         self.pass_by()
         self.assertEqual(self.ends(), [(1, "lost", "its worker failed")])
 

@@ -3,7 +3,6 @@ import contextlib
 import io
 import os
 import signal
-import sys
 import time
 import unittest
 from typing import Any, Dict, List
@@ -11,9 +10,10 @@ from unittest import mock
 
 from nagsched_monitor.run import gearman_worker
 
-from nagsched_monitor.run.gearman import RETRY, Code, ServerFault
+from nagsched_monitor.run.gearman import ECHO_EVERY, RETRY, Code
 from nagsched_monitor.run.gearman_queue import read_result
-from nagsched_monitor.run.gearman_worker import ECHO_EVERY, GRACE, NOT_SIGNED
+from nagsched_monitor.run.gearman_signing import RESULT
+from nagsched_monitor.run.gearman_worker import GRACE
 from nagsched_monitor.run.jobs import JobFinished
 from nagsched_monitor.run.pool import RunnerPool
 
@@ -33,7 +33,7 @@ class Working(WorkerTest):
                          [("mark-1", "exited", 0, "fine\n", "why\n"), ("mark-2", "exited", 2, "bad\n", ""), ("mark-3", "signal", 9, "", ""),
                           ("mark-4", "failed", 0, "/no/such/plugin", "")])
         for result in results:
-            self.assertIsNotNone(read_result(result, result["job"]))
+            self.assertEqual({**read_result(self.signer, result["job"], self.signer.sign(RESULT, result)), "job": result["job"]}, result)
 
     def test_a_limit(self) -> None:
         self.start_worker()
@@ -41,74 +41,79 @@ class Working(WorkerTest):
         self.assertEqual([it["end"] for it in self.results(1)], ["limit"])
 
     def test_as_many_at_once_as_it_has_slots(self) -> None:
-        runner = mock.Mock(events=mock.Mock(return_value=[]))
+        runner = mock.Mock(events=mock.Mock(return_value=[]), processes=[])
         worker = self.start_worker(3, runner=runner)
         for _ in range(8):
             self.job(["true"])
-        for _ in range(5):
-            worker.turn()
-        self.assertEqual((runner.start.call_count, len(self.jobs), worker.is_idle()), (3, 5, False))
+        self.turns(10)
+        self.assertEqual((runner.start.call_count, len(self.jobs), len(worker.running)), (3, 5, 3))
         runner.events.return_value = [JobFinished(call.args[0], "exited", 0, "fine") for call in runner.start.call_args_list]
         worker.turn()
         runner.events.return_value = []
-        worker.turn()
-        self.assertEqual((len(self.answers), runner.start.call_count > 3), (3, True))
+        self.turns(10)
+        self.assertEqual((len(self.answers), runner.start.call_count, len(worker.running)), (3, 6, 3))
 
     def test_what_it_asks_the_server_for(self) -> None:
         """It announces its functions, sleeps when there is nothing, and wakes when the server wakes it."""
-        worker = self.start_worker(2)
-        worker.turn()
-        worker.turn()
-        (there,) = self.connections
-        self.assertEqual(there.sent[0], (Code.CAN_DO, (b"dmz",)))
-        self.assertEqual(there.codes(), [Code.CAN_DO, Code.ECHO_REQ, Code.GRAB_JOB, Code.PRE_SLEEP])
+        self.start_worker(2)
+        self.turns(3)
+        self.assertEqual(self.there.codes, [Code.CAN_DO, Code.CAN_DO, Code.GRAB_JOB, Code.ECHO_REQ, Code.PRE_SLEEP])
         self.job(["true"])
         self.assertEqual(len(self.results(1)), 1)
-        self.assertTrue(self.turns_until(lambda: there.codes()[-1] is Code.PRE_SLEEP))
+        self.assertTrue(self.turns_until(lambda: self.there.codes[-1] is Code.PRE_SLEEP))
 
     def test_a_server_that_is_lost(self) -> None:
         """It is tried again, and logged once."""
         worker = self.start_worker(1)
-        self.faults += [ServerFault("still gone"), ServerFault("gone")]
+        self.there.faults += [ConnectionError("still gone"), ConnectionError("gone")]
         for _ in range(3):
-            worker.turn()
+            self.turns(2)
             self.passed += RETRY
-        worker.turn()
+        self.turns(2)
         self.assertEqual(self.lines, ["the server isn't reached: gone", "the server is reached again"])
         self.job(["/bin/sh", "-c", "sleep 0.3; echo old"])
-        self.assertTrue(self.turns_until(lambda: not worker.is_idle()))
-        self.connections[0].fault = ServerFault("lost connection")
-        worker.turn()
+        self.assertTrue(self.turns_until(lambda: bool(worker.running)))
+        self.there.connections[0].close()
+        self.turns(2)
         self.passed += RETRY
         self.job(["echo", "fine"])
         self.assertEqual([it["output"] for it in self.results(1)], ["fine\n"])
-        self.assertTrue(self.turns_until(worker.is_idle))
+        self.assertTrue(self.turns_until(lambda: not worker.running))
+        self.turns(2)
         self.assertEqual(len(self.answers), 1)  # the server gave the first one to another worker
 
     def test_a_server_that_stands_still(self) -> None:
-        worker = self.start_worker(1)
-        for _ in range(2):
-            worker.turn()
-        self.connections[0].is_echoing = False
+        self.start_worker(1)
+        self.turns(2)
+        self.there.is_echoing = False
         for _ in range(2):
             self.passed += ECHO_EVERY
-            worker.turn()
+            self.turns(2)
         self.assertEqual(self.lines, ["the server isn't reached: it gives no answer"])
 
     def test_it_stops_when_its_plugins_have_ended(self) -> None:
-        worker = self.start_worker(1)
+        worker = self.start_worker(2)
         self.job(["/bin/sh", "-c", "sleep 0.5; echo fine"])
-        self.assertTrue(self.turns_until(lambda: not worker.is_idle()))
+        self.assertTrue(self.turns_until(lambda: bool(worker.running)))
         worker.is_stopping = True
         self.job(["true"])
-        gearman_worker.run_worker(worker, self.poller)
+        gearman_worker.run_worker(worker, self.server, self.poller)
         self.assertEqual(([it["output"] for it in self.results(1)], len(self.jobs)), (["fine\n"], 1))
+
+    def test_it_stops_in_time(self) -> None:
+        worker = self.start_worker(1)
+        self.job(["sleep", "60"], limit=60)
+        self.assertTrue(self.turns_until(lambda: bool(worker.running)))
+        worker.is_stopping = True
+        with mock.patch.object(gearman_worker, "STOPPING", 0.1):
+            gearman_worker.run_worker(worker, self.server, self.poller)
+        self.assertEqual((self.answers, len(worker.running)), ([], 1))
 
     def test_what_is_no_command(self) -> None:
         several: List[Dict[str, Any]] = [{"words": []}, {"words": "true"}, {"words": [1]}, {"words": ["a\0b"]}, {"words": None}, {"limit": 0}, {"limit": -1},
                                          {"limit": True},
                                          {"limit": "9"}, {"limit": 1e9}, {"limit": 10**400}, {"limit": float("nan")}, {"limit": float("inf")}, {"limit": None}]
-        self.start_worker(runner=mock.Mock(start=mock.Mock(side_effect=AssertionError), events=mock.Mock(return_value=[])))
+        self.start_worker(runner=mock.Mock(start=mock.Mock(side_effect=AssertionError), events=mock.Mock(return_value=[]), processes=[]))
         for members in several:
             self.job(["true"], **members)
         told = {it["lost"] for it in self.results(len(several))}
@@ -116,7 +121,8 @@ class Working(WorkerTest):
 
     def test_what_is_no_job(self) -> None:
         """Each is answered, and the worker continues."""
-        self.jobs += [b"", b"[]", b"1", b"\xff", b"[" * 100_000, b'{"a":' * 100_000, b'{"limit":1' + 400 * b"0" + b"}", b"x" * 2_000_000, b'"' * 3]
+        self.jobs += [b"", b"[]", b"1", b"\xff", b'{"job":1}', b'{"job":[]}', b"[" * 100_000, b'{"a":' * 100_000, b'{"limit":1' + 400 * b"0" + b"}",
+                      b"x" * 2_000_000, b'"' * 3]
         count = len(self.jobs)
         self.start_worker()
         self.assertTrue(self.turns_until(lambda: len(self.answers) == count))
@@ -126,12 +132,11 @@ class Working(WorkerTest):
 
     def test_a_fault_of_its_own(self) -> None:
         """A job that can't be made ends nothing."""
-        runner = mock.Mock(start=mock.Mock(side_effect=MemoryError("none left")), events=mock.Mock(return_value=[]))
+        runner = mock.Mock(start=mock.Mock(side_effect=MemoryError("none left")), events=mock.Mock(return_value=[]), processes=[])
         worker = self.start_worker(1, runner=runner)
         self.job(["true"])
-        self.results(1)
-        self.assertEqual((self.answers, worker.is_idle()), ([NOT_SIGNED], True))
-        self.assertEqual(self.lines, ["the server is reached again", "1 jobs were refused; the last one: MemoryError: none left"][1:])
+        self.assertEqual(self.results(1), [{"lost": "its worker refused it: MemoryError('none left')", "job": "mark-1"}])
+        self.assertEqual((worker.running, self.lines), ({}, ["1 jobs were refused; the last one: MemoryError('none left')"]))
 
 
 class Runner(WorkerTest):
@@ -144,7 +149,7 @@ class Runner(WorkerTest):
     def test_one_that_is_killed(self) -> None:
         worker = self.start_worker()
         self.job(["sleep", "60"], limit=60)
-        self.assertTrue(self.turns_until(lambda: not worker.is_idle()))
+        self.assertTrue(self.turns_until(lambda: bool(worker.running)))
         self.passed = 10
         os.kill(self.process(), signal.SIGKILL)
         self.assertEqual(self.results(1), [{"lost": "its runner ended", "job": "mark-1"}])
@@ -159,7 +164,7 @@ class Runner(WorkerTest):
         stopped = self.process()
         os.kill(stopped, signal.SIGSTOP)
         self.job(["true"])
-        self.assertTrue(self.turns_until(lambda: not worker.is_idle()))
+        self.assertTrue(self.turns_until(lambda: bool(worker.running)))
         self.passed = 10 + GRACE
         self.assertEqual(self.results(2)[1], {"lost": "its runner ended", "job": "mark-2"})
         self.assertNotEqual(self.process(), stopped)
@@ -182,7 +187,7 @@ class Runner(WorkerTest):
         for count, word in enumerate(("hangs", "hangs", "other", "hangs"), 1):
             self.job([word])
             said.append(self.results(count)[-1]["output"])
-            self.turns_until(lambda: count != 3 or not self.worker._stuck)
+            self.turns_until(lambda: count != 3 or not any(process.stuck for process in runner.processes))
         self.assertEqual(said, ["", "the plugin before it can't be killed", "", "fine"])
 
 
@@ -190,10 +195,10 @@ class Starting(unittest.TestCase):
     """The requirements of a worker before it begins."""
 
     def test_faults(self) -> None:
-        for words, why in (("--unsigned --only /no/such/file", "No such file"), ("--slots 0 --unsigned", "--slots"), ("", "--key"),
+        for words, why in (("--unsigned --only /no/such/file", "can't be started: Command"), ("--slots 0 --unsigned", "--slots"), ("", "--key"),
                            ("--unsigned --key x", "one of the two"),
                            ("--key /no/such/key", "/no/such/key")):
             told = io.StringIO()
-            with mock.patch.object(os, "set_blocking"), mock.patch.object(sys, "stdout"), contextlib.redirect_stderr(told):
+            with contextlib.redirect_stderr(told):
                 self.assertEqual(gearman_worker.main([*words.split(), "127.0.0.1:4730", "dmz"]), 1)
             self.assertIn(why, told.getvalue())

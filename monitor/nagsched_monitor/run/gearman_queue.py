@@ -1,176 +1,144 @@
 """A runner that sends its jobs to a queue of a Gearman server: it reads jobs and writes results as nagsched-runner does, and runs no plugin itself.
 
-    nagsched-gearman-runner (--key FILE | --unsigned) [--wait SECONDS] ADDRESS:PORT QUEUE
-
-Each job is answered once, or abandoned within a limit. It is at the server or with a worker. If the connection is lost, all jobs are submitted again:
-answers over the old connection can't come any more.
+Each job is answered once, or abandoned within a limit. If the connection is lost, all jobs are submitted again: answers over it can't come any more.
 """
 import argparse
+import collections
 import json
 import os
 import pathlib
 import secrets
-import select
 import signal
 import sys
 import time
-from dataclasses import dataclass
-from typing import Any, Callable, Dict, List, Optional
+from functools import partial
+from typing import Any, Callable, Deque, Dict, Tuple
 
 from ..faults import MonitorFault
 from ..program.addresses import parse_address
-from ..program.poller import write_ready
-from .gearman import Client, JobEvent, JobEventKind, ServerClient, ServerFault, ServerUser
+from ..program.log import Log
+from ..program.poller import FilePoller, write_ready
+from .gearman import BUSY, IDLE, READ_BYTES, Code, Server, connect
 from .gearman_signing import JOB, RESULT, Signer, read_signer
 from .jobs import Job, event_members, read_event
 
-READ_BYTES = 65_536
-# In seconds: the limit for the server to confirm a job, and the delay of a result after its limit.
-SILENCE, GRACE = 10.0, 15.0
-# In seconds: a job's longest wait for a worker, and the time from one round to the next, with jobs and without.
-WAIT, BUSY, IDLE = 30.0, 0.01, 1.0
-# A round that takes longer, in seconds, ends the process by SIGALRM, and the monitor starts another.
+# In seconds: the delay of a result after its limit, and a job's longest wait for a worker.
+GRACE, WAIT = 15.0, 30.0
+# A turn that takes longer, in seconds, ends the process by SIGALRM, and the monitor starts another.
 STUCK = 30
+# What comes within this time, in milliseconds, shares a turn.
+TOGETHER = 5
 
 
-@dataclass
-class PendingJob:
-    """A job from the monitor, and its progress."""
+class Queue:
+    """One queue. Its `mark` distinguishes its jobs from those of every other runner."""
 
-    number: int
-    arguments: List[str]
-    limit: float
-    received_at: float
-    # When it was sent to the server, and when a worker took it, over the current connection.
-    submitted_at: Optional[float] = None
-    is_acknowledged: bool = False
-    taken_at: Optional[float] = None
-
-
-class Queue(ServerUser[Client]):
-    """One queue, over a connection of its own. Its `mark` distinguishes its jobs from those of every other runner."""
-
-    def __init__(self, name: str, mark: str, wait: float, connect: Callable[[], Client], answer: Callable[[Dict[str, Any]], None],
-                 log: Callable[[str], None], signer: Signer) -> None:
-        super().__init__(connect, lambda line: log(f"queue {name}: {line}"))
-        self.name, self._mark, self._wait, self._answer, self._signer = name, mark, wait, answer, signer
-        # The jobs without an answer, by the numbers under which they were submitted last.
-        self._pending: Dict[int, PendingJob] = {}
+    def __init__(self, name: str, mark: str, wait: float, server: Server, answer: Callable[[Dict[str, Any]], None], signer: Signer) -> None:
+        self._name, self._mark, self._wait, self._server, self._answer, self._signer = name, mark, wait, server, answer, signer
+        # The jobs without an answer, by the numbers under which they were submitted last, each with the time until which it may wait for a worker.
+        self._pending: Dict[int, Tuple[Job, float]] = {}
         self._last = 0
-
-    def is_busy(self) -> bool:
-        """Whether a job waits for its answer."""
-        return bool(self._pending)
+        # Over the current connection: the numbers that wait for the server's names, in their order, the others by these names, and those that a worker has,
+        # each with the time at which its result is late.
+        self._unnamed: Deque[int] = collections.deque()
+        self._named: Dict[bytes, int] = {}
+        self._taken: Dict[int, float] = {}
 
     def add_line(self, line: bytes) -> None:
         """Takes the job of a line."""
         try:
-            job = json.loads(line)
-            number, arguments, limit = int(job["job"]), list(map(str, job["words"])), float(job["limit"])
+            given = json.loads(line)
+            job = Job("a job", int(given["job"]), list(map(str, given["words"])), float(given["limit"]))
         except (ValueError, KeyError, TypeError, OverflowError, RecursionError):
             self._answer({"error": "the line is no job"})
         else:
-            self.add(number, arguments, limit, time.monotonic())
+            self._submit(job, time.monotonic() + self._wait)
 
-    def add(self, number: int, arguments: List[str], limit: float, received_at: float) -> None:
-        """Takes a job, which came at this time."""
+    def _submit(self, job: Job, wait_until: float) -> None:
+        """Submits a job. If there is no connection, it is submitted over the next one."""
         self._last += 1
-        self._pending[self._last] = PendingJob(number, arguments, limit, received_at)
+        self._pending[self._last] = job, wait_until
+        self._unnamed.append(self._last)
+        # The message to a worker: the job, its queue, and the time for which it is valid, by the wall clock.
+        now = time.time()
+        document = {"job": f"{self._mark}-{self._last}", "words": job.arguments, "limit": job.limit,
+                    "queue": self._name, "time": now, "until": now + self._wait}
+        self._server.send(Code.SUBMIT_JOB, self._name.encode(), b"", self._signer.sign(JOB, document))
 
-    def work(self, now: float) -> None:
-        """Handles answers, abandons late jobs, and submits new ones."""
-        self._run_steps(now, (self._read, self._abandon_late, self._submit_jobs))
+    def turn(self) -> None:
+        """Handles what comes from the server, submits new jobs, and abandons late ones."""
+        for code, parts in self._server.turn():
+            if code == Code.CONNECTED:
+                again, self._pending, self._unnamed, self._named = self._pending, {}, collections.deque(), {}
+                for job, wait_until in again.values():
+                    self._submit(job, wait_until)
+            elif code == Code.JOB_CREATED and self._unnamed:
+                self._named[parts[0]] = self._unnamed.popleft()
+            elif self._named.get(parts[0]) in self._pending:
+                self._handle(self._named[parts[0]], code, parts[-1])
+        self._abandon_late()
 
-    def _read(self, now: float) -> None:
-        for event in [] if self.connection is None else self.connection.work():
-            job = self._pending.get(event.number)
-            if job is None:
-                continue  # it was answered
-            self._note_answer()
-            job.is_acknowledged = True
-            if event.kind is JobEventKind.TAKEN:
-                job.taken_at = now if job.taken_at is None else job.taken_at
-            elif event.kind is not JobEventKind.KNOWN:
-                del self._pending[event.number]
-                self._answer({**self._result_of(event), "job": job.number})
-        if any(job.submitted_at is not None and not job.is_acknowledged and now - job.submitted_at >= SILENCE for job in self._pending.values()):
-            raise ServerFault("it gives no answer")
+    def _handle(self, number: int, code: int, data: bytes) -> None:
+        """Handles a packet about a job."""
+        if code == Code.WORK_STATUS:
+            self._taken.setdefault(number, time.monotonic() + self._pending[number][0].limit + GRACE)
+        elif code == Code.WORK_FAIL:
+            self._end(number, {"lost": "its worker failed"})
+        elif code == Code.WORK_COMPLETE:
+            self._end(number, read_result(self._signer, f"{self._mark}-{number}", data))
 
-    def _submit_jobs(self, now: float) -> None:
-        new = [number for number, job in self._pending.items() if job.submitted_at is None]
-        if not new or self.connection is None and now < self._not_before:
-            return
-        if self.connection is None:
-            self.connection = self._connect()
-        begin = time.time()
-        for number in new:
-            job = self._pending[number]
-            job.submitted_at = now
-            # The message to a worker: the job, its queue, and the time for which it is valid, by the wall clock.
-            document = {"job": f"{self._mark}-{number}", "words": job.arguments, "limit": job.limit,
-                        "queue": self.name, "time": begin, "until": begin + self._wait}
-            self.connection.submit(number, self.name, self._signer.sign(JOB, document))
+    def _end(self, number: int, result: Dict[str, Any]) -> None:
+        job, _ = self._pending.pop(number)
+        self._taken.pop(number, None)
+        self._answer({**result, "job": job.run})
 
-    def disconnect(self) -> None:
-        """Ends the connection: the server forgets the jobs that no worker has taken, and they are submitted over the next one."""
-        super().disconnect()
-        again, self._pending = self._pending, {}
-        for job in again.values():
-            self.add(job.number, job.arguments, job.limit, job.received_at)
-
-    def _result_of(self, event: JobEvent) -> Dict[str, Any]:
-        """The result of a job that a worker has answered or that failed."""
-        if event.kind is JobEventKind.FAILED:
-            return {"lost": "its worker failed"}
-        document = self._signer.verified_document(RESULT, event.data)
-        if document is None and self._signer.is_signing:
-            return {"lost": "its worker's answer isn't signed with this site's key"}
-        return read_result(document or {}, f"{self._mark}-{event.number}") or {"lost": "its worker's answer was no result"}
-
-    def _abandon_late(self, now: float) -> None:
-        """Abandons the jobs whose results are late, and those that no worker took in time."""
-        late = [number for number, job in self._pending.items() if (
-            now - job.received_at >= self._wait if job.taken_at is None else now - job.taken_at >= job.limit + GRACE)]
+    def _abandon_late(self) -> None:
+        """Abandons the jobs whose results are late, and those that no worker took in time: the server forgets these when the connection ends."""
+        if self._server.connection is None:
+            self._taken.clear()
+        now, nobody = time.monotonic(), "the server of the queue {} wasn't reached" if self._server.is_lost else "no worker took it from the queue {}"
+        late = [number for number, (_, wait_until) in self._pending.items() if now >= self._taken.get(number, wait_until)]
         for number in late:
-            job = self._pending.pop(number)
-            nobody = f"the server of the queue {self.name} wasn't reached" if self._is_lost else f"no worker took it from the queue {self.name}"
-            self._answer({"job": job.number, "lost": nobody if job.taken_at is None else "its worker gave no result"})
-        if late and not any(job.taken_at is not None for job in self._pending.values()):
-            self.disconnect()
+            self._end(number, {"lost": "its worker gave no result" if number in self._taken else nobody.format(self._name)})
+        if late and not self._taken:
+            self._server.disconnect()
 
 
-def read_result(document: Dict[str, Any], mark: str) -> Optional[Dict[str, Any]]:
-    """A worker's answer to the job of this mark, or None if it is no result of that job."""
+def read_result(signer: Signer, mark: str, data: bytes) -> Dict[str, Any]:
+    """A worker's answer to the job of this mark. The job is lost if it is no result of that job."""
+    why = "it is of another job"
     try:
-        return event_members(read_event(Job(mark, 0, (), 0.0), document)) if document.get("job") == mark else None
-    except ValueError:
-        return None
+        document = signer.verified_document(RESULT, data)
+        if document["job"] == mark:
+            return event_members(read_event(Job(mark, 0, (), 0.0), document))
+    except ValueError as error:
+        why = str(error)
+    return {"lost": f"its worker's answer was no result: {why}"}
 
 
-def run(arguments: argparse.Namespace, jobs: int, results: int) -> None:
-    """Hands jobs from one file to the queue, and writes results to the other one, until no more jobs come."""
-    place, signer = parse_address(arguments.server, "server"), read_signer(arguments.key, arguments.unsigned)
-    unread, unsent = b"", bytearray()
-    queue = Queue(arguments.queue, secrets.token_hex(16), arguments.wait, lambda: ServerClient(place),
-                  lambda result: unsent.extend(json.dumps(result).encode() + b"\n"), log, signer)
-    os.set_blocking(jobs, False)
+def run(arguments: argparse.Namespace, log: Log) -> None:
+    """Hands jobs from standard input to the queue, and writes results to standard output, until no more jobs come."""
+    place, signer, poller = parse_address(arguments.server, "server"), read_signer(arguments.key, arguments.unsigned), FilePoller()
+    jobs, results, unread, unsent, is_ended = sys.stdin.fileno(), sys.stdout.fileno(), b"", bytearray(), False
+
+    def read_jobs() -> None:
+        nonlocal unread, is_ended
+        data = os.read(jobs, READ_BYTES)
+        is_ended = not data
+        *lines, unread = (unread + data).split(b"\n")
+        for line in lines:
+            queue.add_line(line)
+
+    server = Server(partial(connect, place), poller, lambda line: log(f"queue {arguments.queue}: {line}"))
+    queue = Queue(arguments.queue, secrets.token_hex(16), arguments.wait, server, lambda result: unsent.extend(json.dumps(result).encode() + b"\n"), signer)
     os.set_blocking(results, False)
-    is_ended = False
+    poller.watch(jobs, read_jobs)
     while not is_ended:
         signal.alarm(STUCK)
-        if select.select([jobs], [], [], BUSY if unsent or queue.is_busy() else IDLE)[0]:
-            data = os.read(jobs, READ_BYTES)
-            is_ended = not data
-            *lines, unread = (unread + data).split(b"\n")
-            for line in lines:
-                queue.add_line(line)
-        queue.work(time.monotonic())
+        queue.turn()
         write_ready(results, unsent)  # results are written while the monitor reads them; the others wait
-    queue.disconnect()
-
-
-def log(line: str) -> None:
-    print(line, file=sys.stderr, flush=True)
+        poller.wait(BUSY if unsent or server.unsent else IDLE)
+        poller.sleep(TOGETHER)
 
 
 def main() -> int:
@@ -180,14 +148,13 @@ def main() -> int:
     parser.add_argument("--wait", metavar="SECONDS", type=float, default=WAIT, help=f"how long a job may wait for a worker; {WAIT:g} without it")
     parser.add_argument("--key", type=pathlib.Path, metavar="FILE", help="sign jobs with the key of this file, and take only results that are signed with it")
     parser.add_argument("--unsigned", action="store_true", help="neither sign jobs nor want signed results")
-    arguments = parser.parse_args()
     signal.signal(signal.SIGINT, signal.SIG_IGN)
     signal.signal(signal.SIGTERM, signal.SIG_IGN)
     try:
-        run(arguments, sys.stdin.fileno(), sys.stdout.fileno())
-    except MonitorFault as fault:
-        log(f"nagsched-gearman-runner: {fault}")
-        return 1
+        run(parser.parse_args(), Log(2))
     except BrokenPipeError:
         pass  # the monitor has ended
+    except (MonitorFault, OSError) as fault:
+        print(f"nagsched-gearman-runner: {fault}", file=sys.stderr)
+        return 1
     return 0

@@ -8,9 +8,10 @@ import json
 import os
 import pathlib
 import time
-from typing import Any, Callable, Dict, List, Optional, Sequence, Tuple
+from typing import Any, Callable, Dict, Optional, Sequence
 
 from ..faults import MonitorFault
+from .jobs import Job
 
 # The purpose of a message: a result can't be used as a job.
 JOB, RESULT = b"nagsched job\0", b"nagsched result\0"
@@ -20,27 +21,32 @@ SIZE = hashlib.sha256().digest_size * 2
 LONGEST, SKEW = 86_400.0, 60.0
 
 
+class Refusal(ValueError):
+    """Why a message isn't accepted."""
+
+
 class Signer:
     """Signs documents and opens signed ones, with a key; without a key they stay unchanged."""
 
     def __init__(self, key: Optional[bytes]) -> None:
-        self._key = key
-        self.is_signing = key is not None
+        self._key, self.is_signing = key, key is not None
 
     def sign(self, purpose: bytes, document: Dict[str, Any]) -> bytes:
         body = json.dumps(document).encode()
         return body if self._key is None else self._signature(self._key, purpose, body) + b" " + body
 
-    def verified_document(self, purpose: bytes, data: bytes) -> Optional[Dict[str, Any]]:
-        """The document of a message; None if it isn't signed for this purpose with this key, or isn't a document. Nothing in it is used before that."""
+    def verified_document(self, purpose: bytes, data: bytes) -> Dict[str, Any]:
+        """The document of a message, which names a job. Raises `Refusal` if it isn't signed for this purpose. Nothing in it is used before that."""
         body = data if self._key is None else data[SIZE + 1 :]
         if len(data) > MOST_BYTES or self._key is not None and not hmac.compare_digest(data[:SIZE], self._signature(self._key, purpose, body)):
-            return None
+            raise Refusal("it is too long, or isn't signed with this site's key")
         try:
-            document = json.loads(body)
-        except (ValueError, RecursionError):
-            return None
-        return document if isinstance(document, dict) else None
+            document: Dict[str, Any] = json.loads(body)
+            if isinstance(document["job"], str):
+                return document
+        except (ValueError, TypeError, KeyError, RecursionError):
+            pass
+        raise Refusal("it names no job")
 
     @staticmethod
     def _signature(key: bytes, purpose: bytes, body: bytes) -> bytes:
@@ -57,8 +63,7 @@ def read_signer(path: Optional[pathlib.Path], unsigned: bool) -> Signer:
         return Signer(None)
     try:
         with path.open("rb") as file:
-            mode = os.fstat(file.fileno()).st_mode
-            key = file.read(MOST_BYTES).strip()
+            mode, key = os.fstat(file.fileno()).st_mode, file.read(MOST_BYTES).strip()
     except OSError as error:
         raise MonitorFault(f"the key {path}: {error.strerror}") from None
     if mode & 0o077:
@@ -66,10 +71,6 @@ def read_signer(path: Optional[pathlib.Path], unsigned: bool) -> Signer:
     if len(key) < LEAST_KEY:
         raise MonitorFault(f"the key {path}: it has to have {LEAST_KEY} bytes or more")
     return Signer(key)
-
-
-class Refusal(Exception):
-    """Why a job isn't accepted."""
 
 
 class JobPolicy:
@@ -81,8 +82,8 @@ class JobPolicy:
         self._accepted: Dict[str, float] = {}
         self._last_sweep = clock()
 
-    def job_of(self, document: Dict[str, Any]) -> Tuple[List[str], float]:
-        """The command line and the limit of the job that a document describes. Raises `Refusal` if it isn't accepted."""
+    def job_of(self, document: Dict[str, Any]) -> Job:
+        """The job that a document describes. Raises `Refusal` if it isn't accepted."""
         arguments, limit = document.get("words"), number_in(document, "limit")
         if not isinstance(arguments, list) or not arguments or not all(isinstance(word, str) and "\0" not in word for word in arguments):
             raise Refusal("it has no command")
@@ -90,12 +91,12 @@ class JobPolicy:
             raise Refusal("it has no limit")
         if self._signer.is_signing:
             self._accept_once(document)
-        return arguments, limit
+        return Job(document["job"], 0, arguments, limit)
 
     def _accept_once(self, document: Dict[str, Any]) -> None:
-        number, begin, end, now = document.get("job"), number_in(document, "time"), number_in(document, "until"), self._clock()
-        if not isinstance(number, str) or not begin <= end <= begin + LONGEST:
-            raise Refusal("it has no number or no time")
+        number, begin, end, now = document["job"], number_in(document, "time"), number_in(document, "until"), self._clock()
+        if not begin <= end <= begin + LONGEST:
+            raise Refusal("it has no time")
         if document.get("queue") not in self._queues:
             raise Refusal("it is of another queue")
         if not begin - SKEW <= now <= end + SKEW:
