@@ -15,8 +15,7 @@ from nagsched_monitor.scheduler.live_process import Conversation
 from nagsched_monitor.scheduler.protocol import Standing
 from nagsched_monitor.site.site import read_site
 from nagsched_monitor.store.rows import Cell
-from nagsched_monitor.store.store import Store, Write
-from nagsched_monitor.store.writes import drop_documents
+from nagsched_monitor.store.store import Store, Write, delete
 
 from .simulated import BEGIN, PROGRAM, SimulatedClock, SimulatedMonitor
 
@@ -154,7 +153,7 @@ class FaultRun:
         with contextlib.suppress(NotStored):
             for number, document in self.monitor.store.outbox():
                 self.taken.add(document)
-                self.monitor.store.write(drop_documents(number))
+                self.monitor.store.write(delete("outbox", "id <= ?", number))
         return None
 
     # ---- events

@@ -2,8 +2,7 @@
 from typing import Dict, Tuple
 
 from nagsched_monitor.store.counters import BOUNDS, BUCKETS, Counters
-from nagsched_monitor.store.store import Store
-from nagsched_monitor.store.writes import store_figures
+from nagsched_monitor.store.store import Store, store_figures
 
 from .simulated import SimulatedClock, SimulatedMonitor, SiteTest, fine
 

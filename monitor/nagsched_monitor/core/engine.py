@@ -14,8 +14,7 @@ from ..scheduler.protocol import Abandon, Call, Freed, Refused, Report, Reschedu
 from ..scheduler.scheduling import ObjectAnswer, Scheduling
 from ..site.site import Site
 from ..store.counters import Counters
-from ..store.store import Store
-from ..store.writes import drop_result, store_figures
+from ..store.store import Store, delete, store_figures
 from .checks import Checks
 from .clock import Clock
 from .object_state import ObjectState
@@ -231,6 +230,6 @@ class Engine:
         for name in sorted({result.name for result in gone}):
             self._log(f"{name}: its passive results are dropped, since it isn't part of the site any more")
         try:
-            self.store.write(*(drop_result(result.id) for result in gone))
+            self.store.write(*(delete("passive", "id = ?", result.id) for result in gone))
         except NotStored as fault:
             self._log(f"results of objects that are gone stay stored: {fault}")

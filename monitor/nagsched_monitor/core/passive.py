@@ -6,7 +6,7 @@ from typing import Container, Deque, Dict, Iterable, Iterator, List
 from ..scheduler.protocol import Report, Take
 from ..scheduler.scheduling import Scheduling
 from ..store.rows import StoredResult
-from ..store.writes import drop_result
+from ..store.store import delete
 from .mirroring import forced_take
 from .object_state import ObjectState
 from .plan import Plan
@@ -62,7 +62,7 @@ class PassiveResults:
                 continue
             result = self._results[name][0]
             plan.calls += self._scheduling.mirrors.report_calls(part, Report(name, run.number, result.code), result.words, now)
-            plan.writes.append(drop_result(result.id))
+            plan.writes.append(delete("passive", "id = ?", result.id))
             plan.then.append(partial(self._remove_first, result))
             if len(self._results[name]) > 1:
                 plan.calls += forced_take(part, name, RESULT_FIRST, now)

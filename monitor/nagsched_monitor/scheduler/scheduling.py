@@ -14,8 +14,7 @@ from ..site.json_files import members_by_name
 from ..site.site import Site
 from ..store.rows import Generation, StoredCall, StoredChange
 from ..store.status_table import StandingTable
-from ..store.store import Store, Write
-from ..store.writes import begin_generation, end_generation, save_generation, store_calls, store_change
+from ..store.store import Store, Write, begin_generations, save_generation, store_calls, store_change
 from . import migration
 from .live_process import GRACE, Conversation
 from .protocol import Answer, Call, Report, Standing, Status, call_line, object_name, read_call
@@ -153,8 +152,7 @@ class Scheduling:
             if part in others else self.parts[part].generation._replace(saved=states[part], last_call=last_call)
             for part, setup in enumerate(site.setups)
         }
-        gone = [part for part in self.parts if part not in generations]
-        self._write(*map(end_generation, gone), *map(begin_generation, generations.values()))
+        self._write(begin_generations(generations.values()))
         self.mirrors = self.mirrors.change_site(site.mirrors, others)
         self._open_parts(generations, others)
         return changed

@@ -12,8 +12,7 @@ from ..core.phases import FIRST_TIME
 from ..core.run_table import Run
 from ..scheduler.protocol import Answer, Call, Report, Standing, Taken
 from .rows import StateHistory, StoredStanding
-from .store import Store, Write
-from .writes import drop_standings, store_standings
+from .store import Store, Write, delete, store_standings
 
 # In milliseconds: how long a marked object waits for more answers, and the time after which it is written without other calls.
 SHORTEST = 500
@@ -76,7 +75,8 @@ class StandingTable:
         now, wall = self._clock.moment(), self._clock.wall()
         due = itertools.takewhile(lambda marked: now - marked[1] >= SHORTEST, self._marked.values())
         self._chosen = [obj for obj, since in due if now - since >= LONGEST or not has_just_begun(obj.run, wall)]
-        return [drop_standings(self._dropped), store_standings([row_of(obj, wall, now / 1000 - wall) for obj in self._chosen])]
+        gone = [delete("standings", "name = ?", name) for name in self._dropped]
+        return [*gone, store_standings([row_of(obj, wall, now / 1000 - wall) for obj in self._chosen])]
 
     def clear_marks(self) -> None:
         """The last writes were carried out."""
