@@ -1,9 +1,7 @@
 """A site with all kinds of events, and one fault at one moment of it. Certain facts hold afterwards, at any moment of the fault."""
 import contextlib
 import json
-import os
 import pathlib
-import signal
 from typing import Any, Callable, Dict, List, Optional, Sequence, Set, Tuple
 
 from nagsched_monitor.core.phases import TOLERANCE
@@ -137,7 +135,7 @@ class FaultRun:
             def begin(self, lines: Sequence[str]) -> None:
                 faulty.exchanges += 1
                 if faulty.exchanges == faulty.ends:
-                    os.kill(self.process_id(), signal.SIGKILL)
+                    self._process.kill()
                 super().begin(lines)
 
         def begun(*words: Any) -> Conversation:
@@ -192,16 +190,14 @@ class FaultRun:
 
     def _restart(self) -> None:
         """The monitor was killed, and its runners and schedulers with it."""
-        for process in self.monitor.scheduling.process_ids():
-            os.kill(process, signal.SIGKILL)
+        self.monitor.kill_schedulers()
         self.monitor.close()
         self.clock.now += 2_000
         self.monitor = self._start_monitor()
         self.quiet_from = max(END, self._now())
 
     def _kill(self) -> bool:
-        for process in self.monitor.scheduling.process_ids():
-            os.kill(process, signal.SIGKILL)
+        self.monitor.kill_schedulers()
         return True
 
     def _ask(self, request: Dict[str, Any]) -> bool:

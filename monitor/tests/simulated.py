@@ -159,6 +159,11 @@ class SimulatedMonitor:
         while self.clock.now < end and self.loop.status is None:
             self.loop.run_turn()
 
+    def kill_schedulers(self) -> None:
+        for part in self.scheduling.parts.values():
+            if part.conversation is not None:
+                part.conversation._process.kill()
+
     def pause(self, seconds: float) -> None:
         """Nothing runs for this time, as when a machine sleeps."""
         self.clock.now += round(seconds * 1000)

@@ -21,7 +21,7 @@ from .object_state import ObjectState
 from .passive import PassiveResults
 from .plan import Plan
 from .plugin_runs import MARGIN, PluginRuns
-from .run_table import Owner, Run
+from .run_table import Owner
 
 # The longest time between two turns that isn't a pause, in milliseconds.
 PAUSE = 10_000
@@ -148,9 +148,9 @@ class Engine:
     # ---- answers
 
     def _apply(self, object_answer: ObjectAnswer) -> None:
-        call, answer, obj, before, run = object_answer
+        call, answer, obj, before = object_answer
         if isinstance(answer, Refused):
-            self._apply_refusal(call, answer, obj, run)
+            self._apply_refusal(call, answer, obj)
         elif obj is None:
             return
         elif isinstance(answer, Taken):
@@ -162,15 +162,15 @@ class Engine:
             obj.last_result = self._now
             self.checks.apply_result(obj, before, answer, self._now)
 
-    def _apply_refusal(self, call: Call, answer: Refused, obj: Optional[ObjectState], run: Optional[Run]) -> None:
+    def _apply_refusal(self, call: Call, answer: Refused, obj: Optional[ObjectState]) -> None:
         if obj is None or not isinstance(call, (Report, Abandon)):
             about = "" if obj is None else f"{obj.name}: "
             self._log(f"{about}{call_line(call)} was refused: {answer.why}")
             return
         self._log(f"{obj.name}: the result of run {call.run} came too late ({answer.why})")
         self.counters.count_result("refused")
-        if run is not None and run.number == call.run:
-            run.owner, run.retry_at = Owner.NOBODY, self._now + AFTER_REFUSAL
+        if obj.run is not None and obj.run.number == call.run:
+            obj.run.owner, obj.run.retry_at = Owner.NOBODY, self._now + AFTER_REFUSAL
 
     def _apply_take(self, obj: ObjectState) -> None:
         """Gives a run its owner: the passive result that waits, the plugin that still runs, or a new one."""

@@ -157,13 +157,13 @@ class ObjectStates:
             if number is None:
                 self.running.pop(obj.key, None)
             elif run is None or run.number != number:
-                self.running.begin(Run(obj.key, number))
+                self.running[obj.key] = Run(obj.key, number)
             self.due.set_time(obj.name, obj.due_time())
         return others
 
     def apply_answer(self, obj: ObjectState, call: Call, answer: Answer) -> None:
         if isinstance(answer, Taken):
-            self.running.begin(Run(obj.key, answer.run, forced=obj.forced))
+            self.running[obj.key] = Run(obj.key, answer.run, forced=obj.forced)
             obj.last_due, obj.next, obj.forced = obj.next, None, False
         elif isinstance(answer, PutOff):
             obj.next = answer.next

@@ -77,9 +77,6 @@ class Conversation:
             raise ConversationEnded(f"the scheduler answered {word} {state} to a save")
         return state.encode()
 
-    def process_id(self) -> int:
-        return self._process.pid
-
     def close(self, grace: float = GRACE) -> None:
         """Ends the scheduler's process, and kills it if it hasn't ended after a number of seconds."""
         for pipe in (self._process.stdin, self._process.stdout):

@@ -8,7 +8,7 @@ from ..core.clock import Clock
 from ..core.mirroring import Mirrors, PlannedCall
 from ..core.object_state import ObjectState, ObjectStates
 from ..core.phases import FIRST_TIME
-from ..core.run_table import ObjectKey, Run
+from ..core.run_table import ObjectKey
 from ..faults import ConversationEnded, NotStored
 from ..site.json_files import members_by_name
 from ..site.site import Site
@@ -22,13 +22,12 @@ from .schedulers import ConversationFactory, PartScheduler
 
 
 class ObjectAnswer(NamedTuple):
-    """An answer with the object that it is about, its state before, and the run that it had then."""
+    """An answer with the object that it is about, and the standing that the object had before."""
 
     call: Call
     answer: Answer
     object: Optional[ObjectState]
     before: Optional[Standing]
-    run: Optional[Run]
 
 
 class Scheduling:
@@ -212,7 +211,7 @@ class Scheduling:
     def _apply_answer(self, stored: StoredCall, call: Call, answer: Answer, is_again: bool) -> ObjectAnswer:
         obj = self.states.objects.get(object_name(call, answer))
         if obj is None:
-            return ObjectAnswer(call, answer, None, None, None)
+            return ObjectAnswer(call, answer, None, None)
         before, run = obj.standing, obj.run
         self.states.apply_answer(obj, call, answer)
         if isinstance(call, Report) and isinstance(answer, Standing):
@@ -220,7 +219,7 @@ class Scheduling:
             self._note_change(stored.id, obj, before, answer)
         if not is_again:
             self._standings.apply_answer(obj, call, answer, run)
-        return ObjectAnswer(call, answer, obj, before, run)
+        return ObjectAnswer(call, answer, obj, before)
 
     def _note_change(self, number: int, obj: ObjectState, before: Optional[Standing], answer: Standing) -> None:
         if number in self._stored_changes or not changes.is_change(before, answer):
@@ -255,9 +254,6 @@ class Scheduling:
     def longest_unsaved(self) -> int:
         """The part whose saved state is the oldest, among those that can be saved now if there are any."""
         return min(self.parts, key=lambda number: (not self.is_open(number), self.parts[number].generation.last_call))
-
-    def process_ids(self) -> List[int]:
-        return [part.conversation.process_id() for part in self.parts.values() if part.conversation is not None]
 
     def close(self) -> None:
         for part in self.parts.values():
