@@ -8,7 +8,6 @@ from typing import Counter, Dict, List, Optional, Tuple
 from unittest import mock
 
 from nagsched_monitor.outputs import page
-
 from nagsched_monitor.outputs import style
 from nagsched_monitor.outputs.status_query import LONGEST_WORDS, SiteStatus, read_site_status
 from nagsched_monitor.store.rows import StoredChange

@@ -2,7 +2,7 @@
 import sqlite3
 from typing import List
 
-from nagsched_monitor.faults import DamagedRow, MonitorFault, NotStored
+from nagsched_monitor.faults import MonitorFault, NotStored
 from nagsched_monitor.store.rows import FOR_PEOPLE, TABLES, VERSION, Generation, StoredChange, StoredStanding, checksum_of
 from nagsched_monitor.store.store import (
     Store, begin_generations, delete, drop_changes_before, insert, store_calls, store_change, store_figures, store_request, store_standings,
@@ -76,7 +76,7 @@ class Database(SiteTest):
     def assert_found(self, table: str) -> None:
         lines: List[str] = []
         if table not in FOR_PEOPLE:
-            with self.assertRaisesRegex(DamagedRow, rf"row \d+ of {table} "):
+            with self.assertRaisesRegex(MonitorFault, rf"row \d+ of {table} "):
                 Store(self.folder)
             return
         Store(self.folder, lines.append).close()
@@ -136,7 +136,7 @@ class Database(SiteTest):
         store.close()
         with sqlite3.connect(self.folder / "monitor.db") as database:
             database.execute("DELETE FROM calls WHERE id = 2")
-        with self.assertRaisesRegex(DamagedRow, "1 rows of calls are missing"):
+        with self.assertRaisesRegex(MonitorFault, "1 rows of calls are missing"):
             Store(self.folder)
 
     def test_another_monitor(self) -> None:

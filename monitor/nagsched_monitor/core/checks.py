@@ -6,12 +6,11 @@ from typing import Callable, Dict, List, Mapping, Optional, Sequence, Tuple
 from ..scheduler.protocol import Enable, Reschedule, Standing, Take
 from ..scheduler.scheduling import Scheduling
 from ..site.site import ObjectDefinition
-from . import phases
 from .clock import Clock
 from .object_state import ObjectState
 from .passive import PassiveResults
 from .plan import Plan
-from .phases import HOST_FIRST, RESULT_FIRST, WINDOW
+from .phases import HOST_FIRST, RESULT_FIRST, WINDOW, time_back_in_phase
 
 UP_STATES = ("PENDING", "OK", "UP")
 
@@ -133,7 +132,7 @@ class Checks:
         elif obj.operator_check is not None and obj.operator_check[0] > now:
             self.plan_check(obj, *obj.operator_check)
         elif obj.on and not (standing.is_problem() and standing.kind == "SOFT"):
-            time = phases.time_back_in_phase(obj.phase, obj.definition.check_interval, standing.next, now)
+            time = time_back_in_phase(obj.phase, obj.definition.check_interval, standing.next, now)
             if time is not None:
                 self.plan_check(obj, time, obj.forced)
         for host in hosts_to_check(obj, before, standing, self._objects, self._scheduling.site.children.get(obj.name, ())):

@@ -14,7 +14,7 @@ from ..scheduler.protocol import Abandon, Call, Freed, Refused, Report, Reschedu
 from ..scheduler.scheduling import ObjectAnswer, Scheduling
 from ..site.site import Site
 from ..store.counters import Counters
-from ..store.store import Store, delete, store_figures
+from ..store.store import Store, store_figures
 from .checks import Checks
 from .clock import Clock
 from .object_state import ObjectState
@@ -43,7 +43,7 @@ class Engine:
         self._now = clock.moment()
         figures = store.figures()
         self.counters = Counters(figures, clock)
-        self.passive = PassiveResults(store.waiting_results(), scheduling)
+        self.passive = PassiveResults(store, scheduling, log)
         self.checks = Checks(scheduling, self.passive, store.switches(), clock, log)
         self.plugins = PluginRuns(scheduling, runners, clock, log, self.counters)
         self.requests = Requests(self, clock)
@@ -55,7 +55,6 @@ class Engine:
         self._last_turn: Optional[int] = None
         self._schedule_save()
         self.is_stuck = False
-        self._drop_results()
         self._await_results(min(clock.wall(), figures.get("written_at", 0.0)))
 
     def _await_results(self, until: float) -> None:
@@ -219,17 +218,5 @@ class Engine:
         """Takes over another site; running checks continue. If it is refused, nothing has changed. Returns the changes of objects that stay."""
         changed = self.scheduling.reload(site)
         self.checks.recheck_periods()
-        self._drop_results()
+        self.passive.drop_others()
         return changed
-
-    def _drop_results(self) -> None:
-        """Drops the passive results of objects that aren't part of the site."""
-        gone = self.passive.drop_others(self.objects)
-        if not gone:
-            return
-        for name in sorted({result.name for result in gone}):
-            self._log(f"{name}: its passive results are dropped, since it isn't part of the site any more")
-        try:
-            self.store.write(*(delete("passive", "id = ?", result.id) for result in gone))
-        except NotStored as fault:
-            self._log(f"results of objects that are gone stay stored: {fault}")

@@ -2,14 +2,13 @@
 import json
 from typing import AbstractSet, Callable, Dict, List, Mapping, NamedTuple, Optional, Sequence
 
-from ..outputs import changes
-
 from ..core.clock import Clock
 from ..core.mirroring import Mirrors, PlannedCall
 from ..core.object_state import ObjectState, ObjectStates
 from ..core.phases import FIRST_TIME
 from ..core.run_table import ObjectKey
 from ..faults import ConversationEnded, NotStored
+from ..outputs import changes
 from ..site.json_files import members_by_name
 from ..site.site import Site
 from ..store.rows import Generation, StoredCall, StoredChange

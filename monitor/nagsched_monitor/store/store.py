@@ -23,7 +23,7 @@ import pathlib
 import sqlite3
 from typing import Any, Callable, Dict, Iterable, List, Mapping, Optional, Sequence, Set, Tuple
 
-from ..faults import DamagedRow, MonitorFault, NotStored
+from ..faults import MonitorFault, NotStored
 from ..scheduler.protocol import GREATEST
 from .rows import (
     FOR_PEOPLE, INDEXES, INSERTS, TABLES, VERSION, Cell, Generation, StateHistory, StoredCall, StoredChange, StoredResult, StoredStanding,
@@ -95,7 +95,7 @@ class Store:
                 self._sound_rows(table, self._database.execute(f"SELECT * FROM {table} ORDER BY id").fetchall())
         first, last, count = self._database.execute("SELECT min(id), max(id), count(*) FROM calls").fetchone()
         if count and last - first + 1 != count:
-            raise DamagedRow(f"{self.path}: {last - first + 1 - count} rows of calls are missing")
+            raise MonitorFault(f"{self.path}: {last - first + 1 - count} rows of calls are missing")
 
     def _sound_rows(self, table: str, rows: Sequence[Sequence[Cell]]) -> List[Sequence[Cell]]:
         """Those of these rows that are as they were written, without their checksums. Other rows are a fault, or are set aside if only people read them."""
@@ -106,7 +106,7 @@ class Store:
                 sound.append(row[:-1])
                 continue
             if table not in FOR_PEOPLE:
-                raise DamagedRow(f"{self.path}: row {number!r} of {table} was changed since it was written")
+                raise MonitorFault(f"{self.path}: row {number!r} of {table} was changed since it was written")
             self._log(f"row {number!r} of {table} was changed since it was written: it is in the table damaged now")
             with contextlib.suppress(sqlite3.Error):
                 insert("damaged", None, table, ascii(row))(self)
