@@ -103,7 +103,9 @@ class Scheduling:
         calls = [Status(name) for name in names if name in self.states.objects and self.states.objects[name].standing is None]
         if calls:
             for call, answer in zip(calls, self.parts[part].query(calls)):
-                self.states.apply_answer(self.states.objects[call.name], call, answer)
+                obj = self.states.objects[call.name]
+                self.states.apply_answer(obj, call, answer)
+                self._standings.apply_answer(obj, call, answer, None)
 
     def reload(self, site: Site) -> List[str]:
         """Takes over another site; if it is refused, nothing has changed. Returns the changes of objects that stay, a line each."""

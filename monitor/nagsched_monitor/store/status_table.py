@@ -36,7 +36,7 @@ class StandingTable:
                 obj.output, obj.phase, obj.history = row.words, row.phase, history_of(row)
 
     def settle(self, objects: Mapping[str, ObjectState]) -> None:
-        """The states of all objects are known now, and are written. If the table had another state, the stored changes show when the new one began."""
+        """Has all objects whose states are known written. If the table had another state, the stored changes show when the new one began."""
         self._dropped = [row.name for row in self._store.standings() if row.name not in objects]
         for obj in objects.values():
             standing, past = obj.standing, obj.history
@@ -46,7 +46,7 @@ class StandingTable:
             past.note(standing.state, standing.kind, stored.since if stored.since and stored.state == standing.state else self._clock.wall())
             if stored.hard_since is not None and stored.hard_state == past.hard_state:
                 past.hard_since = stored.hard_since
-        self._marked = {name: (obj, 0) for name, obj in objects.items()}
+        self._marked = {name: (obj, 0) for name, obj in objects.items() if obj.standing is not None}
 
     def apply_answer(self, obj: ObjectState, call: Call, answer: Answer, ended: Optional[Run]) -> None:
         """Takes in the changes of an object from an answer, and marks the object. `ended` is its run before."""
