@@ -4,7 +4,7 @@ import json
 import pathlib
 from typing import Any, Callable, Dict, List, Optional, Sequence, Set, Tuple
 
-from nagsched_monitor.core.phases import TOLERANCE
+from nagsched_monitor.core.checks import TOLERANCE
 from nagsched_monitor.core.run_table import Owner
 from nagsched_monitor.faults import ConversationEnded, NotStored
 from nagsched_monitor.inputs.requests import Request

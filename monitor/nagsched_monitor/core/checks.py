@@ -7,11 +7,14 @@ from ..scheduler.protocol import Enable, Reschedule, Standing, Take
 from ..scheduler.scheduling import Scheduling
 from ..site.site import ObjectDefinition
 from .clock import Clock
-from .object_state import ObjectState
+from .object_state import HOST_FIRST, RESULT_FIRST, ObjectState
 from .passive import PassiveResults
 from .plan import Plan
-from .phases import HOST_FIRST, RESULT_FIRST, WINDOW, time_back_in_phase
 
+# The time within which overdue checks are made, in milliseconds, unless their interval is shorter.
+WINDOW = 15_000
+# The greatest difference from the phase that a next check may keep, in milliseconds.
+TOLERANCE = 250
 UP_STATES = ("PENDING", "OK", "UP")
 
 
@@ -141,6 +144,19 @@ class Checks:
             is_fresh = host.last_result is not None and now - host.last_result < horizon
             if not is_fresh and host.run is None and host.on and host.next not in (HOST_FIRST, RESULT_FIRST):
                 self.plan_check(host, HOST_FIRST, host.forced)
+
+
+def next_in_phase(phase: int, interval: int, now: int) -> int:
+    """The first moment after now that lies whole intervals from the phase."""
+    return phase + ((now - phase) // interval + 1) * interval
+
+
+def time_back_in_phase(phase: Optional[int], interval: int, next_check: Optional[int], now: int) -> Optional[int]:
+    """The time to which a next check has to be moved so that it is in phase; None if it is, or the object has no phase."""
+    if phase is None or interval == 0 or next_check is None:
+        return None
+    off = (next_check - phase) % interval
+    return next_in_phase(phase, interval, now) if min(off, interval - off) > TOLERANCE else None
 
 
 def state_of(standing: Optional[Standing]) -> str:

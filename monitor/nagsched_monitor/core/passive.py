@@ -9,9 +9,8 @@ from ..scheduler.scheduling import Scheduling
 from ..store.rows import StoredResult
 from ..store.store import Store, delete
 from .mirroring import forced_take
-from .object_state import ObjectState
+from .object_state import RESULT_FIRST, ObjectState
 from .plan import Plan
-from .phases import RESULT_FIRST
 from .run_table import Owner
 
 # The greatest number of results that may wait.

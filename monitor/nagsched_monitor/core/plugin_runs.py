@@ -10,9 +10,8 @@ from ..site.command_lines import Command
 from ..store.counters import Counters
 from .clock import Clock
 from .mirroring import PlannedCall
-from .object_state import ObjectState
+from .object_state import FIRST_TIME, ObjectState
 from .plan import Plan
-from .phases import FIRST_TIME
 from .run_table import Owner, Run
 from .text import plain_text
 

@@ -17,11 +17,10 @@ from functools import partial
 from typing import TYPE_CHECKING, Any, Callable, Dict, List, Mapping, Optional, Sequence, Set, Tuple
 
 from ..core.clock import LAST_TIME, Clock
-from ..core.object_state import ObjectState
+from ..core.object_state import FIRST_TIME, ObjectState
 from ..core.mirroring import PlannedCall
 from ..core.passive import MOST_WAITING
 from ..core.plan import Plan
-from ..core.phases import FIRST_TIME
 from ..core.text import MOST_OUTPUT_BYTES, plain_text
 from ..faults import AskAgain, ConversationEnded, MonitorFault, NotStored, RequestFault
 from ..scheduler.protocol import Enable, Reschedule

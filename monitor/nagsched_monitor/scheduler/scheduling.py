@@ -4,8 +4,7 @@ from typing import AbstractSet, Callable, Dict, List, Mapping, NamedTuple, Optio
 
 from ..core.clock import Clock
 from ..core.mirroring import Mirrors, PlannedCall
-from ..core.object_state import ObjectState, ObjectStates
-from ..core.phases import FIRST_TIME
+from ..core.object_state import FIRST_TIME, ObjectState, ObjectStates
 from ..core.run_table import ObjectKey
 from ..faults import ConversationEnded, NotStored
 from ..outputs import changes

@@ -7,8 +7,7 @@ import itertools
 from typing import Dict, List, Mapping, Optional, Tuple
 
 from ..core.clock import Clock
-from ..core.object_state import ObjectState
-from ..core.phases import FIRST_TIME
+from ..core.object_state import FIRST_TIME, ObjectState
 from ..core.run_table import Run
 from ..scheduler.protocol import Answer, Call, Report, Standing, Taken
 from .rows import StateHistory, StoredStanding
