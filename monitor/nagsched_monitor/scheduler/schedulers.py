@@ -141,7 +141,7 @@ class PartScheduler:
             raise ConversationEnded(self.trouble or f"the scheduler of part {self.generation.part + 1} hasn't answered all calls")
         return self._run_query(lambda conversation: conversation.save())
 
-    def close_conversation(self, grace: float = 0.0) -> None:
+    def close_conversation(self, is_killed: bool = True) -> None:
         if self.conversation is not None:
-            self.conversation.close(grace)
+            self.conversation.close(is_killed)
         self.conversation, self._sent = None, []

@@ -14,7 +14,7 @@ from ..store.rows import Generation, StoredCall, StoredChange
 from ..store.status_table import StandingTable
 from ..store.store import Store, Write, begin_generations, save_generation, store_calls, store_change
 from . import migration
-from .live_process import GRACE, Conversation
+from .live_process import Conversation
 from .protocol import Answer, Call, Report, Standing, Status, call_line, object_name, read_call
 from .schedulers import ConversationFactory, PartScheduler
 
@@ -257,4 +257,4 @@ class Scheduling:
 
     def close(self) -> None:
         for part in self.parts.values():
-            part.close_conversation(GRACE)
+            part.close_conversation(is_killed=False)

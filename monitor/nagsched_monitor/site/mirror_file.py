@@ -62,12 +62,10 @@ def test_mirror(name: str, part: Part, home: Any, parts: Mapping[str, Part], doc
     is_never_checked = all(here.get(member) == value for member, value in NEVER.items())
     require(is_never_checked, f'{place}: a mirror has "enabled":false, "check_interval":0 and "retry_interval":0')
     has_same_masters = name not in part.inherited_masters or part.dependencies.get(name) == parts[home].dependencies.get(name)
-    for is_same, what in (
-        (here["max_check_attempts"] == there["max_check_attempts"], "max_check_attempts"),
-        (set(here.get("parents", ())) == set(there.get("parents", ())), "parents"),
-        (has_same_masters, "dependencies, which count here for those that depend on it,"),
-    ):
-        require(is_same, f"{place}: {what} aren't those of its original in {home}.json")
+    differ = f"aren't those of its original in {home}.json"
+    require(here["max_check_attempts"] == there["max_check_attempts"], f"{place}: max_check_attempts {differ}")
+    require(set(here.get("parents", ())) == set(there.get("parents", ())), f"{place}: parents {differ}")
+    require(has_same_masters, f"{place}: dependencies, which count here for those that depend on it, {differ}")
 
 
 def test_options(part: Part, homes: Sequence[Part]) -> None:
