@@ -55,12 +55,10 @@ class Engine:
         self._last_turn: Optional[int] = None
         self._schedule_save()
         self.is_stuck = False
-        self._await_results(min(clock.wall(), figures.get("written_at", 0.0)))
-
-    def _await_results(self, until: float) -> None:
-        """Awaits the result of each object since its last one, without the time in which no monitor ran. If it had none, since its part began."""
+        # A result of each object is awaited since its last one, without the time in which no monitor ran. If it had none, since its part began.
+        until = min(clock.wall(), figures.get("written_at", 0.0))
         for obj in self.objects.values():
-            start, last = self.scheduling.parts[obj.definition.part].generation.start, obj.history.last_check
+            start, last = scheduling.parts[obj.definition.part].generation.start, obj.history.last_check
             obj.awaited_since = start if last is None else self._now - round(max(0.0, until - last) * 1000)
 
     # ---- a turn

@@ -18,8 +18,7 @@ RENEW_EVERY = 15
 COLUMNS = ("State", "Object", "Attempt", "Since", "Next check", "Last words")
 # The picture of a day: the heights of hard and soft states and of unknown ones, and the place of their lower edge.
 HIGH, LOW, THIN, BOTTOM = 44, 24, 6, 52
-# The colours are those of Okabe and Ito, which colour-blind people can distinguish. Hard problems are filled, soft ones have a dashed edge, and each has a
-# word.
+# The colours are those of Okabe and Ito, which colour-blind people can distinguish. Hard problems are filled, and soft ones have a dashed edge.
 STYLE = """
 :root{color-scheme:light dark;--back:#fff;--text:#16181d;--faint:#59606e;--line:#d5d8df;--card:#f3f4f7;--link:#0a4f9c;--grey:#6b7280}
 @media(prefers-color-scheme:dark){:root{--back:#14161a;--text:#e7e9ed;--faint:#a0a7b5;--line:#353b46;--card:#1e2127;--link:#8dbaf2;--grey:#6b7280}}

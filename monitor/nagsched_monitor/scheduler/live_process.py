@@ -9,8 +9,7 @@ from ..faults import ConversationEnded
 from ..run.runner_program import end_process
 
 READ_BYTES = 65_536
-# In seconds: how long a scheduler may be silent while an answer is due. First for the first answer, which comes after the setup and the saved state were
-# read, then for any other answer.
+# How long a scheduler may be silent while an answer is due, in seconds: for the first, which follows the setup and the saved state, and for any other.
 OPENING, SILENCE = 30.0, 15.0
 # The most lines that are sent together.
 AT_ONCE = 4_096

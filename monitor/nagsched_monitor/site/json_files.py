@@ -66,9 +66,8 @@ def members_of(value: object, place: str, known: Optional[Sequence[str]] = None)
     return value
 
 
-def read_by_name(
-    folder: pathlib.Path, file: str, known: Sequence[str], objects: Optional[Container[str]], required: bool = False,
-) -> Iterator[Tuple[str, str, Dict[str, Any]]]:
+def read_by_name(folder: pathlib.Path, file: str, known: Sequence[str], objects: Optional[Container[str]],
+                 required: bool = False) -> Iterator[Tuple[str, str, Dict[str, Any]]]:
     """Each name in a file, its place in messages, and its members. With `objects`, a name that isn't one of them is a fault."""
     for name, members in read_object(folder, file, required=required).items():
         place = f"{file}: {name}"

@@ -192,8 +192,7 @@ class Store:
             raise NotStored(f"{self.path}: {error}") from None
 
     def insert_all(self, table: str, rows: Sequence[Tuple[int, Sequence[Cell]]]) -> None:
-        if rows:
-            self._database.executemany(INSERTS[table], [(number, *cells, checksum_of(table, number, cells)) for number, cells in rows])
+        self._database.executemany(INSERTS[table], [(number, *cells, checksum_of(table, number, cells)) for number, cells in rows])
 
 
 def lock_site(folder: pathlib.Path) -> int:
