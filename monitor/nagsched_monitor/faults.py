@@ -9,10 +9,6 @@ class SiteFault(MonitorFault):
     """A file of the site is wrong. The text names the file, the place and the reason."""
 
 
-class DamagedRow(MonitorFault):
-    """A row of the database was changed since it was written."""
-
-
 class ConversationEnded(MonitorFault):
     """The scheduler's process can't be started, has ended, gave no answer in time, or gave an answer that no scheduler gives."""
 

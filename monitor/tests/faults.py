@@ -1,12 +1,11 @@
 """A site with all kinds of events, and one fault at one moment of it. Certain facts hold afterwards, at any moment of the fault."""
 import contextlib
 import json
-import os
 import pathlib
 import signal
 from typing import Any, Callable, Dict, List, Mapping, Optional, Sequence, Set, Tuple
 
-from nagsched_monitor.core.phases import TOLERANCE
+from nagsched_monitor.core.checks import TOLERANCE
 from nagsched_monitor.core.run_table import Owner
 from nagsched_monitor.faults import ConversationEnded, NotStored
 from nagsched_monitor.inputs.requests import Request
@@ -15,8 +14,7 @@ from nagsched_monitor.scheduler.live_process import Conversation
 from nagsched_monitor.scheduler.protocol import Standing
 from nagsched_monitor.site.site import read_site
 from nagsched_monitor.store.rows import Cell
-from nagsched_monitor.store.store import Store, Write
-from nagsched_monitor.store.writes import drop_documents
+from nagsched_monitor.store.store import Store, Write, delete
 
 from .simulated import BEGIN, PROGRAM, SimulatedClock, SimulatedMonitor
 
@@ -138,7 +136,7 @@ class FaultRun:
             def begin(self, lines: Sequence[str]) -> None:
                 faulty.exchanges += 1
                 if faulty.exchanges == faulty.ends:
-                    os.kill(self.process_id(), signal.SIGKILL)
+                    self._process.kill()
                 super().begin(lines)
 
         def begun(*words: Any) -> Conversation:
@@ -154,7 +152,7 @@ class FaultRun:
         with contextlib.suppress(NotStored):
             for number, document in self.monitor.store.outbox():
                 self.taken.add(document)
-                self.monitor.store.write(drop_documents(number))
+                self.monitor.store.write(delete("outbox", "id <= ?", number))
         return None
 
     # ---- events
@@ -193,16 +191,14 @@ class FaultRun:
 
     def _restart(self) -> None:
         """The monitor was killed, and its runners and schedulers with it."""
-        for process in self.monitor.scheduling.process_ids():
-            os.kill(process, signal.SIGKILL)
+        self.monitor.kill_schedulers()
         self.monitor.close()
         self.clock.now += 2_000
         self.monitor = self._start_monitor()
         self.quiet_from = max(END, self._now())
 
     def _kill(self) -> bool:
-        for process in self.monitor.scheduling.process_ids():
-            os.kill(process, signal.SIGKILL)
+        self.monitor.kill_schedulers()
         return True
 
     def _ask(self, request: Dict[str, Any]) -> bool:

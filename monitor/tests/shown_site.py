@@ -7,8 +7,7 @@ from typing import Any, Dict, List, Optional, Tuple
 
 from nagsched_monitor.outputs.page import Server, SiteFolder
 from nagsched_monitor.store.rows import StoredChange, StoredStanding
-from nagsched_monitor.store.store import Store
-from nagsched_monitor.store.writes import drop_standings, store_change, store_figures, store_standings
+from nagsched_monitor.store.store import Store, delete, store_change, store_figures, store_standings
 
 from .simulated import SiteTest
 
@@ -28,7 +27,7 @@ def fill_database(folder: pathlib.Path, standings: List[Dict[str, Any]], figures
     """A database with these objects."""
     store = Store(folder)
     store.write(
-        drop_standings([kept.name for kept in store.standings()]),
+        delete("standings", "TRUE"),
         store_standings([StoredStanding(**it) for it in standings]),
         store_figures({"written_at": time.time(), **(figures or {})}),
         *(store_change(change, None) for change in changes),

@@ -20,8 +20,7 @@ from nagsched_monitor.scheduler.schedulers import ConversationFactory
 from nagsched_monitor.scheduler.scheduling import Scheduling
 from nagsched_monitor.site.site import Site, read_site
 from nagsched_monitor.store.rows import StoredChange, StoredResult
-from nagsched_monitor.store.store import Store
-from nagsched_monitor.store.writes import store_result
+from nagsched_monitor.store.store import Store, insert
 
 PROGRAM = os.environ.get("NAGSCHED", "nagsched")
 # 2026-11-27 08:00:00, in UTC.
@@ -159,6 +158,11 @@ class SimulatedMonitor:
         while self.clock.now < end and self.loop.status is None:
             self.loop.run_turn()
 
+    def kill_schedulers(self) -> None:
+        for part in self.scheduling.parts.values():
+            if part.conversation is not None:
+                part.conversation._process.kill()
+
     def pause(self, seconds: float) -> None:
         """Nothing runs for this time, as when a machine sleeps."""
         self.clock.now += round(seconds * 1000)
@@ -179,8 +183,9 @@ class SimulatedMonitor:
     def add_result(self, name: str, code: int, words: str) -> None:
         """A passive result, which is stored."""
         self.store.last_result += 1
-        self.store.write(store_result(name, code, words, self.store.last_result))
-        self.engine.passive.add(StoredResult(self.store.last_result, name, code, words))
+        result = StoredResult(self.store.last_result, name, code, words)
+        self.store.write(insert("passive", *result))
+        self.engine.passive.add(result)
 
     def objects_with_plugins(self) -> Set[str]:
         """The objects whose plugins run."""

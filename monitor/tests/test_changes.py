@@ -14,8 +14,7 @@ from nagsched_monitor.outputs import changes
 from nagsched_monitor.outputs.changes import MOST_AGE, PAUSE, Notifier, change_document, change_line, is_change, is_important
 from nagsched_monitor.scheduler.protocol import Standing
 from nagsched_monitor.store.rows import StoredChange
-from nagsched_monitor.store.store import Store
-from nagsched_monitor.store.writes import store_change
+from nagsched_monitor.store.store import Store, store_change
 
 from .simulated import SiteTest
 from .waiting import LONG, becomes_true

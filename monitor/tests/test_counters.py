@@ -2,8 +2,7 @@
 from typing import Dict, Tuple
 
 from nagsched_monitor.store.counters import BOUNDS, BUCKETS, Counters
-from nagsched_monitor.store.store import Store
-from nagsched_monitor.store.writes import store_figures
+from nagsched_monitor.store.store import Store, store_figures
 
 from .simulated import SimulatedClock, SimulatedMonitor, SiteTest, fine
 
@@ -105,7 +104,7 @@ class Histogram(SiteTest):
         lately = []
         for _ in range(20):
             clock.now += 10_000
-            values = counters._all_figures(clock.moment(), 0)
+            values = counters.changed_figures(0)
             lately.append((values["latest_start_lately"], values["latest_start"]))
         self.assertEqual(lately[0], (0.7, 0.7))
         self.assertEqual(lately[-1], (0.0, 0.7))

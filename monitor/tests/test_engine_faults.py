@@ -1,6 +1,4 @@
 """Faults around a monitor, simulated: a full disk, schedulers and runners that end, machines that lack something. And the facts that survive a restart."""
-import os
-import signal
 from typing import Any, List, Sequence, Set
 from unittest import mock
 
@@ -39,7 +37,7 @@ class Faults(SiteTest):
         monitor = self.monitor(lambda name, moment: (20_000, 0, "fine"))
         monitor.run(70)
         self.assertEqual(monitor.objects_with_plugins(), {"web", "web;http"})
-        os.kill(monitor.scheduling.process_ids()[0], signal.SIGKILL)
+        monitor.kill_schedulers()
         monitor.run(5)
         monitor.ask(do="reschedule", name="web", at=monitor.clock.wall() + 100)
         monitor.run(5)
@@ -54,7 +52,7 @@ class Faults(SiteTest):
         monitor = self.monitor(fine)
         monitor.run(70)
         with mock.patch.object(monitor.scheduling, "_converse", side_effect=ConversationEnded("no room for a process")):
-            os.kill(monitor.scheduling.process_ids()[0], signal.SIGKILL)
+            monitor.kill_schedulers()
             monitor.run(120)
             self.assertTrue(monitor.ask(do="disable", name="web")["again"])
             self.assertLessEqual(len(monitor.starts()["web"]), 3)

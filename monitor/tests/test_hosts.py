@@ -2,7 +2,7 @@
 import unittest
 from typing import Dict, List, Optional
 
-from nagsched_monitor.core.hosts import hosts_to_check
+from nagsched_monitor.core.checks import hosts_to_check
 from nagsched_monitor.core.object_state import ObjectState
 from nagsched_monitor.core.run_table import RunTable
 from nagsched_monitor.scheduler.protocol import Standing

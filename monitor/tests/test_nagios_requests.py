@@ -10,7 +10,7 @@ from typing import Any, Dict, List, Mapping, Optional, Sequence, Set, Tuple
 from unittest import mock
 
 from nagsched_monitor.core import checks
-from nagsched_monitor.core.hosts import hosts_to_check
+from nagsched_monitor.core.checks import hosts_to_check
 from nagsched_monitor.core.object_state import ObjectState
 from nagsched_monitor.core.run_table import RunTable
 from nagsched_monitor.scheduler.protocol import Standing

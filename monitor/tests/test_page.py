@@ -7,9 +7,7 @@ import urllib.parse
 from typing import Counter, Dict, List, Optional, Tuple
 from unittest import mock
 
-from nagsched_monitor.outputs import page
-
-from nagsched_monitor.outputs import style
+from nagsched_monitor.outputs import html_pages, page
 from nagsched_monitor.outputs.status_query import LONGEST_WORDS, SiteStatus, read_site_status
 from nagsched_monitor.store.rows import StoredChange
 
@@ -151,7 +149,7 @@ class Page(PageTest):
             self.assertTrue(all(link.startswith("/") for link in reader.links()), reader.links())
             self.assertTrue(headers["content-security-policy"].startswith("default-src 'none'; style-src 'sha256-"))
             self.assertEqual(headers["cache-control"], "no-store")
-            self.assertIn(f"<style>{style.STYLE}</style>", text)
+            self.assertIn(f"<style>{html_pages.STYLE}</style>", text)
             self.assertIn(("meta", {"http-equiv": "refresh", "content": "15"}), reader.tags)
 
     def test_long_words(self) -> None:

@@ -1,6 +1,4 @@
 """Passive results, simulated: their order, freshness over restarts, a burst, a scheduler that ends at a result."""
-import os
-import signal
 from typing import Any, List, Tuple
 from unittest import mock
 
@@ -72,7 +70,7 @@ class PassiveResults(SiteTest):
         monitor = self.monitor(lambda name, moment: (8_000, 0, "fine"))
         monitor.run(70)
         with mock.patch.object(monitor.scheduling, "_converse", side_effect=ConversationEnded("no room")):
-            os.kill(monitor.scheduling.process_ids()[0], signal.SIGKILL)
+            monitor.kill_schedulers()
             monitor.run(50)
         monitor.run(20)
         self.assertEqual(len(monitor.starts()["web;trap"]), 1)
@@ -117,7 +115,7 @@ class PassiveResults(SiteTest):
             write(*writes)
             if monitor.store.waiting_results() == []:
                 setattr(monitor.store, "write", write)
-                os.kill(monitor.scheduling.process_ids()[0], signal.SIGKILL)
+                monitor.kill_schedulers()
 
         monitor.add_result("web;trap", 2, "door open")
         setattr(monitor.store, "write", killing)

@@ -2,7 +2,8 @@
 import collections
 from typing import List, Tuple
 
-from nagsched_monitor.core import phases
+from nagsched_monitor.core.checks import next_in_phase, time_back_in_phase
+from nagsched_monitor.core.object_state import phase_after_change
 from nagsched_monitor.site.site import read_site
 
 from .simulated import BEGIN, PROGRAM, SimulatedMonitor, SiteTest, fine, host, service
@@ -83,20 +84,20 @@ class Even(SiteTest):
 
 class Phases(SiteTest):
     def test_the_next_moment(self) -> None:
-        self.assertEqual([phases.next_in_phase(7, 10, now) for now in (0, 6, 7, 16, 17, 100)], [7, 7, 17, 17, 27, 107])
+        self.assertEqual([next_in_phase(7, 10, now) for now in (0, 6, 7, 16, 17, 100)], [7, 7, 17, 17, 27, 107])
 
     def test_what_is_moved_back(self) -> None:
         for next_check, wanted in ((10_000, None), (10_250, None), (9_750, None), (10_251, 20_000), (9_749, 20_000), (15_000, 20_000), (None, None)):
-            self.assertEqual(phases.time_back_in_phase(0, 10_000, next_check, 12_000), wanted, next_check)
-        self.assertEqual((phases.time_back_in_phase(None, 10_000, 15_000, 0), phases.time_back_in_phase(0, 0, 15_000, 0)), (None, None))
+            self.assertEqual(time_back_in_phase(0, 10_000, next_check, 12_000), wanted, next_check)
+        self.assertEqual((time_back_in_phase(None, 10_000, 15_000, 0), time_back_in_phase(0, 0, 15_000, 0)), (None, None))
 
     def test_a_longer_interval_is_filled_evenly(self) -> None:
         """1,000 objects of a minute become objects of ten minutes: the number of checks is about the same in each minute."""
-        moved = [phases.phase_after_change(60 * number, f"h{number}", 60_000, 600_000) for number in range(1_000)]
+        moved = [phase_after_change(60 * number, f"h{number}", 60_000, 600_000) for number in range(1_000)]
         counts = collections.Counter(phase // 60_000 for phase in moved)
         self.assertEqual(len(counts), 10)
         self.assertTrue(70 <= min(counts.values()) and max(counts.values()) <= 130, counts)
-        self.assertEqual((phases.phase_after_change(5, "web", 600_000, 60_000), phases.phase_after_change(5, "web", 0, 60_000)), (5, 5))
+        self.assertEqual((phase_after_change(5, "web", 600_000, 60_000), phase_after_change(5, "web", 0, 60_000)), (5, 5))
 
     def test_a_reload_keeps_an_object_in_phase(self) -> None:
         self.write_site([host("web")], [service("web", "http", check_interval=120)], {"service_inter_check_delay_method": 7_000})

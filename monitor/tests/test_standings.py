@@ -2,7 +2,9 @@
 import pathlib
 import sqlite3
 from typing import Dict, Tuple
+from unittest import mock
 
+from nagsched_monitor.faults import ConversationEnded
 from nagsched_monitor.site.site import read_site
 from nagsched_monitor.store.rows import StoredStanding
 
@@ -47,6 +49,18 @@ class Table(SiteTest):
             self.assertEqual((bool(row.is_on), row.words, row.out_since is None), (obj.on, obj.output, obj.run is None))
             self.assertEqual(row.next_check, None if obj.next is None else obj.next / 1000)
         return kept
+
+    def test_a_reload_while_no_scheduler_can_be_started(self) -> None:
+        """The table keeps the states of objects until they are known again, and gets those of new objects then, before their next checks."""
+        monitor = self.monitor(fine)
+        monitor.run(35)
+        self.write_site([*HOSTS, {"name": "new", "max_check_attempts": 1}], SERVICES)
+        with mock.patch.object(monitor.scheduling, "_converse", side_effect=ConversationEnded("no room for a process")):
+            monitor.engine.reload(read_site(self.folder, PROGRAM))
+            monitor.run(3)
+            self.assertEqual({name: row.state for name, row in table(self.folder).items()}, {"db": "UP", "web": "UP", "web;http": "OK"})
+        monitor.run(4)
+        self.assertEqual(set(self.assert_same(monitor)), {"db", "web", "web;http", "new"})
 
     def test_a_site_in_an_outage(self) -> None:
         monitor = self.monitor(outage)

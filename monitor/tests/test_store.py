@@ -2,12 +2,10 @@
 import sqlite3
 from typing import List
 
-from nagsched_monitor.faults import DamagedRow, MonitorFault, NotStored
+from nagsched_monitor.faults import MonitorFault, NotStored
 from nagsched_monitor.store.rows import FOR_PEOPLE, TABLES, VERSION, Generation, StoredChange, StoredStanding, checksum_of
-from nagsched_monitor.store.store import Store
-from nagsched_monitor.store.writes import (
-    begin_generation, drop_changes_before, drop_standings, store_calls, store_change, store_figures, store_request, store_result, store_standings, set_aside,
-    set_switch,
+from nagsched_monitor.store.store import (
+    Store, begin_generations, delete, drop_changes_before, insert, store_calls, store_change, store_figures, store_request, store_standings,
 )
 
 from .simulated import SiteTest
@@ -22,15 +20,15 @@ class Database(SiteTest):
         store = Store(self.folder)
         self.addCleanup(store.close)
         store.write(
-            begin_generation(Generation(0, b"{}", 7, b'{"format":1}', 0, frozenset({"gateway"}))),
+            begin_generations([Generation(0, b"{}", 7, b'{"format":1}', 0, frozenset({"gateway"}))]),
             store_calls([(0, '["take",8]', None), (0, '["report","web",1,2]', "no answer")]),
-            set_switch("web", False),
-            store_result("web", 1, "slow"),
+            insert("switches", None, "web", 0),
+            insert("passive", None, "web", 1, "slow"),
             store_change(CHANGE, '{"name":"web"}'),
             store_standings([STANDING]),
             store_figures({"saves": 3.0}),
             store_request("a-1", "{}"),
-            set_aside(1, 0, '["take",8]'),
+            insert("aside", 1, 0, '["take",8]'),
         )
         return store
 
@@ -47,7 +45,7 @@ class Database(SiteTest):
         self.assertEqual(store.standings(), [STANDING])
         store.write(store_figures({"moment": 9.0}))
         self.assertEqual(store.last_moment(), 9)
-        store.write(drop_standings(["web"]))
+        store.write(delete("standings", "name = ?", "web"))
         self.assertEqual(store.standings(), [])
 
     def test_figures_are_replaced(self) -> None:
@@ -78,7 +76,7 @@ class Database(SiteTest):
     def assert_found(self, table: str) -> None:
         lines: List[str] = []
         if table not in FOR_PEOPLE:
-            with self.assertRaisesRegex(DamagedRow, rf"row \d+ of {table} "):
+            with self.assertRaisesRegex(MonitorFault, rf"row \d+ of {table} "):
                 Store(self.folder)
             return
         Store(self.folder, lines.append).close()
@@ -138,7 +136,7 @@ class Database(SiteTest):
         store.close()
         with sqlite3.connect(self.folder / "monitor.db") as database:
             database.execute("DELETE FROM calls WHERE id = 2")
-        with self.assertRaisesRegex(DamagedRow, "1 rows of calls are missing"):
+        with self.assertRaisesRegex(MonitorFault, "1 rows of calls are missing"):
             Store(self.folder)
 
     def test_another_monitor(self) -> None:
@@ -156,7 +154,7 @@ class Database(SiteTest):
         (pages,) = store._database.execute("PRAGMA page_count").fetchone()
         store._database.execute(f"PRAGMA max_page_count = {pages}")
         with self.assertRaises(NotStored):
-            store.write(set_switch("db", True), store_calls([(0, '["take",%d]' % number, None) for number in range(2000)]))
+            store.write(insert("switches", None, "db", 1), store_calls([(0, '["take",%d]' % number, None) for number in range(2000)]))
         self.assertEqual((store.last_call, store.switches()), (2, {"web": False}))
         store._database.execute("PRAGMA max_page_count = 100000")
         store.write(store_calls([(0, '["take",10]', None)]))
@@ -174,7 +172,7 @@ class Database(SiteTest):
 
     def test_a_saved_state_lets_go_of_the_calls_before(self) -> None:
         store = self.filled()
-        store.write(begin_generation(Generation(0, b"{}", 7, b"{}", 2)), store_calls([(0, '["take",11]', None)]))
+        store.write(begin_generations([Generation(0, b"{}", 7, b"{}", 2)]), store_calls([(0, '["take",11]', None)]))
         self.assertEqual([call.line for call in store.calls_since(0, 2)], ['["take",11]'])
         self.assertEqual(len(list(store.calls_since(0, 0))), 1)
 

@@ -2,7 +2,7 @@
 import unittest
 from typing import Tuple
 
-from nagsched_monitor.core.verdict import verdict
+from nagsched_monitor.core.plugin_runs import verdict
 from nagsched_monitor.run.jobs import Job, JobFinished
 
 WARNING, CRITICAL, UNKNOWN = 1, 2, 3

@@ -1,18 +1,21 @@
-"""The times of checks: switches, periods, freshness, phases and operators set them."""
+"""The times of checks: switches, periods, freshness, phases, operators and results set them."""
 import collections
 from functools import partial
-from typing import Callable, Dict, List, Mapping, Optional, Tuple
+from typing import Callable, Dict, List, Mapping, Optional, Sequence, Tuple
 
 from ..scheduler.protocol import Enable, Reschedule, Standing, Take
 from ..scheduler.scheduling import Scheduling
 from ..site.site import ObjectDefinition
-from . import phases
 from .clock import Clock
-from .hosts import hosts_to_check
-from .object_state import ObjectState
+from .object_state import HOST_FIRST, RESULT_FIRST, ObjectState
 from .passive import PassiveResults
 from .plan import Plan
-from .phases import HOST_FIRST, RESULT_FIRST, WINDOW
+
+# The time within which overdue checks are made, in milliseconds, unless their interval is shorter.
+WINDOW = 15_000
+# The greatest difference from the phase that a next check may keep, in milliseconds.
+TOLERANCE = 250
+UP_STATES = ("PENDING", "OK", "UP")
 
 
 class Checks:
@@ -132,7 +135,7 @@ class Checks:
         elif obj.operator_check is not None and obj.operator_check[0] > now:
             self.plan_check(obj, *obj.operator_check)
         elif obj.on and not (standing.is_problem() and standing.kind == "SOFT"):
-            time = phases.time_back_in_phase(obj.phase, obj.definition.check_interval, standing.next, now)
+            time = time_back_in_phase(obj.phase, obj.definition.check_interval, standing.next, now)
             if time is not None:
                 self.plan_check(obj, time, obj.forced)
         for host in hosts_to_check(obj, before, standing, self._objects, self._scheduling.site.children.get(obj.name, ())):
@@ -141,3 +144,41 @@ class Checks:
             is_fresh = host.last_result is not None and now - host.last_result < horizon
             if not is_fresh and host.run is None and host.on and host.next not in (HOST_FIRST, RESULT_FIRST):
                 self.plan_check(host, HOST_FIRST, host.forced)
+
+
+def next_in_phase(phase: int, interval: int, now: int) -> int:
+    """The first moment after now that lies whole intervals from the phase."""
+    return phase + ((now - phase) // interval + 1) * interval
+
+
+def time_back_in_phase(phase: Optional[int], interval: int, next_check: Optional[int], now: int) -> Optional[int]:
+    """The time to which a next check has to be moved so that it is in phase; None if it is, or the object has no phase."""
+    if phase is None or interval == 0 or next_check is None:
+        return None
+    off = (next_check - phase) % interval
+    return next_in_phase(phase, interval, now) if min(off, interval - off) > TOLERANCE else None
+
+
+def state_of(standing: Optional[Standing]) -> str:
+    return "PENDING" if standing is None else standing.state
+
+
+def hosts_to_check(obj: ObjectState, before: Optional[Standing], now: Standing, objects: Mapping[str, ObjectState],
+                   children: Sequence[str]) -> List[ObjectState]:
+    """The hosts that have to be checked at once after a result of an object, as in Nagios; `children` are the hosts that have it as a parent."""
+    was, is_problem = state_of(before), now.is_problem()
+    if obj.definition.host is not None:
+        host = objects.get(obj.definition.host)
+        return [host] if host is not None and is_host_check_needed(was, now, state_of(host.standing)) else []
+    if (was in UP_STATES) != is_problem:
+        return []
+    # The parents and children that a host's result affects. A host that was never checked counts as up.
+    expected = ("UNREACHABLE",) if is_problem else UP_STATES
+    parents = [objects[name] for name in obj.definition.parents if name in objects]
+    odd_parents = [each for each in parents if (state_of(each.standing) in UP_STATES) != is_problem]
+    return odd_parents + [objects[name] for name in children if state_of(objects[name].standing) not in expected]
+
+
+def is_host_check_needed(was: str, now: Standing, host: str) -> bool:
+    """Whether a service's result asks for its host: a new or other problem while the host is up or was never checked, or an OK while it isn't up."""
+    return now.state != was and host in UP_STATES if now.is_problem() else host != "UP"

@@ -14,15 +14,14 @@ from ..scheduler.protocol import Abandon, Call, Freed, Refused, Report, Reschedu
 from ..scheduler.scheduling import ObjectAnswer, Scheduling
 from ..site.site import Site
 from ..store.counters import Counters
-from ..store.store import Store
-from ..store.writes import drop_result, store_figures
+from ..store.store import Store, store_figures
 from .checks import Checks
 from .clock import Clock
 from .object_state import ObjectState
 from .passive import PassiveResults
 from .plan import Plan
 from .plugin_runs import MARGIN, PluginRuns
-from .run_table import Owner, Run
+from .run_table import Owner
 
 # The longest time between two turns that isn't a pause, in milliseconds.
 PAUSE = 10_000
@@ -44,7 +43,7 @@ class Engine:
         self._now = clock.moment()
         figures = store.figures()
         self.counters = Counters(figures, clock)
-        self.passive = PassiveResults(store.waiting_results(), scheduling)
+        self.passive = PassiveResults(store, scheduling, log)
         self.checks = Checks(scheduling, self.passive, store.switches(), clock, log)
         self.plugins = PluginRuns(scheduling, runners, clock, log, self.counters)
         self.requests = Requests(self, clock)
@@ -56,13 +55,10 @@ class Engine:
         self._last_turn: Optional[int] = None
         self._schedule_save()
         self.is_stuck = False
-        self._drop_results()
-        self._await_results(min(clock.wall(), figures.get("written_at", 0.0)))
-
-    def _await_results(self, until: float) -> None:
-        """Awaits the result of each object since its last one, without the time in which no monitor ran. If it had none, since its part began."""
+        # A result of each object is awaited since its last one, without the time in which no monitor ran. If it had none, since its part began.
+        until = min(clock.wall(), figures.get("written_at", 0.0))
         for obj in self.objects.values():
-            start, last = self.scheduling.parts[obj.definition.part].generation.start, obj.history.last_check
+            start, last = scheduling.parts[obj.definition.part].generation.start, obj.history.last_check
             obj.awaited_since = start if last is None else self._now - round(max(0.0, until - last) * 1000)
 
     # ---- a turn
@@ -149,9 +145,9 @@ class Engine:
     # ---- answers
 
     def _apply(self, object_answer: ObjectAnswer) -> None:
-        call, answer, obj, before, run = object_answer
+        call, answer, obj, before = object_answer
         if isinstance(answer, Refused):
-            self._apply_refusal(call, answer, obj, run)
+            self._apply_refusal(call, answer, obj)
         elif obj is None:
             return
         elif isinstance(answer, Taken):
@@ -163,15 +159,15 @@ class Engine:
             obj.last_result = self._now
             self.checks.apply_result(obj, before, answer, self._now)
 
-    def _apply_refusal(self, call: Call, answer: Refused, obj: Optional[ObjectState], run: Optional[Run]) -> None:
+    def _apply_refusal(self, call: Call, answer: Refused, obj: Optional[ObjectState]) -> None:
         if obj is None or not isinstance(call, (Report, Abandon)):
             about = "" if obj is None else f"{obj.name}: "
             self._log(f"{about}{call_line(call)} was refused: {answer.why}")
             return
         self._log(f"{obj.name}: the result of run {call.run} came too late ({answer.why})")
         self.counters.count_result("refused")
-        if run is not None and run.number == call.run:
-            run.owner, run.retry_at = Owner.NOBODY, self._now + AFTER_REFUSAL
+        if obj.run is not None and obj.run.number == call.run:
+            obj.run.owner, obj.run.retry_at = Owner.NOBODY, self._now + AFTER_REFUSAL
 
     def _apply_take(self, obj: ObjectState) -> None:
         """Gives a run its owner: the passive result that waits, the plugin that still runs, or a new one."""
@@ -220,17 +216,5 @@ class Engine:
         """Takes over another site; running checks continue. If it is refused, nothing has changed. Returns the changes of objects that stay."""
         changed = self.scheduling.reload(site)
         self.checks.recheck_periods()
-        self._drop_results()
+        self.passive.drop_others()
         return changed
-
-    def _drop_results(self) -> None:
-        """Drops the passive results of objects that aren't part of the site."""
-        gone = self.passive.drop_others(self.objects)
-        if not gone:
-            return
-        for name in sorted({result.name for result in gone}):
-            self._log(f"{name}: its passive results are dropped, since it isn't part of the site any more")
-        try:
-            self.store.write(*(drop_result(result.id) for result in gone))
-        except NotStored as fault:
-            self._log(f"results of objects that are gone stay stored: {fault}")

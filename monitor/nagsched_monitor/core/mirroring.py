@@ -6,7 +6,7 @@ those of its mirrors are calls of one turn, which are stored together.
 from typing import AbstractSet, Any, List, Mapping, Optional, Sequence, Set, Tuple
 
 from ..scheduler.protocol import Answer, Call, Report, Reschedule, Take, Taken, object_name
-from .phases import MIRROR_FIRST
+from .object_state import MIRROR_FIRST
 from .run_table import ObjectKey, Owner, Run, RunTable
 
 # A call, its part, and the output of the plugin that it reports.
@@ -28,13 +28,14 @@ class Mirrors:
         names = self.names.get(part)
         if not names or (name := object_name(call, answer)) not in names:
             return False
+        key = part, name
         if isinstance(answer, Taken):
-            self._running.begin(Run((part, name), answer.run, Owner.ORIGINAL))
-            self._expected.discard((part, name))
+            self._running[key] = Run(key, answer.run, Owner.ORIGINAL)
+            self._expected.discard(key)
         elif isinstance(call, Reschedule):
-            self._expected.add((part, name))
+            self._expected.add(key)
         elif isinstance(call, Report):
-            self._running.pop((part, name), None)
+            self._running.pop(key, None)
         return True
 
     def apply_saved(self, part: int, members: Sequence[Mapping[str, Any]]) -> List[Mapping[str, Any]]:
@@ -42,7 +43,7 @@ class Mirrors:
         names = self.names.get(part, ())
         for it in members:
             if it["name"] in names and it["run"] is not None:
-                self._running.begin(Run((part, it["name"]), it["run"]["number"], Owner.ORIGINAL))
+                self._running[part, it["name"]] = Run((part, it["name"]), it["run"]["number"], Owner.ORIGINAL)
         return [it for it in members if it["name"] not in names]
 
     def change_site(self, names: Mapping[int, AbstractSet[str]], others: AbstractSet[int]) -> "Mirrors":

@@ -1,13 +1,19 @@
 """The state of each object according to the scheduler's answers, and the due objects."""
 import heapq
+import zlib
 from dataclasses import dataclass, field, replace
 from typing import Any, Dict, Iterable, List, Mapping, Optional, Set, Tuple
 
 from ..scheduler.protocol import Abandon, Answer, Call, Done, Enable, Freed, PutOff, Report, Reschedule, Standing, Taken
 from ..site.site import ObjectDefinition
 from ..store.rows import StateHistory
-from . import phases
 from .run_table import ObjectKey, Run, RunTable
+
+# The times of checks that are asked for at once, in their order: a mirror, the object of a passive result, a host that has to be checked now. All are before
+# the times of due checks.
+MIRROR_FIRST, RESULT_FIRST, HOST_FIRST = 0, 1, 2
+# Any time from this one on is a time by the clock.
+FIRST_TIME = 3
 
 
 @dataclass
@@ -133,7 +139,7 @@ class ObjectStates:
         since = now if earlier.definition.freshness is None and earlier.last_result is None else earlier.awaited_since
         phase = earlier.phase
         if phase is not None and earlier.definition.check_interval != definition.check_interval:
-            phase = phases.phase_after_change(phase, earlier.name, earlier.definition.check_interval, definition.check_interval)
+            phase = phase_after_change(phase, earlier.name, earlier.definition.check_interval, definition.check_interval)
         return replace(earlier, definition=definition, on=on, awaited_since=since, phase=phase)
 
     def end_run(self, obj: ObjectState) -> None:
@@ -157,13 +163,13 @@ class ObjectStates:
             if number is None:
                 self.running.pop(obj.key, None)
             elif run is None or run.number != number:
-                self.running.begin(Run(obj.key, number))
+                self.running[obj.key] = Run(obj.key, number)
             self.due.set_time(obj.name, obj.due_time())
         return others
 
     def apply_answer(self, obj: ObjectState, call: Call, answer: Answer) -> None:
         if isinstance(answer, Taken):
-            self.running.begin(Run(obj.key, answer.run, forced=obj.forced))
+            self.running[obj.key] = Run(obj.key, answer.run, forced=obj.forced)
             obj.last_due, obj.next, obj.forced = obj.next, None, False
         elif isinstance(answer, PutOff):
             obj.next = answer.next
@@ -179,3 +185,8 @@ class ObjectStates:
         elif isinstance(answer, Done) and isinstance(call, Enable):
             obj.on = call.on
         self.due.set_time(obj.name, obj.due_time())
+
+
+def phase_after_change(phase: int, name: str, before: int, interval: int) -> int:
+    """The phase of an object whose interval changes: objects fill a longer interval evenly, by their names."""
+    return phase + before * (zlib.crc32(name.encode()) % max(1, interval // before)) if before > 0 else phase

@@ -1,16 +1,16 @@
 """Passive results that wait: each is reported as the result of a check that is taken for it."""
 import collections
 from functools import partial
-from typing import Container, Deque, Dict, Iterable, Iterator, List
+from typing import Callable, Deque, Dict, Iterator
 
+from ..faults import NotStored
 from ..scheduler.protocol import Report, Take
 from ..scheduler.scheduling import Scheduling
 from ..store.rows import StoredResult
-from ..store.writes import drop_result
+from ..store.store import Store, delete
 from .mirroring import forced_take
-from .object_state import ObjectState
+from .object_state import RESULT_FIRST, ObjectState
 from .plan import Plan
-from .phases import RESULT_FIRST
 from .run_table import Owner
 
 # The greatest number of results that may wait.
@@ -20,12 +20,13 @@ MOST_WAITING = 10_000
 class PassiveResults:
     """Passive results, those of one object in the order in which they came. All are stored."""
 
-    def __init__(self, results: Iterable[StoredResult], scheduling: Scheduling) -> None:
-        self._scheduling = scheduling
+    def __init__(self, store: Store, scheduling: Scheduling, log: Callable[[str], None]) -> None:
+        self._store, self._scheduling, self._log = store, scheduling, log
         self._results: Dict[str, Deque[StoredResult]] = {}
         self.count = 0
-        for result in results:
+        for result in store.waiting_results():
             self.add(result)
+        self.drop_others()
 
     def add(self, result: StoredResult) -> None:
         self._results.setdefault(result.name, collections.deque()).append(result)
@@ -62,7 +63,7 @@ class PassiveResults:
                 continue
             result = self._results[name][0]
             plan.calls += self._scheduling.mirrors.report_calls(part, Report(name, run.number, result.code), result.words, now)
-            plan.writes.append(drop_result(result.id))
+            plan.writes.append(delete("passive", "id = ?", result.id))
             plan.then.append(partial(self._remove_first, result))
             if len(self._results[name]) > 1:
                 plan.calls += forced_take(part, name, RESULT_FIRST, now)
@@ -75,9 +76,15 @@ class PassiveResults:
         if not results:
             del self._results[result.name]
 
-    def drop_others(self, names: Container[str]) -> List[StoredResult]:
-        """Drops the results of objects that aren't among these, and returns them."""
-        gone = [result for name in self._results if name not in names for result in self._results[name]]
-        self._results = {name: results for name, results in self._results.items() if name in names}
-        self.count -= len(gone)
-        return gone
+    def drop_others(self) -> None:
+        """Drops the results of objects that aren't part of the site."""
+        gone = sorted(name for name in self._results if name not in self._scheduling.states.objects)
+        writes = [delete("passive", "id = ?", result.id) for name in gone for result in self._results.pop(name)]
+        self.count -= len(writes)
+        for name in gone:
+            self._log(f"{name}: its passive results are dropped, since it isn't part of the site any more")
+        try:
+            if writes:
+                self._store.write(*writes)
+        except NotStored as fault:
+            self._log(f"results of objects that are gone stay stored: {fault}")

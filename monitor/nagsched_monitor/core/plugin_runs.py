@@ -1,25 +1,24 @@
 """Runs of plugins: their beginning, their end, and the handling of those that don't end."""
 import collections
 from functools import partial
-from typing import Callable, Counter, Dict, List, Union
+from typing import Callable, Counter, Dict, List, Tuple, Union
 
 from ..run.jobs import Event, Job, JobFinished, JobLost, StuckJobEnded
 from ..run.runners import RunnerPools
-from ..scheduler.protocol import Abandon, Report, Reschedule
+from ..scheduler.protocol import GREATEST_CODE, Abandon, Report, Reschedule
 from ..scheduler.scheduling import Scheduling
 from ..site.command_lines import Command
 from ..store.counters import Counters
 from .clock import Clock
 from .mirroring import PlannedCall
-from .object_state import ObjectState
+from .object_state import FIRST_TIME, ObjectState
 from .plan import Plan
-from .phases import FIRST_TIME
 from .run_table import Owner, Run
-from .verdict import verdict
+from .text import plain_text
 
 # How often a check whose runner ended is made again, and its result if it is lost once more.
 MOST_LOST = 2
-UNKNOWN = 3
+CRITICAL, UNKNOWN = 2, 3
 # The time after its limit within which a result may come, in milliseconds.
 MARGIN = 15_000
 # The pause before the next try of a check that this machine couldn't start, in milliseconds. It doubles each time, up to the longest.
@@ -158,3 +157,18 @@ def abandon_calls(run: Run, now: int) -> List[PlannedCall]:
     abandon: PlannedCall = (part, Abandon(name, run.number, now), None)
     is_set = run.forced or run.retry_at is not None
     return [abandon, (part, Reschedule(name, now if run.retry_at is None else run.retry_at, run.forced), None)] if is_set else [abandon]
+
+
+def verdict(event: JobFinished, is_host: bool, timeout_code: int) -> Tuple[int, str]:
+    """The return code and words of a plugin's end, as in Nagios: its exit code, or CRITICAL (DOWN for a host) if that isn't a plugin's code.
+
+    The first line of the words is its output; the others are its long output and its standard error."""
+    words, error = plain_text(event.output), plain_text(event.stderr)
+    if error:
+        words = f"{words}\n{error}" if words else f"(No output on stdout) stderr: {error}"
+    if event.end == "exited" and 0 <= event.code <= GREATEST_CODE:
+        return event.code, words
+    whys = {"limit": f"timed out after {event.job.limit:g} seconds", "failed": "not started", "signal": f"ended by signal {event.code}"}
+    why = whys.get(event.end, f"ended by exit code {event.code}")
+    code = timeout_code if event.end == "limit" and not is_host else CRITICAL
+    return code, f"{why}: {words}" if words else why

@@ -41,9 +41,6 @@ class RunTable(Dict[ObjectKey, Run]):
         # Plugins whose runs are over, by the names of their objects: no second plugin is started while they run.
         self.leftover_jobs: Dict[str, Job] = {}
 
-    def begin(self, run: Run) -> None:
-        self[run.key] = run
-
     def plugins(self) -> List[Job]:
         return [run.job for run in self.owned_by(Owner.PLUGIN) if run.job is not None] + list(self.leftover_jobs.values())
 

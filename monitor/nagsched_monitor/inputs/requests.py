@@ -17,16 +17,15 @@ from functools import partial
 from typing import TYPE_CHECKING, Any, Callable, Dict, List, Mapping, Optional, Sequence, Set, Tuple
 
 from ..core.clock import LAST_TIME, Clock
-from ..core.object_state import ObjectState
+from ..core.object_state import FIRST_TIME, ObjectState
 from ..core.mirroring import PlannedCall
 from ..core.passive import MOST_WAITING
 from ..core.plan import Plan
-from ..core.phases import FIRST_TIME
 from ..core.text import MOST_OUTPUT_BYTES, plain_text
 from ..faults import AskAgain, ConversationEnded, MonitorFault, NotStored, RequestFault
 from ..scheduler.protocol import Enable, Reschedule
 from ..store.rows import StoredResult
-from ..store.writes import MOST_REQUESTS, set_switch, store_request, store_result
+from ..store.store import MOST_REQUESTS, delete, insert, store_request
 
 if TYPE_CHECKING:
     from ..core.engine import Engine
@@ -193,7 +192,8 @@ class Requests:
         word, wanted = members["do"], checks.is_to_be_enabled(obj.definition, obj.definition.enabled if on is None else on)
         request.answer = {"done": word, "name": obj.name, "on": wanted}
         calls: List[PlannedCall] = [(obj.definition.part, Enable(obj.name, wanted), None)] if obj.on != wanted else []
-        return Plan(calls, [set_switch(obj.name, on)], [partial(checks.apply_switch, obj, on), partial(self.log, f"asked: {word} {obj.name}")])
+        write = delete("switches", "name = ?", obj.name) if on is None else insert("switches", None, obj.name, int(on))
+        return Plan(calls, [write], [partial(checks.apply_switch, obj, on), partial(self.log, f"asked: {word} {obj.name}")])
 
     def _plan_result(self, members: Members, request: Request) -> Plan:
         obj = self._find_object(members, is_called=False)
@@ -209,7 +209,7 @@ class Requests:
         request.answer = {"done": "result", "name": obj.name}
         note = partial(setattr, self.engine.store, "last_result", result.id)
         log = partial(self.log, f"asked: result {obj.name} {code}")
-        return Plan(writes=[store_result(obj.name, code, result.words, result.id)], then=[note, partial(self.engine.passive.add, result), log])
+        return Plan(writes=[insert("passive", *result)], then=[note, partial(self.engine.passive.add, result), log])
 
     def _save_now(self, request: Request) -> None:
         try:

@@ -13,8 +13,7 @@ from ..core.text import first_line
 from ..faults import NotStored
 from ..scheduler.protocol import Standing
 from ..store.rows import StoredChange
-from ..store.store import Store
-from ..store.writes import drop_documents
+from ..store.store import Store, delete
 
 # In seconds: the command's limit, the pause between two tries (it doubles up to the longest), and the age at which a change is dropped.
 LIMIT = 30.0
@@ -128,7 +127,7 @@ class Notifier:
     def _drop(self, number: int) -> None:
         """Drops the changes up to this one, which were accepted or are too old."""
         self._to_drop = number
-        self._store.write(drop_documents(number))
+        self._store.write(delete("outbox", "id <= ?", number))
         self._to_drop = None
 
     def close(self) -> None:

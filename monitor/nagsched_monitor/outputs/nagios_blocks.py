@@ -27,7 +27,6 @@ OF_PROGRAM = {
 NO_STATS = ("active_ondemand_host_check", "active_ondemand_service_check", "cached_host_check", "cached_service_check", "parallel_host_check",
             "serial_host_check", "external_command")
 
-
 # The content of a file of a site.
 Document = Mapping[str, Any]
 

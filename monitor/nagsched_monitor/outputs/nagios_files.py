@@ -79,7 +79,6 @@ class NagiosFiles:
 
     def write(self) -> None:
         """Writes the status file again; if that fails, the old one stays."""
-        fault = None
         try:
             with open_database(self._site) as database:
                 self._read_settings(database)
@@ -88,11 +87,12 @@ class NagiosFiles:
             self._services = services_by_host(standings)
             text = status_file(self._program, self._settings, standings, time.time())
             replace_file(self._folder / "status.dat", text.encode(errors="replace"))
+            self._fault = None
         except (OSError, StatusUnavailable, ValueError) as error:
             fault = f"status.dat isn't written: {error}"
             if fault != self._fault:
                 log(fault)
-        self._fault = fault
+            self._fault = fault
 
     def _read_settings(self, database: sqlite3.Connection) -> None:
         """Reads the setups and the other files of the site, if they have changed."""

@@ -28,7 +28,6 @@ from ..site.groups_file import GroupsFile
 from ..site.site import read_options
 from . import html_pages, metrics
 from .status_query import StatusUnavailable, read_object, read_site_status
-from .style import HEADERS
 
 # How long a client may send nothing, and how long a request may take in all, in seconds.
 PATIENCE = 5
@@ -70,7 +69,7 @@ class Handler(http.server.BaseHTTPRequestHandler):
     def _send(self, status: HTTPStatus, kind: str, body: str) -> None:
         data = body.encode(errors="replace")
         self.send_response(status)
-        for name, value in {**HEADERS, "Content-Type": kind, "Content-Length": str(len(data)), "Connection": "close"}.items():
+        for name, value in {**html_pages.HEADERS, "Content-Type": kind, "Content-Length": str(len(data)), "Connection": "close"}.items():
             self.send_header(name, value)
         if status == HTTPStatus.METHOD_NOT_ALLOWED:
             self.send_header("Allow", "GET, HEAD")

@@ -15,8 +15,7 @@ from ..outputs.sd_notify import ServiceManager
 from ..run.runners import RunnerPools, raise_file_limit
 from ..scheduler.scheduling import Scheduling
 from ..site.site import Site, read_site
-from ..store.store import Store
-from ..store.writes import drop_changes_before
+from ..store.store import Store, drop_changes_before
 from . import addresses
 from ..run.processes import HelperProcess
 from .loop import Loop

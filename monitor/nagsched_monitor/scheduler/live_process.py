@@ -6,12 +6,11 @@ import time
 from typing import List, Optional, Sequence
 
 from ..faults import ConversationEnded
+from ..run.processes import end_process
 
 READ_BYTES = 65_536
-# In seconds: how long a scheduler may be silent while an answer is due. First for the first answer, which comes after the setup and the saved state were
-# read, then for any other answer. And the limit for its end.
+# How long a scheduler may be silent while an answer is due, in seconds: for the first, which follows the setup and the saved state, and for any other.
 OPENING, SILENCE = 30.0, 15.0
-GRACE = 5.0
 # The most lines that are sent together.
 AT_ONCE = 4_096
 
@@ -77,20 +76,11 @@ class Conversation:
             raise ConversationEnded(f"the scheduler answered {word} {state} to a save")
         return state.encode()
 
-    def process_id(self) -> int:
-        return self._process.pid
-
-    def close(self, grace: float = GRACE) -> None:
-        """Ends the scheduler's process, and kills it if it hasn't ended after a number of seconds."""
-        for pipe in (self._process.stdin, self._process.stdout):
-            if pipe is not None:
-                pipe.close()
-        for seconds in (grace, GRACE):
-            try:
-                self._process.wait(timeout=seconds)
-                return
-            except subprocess.TimeoutExpired:
-                self._process.kill()
+    def close(self, is_killed: bool = False) -> None:
+        """Ends the scheduler's process: it is killed at once, or if it doesn't end with its input."""
+        if is_killed:
+            self._process.kill()
+        end_process(self._process)
 
     def _write(self) -> None:
         try:
@@ -105,10 +95,6 @@ class Conversation:
         part = os.read(self._output, READ_BYTES)
         if not part:
             words = b"".join(before).decode(errors="replace").rstrip("\n")
-            try:
-                status: object = self._process.wait(timeout=GRACE)
-            except subprocess.TimeoutExpired:
-                status = "unknown"
-            raise ConversationEnded(f"the scheduler ended with status {status}: {words}")
+            raise ConversationEnded(f"the scheduler ended with status {end_process(self._process)}: {words}")
         self._unanswered -= part.count(b"\n")
         return part

@@ -9,8 +9,7 @@ from typing import Callable, Deque, List, Optional, Sequence, Tuple, TypeVar
 from ..core.clock import Clock
 from ..faults import ConversationEnded, NotStored
 from ..store.rows import Generation, StoredCall
-from ..store.store import Store
-from ..store.writes import set_aside
+from ..store.store import Store, insert
 from .live_process import AT_ONCE, Conversation
 from .protocol import Answer, Call, Refused, call_line, read_answer
 
@@ -112,7 +111,7 @@ class PartScheduler:
 
     def _set_aside(self, stored: StoredCall) -> List[AnsweredCall]:
         try:
-            self._store.write(set_aside(stored.id, stored.part, stored.line))
+            self._store.write(insert("aside", stored.id, stored.part, stored.line))
         except NotStored:
             return []
         self.pending.popleft()
@@ -142,7 +141,7 @@ class PartScheduler:
             raise ConversationEnded(self.trouble or f"the scheduler of part {self.generation.part + 1} hasn't answered all calls")
         return self._run_query(lambda conversation: conversation.save())
 
-    def close_conversation(self, grace: float = 0.0) -> None:
+    def close_conversation(self, is_killed: bool = True) -> None:
         if self.conversation is not None:
-            self.conversation.close(grace)
+            self.conversation.close(is_killed)
         self.conversation, self._sent = None, []

@@ -2,34 +2,30 @@
 import json
 from typing import AbstractSet, Callable, Dict, List, Mapping, NamedTuple, Optional, Sequence
 
-from ..outputs import changes
-
 from ..core.clock import Clock
 from ..core.mirroring import Mirrors, PlannedCall
-from ..core.object_state import ObjectState, ObjectStates
-from ..core.phases import FIRST_TIME
-from ..core.run_table import ObjectKey, Run
+from ..core.object_state import FIRST_TIME, ObjectState, ObjectStates
+from ..core.run_table import ObjectKey
 from ..faults import ConversationEnded, NotStored
+from ..outputs import changes
 from ..site.json_files import members_by_name
 from ..site.site import Site
 from ..store.rows import Generation, StoredCall, StoredChange
 from ..store.status_table import StandingTable
-from ..store.store import Store, Write
-from ..store.writes import begin_generation, end_generation, save_generation, store_calls, store_change
+from ..store.store import Store, Write, begin_generations, save_generation, store_calls, store_change
 from . import migration
-from .live_process import GRACE, Conversation
+from .live_process import Conversation
 from .protocol import Answer, Call, Report, Standing, Status, call_line, object_name, read_call
 from .schedulers import ConversationFactory, PartScheduler
 
 
 class ObjectAnswer(NamedTuple):
-    """An answer with the object that it is about, its state before, and the run that it had then."""
+    """An answer with the object that it is about, and the standing that the object had before."""
 
     call: Call
     answer: Answer
     object: Optional[ObjectState]
     before: Optional[Standing]
-    run: Optional[Run]
 
 
 class Scheduling:
@@ -106,7 +102,9 @@ class Scheduling:
         calls = [Status(name) for name in names if name in self.states.objects and self.states.objects[name].standing is None]
         if calls:
             for call, answer in zip(calls, self.parts[part].query(calls)):
-                self.states.apply_answer(self.states.objects[call.name], call, answer)
+                obj = self.states.objects[call.name]
+                self.states.apply_answer(obj, call, answer)
+                self._standings.apply_answer(obj, call, answer, None)
 
     def reload(self, site: Site) -> List[str]:
         """Takes over another site; if it is refused, nothing has changed. Returns the changes of objects that stay, a line each."""
@@ -153,8 +151,7 @@ class Scheduling:
             if part in others else self.parts[part].generation._replace(saved=states[part], last_call=last_call)
             for part, setup in enumerate(site.setups)
         }
-        gone = [part for part in self.parts if part not in generations]
-        self._write(*map(end_generation, gone), *map(begin_generation, generations.values()))
+        self._write(begin_generations(generations.values()))
         self.mirrors = self.mirrors.change_site(site.mirrors, others)
         self._open_parts(generations, others)
         return changed
@@ -214,7 +211,7 @@ class Scheduling:
     def _apply_answer(self, stored: StoredCall, call: Call, answer: Answer, is_again: bool) -> ObjectAnswer:
         obj = self.states.objects.get(object_name(call, answer))
         if obj is None:
-            return ObjectAnswer(call, answer, None, None, None)
+            return ObjectAnswer(call, answer, None, None)
         before, run = obj.standing, obj.run
         self.states.apply_answer(obj, call, answer)
         if isinstance(call, Report) and isinstance(answer, Standing):
@@ -222,7 +219,7 @@ class Scheduling:
             self._note_change(stored.id, obj, before, answer)
         if not is_again:
             self._standings.apply_answer(obj, call, answer, run)
-        return ObjectAnswer(call, answer, obj, before, run)
+        return ObjectAnswer(call, answer, obj, before)
 
     def _note_change(self, number: int, obj: ObjectState, before: Optional[Standing], answer: Standing) -> None:
         if number in self._stored_changes or not changes.is_change(before, answer):
@@ -258,9 +255,6 @@ class Scheduling:
         """The part whose saved state is the oldest, among those that can be saved now if there are any."""
         return min(self.parts, key=lambda number: (not self.is_open(number), self.parts[number].generation.last_call))
 
-    def process_ids(self) -> List[int]:
-        return [part.conversation.process_id() for part in self.parts.values() if part.conversation is not None]
-
     def close(self) -> None:
         for part in self.parts.values():
-            part.close_conversation(GRACE)
+            part.close_conversation(is_killed=False)

@@ -9,7 +9,7 @@ from dataclasses import dataclass
 from typing import Container, Dict, List, Sequence
 
 from ..faults import SiteFault
-from .json_files import read_by_name, read_seconds
+from .json_files import read_by_name, read_seconds, require
 
 # A line without quotes, escapes and shell characters.
 PLAIN = re.compile(r"[\w ./:,=%@+!#*?$~^{}\[\]-]*", re.ASCII)
@@ -36,14 +36,11 @@ def read_commands(folder: pathlib.Path, objects: Container[str], runner_of: Cont
         line, shell = members.get("line"), members.get("shell", False)
         if not isinstance(line, str) or not isinstance(shell, bool):
             raise SiteFault(f"{place}: a line is a text, and shell is true or false")
-        if "\0" in line:
-            raise SiteFault(f"{place}: its line has a zero byte")
-        if HALF.search(line):
-            raise SiteFault(f"{place}: its line has half a character")
+        require("\0" not in line, f"{place}: its line has a zero byte")
+        require(not HALF.search(line), f"{place}: its line has half a character")
         limit = read_seconds(members.get("limit", 60), f"{place}: limit")
         arguments = shell_arguments(line, place) if shell else plain_arguments(line, place)
-        if name not in runner_of and which(arguments[0]) is None:
-            raise SiteFault(f"{place}: there is no program {arguments[0]}")
+        require(name in runner_of or which(arguments[0]), f"{place}: there is no program {arguments[0]}")
         commands[name] = Command(arguments, limit)
     return commands
 
@@ -54,8 +51,7 @@ def plain_arguments(line: str, place: str) -> List[str]:
         arguments, signs = (line.split(), []) if PLAIN.fullmatch(line) else (shlex.split(line), shell_characters(line))
     except ValueError as error:
         raise SiteFault(f"{place}: its line can't be split into words: {error}") from None
-    if not arguments:
-        raise SiteFault(f"{place}: its line is empty")
+    require(arguments, f"{place}: its line is empty")
     if signs:
         raise SiteFault(f'{place}: only a shell gives {signs[0]} a meaning: add "shell": true, or put it in quotes')
     return arguments
@@ -74,6 +70,5 @@ def shell_arguments(line: str, place: str) -> List[str]:
         read = subprocess.run(["/bin/sh", "-n", "-c", line], stdin=subprocess.DEVNULL, stderr=subprocess.PIPE, check=False, timeout=LIMIT)
     except (OSError, subprocess.TimeoutExpired) as error:
         raise SiteFault(f"{place}: its line can't be tested: {error}") from None
-    if read.returncode != 0:
-        raise SiteFault(f"{place}: {read.stderr.decode(errors='replace').strip()}")
+    require(read.returncode == 0, f"{place}: {read.stderr.decode(errors='replace').strip()}")
     return ["/bin/sh", "-c", line]

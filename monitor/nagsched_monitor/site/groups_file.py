@@ -7,7 +7,7 @@ import pathlib
 from typing import Container, Dict, List, Mapping, Optional, Tuple
 
 from ..faults import SiteFault
-from .json_files import read_by_name
+from .json_files import read_by_name, require
 
 FILE = "groups.json"
 KINDS = ("host_groups", "service_groups", "contact_groups", "contacts")
@@ -21,8 +21,8 @@ def read_groups(folder: pathlib.Path, objects: Optional[Container[str]] = None) 
     groups: Dict[str, Groups] = {}
     for name, place, members in read_by_name(folder, FILE, KINDS, objects):
         for kind, names in members.items():
-            if not isinstance(names, list) or not all(isinstance(each, str) and each and "," not in each for each in names):
-                raise SiteFault(f"{place}: {kind} has to be a list of names without commas")
+            is_list = isinstance(names, list) and all(isinstance(each, str) and each and "," not in each for each in names)
+            require(is_list, f"{place}: {kind} has to be a list of names without commas")
         groups[name] = members
     return groups
 

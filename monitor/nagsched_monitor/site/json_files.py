@@ -16,6 +16,12 @@ MOST_FRESH = 31_536_000
 PATIENCE = 10.0
 
 
+def require(holds: object, fault: str) -> None:
+    """Raises a `SiteFault` with this text if a condition doesn't hold."""
+    if not holds:
+        raise SiteFault(fault)
+
+
 @contextlib.contextmanager
 def lock_for_reading(folder: pathlib.Path) -> Iterator[None]:
     """While no file of the site is replaced. Raises `SiteFault` if the wait is too long."""
@@ -56,19 +62,16 @@ def members_of(value: object, place: str, known: Optional[Sequence[str]] = None)
     if not isinstance(value, dict):
         raise SiteFault(f"{place}: it has to be an object")
     for member in value:
-        if known is not None and member not in known:
-            raise SiteFault(f"{place}: a member {member!r} isn't known here")
+        require(known is None or member in known, f"{place}: a member {member!r} isn't known here")
     return value
 
 
-def read_by_name(
-    folder: pathlib.Path, file: str, known: Sequence[str], objects: Optional[Container[str]], required: bool = False,
-) -> Iterator[Tuple[str, str, Dict[str, Any]]]:
+def read_by_name(folder: pathlib.Path, file: str, known: Sequence[str], objects: Optional[Container[str]],
+                 required: bool = False) -> Iterator[Tuple[str, str, Dict[str, Any]]]:
     """Each name in a file, its place in messages, and its members. With `objects`, a name that isn't one of them is a fault."""
     for name, members in read_object(folder, file, required=required).items():
         place = f"{file}: {name}"
-        if objects is not None and name not in objects:
-            raise SiteFault(f"{place}: there is no such object")
+        require(objects is None or name in objects, f"{place}: there is no such object")
         yield name, place, members_of(members, place, known)
 
 

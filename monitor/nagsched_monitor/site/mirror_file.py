@@ -9,8 +9,7 @@ import collections
 import pathlib
 from typing import AbstractSet, Any, Dict, FrozenSet, Mapping, Sequence, Set, Tuple
 
-from ..faults import SiteFault
-from .json_files import members_by_name, members_of, read_object
+from .json_files import members_by_name, members_of, read_object, require
 
 FILE = "mirrors.json"
 NEVER = {"enabled": False, "check_interval": 0, "retry_interval": 0}
@@ -41,8 +40,7 @@ def read_mirrors(folder: pathlib.Path, setups: Mapping[str, Mapping[str, Any]]) 
     """The names of the mirrors of each part that has some, by its number. The keys of the setups are the names of their files, without the ending."""
     document = read_object(folder, FILE)
     for stem, homes in document.items():
-        if stem not in setups:
-            raise SiteFault(f"{FILE}: {stem}: there is no {stem}.json")
+        require(stem in setups, f"{FILE}: {stem}: there is no {stem}.json")
         members_of(homes, f"{FILE}: {stem}")
     parts = {stem: Part(stem, setup) for stem, setup in setups.items()} if document else {}
     for stem, homes in document.items():
@@ -52,37 +50,30 @@ def read_mirrors(folder: pathlib.Path, setups: Mapping[str, Mapping[str, Any]]) 
     return {number: frozenset(document[stem]) for number, stem in enumerate(setups) if document.get(stem)}
 
 
-def test_mirror(name: str, part: Part, home: object, parts: Mapping[str, Part], document: Mapping[str, Mapping[str, Any]]) -> None:
+def test_mirror(name: str, part: Part, home: Any, parts: Mapping[str, Part], document: Mapping[str, Mapping[str, Any]]) -> None:
     """A mirror is never checked, and has its original in another part, which judges results in the same way."""
     place = f"{FILE}: {part.stem}: {name}"
-    if name not in part.objects:
-        raise SiteFault(f"{place}: {part.stem}.json has no such object")
-    if not isinstance(home, str) or home not in parts:
-        raise SiteFault(f"{place}: the part of its original isn't there: {home!r}")
-    if home == part.stem:
-        raise SiteFault(f"{place}: its original stands in another part, and not in {home}")
-    if name not in parts[home].objects:
-        raise SiteFault(f"{place}: {home}.json has no such object")
-    if name in document.get(home, {}):
-        raise SiteFault(f"{place}: {home} has a mirror of it too, and not the original")
+    require(name in part.objects, f"{place}: {part.stem}.json has no such object")
+    require(isinstance(home, str) and home in parts, f"{place}: the part of its original isn't there: {home!r}")
+    require(home != part.stem, f"{place}: its original stands in another part, and not in {home}")
+    require(name in parts[home].objects, f"{place}: {home}.json has no such object")
+    require(name not in document.get(home, {}), f"{place}: {home} has a mirror of it too, and not the original")
     here, there = part.objects[name], parts[home].objects[name]
-    if any(here.get(member) != value for member, value in NEVER.items()):
-        raise SiteFault(f'{place}: a mirror has "enabled":false, "check_interval":0 and "retry_interval":0')
-    has_other_masters = name in part.inherited_masters and part.dependencies.get(name) != parts[home].dependencies.get(name)
-    for differs, what in (
-        (here["max_check_attempts"] != there["max_check_attempts"], "max_check_attempts"),
-        (set(here.get("parents", ())) != set(there.get("parents", ())), "parents"),
-        (has_other_masters, "dependencies, which count here for those that depend on it,"),
-    ):
-        if differs:
-            raise SiteFault(f"{place}: {what} aren't those of its original in {home}.json")
+    is_never_checked = all(here.get(member) == value for member, value in NEVER.items())
+    require(is_never_checked, f'{place}: a mirror has "enabled":false, "check_interval":0 and "retry_interval":0')
+    has_same_masters = name not in part.inherited_masters or part.dependencies.get(name) == parts[home].dependencies.get(name)
+    differ = f"aren't those of its original in {home}.json"
+    require(here["max_check_attempts"] == there["max_check_attempts"], f"{place}: max_check_attempts {differ}")
+    require(set(here.get("parents", ())) == set(there.get("parents", ())), f"{place}: parents {differ}")
+    require(has_same_masters, f"{place}: dependencies, which count here for those that depend on it, {differ}")
 
 
 def test_options(part: Part, homes: Sequence[Part]) -> None:
     """With mirrors, no take waits for a limit, and results are judged in the same way in all parts."""
-    if homes and part.options.get("max_concurrent_checks", 0) != 0:
-        raise SiteFault(f"{FILE}: {part.stem}: max_concurrent_checks of a part with mirrors is 0: slots in monitor.json is the limit of all parts")
+    place = f"{FILE}: {part.stem}"
+    is_unlimited = not homes or part.options.get("max_concurrent_checks", 0) == 0
+    require(is_unlimited, f"{place}: max_concurrent_checks of a part with mirrors is 0: slots in monitor.json is the limit of all parts")
     for home in homes:
         for option in JUDGING:
-            if part.options[option] != home.options[option]:
-                raise SiteFault(f"{FILE}: {part.stem}: {option} isn't that of {home.stem}, by which the originals of its mirrors are judged")
+            is_same = part.options[option] == home.options[option]
+            require(is_same, f"{place}: {option} isn't that of {home.stem}, by which the originals of its mirrors are judged")

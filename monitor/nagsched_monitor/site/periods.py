@@ -10,7 +10,7 @@ import re
 from typing import Dict, List, Mapping, NamedTuple, Optional, Sequence, Tuple
 
 from ..faults import SiteFault
-from .json_files import members_of
+from .json_files import members_of, require
 
 WEEKDAYS = ("monday", "tuesday", "wednesday", "thursday", "friday", "saturday", "sunday")
 CLOCK_TIMES = re.compile(r"(\d\d):(\d\d)-(\d\d):(\d\d)")
@@ -71,8 +71,7 @@ def read_periods(document: Mapping[str, object], file: str) -> Dict[str, Period]
     periods = {name: read_period(members, f"{file}: period {name}") for name, members in document.items()}
     for name, period in periods.items():
         for other in period.excluded:
-            if other not in periods:
-                raise SiteFault(f"{file}: period {name}: there is no period {other}, which it excludes")
+            require(other in periods, f"{file}: period {name}: there is no period {other}, which it excludes")
     try:
         graphlib.TopologicalSorter({name: period.excluded for name, period in periods.items()}).prepare()
     except graphlib.CycleError as error:
@@ -83,11 +82,10 @@ def read_periods(document: Mapping[str, object], file: str) -> Dict[str, Period]
 def read_period(members: object, place: str) -> Period:
     document = members_of(members, place, ("weekdays", "dates", "exclude"))
     weekdays, dates, excluded = document.get("weekdays", {}), document.get("dates", []), document.get("exclude", [])
-    if not isinstance(weekdays, dict) or not set(weekdays) <= set(WEEKDAYS):
-        raise SiteFault(f"{place}: weekdays has the members monday to sunday and no other")
+    require(isinstance(weekdays, dict) and set(weekdays) <= set(WEEKDAYS), f"{place}: weekdays has the members monday to sunday and no other")
     read = [Dates(len(KINDS), read_times(texts, f"{place}: {day}"), {"weekday": WEEKDAYS.index(day)}) for day, texts in weekdays.items()]
-    if not isinstance(dates, list) or not isinstance(excluded, list) or not all(isinstance(other, str) for other in excluded):
-        raise SiteFault(f"{place}: dates and exclude are lists")
+    are_lists = isinstance(dates, list) and isinstance(excluded, list) and all(isinstance(other, str) for other in excluded)
+    require(are_lists, f"{place}: dates and exclude are lists")
     read += [read_dates(each, f"{place}: date {index}") for index, each in enumerate(dates)]
     return Period(sorted(read, key=lambda dates: dates.rank), excluded)
 
@@ -101,8 +99,7 @@ def read_times(texts: object, place: str) -> List[Minutes]:
         match = CLOCK_TIMES.fullmatch(str(text))
         hour, minute, last_hour, last_minute = map(int, match.groups()) if match else (0, 0, 0, 0)
         first, last = hour * 60 + minute, last_hour * 60 + last_minute
-        if minute > 59 or last_minute > 59 or not first < last <= 24 * 60:
-            raise SiteFault(f"{place}: no times: {text!r}")
+        require(minute <= 59 and last_minute <= 59 and first < last <= 24 * 60, f"{place}: no times: {text!r}")
         times.append((first, last))
     return times
 

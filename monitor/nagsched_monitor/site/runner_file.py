@@ -7,10 +7,9 @@ import pathlib
 import re
 from typing import Any, Dict, Iterable, List, Mapping, NamedTuple, Tuple
 
-from ..faults import SiteFault
 from ..run.processes import find_program
 from .groups_file import Groups
-from .json_files import members_of, read_object, read_seconds, read_whole
+from .json_files import members_of, read_object, read_seconds, read_whole, require
 
 FILE = "runners.json"
 NAME = re.compile(r"[A-Za-z0-9_.-]{1,64}")
@@ -37,20 +36,18 @@ def read_runners(folder: pathlib.Path, names: Iterable[str], groups: Mapping[str
     wait = read_seconds(members.get("wait", WAIT), f"{FILE}: wait")
     for member, of in (("objects", objects), ("slots", slots)):
         for name in of:
-            if name not in commands:
-                raise SiteFault(f"{FILE}: {member}: {name}: there is no such runner")
+            require(name in commands, f"{FILE}: {member}: {name}: there is no such runner")
     remotes = {name: read_remote(name, arguments, slots.get(name, SLOTS), wait) for name, arguments in commands.items()}
     by_host: Dict[str, List[str]] = {}
     for name in names:
         by_host.setdefault(name.partition(";")[0], []).append(name)
     runner_of: Dict[str, str] = {}
     for runner, patterns in objects.items():
-        if not isinstance(patterns, list) or not patterns or not all(isinstance(each, str) and each for each in patterns):
-            raise SiteFault(f"{FILE}: objects: {runner}: it has to be a list of patterns")
+        is_list = isinstance(patterns, list) and patterns and all(isinstance(each, str) and each for each in patterns)
+        require(is_list, f"{FILE}: objects: {runner}: it has to be a list of patterns")
         for pattern in patterns:
             fitting = matching_objects(pattern, by_host, groups)
-            if not fitting:
-                raise SiteFault(f"{FILE}: objects: {runner}: no object fits {pattern}")
+            require(fitting, f"{FILE}: objects: {runner}: no object fits {pattern}")
             runner_of.update((name, runner) for name in fitting if name not in runner_of)
     return remotes, runner_of
 
@@ -58,14 +55,13 @@ def read_runners(folder: pathlib.Path, names: Iterable[str], groups: Mapping[str
 def read_remote(name: str, arguments: Any, slots: object, wait: float) -> Remote:
     most = read_whole(slots, f"{FILE}: slots: {name}", 1, MOST_SLOTS)
     place = f"{FILE}: runners: {name}"
-    if not NAME.fullmatch(name) or name == LOCAL:
-        raise SiteFault(f"{place}: the name of a runner has 1 to 64 letters, digits, dots, underscores and hyphens, and isn't {LOCAL}")
-    if not isinstance(arguments, list) or not arguments or not all(isinstance(word, str) and word and "\0" not in word for word in arguments):
-        raise SiteFault(f"{place}: it has to be a command, as a list of arguments")
+    is_name = NAME.fullmatch(name) and name != LOCAL
+    require(is_name, f"{place}: the name of a runner has 1 to 64 letters, digits, dots, underscores and hyphens, and isn't {LOCAL}")
+    is_command = isinstance(arguments, list) and arguments and all(isinstance(word, str) and word and "\0" not in word for word in arguments)
+    require(is_command, f"{place}: it has to be a command, as a list of arguments")
     program = find_program(arguments[0])
-    if program is None:
-        raise SiteFault(f"{place}: there is no program {arguments[0]}")
-    return Remote(name, (program, *arguments[1:]), most, wait)
+    require(program, f"{place}: there is no program {arguments[0]}")
+    return Remote(name, (str(program), *arguments[1:]), most, wait)
 
 
 def matching_objects(pattern: str, by_host: Mapping[str, List[str]], groups: Mapping[str, Groups]) -> List[str]:

@@ -19,7 +19,9 @@ from typing import AbstractSet, Any, Container, Dict, List, Mapping, Optional, S
 from ..faults import SiteFault
 from .command_lines import Command, read_commands
 from .groups_file import read_groups
-from .json_files import MOST_FRESH, MOST_SECONDS, lock_for_reading, members_by_name, members_of, read_by_name, read_object, read_seconds, read_whole
+from .json_files import (
+    MOST_FRESH, MOST_SECONDS, lock_for_reading, members_by_name, members_of, read_by_name, read_object, read_seconds, read_whole, require,
+)
 from .mirror_file import read_mirrors
 from .periods import Period, Periods, read_periods
 from .runner_file import Remote, read_runners
@@ -113,8 +115,7 @@ def setup_files(folder: pathlib.Path) -> List[pathlib.Path]:
     parts = sorted(folder.glob("part-*.json"), key=lambda path: (len(path.name), path.name))
     if single.exists() and parts:
         raise SiteFault(f"{single.name} and {parts[0].name} are both there: a site has either one setup or parts")
-    if not single.exists() and not parts:
-        raise SiteFault(f"{folder} has no setup.json and no part-1.json")
+    require(single.exists() or parts, f"{folder} has no setup.json and no part-1.json")
     return [single] if single.exists() else parts
 
 
@@ -146,8 +147,7 @@ def originals_of(documents: Mapping[str, Mapping[str, Any]], mirrors: Mapping[in
         for name, it in members_by_name(setup).items():
             if name in mirrors.get(part, ()):
                 continue
-            if name in objects:
-                raise SiteFault(f"{stem}.json: {name} is in another part already, and mirrors.json doesn't name it")
+            require(name not in objects, f"{stem}.json: {name} is in another part already, and mirrors.json doesn't name it")
             interval = it.get("check_interval", 5) * unit
             objects[name] = ObjectDefinition(name, part, it.get("host"), tuple(it.get("parents", ())), interval, it.get("enabled", True))
     return objects
@@ -166,10 +166,10 @@ def children_of(objects: Mapping[str, ObjectDefinition]) -> Dict[str, List[str]]
 
 def test_command(definition: ObjectDefinition) -> None:
     """Each object that is checked at any time has a command."""
-    if definition.command is None and not (definition.passive_only and definition.freshness is None) and definition.enabled:
-        raise SiteFault(f"commands.json: {definition.name} has no command")
-    if definition.command is None and definition.freshness is not None:
-        raise SiteFault(f"commands.json: {definition.name} has no command, which is run where no result came within its freshness")
+    is_checked = definition.enabled and not (definition.passive_only and definition.freshness is None)
+    fault = f"commands.json: {definition.name} has no command"
+    require(definition.command or not is_checked, fault)
+    require(definition.command or definition.freshness is None, f"{fault}, which is run where no result came within its freshness")
 
 
 def read_period_file(folder: pathlib.Path, objects: Container[str]) -> Tuple[Dict[str, Period], Dict[str, str]]:
@@ -178,10 +178,8 @@ def read_period_file(folder: pathlib.Path, objects: Container[str]) -> Tuple[Dic
     periods = read_periods(members_of(document.get("periods", {}), "periods.json: periods"), "periods.json")
     period_of = members_of(document.get("objects", {}), "periods.json: objects")
     for name, period in period_of.items():
-        if name not in objects:
-            raise SiteFault(f"periods.json: {name}: there is no such object")
-        if not isinstance(period, str) or period not in periods:
-            raise SiteFault(f"periods.json: {name}: there is no period {period!r}")
+        require(name in objects, f"periods.json: {name}: there is no such object")
+        require(isinstance(period, str) and period in periods, f"periods.json: {name}: there is no period {period!r}")
     return periods, period_of
 
 
@@ -190,8 +188,7 @@ def read_passive(folder: pathlib.Path, objects: Container[str]) -> Dict[str, Tup
     passive = {}
     for name, place, members in read_by_name(folder, "passive.json", ("only", "freshness"), objects):
         only, freshness = members.get("only", False), members.get("freshness")
-        if not isinstance(only, bool):
-            raise SiteFault(f"{place}: only is true or false")
+        require(isinstance(only, bool), f"{place}: only is true or false")
         passive[name] = only, None if freshness is None else round(read_seconds(freshness, f"{place}: freshness", MOST_FRESH) * 1000)
     return passive
 
@@ -201,8 +198,8 @@ def read_options(folder: pathlib.Path) -> Options:
     for name, (least, most) in NUMBERS.items():
         read_whole(members.get(name, 1), f"monitor.json: {name}", least, most)
     letter, zone = members.pop("service_check_timeout_state", "c"), members.pop("zone", None)
-    if not isinstance(letter, str) or letter not in CODES_BY_LETTER:
-        raise SiteFault(f"monitor.json: service_check_timeout_state is w, c or u, and no {letter!r}")
+    is_known = isinstance(letter, str) and letter in CODES_BY_LETTER
+    require(is_known, f"monitor.json: service_check_timeout_state is w, c or u, and no {letter!r}")
     try:
         read_zone = None if zone is None else zoneinfo.ZoneInfo(zone)
     except (TypeError, ValueError, zoneinfo.ZoneInfoNotFoundError):

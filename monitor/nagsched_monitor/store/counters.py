@@ -71,14 +71,7 @@ class Counters:
 
     def changed_figures(self, calls: int) -> Dict[str, float]:
         """The figures that have changed since they were written last. `calls` is the number of calls so far."""
-        values = self._all_figures(self._clock.moment(), calls)
-        return {name: value for name, value in values.items() if self._written.get(name) != value}
-
-    def set_written(self, figures: Mapping[str, float]) -> None:
-        self._written_at = self._clock.moment()
-        self._written.update(figures)
-
-    def _all_figures(self, now: int, calls: int) -> Dict[str, float]:
+        now = self._clock.moment()
         self._moments.append((now, self.result_count, self._latest_lately))
         self._latest_lately = 0
         while len(self._moments) > 2 and self._moments[1][0] <= now - MINUTE:
@@ -87,4 +80,9 @@ class Counters:
         rate = round((self.result_count - count) * 1000 / (now - first), 3) if now > first else 0.0
         lately = max(latest for _, _, latest in self._moments)
         of_this_run = {"calls": calls, "begun_at": self._started_at, "written_at": self._clock.wall(), "checks_a_second": rate, "moment": now}
-        return {**self._values, **of_this_run, "latest_start": self.latest_start / 1000, "latest_start_lately": lately / 1000}
+        values = {**self._values, **of_this_run, "latest_start": self.latest_start / 1000, "latest_start_lately": lately / 1000}
+        return {name: value for name, value in values.items() if self._written.get(name) != value}
+
+    def set_written(self, figures: Mapping[str, float]) -> None:
+        self._written_at = self._clock.moment()
+        self._written.update(figures)

@@ -7,13 +7,11 @@ import itertools
 from typing import Dict, List, Mapping, Optional, Tuple
 
 from ..core.clock import Clock
-from ..core.object_state import ObjectState
-from ..core.phases import FIRST_TIME
+from ..core.object_state import FIRST_TIME, ObjectState
 from ..core.run_table import Run
 from ..scheduler.protocol import Answer, Call, Report, Standing, Taken
 from .rows import StateHistory, StoredStanding
-from .store import Store, Write
-from .writes import drop_standings, store_standings
+from .store import Store, Write, delete, store_standings
 
 # In milliseconds: how long a marked object waits for more answers, and the time after which it is written without other calls.
 SHORTEST = 500
@@ -37,7 +35,7 @@ class StandingTable:
                 obj.output, obj.phase, obj.history = row.words, row.phase, history_of(row)
 
     def settle(self, objects: Mapping[str, ObjectState]) -> None:
-        """The states of all objects are known now, and are written. If the table had another state, the stored changes show when the new one began."""
+        """Has all objects whose states are known written. If the table had another state, the stored changes show when the new one began."""
         self._dropped = [row.name for row in self._store.standings() if row.name not in objects]
         for obj in objects.values():
             standing, past = obj.standing, obj.history
@@ -47,7 +45,7 @@ class StandingTable:
             past.note(standing.state, standing.kind, stored.since if stored.since and stored.state == standing.state else self._clock.wall())
             if stored.hard_since is not None and stored.hard_state == past.hard_state:
                 past.hard_since = stored.hard_since
-        self._marked = {name: (obj, 0) for name, obj in objects.items()}
+        self._marked = {name: (obj, 0) for name, obj in objects.items() if obj.standing is not None}
 
     def apply_answer(self, obj: ObjectState, call: Call, answer: Answer, ended: Optional[Run]) -> None:
         """Takes in the changes of an object from an answer, and marks the object. `ended` is its run before."""
@@ -76,7 +74,8 @@ class StandingTable:
         now, wall = self._clock.moment(), self._clock.wall()
         due = itertools.takewhile(lambda marked: now - marked[1] >= SHORTEST, self._marked.values())
         self._chosen = [obj for obj, since in due if now - since >= LONGEST or not has_just_begun(obj.run, wall)]
-        return [drop_standings(self._dropped), store_standings([row_of(obj, wall, now / 1000 - wall) for obj in self._chosen])]
+        gone = [delete("standings", "name = ?", name) for name in self._dropped]
+        return [*gone, store_standings([row_of(obj, wall, now / 1000 - wall) for obj in self._chosen])]
 
     def clear_marks(self) -> None:
         """The last writes were carried out."""

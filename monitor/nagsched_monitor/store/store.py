@@ -21,14 +21,19 @@ import json
 import os
 import pathlib
 import sqlite3
-from typing import Any, Callable, Dict, List, Optional, Sequence, Set, Tuple
+from typing import Any, Callable, Dict, Iterable, List, Mapping, Optional, Sequence, Set, Tuple
 
-from ..faults import DamagedRow, MonitorFault, NotStored
+from ..faults import MonitorFault, NotStored
 from ..scheduler.protocol import GREATEST
-from .rows import FOR_PEOPLE, INDEXES, INSERTS, TABLES, VERSION, Cell, Generation, StateHistory, StoredCall, StoredResult, StoredStanding, checksum_of
+from .rows import (
+    FOR_PEOPLE, INDEXES, INSERTS, TABLES, VERSION, Cell, Generation, StateHistory, StoredCall, StoredChange, StoredResult, StoredStanding,
+    checksum_of, row_number,
+)
 
 # A write that is carried out together with others, or not at all.
 Write = Callable[["Store"], object]
+# The number of stored answers to numbered requests.
+MOST_REQUESTS = 1_000
 
 
 class Store:
@@ -41,8 +46,8 @@ class Store:
             try:
                 self._open_database(opened)
                 self._verify()
-                self.last_call = max(self._greatest("calls"), self._greatest("generations", "last_call"))
-                self.last_result = self._greatest("passive")
+                self.last_call = max(self.greatest("calls"), self.greatest("generations", "last_call"))
+                self.last_result = self.greatest("passive")
             except sqlite3.Error as error:
                 raise MonitorFault(f"{self.path}: {error}") from None
             self._opened = opened.pop_all()
@@ -90,7 +95,7 @@ class Store:
                 self._sound_rows(table, self._database.execute(f"SELECT * FROM {table} ORDER BY id").fetchall())
         first, last, count = self._database.execute("SELECT min(id), max(id), count(*) FROM calls").fetchone()
         if count and last - first + 1 != count:
-            raise DamagedRow(f"{self.path}: {last - first + 1 - count} rows of calls are missing")
+            raise MonitorFault(f"{self.path}: {last - first + 1 - count} rows of calls are missing")
 
     def _sound_rows(self, table: str, rows: Sequence[Sequence[Cell]]) -> List[Sequence[Cell]]:
         """Those of these rows that are as they were written, without their checksums. Other rows are a fault, or are set aside if only people read them."""
@@ -101,11 +106,11 @@ class Store:
                 sound.append(row[:-1])
                 continue
             if table not in FOR_PEOPLE:
-                raise DamagedRow(f"{self.path}: row {number!r} of {table} was changed since it was written")
+                raise MonitorFault(f"{self.path}: row {number!r} of {table} was changed since it was written")
             self._log(f"row {number!r} of {table} was changed since it was written: it is in the table damaged now")
             with contextlib.suppress(sqlite3.Error):
-                self.insert("damaged", None, (table, ascii(row)))
-                self.delete(table, "id = ?", number)
+                insert("damaged", None, table, ascii(row))(self)
+                delete(table, "id = ?", number)(self)
         return sound
 
     def _read(self, query: str, *cells: Cell) -> List[Any]:
@@ -115,7 +120,7 @@ class Store:
         except sqlite3.Error as error:
             raise NotStored(f"{self.path}: {error}") from None
 
-    def _greatest(self, table: str, member: str = "id") -> int:
+    def greatest(self, table: str, member: str = "id") -> int:
         (greatest,) = self._database.execute(f"SELECT max({member}) FROM {table}").fetchone()
         return int(greatest or 0)
 
@@ -186,21 +191,8 @@ class Store:
                 self._database.execute("ROLLBACK")
             raise NotStored(f"{self.path}: {error}") from None
 
-    def insert(self, table: str, number: Optional[int], cells: Sequence[Cell]) -> None:
-        """Writes a row; without a number it gets the next one."""
-        number = self._greatest(table) + 1 if number is None else number
-        self.insert_all(table, [(number, cells)])
-
-    def insert_calls(self, calls: Sequence[Tuple[int, str, Optional[str]]]) -> None:
-        self.insert_all("calls", list(enumerate(calls, self.last_call + 1)))
-        self.last_call += len(calls)
-
     def insert_all(self, table: str, rows: Sequence[Tuple[int, Sequence[Cell]]]) -> None:
-        if rows:
-            self._database.executemany(INSERTS[table], [(number, *cells, checksum_of(table, number, cells)) for number, cells in rows])
-
-    def delete(self, table: str, condition: str, *cells: Cell) -> None:
-        self._database.execute(f"DELETE FROM {table} WHERE {condition}", cells)
+        self._database.executemany(INSERTS[table], [(number, *cells, checksum_of(table, number, cells)) for number, cells in rows])
 
 
 def lock_site(folder: pathlib.Path) -> int:
@@ -212,3 +204,68 @@ def lock_site(folder: pathlib.Path) -> int:
         os.close(lock)
         raise MonitorFault(f"another monitor runs on {folder}") from None
     return lock
+
+
+# ---- writes
+
+
+def insert(table: str, number: Optional[int], *cells: Cell) -> Write:
+    """A row, which replaces the one with the same number or the same unique name. Without a number it gets the next one."""
+    return lambda store: store.insert_all(table, [(store.greatest(table) + 1 if number is None else number, cells)])
+
+
+def delete(table: str, condition: str, *cells: Cell) -> Write:
+    return lambda store: store._database.execute(f"DELETE FROM {table} WHERE {condition}", cells)
+
+
+def all_of(*writes: Write) -> Write:
+    return lambda store: [write(store) for write in writes]
+
+
+def store_calls(calls: Sequence[Tuple[int, str, Optional[str]]]) -> Write:
+    """Calls before they are made: the part, the line and the plugin's output of each."""
+    def write(store: Store) -> None:
+        store.insert_all("calls", list(enumerate(calls, store.last_call + 1)))
+        store.last_call += len(calls)
+
+    return write
+
+
+def store_request(number: str, answer: str) -> Write:
+    """The answer to a request with a number, which isn't obeyed twice."""
+    return all_of(insert("requests", None, number, answer), delete("requests", f"id <= (SELECT max(id) FROM requests) - {MOST_REQUESTS}"))
+
+
+def begin_generations(generations: Iterable[Generation]) -> Write:
+    """The schedulers of a site, which begin from their saved states: earlier generations and calls aren't needed any more."""
+    writes = [delete(table, "TRUE") for table in ("generations", "mirrors", "calls", "aside")]
+    for each in generations:
+        writes.append(insert("generations", None, *each[:-1]))
+        writes += [insert("mirrors", None, each.part, json.dumps(sorted(each.mirrors), ensure_ascii=False))] if each.mirrors else []
+    return all_of(*writes)
+
+
+def save_generation(generation: Generation, oldest: int) -> Write:
+    """A part's scheduler with its saved state. Calls up to the oldest number are part of the saved states of all parts, and are dropped."""
+    saved = [delete("generations", "part = ?", generation.part), insert("generations", None, *generation[:-1])]
+    return all_of(*saved, *(delete(table, "id <= ?", oldest) for table in ("calls", "aside")))
+
+
+def store_change(stored: StoredChange, document: Optional[str]) -> Write:
+    """A change of state, and the document for the command for changes, if the command is run for it."""
+    change = insert("changes", *stored[:6], int(stored.flapping), stored.words)
+    return change if document is None else all_of(change, insert("outbox", None, document))
+
+
+def drop_changes_before(time: float) -> Write:
+    """Drops the changes before a time of the wall clock. The last one stays, since its number is used."""
+    return delete("changes", "time < ? AND id < (SELECT max(id) FROM changes)", time)
+
+
+def store_standings(standings: Sequence[StoredStanding]) -> Write:
+    rows = [(row_number(it.name), (*it[:4], int(it.flapping), *it[5:9], int(it.is_on), *it[10:])) for it in standings]
+    return lambda store: store.insert_all("standings", rows)
+
+
+def store_figures(values: Mapping[str, float]) -> Write:
+    return all_of(*(insert("figures", None, name, float(value)) for name, value in values.items()))
