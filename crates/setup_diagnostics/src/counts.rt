@@ -4,12 +4,11 @@ ghost use Rattle.std.specs.Prelude.{◌≡◌, ◌++◌, false, OnOk};
 ghost use Rattle.setup_diagnostics.specs.Counts.{count_text, count_words, count_limit};
 ghost use Rattle.setup_diagnostics.specs.Feeds.{has_line_feed};
 
-use crate::line::Line;
+use crate::line::{Line, Pushed};
 use setup_model::{Count, MAX_DEPENDENCIES, MAX_OBJECTS, MAX_PARENTS};
-use std::alloc::AllocError;
 
 /// Appends a count that is past its limit, and the limit.
-pub(crate) fn push_count(line: &mut Line, count: Count, number: u64) -> Result<(), AllocError>
+pub(crate) fn push_count(line: &mut Line, count: Count, number: u64) -> Pushed
     ensures { OnOk result (line.new ≡ line.old ++ count_text count number) }
 {
     line.push_words("there are ")?;
