@@ -20,7 +20,7 @@ use crate::reading::{MAX_DOCUMENT_INPUT, document, read_document_input, read_inp
 use check_objects::{Fault, LoadError, Setup, read_document};
 use check_sched::LAST_MOMENT;
 use nagsched_protocol::{DriveError, InputRefusal, Start, push_refusal};
-use nagsched_run::drive::Outcome;
+use nagsched_run::drive::{Ended, Outcome};
 use serde_json::Value;
 use setup_diagnostics::{compact_document, explain};
 use setup_summary::{Summary, push_summary};
@@ -55,7 +55,7 @@ pub fn check<R: Read, W: Write>(
     start: Start,
     reader: &mut R,
     writer: &mut W,
-) -> Result<Outcome, DriveError>
+) -> Ended
     requires { CanStart start }
     ensures ending { CheckEnded (IsReportFrom start) (check_input_of start) result
         (streams (R.remaining reader.old) (R.remaining reader.new)
@@ -71,11 +71,7 @@ pub fn check<R: Read, W: Write>(
 /// Reads one setup document, as [`check`] does, and writes it as one line, which is read as the same setup. A
 /// refused document is reported as `check` reports it. A document whose line would be longer than the limit
 /// is refused too, as `TooLong`. The errors are those of `check`.
-pub fn write_setup_line<R: Read, W: Write>(
-    alloc: Global,
-    reader: &mut R,
-    writer: &mut W,
-) -> Result<Outcome, DriveError>
+pub fn write_setup_line<R: Read, W: Write>(alloc: Global, reader: &mut R, writer: &mut W) -> Ended
     ensures { CheckEnded IsSetupLineReport document_input_of result
         (streams (R.remaining reader.old) (R.remaining reader.new)
         (W.contents writer.old) (W.contents writer.new)) }

@@ -24,7 +24,7 @@ use nagsched_protocol::{
     DrillScript, DriveError, MAX_INPUT_BYTES, MAX_READ_BYTES, flush, push_entry, push_total,
     read_at_most, write_refusal, write_text,
 };
-use nagsched_run::drive::Outcome;
+use nagsched_run::drive::{Ended, Outcome};
 use std::alloc::{AllocError, Global};
 use std::io::{Read, Write};
 use std::sync::Wait;
@@ -56,7 +56,7 @@ pub fn drill<H: Threads + Wait + Sync, R: Read, W: Write>(
     room: usize,
     reader: &mut R,
     writer: &mut W,
-) -> Result<Outcome, DriveError>
+) -> Ended
     requires start { start ≤ LAST_MOMENT }
     requires workers { (0 < workers) × (workers ≤ 64) }
     ensures written { OnOk result (IfSome (R.remaining reader.old) (λ input.
@@ -90,7 +90,7 @@ fn answer<H: Threads + Wait + Sync, W: Write>(
     room: usize,
     input: &[u8],
     writer: &mut W,
-) -> Result<Outcome, DriveError>
+) -> Ended
     requires start { start ≤ LAST_MOMENT }
     requires workers { (0 < workers) × (workers ≤ 64) }
     ensures wrote { IsDrillWritten start workers room input.now result
@@ -164,7 +164,7 @@ fn open_desk(
 }
 
 /// Writes the history of a book, and its total.
-fn write_book<W: Write>(alloc: Global, book: &Book, writer: &mut W) -> Result<Outcome, DriveError>
+fn write_book<W: Write>(alloc: Global, book: &Book, writer: &mut W) -> Ended
     ensures wrote { IsTextWritten result (W.contents writer.old) (W.contents writer.new)
         (drill_text (sched_of book.now).setup (entries_of book.now) (refused_of book.now)) }
     ensures outcome { IfOk result (λ outcome. outcome ≡ Outcome.Ran) }

@@ -16,7 +16,7 @@ use crate::drill::drill;
 use crate::job::job;
 use crate::printing::print_text;
 use nagsched_protocol::DriveError;
-use nagsched_run::drive::{Outcome, run};
+use nagsched_run::drive::{Ended, Outcome, run};
 use nagsched_run::live::live;
 use setup_diagnostics::json_schema;
 use std::alloc::Global;
@@ -90,7 +90,7 @@ fn do_job<H: Threads + Wait + Sync, R: Read, W: Write>(
     request: Job,
     reader: &mut R,
     writer: &mut W,
-) -> Result<Outcome, DriveError>
+) -> Ended
     requires { IsWithinLimits request }
     ensures { JobEnded request result
         (streams (R.remaining reader.old) (R.remaining reader.new)
@@ -111,7 +111,7 @@ fn do_job<H: Threads + Wait + Sync, R: Read, W: Write>(
 }
 
 /// Writes the JSON schema of a setup. Out of memory it writes nothing.
-fn print_schema<W: Write>(alloc: Global, writer: &mut W) -> Result<Outcome, DriveError>
+fn print_schema<W: Write>(alloc: Global, writer: &mut W) -> Ended
     ensures { IsSchemaOutput result (W.contents writer.old) (W.contents writer.new) }
 {
     match json_schema(alloc) {
@@ -121,7 +121,7 @@ fn print_schema<W: Write>(alloc: Global, writer: &mut W) -> Result<Outcome, Driv
 }
 
 /// Writes the whole text of a job, and flushes it.
-fn print_job_text<W: Write>(writer: &mut W, report: &str) -> Result<Outcome, DriveError>
+fn print_job_text<W: Write>(writer: &mut W, report: &str) -> Ended
     ensures { IsJobTextOutput report.now result (W.contents writer.old) (W.contents writer.new) }
 {
     print_text(writer, report.as_bytes())?;

@@ -17,9 +17,9 @@ use Rattle.check_desk.specs.Desks.{AreNewPassesWith}
 use Rattle.check_desk.specs.Passes.{pass_of}
 use Rattle.check_desk.specs.declared.desk.Desk.{Desk}
 use Rattle.check_desk.specs.declared.passes.Pass.{Pass}
-use Rattle.nagsched_loop.specs.Effects.{Effect}
+use Rattle.nagsched_loop.specs.Effects.{Effect, reads}
 use Rattle.nagsched_loop.specs.Loop.{KeepsOtherRuns, KeepsRuns}
-use Rattle.nagsched_loop.specs.Months.{AreGenerations, IsBegun, IsGeneration, IsGenerationText, IsSavedText, IsTextOfSetup, IsTextSince, IsWatched, entries_in, later}
+use Rattle.nagsched_loop.specs.Months.{AreGenerations, IsBegun, IsFirst, IsGeneration, IsGenerationText, IsSavedText, IsTextOfSetup, IsTextSince, IsWatched, entries_in, later}
 use Rattle.nagsched_loop.specs.declared.runs.Run.{Run}
 use Rattle.nagsched_loop.proofs.RunLemmas.{kept_then}
 
@@ -80,6 +80,13 @@ text_after_store book ended before after bytes text none same lawful saved is ke
           legal = led.legal;
           is_saved = subst (λ s. IsSavedText s after) led.leads saved;
         }
+
+-- a setup is begun over the text that was found, which is the stored one
+pub begun_over : {S : Type 0} (does : S → Effect → S → Type 0) (gives : Configuration → Type 0) (environment clock : S) (setup : Configuration) (start : ℕ)
+    (first : State) (found stored : Option (List ℕ)) → does environment (reads start) clock → gives setup → IsFirst setup found start first → found ≡ stored
+    → IsBegun does gives stored environment start first
+begun_over does gives environment clock setup start first found stored read given is_first same =
+    record { clock = clock; read = read; setup = setup; given = given; is_first = subst (λ text. IsFirst setup text start first) same is_first }
 
 module _ {S : Type 0} (does : S → Effect → S → Type 0) (gives : Configuration → Type 0) (past : Configuration → List (Entry Call Reply) → Type 0)
     (before : Option (List ℕ)) (environment : S) where

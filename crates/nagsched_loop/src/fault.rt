@@ -8,13 +8,13 @@ use std::alloc::AllocError;
 #[derive(Clone, Copy)]
 pub(crate) enum Fault {
     /// The arguments are wrong.
-    Words,
+    Words = 2,
     /// The output can't be written.
-    Output,
+    Output = 3,
     /// There is no memory: for a book, a desk, threads or a line.
-    Memory,
+    Memory = 4,
     /// A setup or a stored state is refused.
-    Refused,
+    Refused = 5,
 }
 
 impl Fault {
@@ -25,12 +25,7 @@ impl Fault {
     pub(crate) fn status(self) -> u8
         ensures { result ≡ exit_status self }
     {
-        match self {
-            Fault::Words => 2,
-            Fault::Output => 3,
-            Fault::Memory => 4,
-            Fault::Refused => 5,
-        }
+        self as u8
     }
 }
 

@@ -222,35 +222,84 @@ not_yet most bytes rest line end whole t e =
     let free : has_feed bytes ≡ false = sym t.whole_is ∙ e in
     record { feedless = free; kept = t.line_is ∙ ap (prefix_of most) (first_all bytes free); nothing = t.rest_is ∙ behind_none bytes free }
 
--- ---- a document's line
+-- ---- a line that is taken read by read
 
--- What is at hand of a line and of what comes later: what was taken of it has no line feed, and not as many bytes as are kept of the line at
--- most; the rest is at hand, and is no more than one read gave. Each read gave some.
-pub record Coming (most : ℕ) (hand : List ℕ) (had left : Option (List ℕ)) (line : LinePrefix) (rest : List ℕ) (reads : ℕ) : Type 0 where
+-- What is at hand of a line and of what comes later: what was taken of it has no line feed, and the rest is at hand. Each read gave some.
+pub record Taking (most : ℕ) (hand : List ℕ) (had left : Option (List ℕ)) (line : LinePrefix) (rest : List ℕ) (reads : ℕ) : Type 0 where
   pub bytes_read : List ℕ
   pub taken : List ℕ
   pub consumed : Consumes had left bytes_read
   pub parts : hand ++ bytes_read ≡ taken ++ rest
   pub feedless : has_feed taken ≡ false
   pub kept : line ≡ prefix_of most taken
-  pub bounded : length taken < most
-  pub size : length rest ≤ READ_BYTES
   pub many : reads ≤ length bytes_read
 
 -- nothing was taken yet
-pub comes_first : (most : ℕ) (hand : List ℕ) (had : Option (List ℕ)) (line : LinePrefix) → line ≡ prefix_of most [] → 0 < most
-    → length hand ≤ READ_BYTES → Coming most hand had had line hand 0
-comes_first most hand had line kept some size = record {
+abbrev pub takes_first : (most : ℕ) (hand : List ℕ) (had : Option (List ℕ)) (line : LinePrefix) → line ≡ prefix_of most []
+    → Taking most hand had had line hand 0
+takes_first most hand had line kept = record {
   bytes_read = [];
   taken = [];
   consumed = Consumes-none had;
   parts = append-nil hand;
   feedless = refl;
   kept = kept;
-  bounded = some;
-  size = size;
   many = omega arith;
 }
+
+-- one more read gave something
+pub more_reads : (reads : ℕ) (bytes_read part hand : List ℕ) → reads ≤ length bytes_read → hand ≡ part → 0 < length hand → reads + 1 ≤ length (bytes_read ++ part)
+more_reads reads bytes_read part hand many same some =
+    let all = length-append bytes_read part in
+    let sizes = ap length same in
+    omega (arith, all, sizes, many, some)
+
+module _ {most reads : ℕ} {hand rest : List ℕ} {had mid : Option (List ℕ)} {line : LinePrefix} (s : Taking most hand had mid line rest reads)
+    (behind : List ℕ) (new : LinePrefix) where
+  -- the line behind what is at hand, of which as much was taken as stands before a line feed
+  pub took_first : (whole : Bool) (end : Type 0) → whole ≡ has_feed rest → behind ≡ rest_after_line rest
+      → ((b : List ℕ) → line ≡ prefix_of line.most b → new ≡ prefix_of line.most (b ++ first_line_of rest)) → (whole ≡ false → end)
+      → TookLine most (hand ++ s.bytes_read) new behind end whole
+  took_first whole end w r n e =
+      subst (λ l. TookLine most l new behind end whole) (sym s.parts) (took_on most s.taken rest rest behind line new whole end s.feedless s.kept refl w r n e)
+
+  -- that line, if it isn't whole
+  pub took_begun : (whole : Bool) → whole ≡ has_feed rest → behind ≡ rest_after_line rest
+      → ((b : List ℕ) → line ≡ prefix_of line.most b → new ≡ prefix_of line.most (b ++ first_line_of rest)) → whole ≡ false
+      → Begun most (hand ++ s.bytes_read) new behind
+  took_begun whole w r n none = not_yet most (hand ++ s.bytes_read) behind new (Unit {0}) whole (took_first whole (Unit {0}) w r n (λ _. tt)) none
+
+  -- the reader was asked, and gave nothing
+  pub took_last : (part now : List ℕ) (end : Type 0) → Begun most (hand ++ s.bytes_read) new behind → now ≡ part → now ≡ [] → end
+      → TookLine most (hand ++ (s.bytes_read ++ part)) new now end false
+  took_last part now end begun same none e =
+      subst (λ l. TookLine most l new now end false) (append_assoc hand s.bytes_read part)
+      (took_all most (hand ++ s.bytes_read) part now new end begun.feedless begun.kept same none e)
+
+  -- it gave some
+  abbrev pub takes_more : (left : Option (List ℕ)) (part now : List ℕ) → Begun most (hand ++ s.bytes_read) new behind → Consumes mid left part
+      → now ≡ part → 0 < length now → Taking most hand had left new now (reads + 1)
+  takes_more left part now begun read same some = record {
+    bytes_read = s.bytes_read ++ part;
+    taken = hand ++ s.bytes_read;
+    consumed = Consumes-then had mid left s.bytes_read part s.consumed read;
+    parts = sym (append_assoc hand s.bytes_read part) ∙ ap (λ l. (hand ++ s.bytes_read) ++ l) (sym same);
+    feedless = begun.feedless;
+    kept = begun.kept;
+    many = more_reads reads s.bytes_read part now s.many same some;
+  }
+
+-- ---- a document's line
+
+-- The same of a line of which not as many bytes were taken as are kept of it at most. The rest is no more than one read gave.
+pub record Coming (most : ℕ) (hand : List ℕ) (had left : Option (List ℕ)) (line : LinePrefix) (rest : List ℕ) (reads : ℕ) : Type 0 where
+  pub taking : Taking most hand had left line rest reads
+  pub bounded : length taking.taken < most
+  pub size : length rest ≤ READ_BYTES
+
+pub comes_first : (most : ℕ) (hand : List ℕ) (had : Option (List ℕ)) (line : LinePrefix) → line ≡ prefix_of most [] → 0 < most
+    → length hand ≤ READ_BYTES → Coming most hand had had line hand 0
+comes_first most hand had line kept some size = record { taking = takes_first most hand had line kept; bounded = some; size = size }
 
 pub stops_soon : (most : ℕ) (bytes_read part : List ℕ) → has_feed bytes_read ≡ false → length bytes_read < most → length part ≤ READ_BYTES
     → IsBoundedReading most (bytes_read ++ part)
@@ -262,26 +311,10 @@ stops_soon most bytes_read part free bounded h =
 
 -- what is so of all that was given, where the reader isn't asked again
 pub given_so : {most reads : ℕ} {hand rest : List ℕ} {had left : Option (List ℕ)} {line : LinePrefix} (s : Coming most hand had left line rest reads)
-    (reading after : List ℕ → Type 0) → reading s.bytes_read → after s.bytes_read
+    (reading after : List ℕ → Type 0) → reading s.taking.bytes_read → after s.taking.bytes_read
     → (bytes_read : List ℕ) × Consumes had left bytes_read × reading bytes_read × IsBoundedReading most (hand ++ bytes_read) × after bytes_read
 given_so {most} {reads} {hand} {rest} s reading after t a =
-    (s.bytes_read, s.consumed, t, subst (IsBoundedReading most) (sym s.parts) (stops_soon most s.taken rest s.feedless s.bounded s.size), a)
-
--- the line behind what is at hand, of which as much was taken as stands before a line feed
-pub took_hand : {most reads : ℕ} {hand rest : List ℕ} {had left : Option (List ℕ)} {line : LinePrefix} (s : Coming most hand had left line rest reads)
-    (behind : List ℕ) (new : LinePrefix) (whole : Bool) (end : Type 0) → whole ≡ has_feed rest → behind ≡ rest_after_line rest
-    → ((b : List ℕ) → line ≡ prefix_of line.most b → new ≡ prefix_of line.most (b ++ first_line_of rest)) → (whole ≡ false → end)
-    → TookLine most (hand ++ s.bytes_read) new behind end whole
-took_hand {most} {reads} {hand} {rest} s behind new whole end w r n e =
-    subst (λ l. TookLine most l new behind end whole) (sym s.parts) (took_on most s.taken rest rest behind _ new whole end s.feedless s.kept refl w r n e)
-
--- that line, where it isn't whole
-pub begun_hand : {most reads : ℕ} {hand rest : List ℕ} {had left : Option (List ℕ)} {line : LinePrefix} (s : Coming most hand had left line rest reads)
-    (behind : List ℕ) (new : LinePrefix) (whole : Bool) → whole ≡ has_feed rest → behind ≡ rest_after_line rest
-    → ((b : List ℕ) → line ≡ prefix_of line.most b → new ≡ prefix_of line.most (b ++ first_line_of rest)) → whole ≡ false
-    → Begun most (hand ++ s.bytes_read) new behind
-begun_hand {most} {reads} {hand} s behind new whole w r n none =
-    not_yet most (hand ++ s.bytes_read) behind new (Unit {0}) whole (took_hand s behind new whole (Unit {0}) w r n (λ _. tt)) none
+    (s.taking.bytes_read, s.taking.consumed, t, subst (IsBoundedReading most) (sym s.taking.parts) (stops_soon most s.taking.taken rest s.taking.feedless s.bounded s.size), a)
 
 -- behind the line there is no more than one read gave
 behind_few : (most : ℕ) (bytes : List ℕ) (feed : Bool) → has_feed bytes ≡ feed → IsBoundedReading most bytes → length (rest_after_line bytes) ≤ READ_BYTES
@@ -312,51 +345,30 @@ not_full most bytes line k e =
     let l = length-take most bytes in
     grind (arith, nat_tests, e', l)
 
--- one more read gave something
-pub more_reads : (reads : ℕ) (bytes_read part hand : List ℕ) → reads ≤ length bytes_read → hand ≡ part → 0 < length hand → reads + 1 ≤ length (bytes_read ++ part)
-more_reads reads bytes_read part hand many same some =
-    let all = length-append bytes_read part in
-    let sizes = ap length same in
-    omega (arith, all, sizes, many, some)
-
 -- what is so of all that was given, where what was at hand was taken, and the reader was asked again
 pub asked_so : {most reads : ℕ} {hand rest : List ℕ} {had mid : Option (List ℕ)} {line : LinePrefix} (s : Coming most hand had mid line rest reads)
     (behind : List ℕ) (new : LinePrefix) (left : Option (List ℕ)) (part : List ℕ) (reading after : List ℕ → Type 0)
-    → Begun most (hand ++ s.bytes_read) new behind → (length new.bytes == new.most) ≡ false → Consumes mid left part → length part ≤ READ_BYTES
-    → reading (s.bytes_read ++ part) → after (s.bytes_read ++ part)
+    → Begun most (hand ++ s.taking.bytes_read) new behind → (length new.bytes == new.most) ≡ false → Consumes mid left part → length part ≤ READ_BYTES
+    → reading (s.taking.bytes_read ++ part) → after (s.taking.bytes_read ++ part)
     → (bytes_read : List ℕ) × Consumes had left bytes_read × reading bytes_read × IsBoundedReading most (hand ++ bytes_read) × after bytes_read
 asked_so {most} {reads} {hand} {rest} {had} {mid} s behind new left part reading after begun short now size t a =
-    let bounded = not_full most (hand ++ s.bytes_read) new begun.kept short in (
-      s.bytes_read ++ part,
-      Consumes-then had mid left s.bytes_read part s.consumed now,
+    let bounded = not_full most (hand ++ s.taking.bytes_read) new begun.kept short in (
+      s.taking.bytes_read ++ part,
+      Consumes-then had mid left s.taking.bytes_read part s.taking.consumed now,
       t,
-      subst (IsBoundedReading most) (append_assoc hand s.bytes_read part) (stops_soon most (hand ++ s.bytes_read) part begun.feedless bounded size),
+      subst (IsBoundedReading most) (append_assoc hand s.taking.bytes_read part) (stops_soon most (hand ++ s.taking.bytes_read) part begun.feedless bounded size),
       a,
     )
 
--- it gave nothing
-pub took_rest : {most reads : ℕ} {hand rest : List ℕ} {had mid : Option (List ℕ)} {line : LinePrefix} (s : Coming most hand had mid line rest reads)
-    (behind : List ℕ) (new : LinePrefix) (part now_hand : List ℕ) (end : Type 0) → Begun most (hand ++ s.bytes_read) new behind
-    → now_hand ≡ part → now_hand ≡ [] → end → TookLine most (hand ++ (s.bytes_read ++ part)) new now_hand end false
-took_rest {most} {reads} {hand} s behind new part now_hand end begun same none e =
-    subst (λ l. TookLine most l new now_hand end false) (append_assoc hand s.bytes_read part)
-    (took_all most (hand ++ s.bytes_read) part now_hand new end begun.feedless begun.kept same none e)
-
 -- it gave some
 pub comes_more : {most reads : ℕ} {hand rest : List ℕ} {had mid : Option (List ℕ)} {line : LinePrefix} (s : Coming most hand had mid line rest reads)
-    (behind : List ℕ) (new : LinePrefix) (left : Option (List ℕ)) (part now_hand : List ℕ) → Begun most (hand ++ s.bytes_read) new behind
+    (behind : List ℕ) (new : LinePrefix) (left : Option (List ℕ)) (part now_hand : List ℕ) → Begun most (hand ++ s.taking.bytes_read) new behind
     → (length new.bytes == new.most) ≡ false → Consumes mid left part → length part ≤ READ_BYTES → now_hand ≡ part → 0 < length now_hand
     → Coming most hand had left new now_hand (reads + 1)
 comes_more {most} {reads} {hand} {rest} {had} {mid} s behind new left part now_hand begun short now size same some = record {
-  bytes_read = s.bytes_read ++ part;
-  taken = hand ++ s.bytes_read;
-  consumed = Consumes-then had mid left s.bytes_read part s.consumed now;
-  parts = sym (append_assoc hand s.bytes_read part) ∙ ap (λ l. (hand ++ s.bytes_read) ++ l) (sym same);
-  feedless = begun.feedless;
-  kept = begun.kept;
-  bounded = not_full most (hand ++ s.bytes_read) new begun.kept short;
+  taking = takes_more s.taking behind new left part now_hand begun now same some;
+  bounded = not_full most (hand ++ s.taking.bytes_read) new begun.kept short;
   size = (let sizes = ap length same in omega (arith, sizes, size));
-  many = more_reads reads s.bytes_read part now_hand s.many same some;
 }
 
 -- the reader is asked only where no line feed was at hand

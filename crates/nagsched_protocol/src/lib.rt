@@ -56,4 +56,4 @@ pub use refusal::{InputRefusal, LineFault, ScriptError};
 pub use refusal_text::push_refusal;
 pub use script::{MAX_INPUT_BYTES, Script, read_saved, read_setup};
 pub use start::{Start, moment_of, open, resume};
-pub use text::{REPLY_BYTES, push_entry, push_reply, push_total};
+pub use text::{Pushed, REPLY_BYTES, push_entry, push_reply, push_total};

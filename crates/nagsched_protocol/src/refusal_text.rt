@@ -4,14 +4,14 @@ ghost use Rattle.std.specs.Prelude.{◌≡◌, ◌++◌, OnOk, string_bytes};
 ghost use Rattle.nagsched_protocol.specs.Text.{line_fault_text, refusal_line};
 
 use crate::refusal::{InputRefusal, LineFault};
+use crate::text::Pushed;
 use check_objects::{LoadError, Place};
 use check_saved_state::SavedFault;
-use std::alloc::AllocError;
 use std::fmt;
 
 /// Appends the line of an input's refusal, with its line feed. An error means out of memory, and a part
 /// of the line may have been appended.
-pub fn push_refusal(line: &mut String, refusal: InputRefusal) -> Result<(), AllocError>
+pub fn push_refusal(line: &mut String, refusal: InputRefusal) -> Pushed
     ensures { OnOk result
         (string_bytes line.new ≡ string_bytes line.old ++ refusal_line refusal) }
 {

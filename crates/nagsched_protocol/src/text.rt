@@ -16,18 +16,16 @@ use itoa::Buffer;
 use std::alloc::{AllocError, Global};
 use ticket_steps::Entry;
 
+/// The outcome of appending to a text. An Err means out of memory, and a part may have been appended.
+pub type Pushed = Result<(), AllocError>;
+
 /// The most bytes that the line of a reply has, with its line feed.
 pub const REPLY_BYTES: usize = 1024;
 
 /// Appends the line of the reply to a call, with its line feed. Objects have their full names in it,
 /// and a number without an object has no name. An error comes only if the line had no room for
 /// `REPLY_BYTES` more.
-pub fn push_reply(
-    line: &mut String,
-    setup: &Setup,
-    call: Call,
-    reply: Reply,
-) -> Result<(), AllocError>
+pub fn push_reply(line: &mut String, setup: &Setup, call: Call, reply: Reply) -> Pushed
     ensures text { OnOk result
         (string_bytes line.new ≡ string_bytes line.old ++ reply_line setup.now call reply) }
     ensures capacity { PushesAtMost REPLY_BYTES result line.old line.new }
@@ -37,12 +35,7 @@ pub fn push_reply(
 }
 
 /// Appends the text of the reply to a call.
-fn push_reply_text(
-    line: &mut String,
-    setup: &Setup,
-    call: Call,
-    reply: Reply,
-) -> Result<(), AllocError>
+fn push_reply_text(line: &mut String, setup: &Setup, call: Call, reply: Reply) -> Pushed
     ensures text { OnOk result
         (string_bytes line.new ≡ string_bytes line.old ++ reply_text setup.now call reply) }
     ensures capacity { PushesAtMost 1023 result line.old line.new }
@@ -74,12 +67,7 @@ fn push_reply_text(
 }
 
 /// Appends a word, a time and the full name of an object. The word ends with a space.
-fn push_timed(
-    line: &mut String,
-    word: &str,
-    time: Option<u64>,
-    name: &str,
-) -> Result<(), AllocError>
+fn push_timed(line: &mut String, word: &str, time: Option<u64>, name: &str) -> Pushed
     ensures text { OnOk result (string_bytes line.new
         ≡ string_bytes line.old ++ (word.now ++ (time_text time ++ (codes " " ++ name.now)))) }
     ensures capacity { PushesAtMost (length word.now + length name.now + 41) result line.old line.new }
@@ -91,7 +79,7 @@ fn push_timed(
 }
 
 /// Appends that nothing is due.
-fn push_idle(line: &mut String, next: Option<u64>) -> Result<(), AllocError>
+fn push_idle(line: &mut String, next: Option<u64>) -> Pushed
     ensures text { OnOk result (string_bytes line.new ≡ string_bytes line.old ++ idle_text next) }
     ensures capacity { PushesAtMost 64 result line.old line.new }
 {
@@ -106,7 +94,7 @@ fn push_standing(
     changed: bool,
     next: Option<u64>,
     name: &str,
-) -> Result<(), AllocError>
+) -> Pushed
     ensures text { OnOk result (string_bytes line.new
         ≡ string_bytes line.old ++ standing_text standing changed next name.now) }
     ensures capacity { PushesAtMost (length name.now + 128) result line.old line.new }
@@ -123,7 +111,7 @@ fn push_standing(
 }
 
 /// Appends a word and a text. The word ends with a space.
-fn push_worded(line: &mut String, word: &str, text: &str) -> Result<(), AllocError>
+fn push_worded(line: &mut String, word: &str, text: &str) -> Pushed
     ensures text { OnOk result
         (string_bytes line.new ≡ string_bytes line.old ++ (word.now ++ text.now)) }
     ensures capacity { PushesAtMost (length word.now + length text.now) result line.old line.new }
@@ -133,7 +121,7 @@ fn push_worded(line: &mut String, word: &str, text: &str) -> Result<(), AllocErr
 }
 
 /// Appends a word between two spaces.
-fn push_between_spaces(line: &mut String, word: &str) -> Result<(), AllocError>
+fn push_between_spaces(line: &mut String, word: &str) -> Pushed
     ensures text { OnOk result (string_bytes line.new
         ≡ string_bytes line.old ++ (codes " " ++ (word.now ++ codes " "))) }
     ensures capacity { PushesAtMost (length word.now + 2) result line.old line.new }
@@ -144,7 +132,7 @@ fn push_between_spaces(line: &mut String, word: &str) -> Result<(), AllocError>
 }
 
 /// Appends a number in decimal.
-fn push_number(line: &mut String, number: u64) -> Result<(), AllocError>
+fn push_number(line: &mut String, number: u64) -> Pushed
     ensures text { OnOk result (string_bytes line.new ≡ string_bytes line.old ++ decimal number) }
     ensures capacity { PushesAtMost 40 result line.old line.new }
 {
@@ -153,7 +141,7 @@ fn push_number(line: &mut String, number: u64) -> Result<(), AllocError>
 }
 
 /// Appends a time in milliseconds, or `none`.
-fn push_time(line: &mut String, time: Option<u64>) -> Result<(), AllocError>
+fn push_time(line: &mut String, time: Option<u64>) -> Pushed
     ensures text { OnOk result (string_bytes line.new ≡ string_bytes line.old ++ time_text time) }
     ensures capacity { PushesAtMost 40 result line.old line.new }
 {
@@ -219,11 +207,7 @@ fn marks_between_spaces(changed: bool, flapping: bool) -> &'static str
 /// Appends the line of an entry of a history, with its line feed. The line is the number of the pass
 /// that made the call, a space, and the line of the reply. An error means out of memory, and a part of
 /// the line may have been appended.
-pub fn push_entry(
-    line: &mut String,
-    setup: &Setup,
-    entry: &Entry<Call, Reply>,
-) -> Result<(), AllocError>
+pub fn push_entry(line: &mut String, setup: &Setup, entry: &Entry<Call, Reply>) -> Pushed
     ensures { OnOk result
         (string_bytes line.new ≡ string_bytes line.old ++ entry_line setup.now entry.now) }
 {
@@ -236,7 +220,7 @@ pub fn push_entry(
 /// Appends the last line of a drill, with its line feed. It has the number of entries in the history,
 /// and the number of calls that were refused when out of memory. An error means out of memory, and a
 /// part of the line may have been appended.
-pub fn push_total(line: &mut String, entries: usize, refused: u64) -> Result<(), AllocError>
+pub fn push_total(line: &mut String, entries: usize, refused: u64) -> Pushed
     ensures { OnOk result
         (string_bytes line.new ≡ string_bytes line.old ++ total_line entries refused) }
 {

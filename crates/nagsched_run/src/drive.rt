@@ -27,14 +27,12 @@ pub enum Outcome {
     Refused,
 }
 
+/// How a job ended, or the error that ended it early.
+pub type Ended = Result<Outcome, DriveError>;
+
 /// Makes the calls of a script on a scheduler that starts fresh at the moment `start`, in milliseconds.
 /// It is [`run`] with this start.
-pub fn drive<R: Read, W: Write>(
-    alloc: Global,
-    start: u64,
-    reader: &mut R,
-    writer: &mut W,
-) -> Result<Outcome, DriveError>
+pub fn drive<R: Read, W: Write>(alloc: Global, start: u64, reader: &mut R, writer: &mut W) -> Ended
     requires { start ≤ LAST_MOMENT }
     ensures { RunEnded (Start.Fresh start) result
         (streams (R.remaining reader.old) (R.remaining reader.new)
@@ -65,12 +63,7 @@ pub fn drive<R: Read, W: Write>(
 ///
 /// Input, text and commands are our own profile. The rules of the calls are those of check_sched, after
 /// the chapters of the Nagios Core 4 manual that it names.
-pub fn run<R: Read, W: Write>(
-    alloc: Global,
-    start: Start,
-    reader: &mut R,
-    writer: &mut W,
-) -> Result<Outcome, DriveError>
+pub fn run<R: Read, W: Write>(alloc: Global, start: Start, reader: &mut R, writer: &mut W) -> Ended
     requires { CanStart start }
     ensures { RunEnded start result
         (streams (R.remaining reader.old) (R.remaining reader.new)
@@ -84,12 +77,7 @@ pub fn run<R: Read, W: Write>(
 
 /// Writes the text of an input that was read.
 #[tactic(auto, unfolding(nagsched_protocol::specs::Text::text, crate::specs::Drive::outcome_of))]
-fn answer<W: Write>(
-    alloc: Global,
-    start: Start,
-    input: &[u8],
-    writer: &mut W,
-) -> Result<Outcome, DriveError>
+fn answer<W: Write>(alloc: Global, start: Start, input: &[u8], writer: &mut W) -> Ended
     requires { CanStart start }
     ensures wrote { IsTextWritten result (W.contents writer.old) (W.contents writer.new)
         (text start input.now) }
@@ -111,7 +99,7 @@ fn carry_out<W: Write>(
     sched: Sched,
     commands: &[RunCommand],
     writer: &mut W,
-) -> Result<Outcome, DriveError>
+) -> Ended
     ensures wrote { IsTextWritten result (W.contents writer.old) (W.contents writer.new)
         (text_from sched commands.now) }
     ensures outcome { IfOk result (λ outcome. outcome ≡ Outcome.Ran) }

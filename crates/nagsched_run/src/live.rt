@@ -15,7 +15,7 @@ ghost use Rattle.nagsched_run.specs.Live.{IsSpentAfterInput, IsSpentAfterSetup, 
 ghost use Rattle.nagsched_run.specs.Live.{LineFailed, AnsweringEnded, HasTakenDocument, IsContinuation, saved_at_start};
 ghost use Rattle.nagsched_run.specs.Streams.{streams};
 
-use crate::drive::{Outcome, answer_command};
+use crate::drive::{Ended, Outcome, answer_command};
 use crate::live_errors::{as_drive_result, as_live_result};
 use crate::next_line::take_next_line;
 use check_objects::Setup;
@@ -60,12 +60,7 @@ use std::io::{Read, Write};
 ///
 /// Input, text and commands are our own profile. The rules of the calls are those of check_sched, after
 /// the chapters of the Nagios Core 4 manual that it names.
-pub fn live<R: Read, W: Write>(
-    alloc: Global,
-    start: Start,
-    reader: &mut R,
-    writer: &mut W,
-) -> Result<Outcome, DriveError>
+pub fn live<R: Read, W: Write>(alloc: Global, start: Start, reader: &mut R, writer: &mut W) -> Ended
     requires { CanStart start }
     ensures { ConversationEnded start result
         (streams (R.remaining reader.old) (R.remaining reader.new)
@@ -140,11 +135,7 @@ fn continue_live<R: Read, W: Write>(
 }
 
 /// Writes the line of the refusal of a setup or of a saved state, and flushes the writer.
-fn refuse<W: Write>(
-    alloc: Global,
-    refusal: InputRefusal,
-    writer: &mut W,
-) -> Result<Outcome, DriveError>
+fn refuse<W: Write>(alloc: Global, refusal: InputRefusal, writer: &mut W) -> Ended
     ensures outcome { IfOk result (λ outcome. outcome ≡ Outcome.Refused) }
     ensures written { OnOk result
         (Appends (W.contents writer.old) (W.contents writer.new) (refusal_line refusal)) }

@@ -4,21 +4,16 @@ ghost use Rattle.std.specs.Prelude.{◌≡◌, ◌++◌, OnOk, take};
 ghost use Rattle.serde_json.specs.View.{view};
 ghost use Rattle.setup_diagnostics.specs.Cycles.{cycle_text, dependency_part, dependency_cycle_text, first_text, more_text, objects_text, parent_cycle_text};
 
-use crate::line::Line;
+use crate::line::{Line, Pushed};
 use crate::places::{part_words, push_name_at};
 use serde_json::Value;
 use setup_model::{Part, Place};
-use std::alloc::AllocError;
 
 /// The number of objects of a cycle that are named. The other objects are only counted.
 const MAX_NAMED_OBJECTS: usize = 8;
 
 /// Appends a cycle of hosts: each host has the next one for a parent, and the last host has the first.
-pub(crate) fn push_parent_cycle(
-    line: &mut Line,
-    tree: &Value,
-    cycle: &[usize],
-) -> Result<(), AllocError>
+pub(crate) fn push_parent_cycle(line: &mut Line, tree: &Value, cycle: &[usize]) -> Pushed
     ensures { OnOk result (line.new ≡ line.old ++ parent_cycle_text (view tree.now) cycle.now) }
 {
     line.push_words("parents")?;
@@ -31,7 +26,7 @@ pub(crate) fn push_dependency_cycle(
     tree: &Value,
     part: Part,
     cycle: &[usize],
-) -> Result<(), AllocError>
+) -> Pushed
     ensures { OnOk result (line.new
         ≡ line.old ++ dependency_cycle_text (view tree.now) part cycle.now) }
 {
@@ -50,7 +45,7 @@ fn dependency_part(part: Part) -> Part
 }
 
 /// Appends the objects of a cycle, and the first one again.
-fn push_cycle(line: &mut Line, tree: &Value, part: Part, cycle: &[usize]) -> Result<(), AllocError>
+fn push_cycle(line: &mut Line, tree: &Value, part: Part, cycle: &[usize]) -> Pushed
     ensures { OnOk result (line.new ≡ line.old ++ cycle_text (view tree.now) part cycle.now) }
 {
     line.push_words(" go round:")?;
@@ -71,12 +66,7 @@ fn first_objects(cycle: &[usize]) -> &[usize]
 }
 
 /// Appends objects, and an arrow after each.
-fn push_objects(
-    line: &mut Line,
-    tree: &Value,
-    part: Part,
-    objects: &[usize],
-) -> Result<(), AllocError>
+fn push_objects(line: &mut Line, tree: &Value, part: Part, objects: &[usize]) -> Pushed
     ensures { OnOk result (line.new ≡ line.old ++ objects_text (view tree.now) part objects.now) }
 {
     for object in objects {
@@ -87,7 +77,7 @@ fn push_objects(
 }
 
 /// Appends how many objects of a cycle of this length aren't named.
-fn push_more(line: &mut Line, count: usize) -> Result<(), AllocError>
+fn push_more(line: &mut Line, count: usize) -> Pushed
     ensures { OnOk result (line.new ≡ line.old ++ more_text count) }
 {
     if count > MAX_NAMED_OBJECTS {
@@ -100,7 +90,7 @@ fn push_more(line: &mut Line, count: usize) -> Result<(), AllocError>
 }
 
 /// Appends the first object.
-fn push_first(line: &mut Line, tree: &Value, part: Part, cycle: &[usize]) -> Result<(), AllocError>
+fn push_first(line: &mut Line, tree: &Value, part: Part, cycle: &[usize]) -> Pushed
     ensures { OnOk result (line.new ≡ line.old ++ first_text (view tree.now) part cycle.now) }
 {
     match cycle.first() {

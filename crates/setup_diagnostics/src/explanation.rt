@@ -8,7 +8,7 @@ ghost use Rattle.setup_diagnostics.specs.Feeds.{has_line_feed, HasNoLineFeed};
 
 use crate::counts::push_count;
 use crate::cycle::{push_dependency_cycle, push_parent_cycle};
-use crate::line::Line;
+use crate::line::{Line, Pushed};
 use crate::names::{
     push_bad_name, push_duplicate, push_unknown_end, push_unknown_host, push_unknown_parent,
 };
@@ -70,7 +70,7 @@ fn explanation(alloc: Global, tree: &Value, fault: &Fault) -> Result<Line, Alloc
 }
 
 /// Appends the most bytes that a document can have.
-fn push_too_long(line: &mut Line) -> Result<(), AllocError>
+fn push_too_long(line: &mut Line) -> Pushed
     ensures { OnOk result (line.new ≡ line.old ++ too_long_text) }
 {
     line.push_words("the document has more than ")?;
@@ -79,7 +79,7 @@ fn push_too_long(line: &mut Line) -> Result<(), AllocError>
 }
 
 /// Appends the position in the text at which a document stops being JSON.
-fn push_json_position(line: &mut Line, position: JsonPosition) -> Result<(), AllocError>
+fn push_json_position(line: &mut Line, position: JsonPosition) -> Pushed
     ensures { OnOk result (line.new ≡ line.old ++ json_position_text position) }
 {
     line.push_words("line ")?;

@@ -4,10 +4,10 @@ ghost use Rattle.std.specs.Prelude.{◌≡◌, ◌++◌, OnOk, false};
 ghost use Rattle.setup_diagnostics.specs.Feeds.{has_line_feed};
 ghost use Rattle.setup_diagnostics.specs.Shapes.{BeginsWith};
 
-use crate::line::Line;
+use crate::line::{Line, Pushed};
 use serde_json::Value;
 use setup_model::Kind;
-use std::alloc::{AllocError, Global};
+use std::alloc::Global;
 
 /// A kind in words, as the end of a sentence.
 pub(crate) fn kind_words(kind: Kind) -> &'static str
@@ -27,7 +27,7 @@ pub(crate) fn kind_words(kind: Kind) -> &'static str
 }
 
 /// Appends a value. For an array or an object it appends only which of the two it is.
-pub(crate) fn push_value(alloc: Global, line: &mut Line, value: &Value) -> Result<(), AllocError>
+pub(crate) fn push_value(alloc: Global, line: &mut Line, value: &Value) -> Pushed
     ensures { OnOk result (BeginsWith line.old line.new) }
 {
     match value {
@@ -41,7 +41,7 @@ pub(crate) fn push_value(alloc: Global, line: &mut Line, value: &Value) -> Resul
     }
 }
 
-fn push_any_number(alloc: Global, line: &mut Line, value: &Value) -> Result<(), AllocError>
+fn push_any_number(alloc: Global, line: &mut Line, value: &Value) -> Pushed
     ensures { OnOk result (BeginsWith line.old line.new) }
 {
     let number = value.to_string(alloc)?;

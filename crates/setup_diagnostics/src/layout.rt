@@ -5,6 +5,7 @@ ghost use Rattle.json.specs.Print.{quoted};
 ghost use Rattle.setup_diagnostics.specs.Schema.{ContainsText};
 ghost use Rattle.setup_diagnostics.specs.Shapes.{BeginsWith};
 
+use crate::line::Pushed;
 use itoa::Buffer;
 use serde_json::Value;
 use std::alloc::{AllocError, Global};
@@ -52,7 +53,7 @@ impl Layout {
     }
 
     /// Begins a line.
-    fn begin_line(&mut self) -> Result<(), AllocError>
+    fn begin_line(&mut self) -> Pushed
         ensures { OnOk result (BeginsWith self.old self.new) }
     {
         self.push_json("\n")?;
@@ -63,7 +64,7 @@ impl Layout {
     }
 
     /// Begins a member with this name.
-    pub(crate) fn begin(&mut self, name: &str) -> Result<(), AllocError>
+    pub(crate) fn begin(&mut self, name: &str) -> Pushed
         ensures extends { OnOk result (BeginsWith self.old self.new) }
         ensures named { OnOk result (ContainsText (quoted name.now) self.new) }
     {
@@ -77,14 +78,14 @@ impl Layout {
     }
 
     /// Appends JSON as it is.
-    pub(crate) fn push_json(&mut self, json: &str) -> Result<(), AllocError>
+    pub(crate) fn push_json(&mut self, json: &str) -> Pushed
         ensures { OnOk result (self.new ≡ self.old ++ json.now) }
     {
         self.text.push_str(json)
     }
 
     /// Appends a number.
-    pub(crate) fn push_number(&mut self, number: u64) -> Result<(), AllocError>
+    pub(crate) fn push_number(&mut self, number: u64) -> Pushed
         ensures { OnOk result (BeginsWith self.old self.new) }
     {
         let mut buffer = Buffer::new();
@@ -92,7 +93,7 @@ impl Layout {
     }
 
     /// Appends a text as a JSON string.
-    pub(crate) fn push_quoted(&mut self, text: &str) -> Result<(), AllocError>
+    pub(crate) fn push_quoted(&mut self, text: &str) -> Pushed
         ensures { OnOk result (self.new ≡ self.old ++ quoted text.now) }
     {
         let value = Value::String(String::from_str(self.alloc, text)?);
@@ -101,7 +102,7 @@ impl Layout {
     }
 
     /// A member whose value is JSON as it is.
-    pub(crate) fn json(&mut self, name: &str, json: &str) -> Result<(), AllocError>
+    pub(crate) fn json(&mut self, name: &str, json: &str) -> Pushed
         ensures { OnOk result (BeginsWith self.old self.new) }
     {
         self.begin(name)?;
@@ -109,7 +110,7 @@ impl Layout {
     }
 
     /// A member whose value is a number.
-    pub(crate) fn number(&mut self, name: &str, number: u64) -> Result<(), AllocError>
+    pub(crate) fn number(&mut self, name: &str, number: u64) -> Pushed
         ensures { OnOk result (BeginsWith self.old self.new) }
     {
         self.begin(name)?;
@@ -117,7 +118,7 @@ impl Layout {
     }
 
     /// A member whose value is a text.
-    pub(crate) fn text(&mut self, name: &str, text: &str) -> Result<(), AllocError>
+    pub(crate) fn text(&mut self, name: &str, text: &str) -> Pushed
         ensures { OnOk result (BeginsWith self.old self.new) }
     {
         self.begin(name)?;
@@ -125,7 +126,7 @@ impl Layout {
     }
 
     /// Opens a member whose value is an object.
-    pub(crate) fn open(&mut self, name: &str) -> Result<(), AllocError>
+    pub(crate) fn open(&mut self, name: &str) -> Pushed
         ensures extends { OnOk result (BeginsWith self.old self.new) }
         ensures named { OnOk result (ContainsText (quoted name.now) self.new) }
     {
@@ -136,7 +137,7 @@ impl Layout {
     }
 
     /// Closes the innermost object.
-    pub(crate) fn close(&mut self) -> Result<(), AllocError>
+    pub(crate) fn close(&mut self) -> Pushed
         ensures { OnOk result (BeginsWith self.old self.new) }
     {
         self.depth = self.depth.saturating_sub(1);

@@ -13,6 +13,9 @@ use std::marker::Model;
 /// The number of characters of a document's text that are shown.
 const MAX_EXCERPT_CHARS: usize = 80;
 
+/// The outcome of appending to a text. An Err means out of memory, and a part may have been appended.
+pub(crate) type Pushed = Result<(), AllocError>;
+
 /// A line of text without a line feed. Contracts see its bytes.
 #[derive(Drop)]
 pub(crate) struct Line {
@@ -49,7 +52,7 @@ impl Line {
     }
 
     /// Appends words without a line feed.
-    pub(crate) fn push_words(&mut self, words: &str) -> Result<(), AllocError>
+    pub(crate) fn push_words(&mut self, words: &str) -> Pushed
         requires { has_line_feed words.now ≡ false }
         ensures text { OnOk result (self.new ≡ self.old ++ words.now) }
     {
@@ -57,7 +60,7 @@ impl Line {
     }
 
     /// Appends a character that isn't a line feed.
-    fn push_char(&mut self, character: char) -> Result<(), AllocError>
+    fn push_char(&mut self, character: char) -> Pushed
         requires { character ≢ 10 }
         ensures text { OnOk result (self.new ≡ self.old ++ encode_utf8 character) }
     {
@@ -66,7 +69,7 @@ impl Line {
 
     /// Appends a number in decimal.
     #[tactic(auto, using(crate::proofs::FeedLemmas::number_flat))]
-    pub(crate) fn push_number(&mut self, number: u64) -> Result<(), AllocError>
+    pub(crate) fn push_number(&mut self, number: u64) -> Pushed
         ensures text { OnOk result (self.new ≡ self.old ++ decimal number) }
     {
         let mut buffer = Buffer::new();
@@ -74,7 +77,7 @@ impl Line {
     }
 
     /// Appends a text of the document as a JSON string, cut after 80 characters.
-    pub(crate) fn push_text(&mut self, text: &str) -> Result<(), AllocError>
+    pub(crate) fn push_text(&mut self, text: &str) -> Pushed
         ensures text { OnOk result (self.new ≡ self.old ++ quotation text.now) }
     {
         self.push_words("\"")?;
@@ -83,7 +86,7 @@ impl Line {
     }
 
     /// Appends the role of a name, and the name, if there is one.
-    pub(crate) fn push_name(&mut self, role: &str, name: Option<&str>) -> Result<(), AllocError>
+    pub(crate) fn push_name(&mut self, role: &str, name: Option<&str>) -> Pushed
         requires { has_line_feed role.now ≡ false }
         ensures text { OnOk result (self.new
             ≡ self.old ++ role_text role.now (option_map (λ name. name.now) name.entry)) }
@@ -98,7 +101,7 @@ impl Line {
     }
 
     /// Appends a text, escaped as in a JSON string. If it has more than 80 characters, dots replace the rest.
-    pub(crate) fn push_excerpt(&mut self, text: &str) -> Result<(), AllocError>
+    pub(crate) fn push_excerpt(&mut self, text: &str) -> Pushed
         ensures text { OnOk result (self.new ≡ self.old ++ excerpt text.now) }
     {
         let mut left = text.chars();
@@ -115,7 +118,7 @@ impl Line {
     }
 
     /// Appends a character, escaped as in a JSON string. A control character is written as its number.
-    fn push_escaped(&mut self, character: char) -> Result<(), AllocError>
+    fn push_escaped(&mut self, character: char) -> Pushed
         ensures text { OnOk result (self.new ≡ self.old ++ escape character) }
     {
         match character {
@@ -130,7 +133,7 @@ impl Line {
     }
 
     /// Appends the escape of the control character with this number.
-    fn push_code(&mut self, code: u32) -> Result<(), AllocError>
+    fn push_code(&mut self, code: u32) -> Pushed
         requires { code < 256 }
         ensures text { OnOk result (self.new ≡ self.old ++ control_escape code) }
     {
@@ -140,7 +143,7 @@ impl Line {
     }
 
     /// Appends a hexadecimal digit.
-    fn push_digit(&mut self, digit: u32) -> Result<(), AllocError>
+    fn push_digit(&mut self, digit: u32) -> Pushed
         requires { digit < 16 }
         ensures text { OnOk result (self.new ≡ self.old ++ (digit_char digit ∷ [])) }
     {

@@ -10,22 +10,16 @@ ghost use Rattle.setup_diagnostics.specs.Names.{name_fault_text, name_member};
 ghost use Rattle.setup_diagnostics.specs.Names.{parent_name, repeat_words, unknown_end_text, unknown_host_text, unknown_parent_text};
 ghost use Rattle.setup_diagnostics.specs.Places.{member_text};
 
-use crate::line::Line;
+use crate::line::{Line, Pushed};
 use crate::places::{member_text, push_part_and_index, push_place};
 use serde_json::Value;
 use setup_model::{End, EndFault, NameFault, Part, Place};
 use setup_reader::value_at;
-use std::alloc::AllocError;
 
 // ---- bad names
 
 /// Appends why a name isn't allowed.
-pub(crate) fn push_bad_name(
-    line: &mut Line,
-    tree: &Value,
-    place: Place,
-    fault: NameFault,
-) -> Result<(), AllocError>
+pub(crate) fn push_bad_name(line: &mut Line, tree: &Value, place: Place, fault: NameFault) -> Pushed
     ensures { OnOk result (line.new ≡ line.old ++ bad_name_text (view tree.now) place fault) }
 {
     push_place(line, tree, place)?;
@@ -43,7 +37,7 @@ pub(crate) fn name_member(part: Part) -> &'static str
     }
 }
 
-fn push_name_fault(line: &mut Line, fault: NameFault) -> Result<(), AllocError>
+fn push_name_fault(line: &mut Line, fault: NameFault) -> Pushed
     ensures { OnOk result (line.new ≡ line.old ++ name_fault_text fault) }
 {
     match fault {
@@ -57,7 +51,7 @@ fn push_name_fault(line: &mut Line, fault: NameFault) -> Result<(), AllocError>
     }
 }
 
-fn push_bad_byte(line: &mut Line, byte: u8) -> Result<(), AllocError>
+fn push_bad_byte(line: &mut Line, byte: u8) -> Pushed
     ensures { OnOk result (line.new ≡ line.old ++ bad_byte_text byte) }
 {
     if byte == b';' {
@@ -71,12 +65,7 @@ fn push_bad_byte(line: &mut Line, byte: u8) -> Result<(), AllocError>
 // ---- repeats
 
 /// Appends that the host or service at this index has the name of the one at a place.
-pub(crate) fn push_duplicate(
-    line: &mut Line,
-    tree: &Value,
-    place: Place,
-    earlier: usize,
-) -> Result<(), AllocError>
+pub(crate) fn push_duplicate(line: &mut Line, tree: &Value, place: Place, earlier: usize) -> Pushed
     ensures { OnOk result (line.new ≡ line.old ++ duplicate_text (view tree.now) place earlier) }
 {
     push_place(line, tree, place)?;
@@ -102,7 +91,7 @@ pub(crate) fn push_unknown_parent(
     tree: &Value,
     host: usize,
     parent: usize,
-) -> Result<(), AllocError>
+) -> Pushed
     ensures { OnOk result (line.new
         ≡ line.old ++ unknown_parent_text (view tree.now) host parent) }
 {
@@ -120,11 +109,7 @@ fn parent_name(tree: &Value, host: usize, parent: usize) -> Option<&str>
 }
 
 /// Appends that the host of the service at this index doesn't exist.
-pub(crate) fn push_unknown_host(
-    line: &mut Line,
-    tree: &Value,
-    service: usize,
-) -> Result<(), AllocError>
+pub(crate) fn push_unknown_host(line: &mut Line, tree: &Value, service: usize) -> Pushed
     ensures { OnOk result (line.new ≡ line.old ++ unknown_host_text (view tree.now) service) }
 {
     let place = Place::service(service);
@@ -149,7 +134,7 @@ pub(crate) fn push_unknown_end(
     tree: &Value,
     place: Place,
     fault: EndFault,
-) -> Result<(), AllocError>
+) -> Pushed
     ensures { OnOk result (line.new ≡ line.old ++ unknown_end_text (view tree.now) place fault) }
 {
     let end = end_of(fault);

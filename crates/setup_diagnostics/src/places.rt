@@ -7,11 +7,10 @@ ghost use Rattle.setup_diagnostics.specs.Feeds.{has_line_feed};
 ghost use Rattle.setup_model.specs.Members.{part_name};
 ghost use Rattle.setup_diagnostics.specs.Places.{after_space, item_name_text, name_text, part_text, place_text, member_text, member_text_pair};
 
-use crate::line::Line;
+use crate::line::{Line, Pushed};
 use serde_json::Value;
 use setup_model::{Part, Place};
 use setup_reader::value_at;
-use std::alloc::AllocError;
 
 /// The text of a member of an object, or None if it has no such text.
 pub(crate) fn member_text<'v>(item: &'v Value, member: &str) -> Option<&'v str>
@@ -32,7 +31,7 @@ pub(crate) fn texts_of<'v>(item: &'v Value, first: &str, second: &str) -> Option
 }
 
 /// Appends a place, a colon and a space. The place is the part, and for an item of a list its index and name.
-pub(crate) fn push_place(line: &mut Line, tree: &Value, place: Place) -> Result<(), AllocError>
+pub(crate) fn push_place(line: &mut Line, tree: &Value, place: Place) -> Pushed
     ensures { OnOk result (line.new ≡ line.old ++ place_text (view tree.now) place) }
 {
     push_part_and_index(line, place.part, place.index)?;
@@ -41,11 +40,7 @@ pub(crate) fn push_place(line: &mut Line, tree: &Value, place: Place) -> Result<
 }
 
 /// Appends a part of the document, and the index in its list if there is one.
-pub(crate) fn push_part_and_index(
-    line: &mut Line,
-    part: Part,
-    index: Option<usize>,
-) -> Result<(), AllocError>
+pub(crate) fn push_part_and_index(line: &mut Line, part: Part, index: Option<usize>) -> Pushed
     ensures { OnOk result (line.new ≡ line.old ++ part_text part index) }
 {
     line.push_words(part_words(part))?;
@@ -67,7 +62,7 @@ pub(crate) fn part_words(part: Part) -> &'static str
 }
 
 /// Appends a space and the name of the object at a place, if there is one.
-pub(crate) fn push_name_at(line: &mut Line, tree: &Value, place: Place) -> Result<(), AllocError>
+pub(crate) fn push_name_at(line: &mut Line, tree: &Value, place: Place) -> Pushed
     ensures { OnOk result (line.new ≡ line.old ++ name_text (view tree.now) place) }
 {
     match value_at(tree, place) {
@@ -78,7 +73,7 @@ pub(crate) fn push_name_at(line: &mut Line, tree: &Value, place: Place) -> Resul
 
 /// Appends a space and the name of an item of a part. It is the name of a host, the full name of a service,
 /// or both ends of a dependency. Nothing is appended for an item without a name.
-fn push_item_name(line: &mut Line, item: &Value, part: Part) -> Result<(), AllocError>
+fn push_item_name(line: &mut Line, item: &Value, part: Part) -> Pushed
     ensures { OnOk result (line.new ≡ line.old ++ after_space (item_name_text part (view item.now))) }
 {
     match part {
@@ -89,7 +84,7 @@ fn push_item_name(line: &mut Line, item: &Value, part: Part) -> Result<(), Alloc
     }
 }
 
-fn push_host_name(line: &mut Line, item: &Value) -> Result<(), AllocError>
+fn push_host_name(line: &mut Line, item: &Value) -> Pushed
     ensures { OnOk result (line.new ≡ line.old ++ after_space (item_name_text part.Hosts (view item.now))) }
 {
     match member_text(item, "name") {
@@ -101,7 +96,7 @@ fn push_host_name(line: &mut Line, item: &Value) -> Result<(), AllocError>
     }
 }
 
-fn push_service_name(line: &mut Line, item: &Value) -> Result<(), AllocError>
+fn push_service_name(line: &mut Line, item: &Value) -> Pushed
     ensures { OnOk result (line.new ≡ line.old ++ after_space (item_name_text part.Services (view item.now))) }
 {
     match texts_of(item, "host", "description") {
@@ -116,7 +111,7 @@ fn push_service_name(line: &mut Line, item: &Value) -> Result<(), AllocError>
     }
 }
 
-fn push_ends(line: &mut Line, item: &Value) -> Result<(), AllocError>
+fn push_ends(line: &mut Line, item: &Value) -> Pushed
     ensures { OnOk result (line.new ≡ line.old
         ++ after_space (item_name_text part.HostDependencies (view item.now))) }
 {

@@ -6,7 +6,7 @@ ghost use Rattle.setup_model.specs.Fault.{range_view};
 ghost use Rattle.setup_model.specs.Member.{as_row, limits_of};
 ghost use Rattle.setup_diagnostics.specs.Ranges.{above_text, between_text, limits_text, number_text, range_text, wrong_number_text};
 
-use crate::line::Line;
+use crate::line::{Line, Pushed};
 use crate::places::push_place;
 use serde_json::Value;
 use setup_model::members::{
@@ -14,22 +14,16 @@ use setup_model::members::{
     LOW_SERVICE_FLAP_THRESHOLD,
 };
 use setup_model::{Kind, Member, Place, RangeFault};
-use std::alloc::AllocError;
 
 /// Appends which number is out of its limits, and its limits.
-pub(crate) fn push_range(
-    line: &mut Line,
-    tree: &Value,
-    place: Place,
-    fault: RangeFault,
-) -> Result<(), AllocError>
+pub(crate) fn push_range(line: &mut Line, tree: &Value, place: Place, fault: RangeFault) -> Pushed
     ensures { OnOk result (line.new ≡ line.old ++ range_text (view tree.now) place (range_view fault)) }
 {
     push_place(line, tree, place)?;
     push_wrong_number(line, fault)
 }
 
-fn push_wrong_number(line: &mut Line, fault: RangeFault) -> Result<(), AllocError>
+fn push_wrong_number(line: &mut Line, fault: RangeFault) -> Pushed
     ensures { OnOk result (line.new ≡ line.old ++ wrong_number_text (range_view fault)) }
 {
     match fault {
@@ -49,7 +43,7 @@ fn push_wrong_number(line: &mut Line, fault: RangeFault) -> Result<(), AllocErro
 }
 
 /// Appends the number of a member.
-fn push_number(line: &mut Line, member: Member, number: u64) -> Result<(), AllocError>
+fn push_number(line: &mut Line, member: Member, number: u64) -> Pushed
     ensures { OnOk result (line.new ≡ line.old ++ number_text (as_row member) number) }
 {
     line.push_text(member.name)?;
@@ -58,7 +52,7 @@ fn push_number(line: &mut Line, member: Member, number: u64) -> Result<(), Alloc
 }
 
 /// Appends the least and the greatest number of a kind.
-fn push_limits(line: &mut Line, kind: Kind) -> Result<(), AllocError>
+fn push_limits(line: &mut Line, kind: Kind) -> Pushed
     ensures { OnOk result (line.new ≡ line.old ++ limits_text (limits_of kind)) }
 {
     match kind.limits() {
@@ -67,7 +61,7 @@ fn push_limits(line: &mut Line, kind: Kind) -> Result<(), AllocError>
     }
 }
 
-fn push_between(line: &mut Line, low: u64, high: u64) -> Result<(), AllocError>
+fn push_between(line: &mut Line, low: u64, high: u64) -> Pushed
     ensures { OnOk result (line.new ≡ line.old ++ between_text low high) }
 {
     line.push_words("; it can be ")?;
@@ -77,7 +71,7 @@ fn push_between(line: &mut Line, low: u64, high: u64) -> Result<(), AllocError>
 }
 
 /// Appends the member that a number can't be above, and its number.
-fn push_above(line: &mut Line, member: Member, number: u64) -> Result<(), AllocError>
+fn push_above(line: &mut Line, member: Member, number: u64) -> Pushed
     ensures { OnOk result (line.new ≡ line.old ++ above_text (as_row member) number) }
 {
     line.push_words("; it can't be above ")?;

@@ -7,6 +7,7 @@ ghost use Rattle.setup_diagnostics.specs.Schema.{inner_members, NamesAll, NamesE
 ghost use Rattle.setup_diagnostics.specs.Shapes.{BeginsWith};
 
 use crate::layout::Layout;
+use crate::line::Pushed;
 use crate::names::name_member;
 use setup_model::members::{
     DOCUMENT_MEMBERS, HOST_DEPENDENCY_MEMBERS, HOST_MEMBERS, OPTION_MEMBERS,
@@ -45,7 +46,7 @@ pub fn json_schema(alloc: Global) -> Result<String, AllocError>
 }
 
 /// Writes the schema of each of these parts of the document.
-fn push_parts(layout: &mut Layout, members: &[Member]) -> Result<(), AllocError>
+fn push_parts(layout: &mut Layout, members: &[Member]) -> Pushed
     ensures { OnOk result (NamesAll (map as_row members.now) layout.new) }
 {
     for member in members {
@@ -57,7 +58,7 @@ fn push_parts(layout: &mut Layout, members: &[Member]) -> Result<(), AllocError>
 }
 
 /// Writes the schema of a part of the document.
-fn push_part_kind(layout: &mut Layout, member: Member) -> Result<(), AllocError>
+fn push_part_kind(layout: &mut Layout, member: Member) -> Pushed
     ensures extends { OnOk result (BeginsWith layout.old layout.new) }
     ensures names { OnOk result (NamesInner member.kind layout.new) }
 {
@@ -68,7 +69,7 @@ fn push_part_kind(layout: &mut Layout, member: Member) -> Result<(), AllocError>
 }
 
 /// Writes the schema of a part of the document: its options, or a list of objects.
-fn push_part(layout: &mut Layout, part: Part, purpose: &str) -> Result<(), AllocError>
+fn push_part(layout: &mut Layout, part: Part, purpose: &str) -> Pushed
     ensures extends { OnOk result (BeginsWith layout.old layout.new) }
     ensures names { OnOk result (NamesEach (inner_members part) layout.new) }
 {
@@ -102,7 +103,7 @@ fn inner_members(part: Part) -> &'static [Member]
 }
 
 /// Writes the schema of a list of the document.
-fn push_list(layout: &mut Layout, part: Part, most: usize) -> Result<(), AllocError>
+fn push_list(layout: &mut Layout, part: Part, most: usize) -> Pushed
     ensures extends { OnOk result (BeginsWith layout.old layout.new) }
     ensures names { OnOk result (NamesEach (inner_members part) layout.new) }
 {
@@ -115,7 +116,7 @@ fn push_list(layout: &mut Layout, part: Part, most: usize) -> Result<(), AllocEr
 }
 
 /// Writes the schema of an object of this part: its members.
-fn push_members(layout: &mut Layout, part: Part, members: &[Member]) -> Result<(), AllocError>
+fn push_members(layout: &mut Layout, part: Part, members: &[Member]) -> Pushed
     ensures extends { OnOk result (BeginsWith layout.old layout.new) }
     ensures names { OnOk result (NamesEach (map as_row members.now) layout.new) }
 {
@@ -125,7 +126,7 @@ fn push_members(layout: &mut Layout, part: Part, members: &[Member]) -> Result<(
     layout.close()
 }
 
-fn push_each(layout: &mut Layout, part: Part, members: &[Member]) -> Result<(), AllocError>
+fn push_each(layout: &mut Layout, part: Part, members: &[Member]) -> Pushed
     ensures extends { OnOk result (BeginsWith layout.old layout.new) }
     ensures names { OnOk result (NamesEach (map as_row members.now) layout.new) }
 {
@@ -138,7 +139,7 @@ fn push_each(layout: &mut Layout, part: Part, members: &[Member]) -> Result<(), 
 }
 
 /// Writes that a value is an object, and which of these members it must have.
-fn push_object(layout: &mut Layout, members: &[Member]) -> Result<(), AllocError>
+fn push_object(layout: &mut Layout, members: &[Member]) -> Pushed
     ensures { OnOk result (BeginsWith layout.old layout.new) }
 {
     layout.text("type", "object")?;
@@ -149,7 +150,7 @@ fn push_object(layout: &mut Layout, members: &[Member]) -> Result<(), AllocError
     Ok(())
 }
 
-fn push_required(layout: &mut Layout, members: &[Member]) -> Result<(), AllocError>
+fn push_required(layout: &mut Layout, members: &[Member]) -> Pushed
     ensures { OnOk result (BeginsWith layout.old layout.new) }
 {
     layout.begin("required")?;
@@ -164,7 +165,7 @@ fn push_required(layout: &mut Layout, members: &[Member]) -> Result<(), AllocErr
 }
 
 /// Writes a text of a list.
-fn push_item(layout: &mut Layout, is_first: bool, text: &str) -> Result<(), AllocError>
+fn push_item(layout: &mut Layout, is_first: bool, text: &str) -> Pushed
     ensures { OnOk result (BeginsWith layout.old layout.new) }
 {
     layout.push_json(if is_first { "[" } else { ", " })?;
@@ -172,7 +173,7 @@ fn push_item(layout: &mut Layout, is_first: bool, text: &str) -> Result<(), Allo
 }
 
 /// Writes the schema of a member: its kind with its limits, its default, and its purpose.
-fn push_member(layout: &mut Layout, part: Part, member: Member) -> Result<(), AllocError>
+fn push_member(layout: &mut Layout, part: Part, member: Member) -> Pushed
     ensures { OnOk result (BeginsWith layout.old layout.new) }
 {
     push_kind(layout, member.kind, member.name == name_member(part))?;
@@ -182,7 +183,7 @@ fn push_member(layout: &mut Layout, part: Part, member: Member) -> Result<(), Al
     layout.text("description", member.purpose)
 }
 
-fn push_default(layout: &mut Layout, default: DefaultValue, kind: Kind) -> Result<(), AllocError>
+fn push_default(layout: &mut Layout, default: DefaultValue, kind: Kind) -> Pushed
     ensures { OnOk result (BeginsWith layout.old layout.new) }
 {
     match (default, kind) {
@@ -196,7 +197,7 @@ fn push_default(layout: &mut Layout, default: DefaultValue, kind: Kind) -> Resul
 }
 
 /// Writes which values are of a kind. For a text it also writes whether the text must be a name.
-fn push_kind(layout: &mut Layout, kind: Kind, is_name: bool) -> Result<(), AllocError>
+fn push_kind(layout: &mut Layout, kind: Kind, is_name: bool) -> Pushed
     ensures { OnOk result (BeginsWith layout.old layout.new) }
 {
     match kind {
@@ -212,7 +213,7 @@ fn push_kind(layout: &mut Layout, kind: Kind, is_name: bool) -> Result<(), Alloc
     }
 }
 
-fn push_text(layout: &mut Layout, is_name: bool) -> Result<(), AllocError>
+fn push_text(layout: &mut Layout, is_name: bool) -> Pushed
     ensures { OnOk result (BeginsWith layout.old layout.new) }
 {
     layout.text("type", "string")?;
@@ -224,7 +225,7 @@ fn push_text(layout: &mut Layout, is_name: bool) -> Result<(), AllocError>
     Ok(())
 }
 
-fn push_texts(layout: &mut Layout) -> Result<(), AllocError>
+fn push_texts(layout: &mut Layout) -> Pushed
     ensures { OnOk result (BeginsWith layout.old layout.new) }
 {
     layout.text("type", "array")?;
@@ -232,7 +233,7 @@ fn push_texts(layout: &mut Layout) -> Result<(), AllocError>
     layout.json("items", "{\"type\": \"string\"}")
 }
 
-fn push_number(layout: &mut Layout, low: u64, high: u64) -> Result<(), AllocError>
+fn push_number(layout: &mut Layout, low: u64, high: u64) -> Pushed
     ensures { OnOk result (BeginsWith layout.old layout.new) }
 {
     layout.text("type", "integer")?;
@@ -241,7 +242,7 @@ fn push_number(layout: &mut Layout, low: u64, high: u64) -> Result<(), AllocErro
 }
 
 /// Writes that a value is one of these words or a number within the limits of its kind.
-fn push_word_or_number(layout: &mut Layout, words: &str, kind: Kind) -> Result<(), AllocError>
+fn push_word_or_number(layout: &mut Layout, words: &str, kind: Kind) -> Pushed
     ensures { OnOk result (BeginsWith layout.old layout.new) }
 {
     layout.begin("anyOf")?;
@@ -251,7 +252,7 @@ fn push_word_or_number(layout: &mut Layout, words: &str, kind: Kind) -> Result<(
     layout.push_json("]")
 }
 
-fn push_limits(layout: &mut Layout, kind: Kind) -> Result<(), AllocError>
+fn push_limits(layout: &mut Layout, kind: Kind) -> Pushed
     ensures { OnOk result (BeginsWith layout.old layout.new) }
 {
     match kind.limits() {
@@ -260,7 +261,7 @@ fn push_limits(layout: &mut Layout, kind: Kind) -> Result<(), AllocError>
     }
 }
 
-fn push_between(layout: &mut Layout, low: u64, high: u64) -> Result<(), AllocError>
+fn push_between(layout: &mut Layout, low: u64, high: u64) -> Pushed
     ensures { OnOk result (BeginsWith layout.old layout.new) }
 {
     layout.push_json(", {\"type\": \"integer\", \"minimum\": ")?;
@@ -271,7 +272,7 @@ fn push_between(layout: &mut Layout, low: u64, high: u64) -> Result<(), AllocErr
 }
 
 /// Writes that a text has these letters, with one comma between two of them.
-fn push_letters(layout: &mut Layout, letters: &[&str]) -> Result<(), AllocError>
+fn push_letters(layout: &mut Layout, letters: &[&str]) -> Pushed
     ensures { OnOk result (BeginsWith layout.old layout.new) }
 {
     layout.text("type", "string")?;
@@ -279,7 +280,7 @@ fn push_letters(layout: &mut Layout, letters: &[&str]) -> Result<(), AllocError>
     push_others(layout, letters)
 }
 
-fn push_pattern(layout: &mut Layout, letters: &[&str]) -> Result<(), AllocError>
+fn push_pattern(layout: &mut Layout, letters: &[&str]) -> Pushed
     ensures { OnOk result (BeginsWith layout.old layout.new) }
 {
     layout.begin("pattern")?;
@@ -289,7 +290,7 @@ fn push_pattern(layout: &mut Layout, letters: &[&str]) -> Result<(), AllocError>
 }
 
 /// Writes that a text has nothing else.
-fn push_others(layout: &mut Layout, letters: &[&str]) -> Result<(), AllocError>
+fn push_others(layout: &mut Layout, letters: &[&str]) -> Pushed
     ensures { OnOk result (BeginsWith layout.old layout.new) }
 {
     layout.begin("not")?;
@@ -298,7 +299,7 @@ fn push_others(layout: &mut Layout, letters: &[&str]) -> Result<(), AllocError>
 }
 
 /// Appends JSON as it is, and these letters.
-fn push_all(layout: &mut Layout, json: &str, letters: &[&str]) -> Result<(), AllocError>
+fn push_all(layout: &mut Layout, json: &str, letters: &[&str]) -> Pushed
     ensures { OnOk result (BeginsWith layout.old layout.new) }
 {
     layout.push_json(json)?;

@@ -9,12 +9,12 @@ ghost use Rattle.setup_diagnostics.specs.Shapes.{nth_member_name, member_name_at
 ghost use Rattle.setup_diagnostics.specs.Excerpts.{quotation};
 
 use crate::kinds::{kind_words, push_value};
-use crate::line::Line;
+use crate::line::{Line, Pushed};
 use crate::places::push_place;
 use serde_json::{Map, Value};
 use setup_model::{Kind, Member, Place, ShapeFault};
 use setup_reader::value_at;
-use std::alloc::{AllocError, Global};
+use std::alloc::Global;
 
 /// Appends a fault in the shape of the value at a place.
 pub(crate) fn push_shape(
@@ -23,7 +23,7 @@ pub(crate) fn push_shape(
     tree: &Value,
     place: Place,
     fault: ShapeFault,
-) -> Result<(), AllocError>
+) -> Pushed
     ensures { OnOk result (line.old ≡ []
         → IsShapeText (view tree.now) place (Some (shape_view fault)) line.new) }
 {
@@ -38,13 +38,7 @@ pub(crate) fn push_shape(
 }
 
 /// Appends that a value isn't of this kind.
-fn push_wrong_kind(
-    alloc: Global,
-    line: &mut Line,
-    tree: &Value,
-    place: Place,
-    kind: &str,
-) -> Result<(), AllocError>
+fn push_wrong_kind(alloc: Global, line: &mut Line, tree: &Value, place: Place, kind: &str) -> Pushed
     requires { has_line_feed kind.now ≡ false }
     ensures { OnOk result (BeginsWith (line.old ++ codes "this is ") line.new) }
 {
@@ -57,7 +51,7 @@ fn push_wrong_kind(
 }
 
 /// Appends that the member at this index isn't known.
-fn push_unknown(line: &mut Line, tree: &Value, place: Place, index: usize) -> Result<(), AllocError>
+fn push_unknown(line: &mut Line, tree: &Value, place: Place, index: usize) -> Pushed
     ensures { OnOk result (line.new ≡ line.old ++ unknown_text (view tree.now) place index) }
 {
     line.push_name("a member ", member_name_at(tree, place, index))?;
@@ -89,7 +83,7 @@ fn nth_key(object: &Map<String, Value>, index: usize) -> Option<&String>
 }
 
 /// Appends that a member is missing.
-fn push_missing(line: &mut Line, member: Member) -> Result<(), AllocError>
+fn push_missing(line: &mut Line, member: Member) -> Pushed
     ensures { OnOk result (line.new ≡ line.old ++ missing_text member.name.now) }
 {
     line.push_words("the member ")?;
@@ -104,7 +98,7 @@ fn push_wrong_member(
     tree: &Value,
     place: Place,
     member: Member,
-) -> Result<(), AllocError>
+) -> Pushed
     ensures { OnOk result (BeginsWith (line.old ++ quotation member.name.now) line.new) }
 {
     line.push_text(member.name)?;
@@ -115,12 +109,7 @@ fn push_wrong_member(
 }
 
 /// Appends the kind of a value, and the kind that it must have.
-fn push_other_kind(
-    alloc: Global,
-    line: &mut Line,
-    value: &Value,
-    kind: Kind,
-) -> Result<(), AllocError>
+fn push_other_kind(alloc: Global, line: &mut Line, value: &Value, kind: Kind) -> Pushed
     ensures { OnOk result (BeginsWith line.old line.new) }
 {
     match (kind, value.as_array()) {
@@ -135,7 +124,7 @@ fn push_other_kind(
 }
 
 /// Appends the first value of an array of texts that isn't a text.
-fn push_wrong_text(alloc: Global, line: &mut Line, values: &[Value]) -> Result<(), AllocError>
+fn push_wrong_text(alloc: Global, line: &mut Line, values: &[Value]) -> Pushed
     ensures { OnOk result (BeginsWith line.old line.new) }
 {
     match first_wrong_text(values) {

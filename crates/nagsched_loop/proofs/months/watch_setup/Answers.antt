@@ -1,11 +1,11 @@
-use Rattle.std.proofs.Common.{◌≡◌, [], ◌∷◌, ◌++◌, false, inl, inr, refl, subst, ◌∙◌, ⊎_elim}
+use Rattle.std.proofs.Common.{◌≡◌, [], ◌∷◌, ◌++◌, false, inl, inr, refl, ◌∙◌, ⊎_elim}
 use Rattle.std.proofs.lemmas.Result.{err_from_is_err_and}
 use Rattle.std.specs.Prelude.{Contains}
 use Rattle.std.proofs.lemmas.List.Elements.{All-contains, All-contains_itself}
 use Rattle.check_book.specs.Books.{sched_of}
 use Rattle.nagsched_loop.specs.Loop.{has_call_for, run_with_limit}
-use Rattle.nagsched_loop.specs.Months.{IsFirst, entries_in}
-use Rattle.nagsched_loop.proofs.MonthLemmas.{generations_more, kept_generation, text_after_generation}
+use Rattle.nagsched_loop.specs.Months.{entries_in}
+use Rattle.nagsched_loop.proofs.MonthLemmas.{begun_over, generations_more, kept_generation, text_after_generation}
 use Rattle.nagsched_loop.proofs.months.watch_setup.Goals as goal
 
 pub loop-init : goal.loop-init
@@ -19,20 +19,14 @@ returns-in-Setup g c =
     let generation_ended = c.in_ok-next.ensures.generation_ended in
     let histories = before.2 ++ generation_ended.0 ∷ [] in
     let stored = kept_generation before.2 generation_ended.0 _ _ _ before.4 generation_ended.2 in
+    let begun = begun_over g.O.Environment.does g.F.Files.gives _ _ _ _ _ _ _ c.now-start.ensures.does c.in_ok-setup.ensures.given c.in_ok-book.ensures.first
+    (c.in_ok-stored.ensures.stored ∙ c.setup.ensures.stored) in
     record {
       stored = c.in_ok-next.ensures.stored;
       watched = record {
         start = c.now-start.result;
         first = sched_of c.in_ok-book.book;
-        begun = record {
-          clock = c.now-start.new.self;
-          read = c.now-start.ensures.does;
-          setup = c.in_ok-setup.setup;
-          given = c.in_ok-setup.ensures.given;
-          is_first =
-              subst (λ stored. IsFirst c.in_ok-setup.setup stored c.now-start.result (sched_of c.in_ok-book.book))
-              (c.in_ok-stored.ensures.stored ∙ c.setup.ensures.stored) c.in_ok-book.ensures.first;
-        };
+        begun = begun;
         histories = histories;
         lead = generations_more g.F.Files.past before.2 generation_ended.0 _ _ _ before.3 generation_ended.1;
         still_listed = λ object number is unnamed.
@@ -49,18 +43,11 @@ returns-in_err-next-clause-kept g c =
     let p = err_from_is_err_and c.from_residual-in_err-next.result c.from_residual-in_err-next.ensures.1 in
     let before = c.loop.invariant.2 in
     let since = ⊎_elim (λ same. inl (same ∙ c.setup.ensures.stored)) (λ saved. inr saved) before.5 in
+    let begun = begun_over g.O.Environment.does g.F.Files.gives _ _ _ _ _ _ _ c.now-start.ensures.does c.in_ok-setup.ensures.given c.in_ok-book.ensures.first
+    (c.in_ok-stored.ensures.stored ∙ c.setup.ensures.stored) in
     rw p.1
     (text_after_generation g.O.Environment.does g.F.Files.gives g.F.Files.past _ _ c.now-start.result (sched_of c.in_ok-book.book) _ before.2 _ _
-    (record {
-      clock = c.now-start.new.self;
-      read = c.now-start.ensures.does;
-      setup = c.in_ok-setup.setup;
-      given = c.in_ok-setup.ensures.given;
-      is_first =
-          subst (λ stored. IsFirst c.in_ok-setup.setup stored c.now-start.result (sched_of c.in_ok-book.book))
-          (c.in_ok-stored.ensures.stored ∙ c.setup.ensures.stored) c.in_ok-book.ensures.first;
-    })
-    before.3 since c.in_err-next.ensures.kept)
+    begun before.3 since c.in_err-next.ensures.kept)
 
 pub loop-preserved : goal.loop-preserved
 loop-preserved g c =
