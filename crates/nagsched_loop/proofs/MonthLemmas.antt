@@ -23,11 +23,11 @@ use Rattle.nagsched_loop.specs.Months.{AreGenerations, IsBegun, IsFirst, IsGener
 use Rattle.nagsched_loop.specs.declared.runs.Run.{Run}
 use Rattle.nagsched_loop.proofs.RunLemmas.{kept_then}
 
--- a book without entries stands where it was opened
+-- a book without entries has its opening state
 pub opened_at : (book : Book) → entries_of book ≡ [] → (opening_of book).sched ≡ sched_of book
 opened_at book none = sym (ap (λ s. s.sched) (book.replayed ∙ ap (replay book_step (opening_of book)) none))
 
--- the history of a book leads its scheduler from where it was opened to where it stands
+-- the history of a book leads its scheduler from the opening state to the current one
 pub history_leads : (past : Configuration → List (Entry Call Reply) → Type 0) (opened state : BookState) (history : List (Entry Call Reply)) (refused : ℕ) (from to : State)
     → IsLawfulBook book_step opened (book_state state history refused) → opened.sched ≡ from → to ≡ state.sched → past to.setup history
     → IsGeneration past history from to
@@ -37,7 +37,7 @@ history_leads past opened state history refused from to h e f told = record {
   handed_over = told;
 }
 
--- what is new to a caller that had seen nothing is all that it has seen
+-- to a caller that had seen nothing, everything that it has seen is new
 pub all_new : (before after history : List (Entry Call Reply)) (runs left : List Run)
     → before ≡ [] → history ≡ after → KeepsRuns before after runs left → KeepsOtherRuns history runs left
 all_new before after history runs left none is k =
@@ -81,7 +81,7 @@ text_after_store book ended before after bytes text none same lawful saved is ke
           is_saved = subst (λ s. IsSavedText s after) led.leads saved;
         }
 
--- a setup is begun over the text that was found, which is the stored one
+-- a setup is begun over the stored text if that is the text that was found
 pub begun_over : {S : Type 0} (does : S → Effect → S → Type 0) (gives : Configuration → Type 0) (environment clock : S) (setup : Configuration) (start : ℕ)
     (first : State) (found stored : Option (List ℕ)) → does environment (reads start) clock → gives setup → IsFirst setup found start first → found ≡ stored
     → IsBegun does gives stored environment start first

@@ -17,12 +17,12 @@ use Rattle.nagsched_protocol.specs.LiveInput.{LinePrefix, IsBoundedReading, Took
 use Rattle.nagsched_protocol.specs.declared.line_reader.TheConstants.{READ_BYTES}
 use Rattle.std.specs.Io.KnownBytes.{Consumes}
 
--- ---- where the first line feed is
+-- ---- the place of the first line feed
 
 suc_more : (n : ℕ) → suc (n + 1) ≡ 1 + n + 1
 suc_more n = omega arith
 
--- what stands behind the first place of a line feed
+-- the bytes after the first line feed
 pub behind_line-drop : (bs : List ℕ) → rest_after_line bs ≡ drop (position_or_len (λ b. b == 10) bs + 1) bs
 behind_line-drop [] = refl
 behind_line-drop (b ∷ bs) =
@@ -87,7 +87,7 @@ pub feed_on : (xs bs : List ℕ) → has_feed xs ≡ false → has_feed (xs ++ b
 feed_on [] bs h = refl
 feed_on (a ∷ xs) bs h = by_feed (a == 10) (has_feed xs) h (λ e k. rw e (feed_on xs bs k))
 
--- ---- with one, whatever comes later
+-- ---- with a line feed, for any bytes after it
 
 pub first_stays : (bs more : List ℕ) → has_feed bs ≡ true → first_line_of (bs ++ more) ≡ first_line_of bs
 first_stays [] more h = cc
@@ -120,12 +120,12 @@ split_by : (b : ℕ) (bs : List ℕ) (is : Bool) → (b == 10) ≡ is → cond i
 split_by b bs true e h again = let feed : b ≡ 10 = grind (arith, nat_tests, e) in ap (λ x. x ∷ bs) feed
 split_by b bs false e h again = ap (λ l. b ∷ l) (again h)
 
--- it stands before the line feed, and what comes later behind it
+-- the first line is before the line feed, and the rest is after it
 pub feed_split : (bs : List ℕ) → has_feed bs ≡ true → bs ≡ first_line_of bs ++ 10 ∷ rest_after_line bs
 feed_split [] h = cc
 feed_split (b ∷ bs) h = split_by b bs (b == 10) refl h (λ k. feed_split bs k)
 
--- ---- the lines of bytes are the first and those behind it
+-- ---- the lines of bytes are the first one and those after it
 
 pub lines_apart : (b : ℕ) (bs : List ℕ) → lines_of (b ∷ bs) ≡ first_line_of (b ∷ bs) ∷ lines_of (rest_after_line (b ∷ bs))
 lines_apart b [] =
@@ -141,7 +141,7 @@ lines_apart b (c ∷ cs) =
       | false ↦ ap (onto_first b) again
     ]
 
--- ---- what is kept of a line
+-- ---- the kept part of a line
 
 take_least : (n : ℕ) (bs : List ℕ) → take (min (length bs) n) bs ≡ take n bs
 take_least n bs = ap (λ k. take k bs) (let e : min (length bs) n ≡ min n (length bs) = omega arith in e) ∙ take_min n bs
@@ -156,7 +156,7 @@ room_left (suc most) (b ∷ line) bytes =
     ap (λ l. b ∷ l)
     (ap (λ k. take most line ++ take (min (length bytes) k) bytes) (let e : suc most - suc n ≡ most - n = omega arith in e) ∙ room_left most line bytes)
 
--- what is kept after more bytes
+-- the kept part after more bytes
 pub front_goes_on : (v : LinePrefix) (line bytes new : List ℕ) (room : ℕ) → v ≡ prefix_of v.most line
     → room ≡ min (length bytes) (v.most - length v.bytes) → new ≡ v.bytes ++ take room bytes
     → record { most = v.most; bytes = new; blank = v.blank && is_blank bytes } ≡ prefix_of v.most (line ++ bytes)
@@ -182,7 +182,7 @@ pub Consumes-none : (known : Option (List ℕ)) → Consumes known known []
 Consumes-none None = tt
 Consumes-none (Some xs) = refl
 
--- the part that is at hand was taken behind one without a line feed
+-- the part in the buffer was taken after a part without a line feed
 pub took_on : (most : ℕ) (begun part hand rest : List ℕ) (line new : LinePrefix) (whole : Bool) (end : Type 0)
     → has_feed begun ≡ false → line ≡ prefix_of most begun → hand ≡ part → whole ≡ has_feed hand → rest ≡ rest_after_line hand
     → ((b : List ℕ) → line ≡ prefix_of line.most b → new ≡ prefix_of line.most (b ++ first_line_of hand)) → (whole ≡ false → end)
@@ -198,7 +198,7 @@ took_on most begun part hand rest line new whole end free kept same w r n e =
       ended = e;
     }
 
--- the reader gave nothing more behind such a part
+-- the reader gave nothing more after such a part
 pub took_all : (most : ℕ) (begun part hand : List ℕ) (line : LinePrefix) (end : Type 0) → has_feed begun ≡ false → line ≡ prefix_of most begun
     → hand ≡ part → hand ≡ [] → end → TookLine most (begun ++ part) line hand end false
 took_all most begun part hand line end free kept same none e =
@@ -222,9 +222,9 @@ not_yet most bytes rest line end whole t e =
     let free : has_feed bytes ≡ false = sym t.whole_is ∙ e in
     record { feedless = free; kept = t.line_is ∙ ap (prefix_of most) (first_all bytes free); nothing = t.rest_is ∙ behind_none bytes free }
 
--- ---- a line that is taken read by read
+-- ---- a line that is read in parts
 
--- What is at hand of a line and of what comes later: what was taken of it has no line feed, and the rest is at hand. Each read gave some.
+-- A line that is being read. The bytes taken so far have no line feed, and the rest of the bytes read is in the buffer. Each read gave a byte or more.
 pub record Taking (most : ℕ) (hand : List ℕ) (had left : Option (List ℕ)) (line : LinePrefix) (rest : List ℕ) (reads : ℕ) : Type 0 where
   pub bytes_read : List ℕ
   pub taken : List ℕ
@@ -247,7 +247,7 @@ takes_first most hand had line kept = record {
   many = omega arith;
 }
 
--- one more read gave something
+-- one more read gave a byte or more
 pub more_reads : (reads : ℕ) (bytes_read part hand : List ℕ) → reads ≤ length bytes_read → hand ≡ part → 0 < length hand → reads + 1 ≤ length (bytes_read ++ part)
 more_reads reads bytes_read part hand many same some =
     let all = length-append bytes_read part in
@@ -256,14 +256,14 @@ more_reads reads bytes_read part hand many same some =
 
 module _ {most reads : ℕ} {hand rest : List ℕ} {had mid : Option (List ℕ)} {line : LinePrefix} (s : Taking most hand had mid line rest reads)
     (behind : List ℕ) (new : LinePrefix) where
-  -- the line behind what is at hand, of which as much was taken as stands before a line feed
+  -- the bytes of the buffer before a line feed are taken
   pub took_first : (whole : Bool) (end : Type 0) → whole ≡ has_feed rest → behind ≡ rest_after_line rest
       → ((b : List ℕ) → line ≡ prefix_of line.most b → new ≡ prefix_of line.most (b ++ first_line_of rest)) → (whole ≡ false → end)
       → TookLine most (hand ++ s.bytes_read) new behind end whole
   took_first whole end w r n e =
       subst (λ l. TookLine most l new behind end whole) (sym s.parts) (took_on most s.taken rest rest behind line new whole end s.feedless s.kept refl w r n e)
 
-  -- that line, if it isn't whole
+  -- the same if the buffer had no line feed
   pub took_begun : (whole : Bool) → whole ≡ has_feed rest → behind ≡ rest_after_line rest
       → ((b : List ℕ) → line ≡ prefix_of line.most b → new ≡ prefix_of line.most (b ++ first_line_of rest)) → whole ≡ false
       → Begun most (hand ++ s.bytes_read) new behind
@@ -291,7 +291,7 @@ module _ {most reads : ℕ} {hand rest : List ℕ} {had mid : Option (List ℕ)}
 
 -- ---- a document's line
 
--- The same of a line of which not as many bytes were taken as are kept of it at most. The rest is no more than one read gave.
+-- The line of a document that is being read: fewer bytes were taken than are kept at most, and the rest is at most one read.
 pub record Coming (most : ℕ) (hand : List ℕ) (had left : Option (List ℕ)) (line : LinePrefix) (rest : List ℕ) (reads : ℕ) : Type 0 where
   pub taking : Taking most hand had left line rest reads
   pub bounded : length taking.taken < most
@@ -309,14 +309,14 @@ stops_soon most bytes_read part free bounded h =
     let front = length-append bytes_read (first_line_of part) in
     record { at_the_bound = omega (arith, whole, bounded, h); at_the_feed = omega (arith, whole, front, first, h) }
 
--- what is so of all that was given, where the reader isn't asked again
+-- the bytes read in all, if the reader isn't asked again
 pub given_so : {most reads : ℕ} {hand rest : List ℕ} {had left : Option (List ℕ)} {line : LinePrefix} (s : Coming most hand had left line rest reads)
     (reading after : List ℕ → Type 0) → reading s.taking.bytes_read → after s.taking.bytes_read
     → (bytes_read : List ℕ) × Consumes had left bytes_read × reading bytes_read × IsBoundedReading most (hand ++ bytes_read) × after bytes_read
 given_so {most} {reads} {hand} {rest} s reading after t a =
     (s.taking.bytes_read, s.taking.consumed, t, subst (IsBoundedReading most) (sym s.taking.parts) (stops_soon most s.taking.taken rest s.taking.feedless s.bounded s.size), a)
 
--- behind the line there is no more than one read gave
+-- after the line there is at most one read
 behind_few : (most : ℕ) (bytes : List ℕ) (feed : Bool) → has_feed bytes ≡ feed → IsBoundedReading most bytes → length (rest_after_line bytes) ≤ READ_BYTES
 behind_few most bytes true e soon =
     let parts = ap length (feed_split bytes e) in
@@ -332,7 +332,7 @@ behind_soon most bytes some soon =
     let size = behind_size most bytes soon in
     record { at_the_bound = omega (arith, size, some); at_the_feed = omega (arith, size) }
 
--- as many bytes are kept as may be exactly where as many have come
+-- the kept part is full if and only if at least as many bytes have come
 pub full_is : (most : ℕ) (bytes : List ℕ) (line : LinePrefix) → line ≡ prefix_of most bytes → (length line.bytes == line.most) ≡ true → most ≤ length bytes
 full_is most bytes line k e =
     let e' : (length (take most bytes) == most) ≡ true = rw k at e in
@@ -345,7 +345,7 @@ not_full most bytes line k e =
     let l = length-take most bytes in
     grind (arith, nat_tests, e', l)
 
--- what is so of all that was given, where what was at hand was taken, and the reader was asked again
+-- the bytes read in all, if the buffer was taken and the reader was asked again
 pub asked_so : {most reads : ℕ} {hand rest : List ℕ} {had mid : Option (List ℕ)} {line : LinePrefix} (s : Coming most hand had mid line rest reads)
     (behind : List ℕ) (new : LinePrefix) (left : Option (List ℕ)) (part : List ℕ) (reading after : List ℕ → Type 0)
     → Begun most (hand ++ s.taking.bytes_read) new behind → (length new.bytes == new.most) ≡ false → Consumes mid left part → length part ≤ READ_BYTES
@@ -371,7 +371,7 @@ comes_more {most} {reads} {hand} {rest} {had} {mid} s behind new left part now_h
   size = (let sizes = ap length same in omega (arith, sizes, size));
 }
 
--- the reader is asked only where no line feed was at hand
+-- the reader is asked only if the buffer had no line feed
 front_free : (xs bs : List ℕ) → has_feed (xs ++ bs) ≡ false → has_feed xs ≡ false
 front_free [] bs h = refl
 front_free (a ∷ xs) bs h = by_feed (a == 10) (has_feed (xs ++ bs)) h (λ e k. rw e (front_free xs bs k))
@@ -381,7 +381,7 @@ never_asked most hand bytes_read rest line begun feed = let both : true ≡ fals
 
 -- ---- errors
 
--- no read is spent where the reader failed, or memory was wanting
+-- no read is spent if the reader failed, or if there was no memory
 pub after_input : (bytes_read : List ℕ) (e : LiveError) → IsInputError e → IsReadingError bytes_read e
 after_input bytes_read (errors.Reader fault) h = tt
 after_input bytes_read errors.Memory h = tt

@@ -18,7 +18,7 @@ Keeps-then (Some a) None holds h k = absurd h
 Keeps-then (Some a) (Some b) None h k = absurd k
 Keeps-then (Some a) (Some b) (Some c) h k = k ∙ h
 
--- What is at hand of a line and of what comes later, and what the writer holds. If a line feed was at hand at first, nothing was read.
+-- A line of a conversation that is being read, and the text that the writer holds. If the buffer had a line feed at first, nothing was read.
 pub record TakingAndWriting (most : ℕ) (hand : List ℕ) (had left held holds : Option (List ℕ)) (line : LinePrefix) (rest : List ℕ) (reads : ℕ) : Type 0 where
   pub taking : Taking most hand had left line rest reads
   pub written : Keeps held holds
@@ -29,7 +29,7 @@ pub writes_first : (most : ℕ) (hand : List ℕ) (had held : Option (List ℕ))
     → TakingAndWriting most hand had had held held line hand 0
 writes_first most hand had held line kept = record { taking = takes_first most hand had line kept; written = Keeps-same held; unread = λ feed. refl }
 
--- no reads are spent if a line feed was at hand
+-- no reads are spent if the buffer had a line feed
 pub never_spent : {P : Type 0} {most reads : ℕ} {hand rest : List ℕ} {had left held holds : Option (List ℕ)} {line : LinePrefix}
     (s : TakingAndWriting most hand had left held holds line rest reads) → 0 < reads → has_feed hand ≡ true → P
 never_spent s asked feed = let none = s.unread feed in let clash : zero ≡ suc zero = omega (arith, none, asked) in cc
@@ -47,7 +47,7 @@ writes_more {most} {reads} {hand} {rest} {had} {mid} {held} {wrote} s behind new
 
 -- ---- errors
 
--- no read is spent where a device failed, or memory was wanting
+-- no read is spent if a device failed, or if there was no memory
 pub after_ask : (bytes_read : List ℕ) (e : LiveError) → IsInputError e ⊎ (e ≡ errors.Writer) → IsLineReadingError bytes_read e
 after_ask bytes_read (errors.Reader fault) h = tt
 after_ask bytes_read errors.Memory h = tt
