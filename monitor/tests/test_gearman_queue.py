@@ -1,59 +1,15 @@
 """A queue of a Gearman server: each job is answered once, or abandoned within its limit, for any behaviour of server and workers."""
-import json
 import random
-import unittest
-from typing import Any, Dict, List
-from unittest import mock
+from typing import Dict, List
 
-from nagsched_monitor.program.poller import FilePoller
-from nagsched_monitor.run.gearman import ECHO_EVERY, RETRY, Code, Server
-from nagsched_monitor.run.gearman_queue import GRACE, Queue
-from nagsched_monitor.run.gearman_signing import JOB, RESULT, Signer
+from nagsched_monitor.run.gearman import ECHO_EVERY, RETRY, Code
+from nagsched_monitor.run.gearman_queue import GRACE
 
-from .gearman_server import ServedJob, StandInServer
-
-WAIT, LIMIT = 30.0, 60.0
+from .gearman_server import ServedJob
+from .one_queue import LIMIT, WAIT, QueueTest
 
 
-class OneQueue(unittest.TestCase):
-    def setUp(self) -> None:
-        self.server = StandInServer()
-        self.answers: List[Dict[str, Any]] = []
-        self.lines: List[str] = []
-        self.now = 1000.0
-        self.last = 0
-        clock = mock.patch("time.monotonic", lambda: self.now)
-        clock.start()
-        self.addCleanup(clock.stop)
-        self.begin_queue()
-
-    def begin_queue(self) -> None:
-        server = Server(self.server.connect, FilePoller(), self.lines.append)
-        self.queue = Queue("dmz", "mark", WAIT, server, self.answers.append, self.server.signer)
-        self.addCleanup(self.server.restart)
-        self.addCleanup(server.disconnect)
-
-    def add(self, count: int = 1) -> None:
-        for _ in range(count):
-            self.last += 1
-            self.queue.add_line(json.dumps({"job": self.last, "words": ["plugin", str(self.last)], "limit": LIMIT}).encode())
-
-    def pass_by(self, seconds: float = 0) -> None:
-        """Lets this many seconds pass, while the queue and the server work."""
-        self.now += seconds
-        for _ in range(2):
-            self.queue.turn()
-            self.server.turn()
-        self.queue.turn()
-
-    def take(self) -> ServedJob:
-        job = self.server.take()
-        assert job is not None
-        return job
-
-    def ends(self) -> List[Any]:
-        return [(it["job"], it.get("end", "lost"), it.get("lost", it.get("output"))) for it in self.answers]
-
+class OneQueue(QueueTest):
     def test_jobs_in_their_order(self) -> None:
         self.add(5)
         self.pass_by()
@@ -207,66 +163,6 @@ class OneQueue(unittest.TestCase):
         self.pass_by()
         self.assertEqual(self.ends(), [(2, "lost", "no worker took it from the queue dmz")])
         self.assertEqual([job.workload["words"][1] for job in self.server.waiting], ["2", "3"])
-
-    def test_an_answer_that_is_no_result(self) -> None:
-        several: List[Dict[str, Any]] = [{"job": "another"}, {"code": "0"}, {"code": True}, {"code": 256}, {"end": "fine"}, {"output": None}, {"stderr": 1},
-                                         {"lost": 1, "end": 1}]
-        for wrong in several:
-            self.add()
-            self.pass_by()
-            self.server.answer(self.take(), **wrong)
-            self.pass_by()
-        self.assertEqual({(end, output.partition(":")[0]) for _, end, output in self.ends()}, {("lost", "its worker's answer was no result")})
-        self.assertEqual(len(self.answers), len(several))
-
-    def answer_with(self, data: bytes) -> None:
-        job = self.take()
-        job.client.send(Code.WORK_COMPLETE, job.handle, data)
-        self.pass_by()
-
-    def test_answers_that_are_not_signed(self) -> None:
-        """Damaged answers aren't accepted either, nor are those with another key, or those of earlier jobs."""
-        result = {"job": "mark-1", "code": 0, "end": "exited", "output": "forged"}
-        good = self.server.signer.sign(RESULT, result)
-        bad = [b"", b"[]", b"\xff", b"[" * 100_000, json.dumps(result).encode(), Signer(b"another key of the network").sign(RESULT, result),
-               self.server.signer.sign(JOB, result),
-               good[:-1], good.replace(b"forged", b"folded")]
-        for data in bad:
-            self.add()
-            self.pass_by()
-            self.answer_with(data)
-        why = "its worker's answer was no result: it is too long, or isn't signed with this site's key"
-        self.assertEqual({(end, words) for _, end, words in self.ends()}, {("lost", why)})
-        self.add()
-        self.pass_by()
-        self.answer_with(good)
-        self.assertEqual(self.ends()[-1], (len(bad) + 1, "lost", "its worker's answer was no result: it is of another job"))
-
-    def test_a_site_without_signatures(self) -> None:
-        self.server.signer = Signer(None)
-        self.begin_queue()
-        self.pass_by()
-        self.add(2)
-        self.pass_by()
-        self.answer_with(b'{"job":"mark-1","code":1,"end":"exited","output":"fine","stderr":"words"}')
-        self.answer_with(b"[" * 100_000)
-        self.assertEqual(self.answers, [{"job": 1, "code": 1, "end": "exited", "output": "fine", "stderr": "words"},
-                                        {"job": 2, "lost": "its worker's answer was no result: it names no job"}])
-
-    def test_a_result_that_a_worker_lost(self) -> None:
-        self.pass_by()
-        self.add()
-        self.pass_by()
-        self.answer_with(self.server.signer.sign(RESULT, {"job": "mark-1", "lost": "no room"}))
-        self.assertEqual(self.ends(), [(1, "lost", "no room")])
-
-    def test_a_job_that_the_server_gives_up(self) -> None:
-        self.add()
-        self.pass_by()
-        job = self.take()
-        job.client.send(Code.WORK_FAIL, job.handle)
-        self.pass_by()
-        self.assertEqual(self.ends(), [(1, "lost", "its worker failed")])
 
     def test_random_mishaps(self) -> None:
         """Servers and workers that end at any time: each job has one answer, within its limit and that of waiting."""

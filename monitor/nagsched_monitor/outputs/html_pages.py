@@ -115,7 +115,7 @@ def badge(state: Optional[str], kind: Optional[str], flapping: bool = False) -> 
 
 
 def link(address: str, name: str) -> str:
-    """A link to what has this name."""
+    """A link to the object or group of this name."""
     return f'<a href="{address}={urllib.parse.quote(name, safe="")}">{html_text(name)}</a>'
 
 

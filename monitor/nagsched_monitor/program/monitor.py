@@ -49,7 +49,7 @@ class Monitor:
         self.runners.set_remotes(site.runners)
         self.engine = Engine(self.scheduling, self.runners, self.store, self.clock, self.log)
         self.control = control.ControlSocket(self._folder, self.engine.add_request, self._poller)
-        # The reload that goes on, and the requests since it began: the files may have changed for them.
+        # The current reload, and the requests since it began: the files may have changed for them.
         self._reload: Optional[Generator[bool, None, None]] = None
         self._reload_requests: List[Request] = []
         self.loop = Loop(self.engine, self._poller, self.clock, self.log)
@@ -141,7 +141,7 @@ class Monitor:
     # ---- another site
 
     def _continue_reload(self) -> Optional[int]:
-        """Works on the reload that goes on, or begins one that was requested."""
+        """Continues the current reload, or begins one that was requested."""
         if self._reload is None and self._reload_requests:
             self._reload = self._take_over_site()
         if self._reload is None:

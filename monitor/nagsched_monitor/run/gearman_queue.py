@@ -26,7 +26,7 @@ from .jobs import Job, event_members, read_event
 GRACE, WAIT = 15.0, 30.0
 # A turn that takes longer, in seconds, ends the process by SIGALRM, and the monitor starts another.
 STUCK = 30
-# What comes within this time, in milliseconds, shares a turn.
+# Events within this time, in milliseconds, share a turn.
 TOGETHER = 5
 
 

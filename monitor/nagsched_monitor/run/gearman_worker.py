@@ -78,7 +78,7 @@ class Worker:
                 self._server.send(Code.GRAB_JOB)
 
     def _start_job(self, handle: bytes, workload: bytes) -> None:
-        """Has the plugin of a job run. Whatever the job contains, the worker continues."""
+        """Has the plugin of a job run. No content of a job ends the worker."""
         number = None
         try:
             document = self._signer.verified_document(JOB, workload)
