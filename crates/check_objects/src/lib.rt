@@ -33,6 +33,6 @@ pub use setup_model::{
     InterleaveFactor, JsonPosition, Kind, LoadError, MAX_ATTEMPTS, MAX_CONCURRENT_CHECKS,
     MAX_DELAY, MAX_DEPENDENCIES, MAX_DOCUMENT_BYTES, MAX_FACTOR, MAX_FLAP_THRESHOLD, MAX_INTERVAL,
     MAX_INTERVAL_LENGTH, MAX_NAME_BYTES, MAX_OBJECTS, MAX_PARENTS, MAX_SPREAD, Member, NameFault,
-    Object, Options, Part, Place, RangeFault, SERVICE_LETTERS, ShapeFault, members, members_at,
+    Object, Options, Part, Place, RangeFault, SERVICE_LETTERS, ShapeFault, members,
 };
 pub use setup_reader::value_at;

@@ -1,5 +1,5 @@
 -- The explanation of a fault of shape.
-use Rattle.std.specs.Prelude.{◌≡◌, ℕ, List, ◌++◌, Option, Some, None, codes, option_and_then, slice_get}
+use Rattle.std.specs.Prelude.{◌≡◌, ℕ, List, ◌++◌, Option, codes, option_and_then, slice_get}
 use Rattle.serde_json.specs.Data.{Data, Members}
 use Rattle.serde_json.specs.Find.{as_object}
 use Rattle.setup_model.specs.declared.place.Place.{Place}
@@ -31,10 +31,9 @@ missing_text name = codes "the member " ++ (quotation name ++ codes " is missing
 
 -- The place, and the member at fault. For a member that is unknown or missing, the text is the whole line. For a value of another kind, it is
 -- everything that comes before the value.
-abbrev pub IsShapeText : Data → Place → Option ShapeFault → List ℕ → Type 0
-IsShapeText tree p (Some (fault.unknown i)) text = text ≡ place_text tree p ++ unknown_text tree p i
-IsShapeText tree p (Some (fault.missing m)) text = text ≡ place_text tree p ++ missing_text m.name
-IsShapeText tree p (Some (fault.wrong_kind m)) text = BeginsWith (place_text tree p ++ quotation m.name) text
-IsShapeText tree p (Some fault.no_array) text = BeginsWith (place_text tree p ++ codes "this is ") text
-IsShapeText tree p (Some fault.no_object) text = BeginsWith (place_text tree p ++ codes "this is ") text
-IsShapeText tree p None text = BeginsWith (place_text tree p) text
+abbrev pub IsShapeText : Data → Place → ShapeFault → List ℕ → Type 0
+IsShapeText tree p (fault.unknown i) text = text ≡ place_text tree p ++ unknown_text tree p i
+IsShapeText tree p (fault.missing m) text = text ≡ place_text tree p ++ missing_text m.name
+IsShapeText tree p (fault.wrong_kind m) text = BeginsWith (place_text tree p ++ quotation m.name) text
+IsShapeText tree p fault.no_array text = BeginsWith (place_text tree p ++ codes "this is ") text
+IsShapeText tree p fault.no_object text = BeginsWith (place_text tree p ++ codes "this is ") text

@@ -25,7 +25,7 @@ pub(crate) fn push_shape(
     fault: ShapeFault,
 ) -> Pushed
     ensures { OnOk result (line.old ≡ []
-        → IsShapeText (view tree.now) place (Some (shape_view fault)) line.new) }
+        → IsShapeText (view tree.now) place (shape_view fault) line.new) }
 {
     push_place(line, tree, place)?;
     match fault {

@@ -34,8 +34,8 @@ pub data RangeFault : Type 0 where
 pub data Fault : Type 0 where
   too_long : Fault
   not_json : Fault
-  -- the fault by the table of members; the reader never fails if there is no such fault
-  shape : Place → Option ShapeFault → Fault
+  -- the fault by the table of members
+  shape : Place → ShapeFault → Fault
   too_many : Count → ℕ → Fault
   bad_name : Place → NameFault → Fault
   -- the second index is that of the earlier item
@@ -84,7 +84,7 @@ range_view (range_faults.HostThresholds low high) = host_thresholds low high
 abbrev pub view_of : declared.Fault → Fault
 view_of faults.TooLong = too_long
 view_of (faults.NotJson u) = not_json
-view_of (faults.Shape p w) = shape p (Some (shape_view w))
+view_of (faults.Shape p w) = shape p (shape_view w)
 view_of (faults.TooMany c n) = too_many c n
 view_of (faults.BadName p w) = bad_name p w
 view_of (faults.Duplicate p i) = duplicate p i

@@ -1,12 +1,11 @@
 -- The members that each sort of object of a setup document can have.
-use Rattle.std.specs.Prelude.{ℕ, true, false, List, [], ◌∷◌, Option, Some, None, codes}
+use Rattle.std.specs.Prelude.{ℕ, true, false, List, [], ◌∷◌, Some, None, codes}
 use Rattle.setup_model.specs.declared.member.DefaultValue.{DefaultValue}
 use Rattle.setup_model.specs.declared.member.DefaultValue.TheVariants as default
 use Rattle.setup_model.specs.declared.member.Kind.{Kind}
 use Rattle.setup_model.specs.declared.member.Kind.TheVariants as kind
 use Rattle.setup_model.specs.declared.place.Part.{Part}
 use Rattle.setup_model.specs.declared.place.Part.TheVariants as part
-use Rattle.setup_model.specs.declared.place.Place.{Place}
 use Rattle.setup_model.specs.Member.{Row}
 
 -- a required member: an object without it is refused
@@ -162,13 +161,3 @@ item_members part.Hosts = host_members
 item_members part.Services = service_members
 item_members part.ServiceDependencies = dependency_members kind.ServiceLetters
 item_members part.HostDependencies = dependency_members kind.HostLetters
-
--- the members of an object of a part, with an index if it is an item of the part's list; a list has none
-abbrev pub members_of : Part → Option ℕ → Option (List Row)
-members_of part.Document index = Some document_members
-members_of part.Options index = Some option_members
-members_of p None = None
-members_of p (Some i) = Some (item_members p)
-
-abbrev pub members_at : Place → Option (List Row)
-members_at place = members_of place.part place.index

@@ -28,7 +28,6 @@ pub use limits::{
     MAX_PARENTS, MAX_SPREAD,
 };
 pub use member::{DefaultValue, Kind, Member};
-pub use members::members_at;
 pub use name::{full_name, is_name, name_fault};
 pub use options::{DelayMethod, InterleaveFactor, Options};
 pub use parsed_setup::{

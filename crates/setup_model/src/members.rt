@@ -2,13 +2,9 @@
 //! File Options, Object Definitions). Limits and defaults that the manual doesn't give are our own profile.
 //! The code that reads a document, explains its faults or describes it uses this table.
 
-ghost use Rattle.std.specs.Prelude.{◌≡◌, option_map, map};
-ghost use Rattle.setup_model.specs.Member.{as_row};
-ghost use Rattle.setup_model.specs.Members.{members_at};
-
 use crate::limits;
 use crate::member::{DefaultValue, Kind, Member};
-use crate::place::{Part, Place};
+use crate::place::Part;
 
 // ---- the document
 
@@ -355,21 +351,3 @@ pub static HOST_DEPENDENCY_MEMBERS: [Member; 4] = [
     HOST_CRITERIA,
     INHERITS_PARENT,
 ];
-
-// ---- by place
-
-/// The members that the object at a place can have, each with its name, its kind and its default. None if the
-/// place is that of a list.
-pub fn members_at(place: Place) -> Option<&'static [Member]>
-    ensures { option_map (λ members. map as_row members.now) result ≡ members_at place }
-{
-    match (place.part, place.index) {
-        (Part::Document, _) => Some(&DOCUMENT_MEMBERS),
-        (Part::Options, _) => Some(&OPTION_MEMBERS),
-        (_, None) => None,
-        (Part::Hosts, Some(_)) => Some(&HOST_MEMBERS),
-        (Part::Services, Some(_)) => Some(&SERVICE_MEMBERS),
-        (Part::ServiceDependencies, Some(_)) => Some(&SERVICE_DEPENDENCY_MEMBERS),
-        (Part::HostDependencies, Some(_)) => Some(&HOST_DEPENDENCY_MEMBERS),
-    }
-}

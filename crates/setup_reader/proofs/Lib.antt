@@ -1,10 +1,7 @@
 pub mod TreeLemmas
-pub mod CriteriaLemmas
 pub mod KeyLemmas
-pub mod ReadingLaws
-pub mod ShapeLaws
+pub mod ShapeLemmas
 pub mod ReadLemmas
-pub mod FieldLaws
 pub mod FeedLemmas
 pub mod VerificationLemmas
 pub mod FaultlessLemmas

@@ -9,10 +9,11 @@ use Rattle.std.proofs.lemmas.Str.{IsUtf8-from_is_utf8, is_utf8-from_IsUtf8}
 use Rattle.serde_json.specs.Data.{Data, null, boolean, number, string, array, object, Items, Members}
 use Rattle.serde_json.specs.Find.{as_object, as_str}
 use Rattle.serde_json.specs.Read.{read}
-use Rattle.serde_json.specs.View.{view, members_view, items_view}
+use Rattle.serde_json.specs.View.{view, members_view, items_of, items_view}
 use Rattle.serde_json.specs.declared.value.Value.{Value}
 use Rattle.setup_reader.specs.JsonTree.{tree_of, is_among, only_members, texts_of, ◌>=>◌}
 use Rattle.setup_model.specs.Text.{text}
+use Rattle.setup_reader.specs.Reading.{values_of}
 
 -- ---- the tree of the bytes
 
@@ -47,6 +48,14 @@ pub only_known : {A : Type 0} (name : A → List ℕ) (xs : List A) (es : List (
     → list_all (λ key. list_any (λ x. bytes_eq (name x) (string_bytes key)) xs) (keys_of es) ≡ only_members (map name xs) (members_view es)
 only_known name xs [] = refl
 only_known name xs (e ∷ es) = rw (among_names name xs (string_bytes e.0), only_known name xs es) refl
+
+values_listed : (ds : List Data) → values_of (items_of ds) ≡ ds
+values_listed [] = refl
+values_listed (d ∷ ds) = ap (λ more. d ∷ more) (values_listed ds)
+
+-- the values of an array of the code
+pub values_seen : (vs : List Value) → values_of (items_view vs) ≡ map view vs
+values_seen vs = values_listed (map view vs)
 
 -- ---- texts
 

@@ -1,8 +1,7 @@
 -- The criteria of a dependency, by the letters of their text.
-use Rattle.std.specs.Prelude.{ℕ, ◌==◌, ◌&&◌, ◌||◌, Bool, List, [], ◌∷◌, Option, Some, None, codes, bytes_eq, if◌then◌else◌}
+use Rattle.std.specs.Prelude.{ℕ, ◌==◌, Bool, false, List, [], ◌∷◌, Option, Some, None, codes, bytes_eq}
 use Rattle.std.specs.List.{list_any, list_all, slice_split}
 use Rattle.setup_model.specs.declared.dependency.Criteria.{Criteria}
-use Rattle.setup_reader.specs.declared.criteria.FoundLetters.{FoundLetters}
 use Rattle.setup_reader.specs.JsonTree.{is_among}
 
 -- the pieces of a text before, between and after its commas
@@ -13,12 +12,17 @@ pieces text = slice_split (λ b. b == 44) text
 abbrev pub are_letters : List (List ℕ) → List ℕ → Bool
 are_letters letters text = list_all (is_among letters) (pieces text)
 
+-- whether there is a text, and it has only these letters
+abbrev pub has_only_letters : List (List ℕ) → Option (List ℕ) → Bool
+has_only_letters letters None = false
+has_only_letters letters (Some text) = are_letters letters text
+
 -- whether a piece is this letter
 abbrev pub has_letter : List ℕ → List ℕ → Bool
 has_letter letter text = list_any (λ piece. bytes_eq piece letter) (pieces text)
 
 -- the letters that pieces of a text are
-abbrev pub criteria_in : List ℕ → Criteria
+unfoldable pub criteria_in : List ℕ → Criteria
 criteria_in text = record {
   ok = has_letter (codes "o") text;
   warning = has_letter (codes "w") text;
@@ -28,29 +32,6 @@ criteria_in text = record {
   pending = has_letter (codes "p") text;
   none = has_letter (codes "n") text;
 }
-
--- the letters of a text, and whether it has only these letters
-abbrev pub letters_in : List (List ℕ) → List ℕ → FoundLetters
-letters_in letters text = record { known = are_letters letters text; criteria = criteria_in text }
-
--- the letters after one more piece
-abbrev pub with_piece : List (List ℕ) → FoundLetters → List ℕ → FoundLetters
-with_piece letters found piece = record {
-  known = found.known && is_among letters piece;
-  criteria = record {
-    ok = found.criteria.ok || bytes_eq piece (codes "o");
-    warning = found.criteria.warning || bytes_eq piece (codes "w");
-    unknown = found.criteria.unknown || bytes_eq piece (codes "u");
-    critical = found.criteria.critical || bytes_eq piece (codes "c");
-    down = found.criteria.down || bytes_eq piece (codes "d");
-    pending = found.criteria.pending || bytes_eq piece (codes "p");
-    none = found.criteria.none || bytes_eq piece (codes "n");
-  };
-}
-
--- the criteria of a text that has only these letters
-unfoldable pub criteria_of : List (List ℕ) → List ℕ → Option Criteria
-criteria_of letters text = if are_letters letters text then Some (criteria_in text) else None
 
 -- the letters of criteria between services
 abbrev pub service_letters : List (List ℕ)

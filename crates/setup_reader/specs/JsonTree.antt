@@ -1,5 +1,5 @@
 -- The tree that `serde_json` reads, and how its values are read.
-use Rattle.std.specs.Prelude.{ℕ, ◌&&◌, Bool, true, false, List, [], ◌∷◌, Option, Some, None, option_and_then, bytes_eq, if◌then◌else◌}
+use Rattle.std.specs.Prelude.{ℕ, ◌&&◌, Bool, true, false, List, [], ◌∷◌, Option, Some, None, option_and_then, unwrap_or, bytes_eq, if◌then◌else◌}
 use Rattle.std.specs.List.{list_any}
 use Rattle.std.specs.Str.{is_utf8}
 use Rattle.serde_json.specs.Data.{Data, object, Items, no_items, item, Members, no_members, member}
@@ -29,40 +29,45 @@ has_only_members names d = false
 abbrev pub whole_number : Data → Option ℕ
 whole_number d = option_and_then as_u64 (as_number d)
 
--- a member read by parse, or the default if it is absent
-abbrev pub value_or_default : {A : Type 0} → (Data → Option A) → A → Option Data → Option A
-value_or_default parse default None = Some default
-value_or_default parse default (Some d) = parse d
-
--- a member read by parse; if it is absent, the default, or no value if it has no default
-abbrev pub parsed_or_default : {A : Type 0} → (Data → Option A) → Option A → Option Data → Option A
-parsed_or_default parse (Some default) value = value_or_default parse default value
-parsed_or_default parse None value = option_and_then parse value
-
 infixl 10 ◌>=>◌
 -- the next value, if there is a value
 abbrev pub ◌>=>◌ : {A B : Type 0} → Option A → (A → Option B) → Option B
 None >=> f = None
 (Some x) >=> f = f x
 
--- a member of an object, which can be absent itself
-abbrev pub member_value : List ℕ → Option Data → Option Data
-member_value name value = option_and_then (get name) value
-
 -- the texts of an array, if all its items are texts
 abbrev pub texts_of : Items → Option (List (List ℕ))
 texts_of no_items = Some []
 texts_of (item d ds) = as_str d >=> λ t. (texts_of ds >=> λ ts. Some (t ∷ ts))
 
--- the texts of a member that is an array of texts; a member that is absent has no texts
-abbrev pub member_texts : Option Data → Option (List (List ℕ))
-member_texts None = Some []
-member_texts (Some d) = as_array d >=> texts_of
+-- the texts of a value, if it is an array of texts
+abbrev pub texts_in : Data → Option (List (List ℕ))
+texts_in d = as_array d >=> texts_of
 
--- the whole number of a member of an object, which can be absent itself
-abbrev pub member_number : Row → Option Data → Option ℕ
-member_number m value = parsed_or_default whole_number (default_number m) (member_value m.name value)
+-- a member of an object, which can be absent itself
+abbrev pub member_value : List ℕ → Option Data → Option Data
+member_value name value = option_and_then (get name) value
 
--- the truth value of a member of an object, which can be absent itself
-abbrev pub member_switch : Row → Option Data → Option Bool
-member_switch m value = parsed_or_default as_bool (default_switch m) (member_value m.name value)
+-- a value read by parse; the default if it is absent
+abbrev pub parsed_or : {A : Type 0} → (Data → Option A) → Option A → Option Data → Option A
+parsed_or parse default None = default
+parsed_or parse default (Some d) = parse d
+
+-- Each of the next four is the value of a member of an object in the right shape, or the member's default. A value of another kind would count as 0, false or
+-- nothing.
+
+-- a whole number; the object can be absent itself
+abbrev pub number_at : Row → Option Data → ℕ
+number_at m value = unwrap_or (parsed_or whole_number (default_number m) (member_value m.name value)) 0
+
+-- a truth value; the object can be absent itself
+abbrev pub switch_at : Row → Option Data → Bool
+switch_at m value = unwrap_or (parsed_or as_bool (default_switch m) (member_value m.name value)) false
+
+-- a text
+abbrev pub text_at : List ℕ → Data → List ℕ
+text_at name d = unwrap_or (option_and_then as_str (get name d)) []
+
+-- an array of texts
+abbrev pub texts_at : List ℕ → Data → List (List ℕ)
+texts_at name d = unwrap_or (option_and_then texts_in (get name d)) []

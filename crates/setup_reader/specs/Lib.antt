@@ -6,8 +6,6 @@ pub mod Criteria
 pub mod Values
 pub mod Shapes
 pub mod Reading
-pub mod Lists
-pub mod Fields
 pub mod Places
 pub mod Feeds
 pub mod Verification

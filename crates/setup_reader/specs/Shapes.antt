@@ -1,17 +1,17 @@
 -- Faults in the shape of a value, by the table of members.
 use Rattle.std.specs.Prelude.{ℕ, ◌&&◌, Bool, true, false, not, List, [], ◌∷◌, Option, Some, None, find, is_some, is_none, map, option_map}
-use Rattle.std.specs.Prelude.{position, if◌then◌else◌}
+use Rattle.std.specs.Prelude.{position, Result}
 use Rattle.serde_json.specs.Data.{Data, Members, no_members, member}
-use Rattle.serde_json.specs.Find.{as_array, as_bool, as_object, as_str, get}
+use Rattle.serde_json.specs.Find.{as_bool, as_object, as_str, get}
 use Rattle.setup_model.specs.declared.member.Kind.{Kind}
 use Rattle.setup_model.specs.declared.member.Kind.TheVariants as kind
 use Rattle.setup_model.specs.declared.place.Place.{Place}
+use Rattle.setup_model.specs.Agreement.{ok_unless}
 use Rattle.setup_model.specs.Fault as fault
 use Rattle.setup_model.specs.Fault.{Fault, ShapeFault}
 use Rattle.setup_model.specs.Member.{Row, is_required}
-use Rattle.setup_model.specs.Members.{members_at}
-use Rattle.setup_reader.specs.Criteria.{criteria_of, host_letters, service_letters}
-use Rattle.setup_reader.specs.JsonTree.{is_among, texts_of, whole_number, ◌>=>◌}
+use Rattle.setup_reader.specs.Criteria.{has_only_letters, host_letters, service_letters}
+use Rattle.setup_reader.specs.JsonTree.{is_among, texts_in, whole_number}
 use Rattle.setup_reader.specs.Values.{delay_method, interleave_factor}
 
 -- the names of members
@@ -27,13 +27,13 @@ first_of (Some x) other = Some x
 abbrev pub has_kind : Kind → Data → Bool
 has_kind (kind.Part p) d = true
 has_kind kind.Text d = is_some (as_str d)
-has_kind kind.Texts d = is_some (as_array d >=> texts_of)
+has_kind kind.Texts d = is_some (texts_in d)
 has_kind kind.Switch d = is_some (as_bool d)
 has_kind (kind.Number low high) d = is_some (whole_number d)
 has_kind kind.Delay d = is_some (delay_method d)
 has_kind kind.Factor d = is_some (interleave_factor d)
-has_kind kind.ServiceLetters d = is_some (as_str d >=> criteria_of service_letters)
-has_kind kind.HostLetters d = is_some (as_str d >=> criteria_of host_letters)
+has_kind kind.ServiceLetters d = has_only_letters service_letters (as_str d)
+has_kind kind.HostLetters d = has_only_letters host_letters (as_str d)
 
 -- the names of an object's members, in their order
 abbrev pub keys_in : Members → List (List ℕ)
@@ -71,15 +71,6 @@ members_fault ms d (Some inside) = member_fault ms d inside
 abbrev pub object_fault : List Row → Data → Option ShapeFault
 object_fault ms d = members_fault ms d (as_object d)
 
--- the fault of a value that must be a list, if it has one
-abbrev pub list_shape_fault : Data → Option ShapeFault
-list_shape_fault d = if is_some (as_array d) then None else Some fault.no_array
-
--- the fault in the shape of a value that can have these members; a value that can have none must be a list
-abbrev pub value_fault : Option (List Row) → Data → Option ShapeFault
-value_fault None d = list_shape_fault d
-value_fault (Some ms) d = object_fault ms d
-
--- the fault of shape of the value at a place
-abbrev pub shape_fault : Place → Data → Fault
-shape_fault place d = fault.shape place (value_fault (members_at place) d)
+-- the value at a place has the shape that these members give it; otherwise its fault
+abbrev pub shape_test : Place → List Row → Data → Result (Unit {0}) Fault
+shape_test place ms d = ok_unless (option_map (fault.shape place) (object_fault ms d))

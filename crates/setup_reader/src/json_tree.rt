@@ -1,16 +1,15 @@
 //! Looks into the tree that `serde_json` reads from a document.
 
-ghost use Rattle.std.specs.Prelude.{◌≡◌, map, option_map, ok_or, is_some, string_bytes, bytes_eq};
+ghost use Rattle.std.specs.Prelude.{◌≡◌, map, option_map, ok_or, is_some, bytes_eq};
 ghost use Rattle.std.specs.List.{list_all, list_any};
-ghost use Rattle.std.specs.BTreeMap.{keys};
 ghost use Rattle.serde_json.specs.View.{view};
 ghost use Rattle.serde_json.specs.Find.{as_str};
-ghost use Rattle.setup_reader.specs.JsonTree.{tree_of, has_only_members, member_value, member_number, member_switch, member_texts};
+ghost use Rattle.setup_reader.specs.JsonTree.{tree_of, member_value, number_at, switch_at, text_at, texts_at, texts_in};
 ghost use Rattle.setup_model.specs.Member.{as_row};
 ghost use Rattle.setup_model.specs.Text.{text};
 ghost use Rattle.setup_model.specs.Fault.{IsExpectedReading, not_json};
 
-use serde_json::{Error, Map, Value};
+use serde_json::{Error, Value};
 use setup_model::{Fault, JsonPosition, Member};
 use std::alloc::Global;
 
@@ -38,24 +37,6 @@ fn json_position(error: &Error) -> JsonPosition {
     }
 }
 
-/// Whether the value is an object with no other members than these.
-pub(crate) fn has_only_members(value: &Value, members: &[Member]) -> bool
-    ensures { result ≡ has_only_members (map (λ member. member.name.now) members.now) (view value.now) }
-{
-    match value.as_object() {
-        Some(object) => are_known(object, members),
-        None => false,
-    }
-}
-
-fn are_known(object: &Map<String, Value>, members: &[Member]) -> bool
-    ensures { result ≡
-        list_all (λ key. list_any (λ member. bytes_eq member.name.now (string_bytes key))
-        members.now) (keys object.now) }
-{
-    object.keys().all(|key| is_known(key.as_str(), members))
-}
-
 /// Whether the text is the name of one of these.
 pub(crate) fn is_known(key: &str, members: &[Member]) -> bool
     ensures { result ≡ list_any (λ member. bytes_eq member.name.now key.now) members.now }
@@ -74,41 +55,50 @@ pub(crate) fn member<'v>(value: Option<&'v Value>, name: &str) -> Option<&'v Val
     }
 }
 
-/// The whole number of a member of an object. The object can be absent itself. Without the member it is the
-/// default, or None if the member is required.
-pub(crate) fn member_number(object: Option<&Value>, wanted: Member) -> Option<u64>
-    ensures { result ≡ member_number (as_row wanted) (option_map (λ v. view v.now) object.entry) }
+/// The whole number of a member of an object in the right shape, or its default. The object can be absent itself. A
+/// value of another kind counts as 0.
+pub(crate) fn number_at(object: Option<&Value>, wanted: Member) -> u64
+    ensures { result ≡ number_at (as_row wanted) (option_map (λ v. view v.now) object.entry) }
 {
-    match member(object, wanted.name) {
+    let number = match member(object, wanted.name) {
         Some(value) => value.as_u64(),
         None => wanted.default_number(),
-    }
+    };
+    number.unwrap_or(0)
 }
 
-/// The truth value of a member of an object. The object can be absent itself. Without the member it is the
-/// default, or None if the member is required.
-pub(crate) fn member_switch(object: Option<&Value>, wanted: Member) -> Option<bool>
-    ensures { result ≡ member_switch (as_row wanted) (option_map (λ v. view v.now) object.entry) }
+/// The truth value of a member of an object in the right shape, or its default. The object can be absent itself. A
+/// value of another kind counts as false.
+pub(crate) fn switch_at(object: Option<&Value>, wanted: Member) -> bool
+    ensures { result ≡ switch_at (as_row wanted) (option_map (λ v. view v.now) object.entry) }
 {
-    match member(object, wanted.name) {
+    let switch = match member(object, wanted.name) {
         Some(value) => value.as_bool(),
         None => wanted.default_switch(),
-    }
+    };
+    switch.unwrap_or(false)
 }
 
-/// The texts of a member that is an array of texts. A member that is absent has no texts.
-pub(crate) fn member_texts<'v>(value: Option<&'v Value>) -> Option<&'v [Value]>
-    ensures { option_map (λ items. map text items.now) result
-        ≡ member_texts (option_map (λ v. view v.now) value.entry) }
+/// The text of a member of an object. No text counts as the empty one.
+pub(crate) fn text_at<'v>(object: &'v Value, name: &str) -> &'v str
+    ensures { result.now ≡ text_at name.now (view object.now) }
 {
-    match value {
-        Some(value) => texts(value),
-        None => Some(&[]),
+    object.get(name).and_then(Value::as_str).unwrap_or("")
+}
+
+/// The texts of a member of an object, if it is an array of texts. Otherwise there are none.
+pub(crate) fn texts_at<'v>(object: &'v Value, name: &str) -> &'v [Value]
+    ensures { map text result.now ≡ texts_at name.now (view object.now) }
+{
+    match object.get(name) {
+        Some(value) => texts(value).unwrap_or(&[]),
+        None => &[],
     }
 }
 
+/// The texts of a value, if it is an array of texts.
 pub(crate) fn texts<'v>(value: &'v Value) -> Option<&'v [Value]>
-    ensures { option_map (λ items. map text items.now) result ≡ member_texts (Some (view value.now)) }
+    ensures { option_map (λ items. map text items.now) result ≡ texts_in (view value.now) }
 {
     let items = value.as_array()?;
     if are_texts(items) { Some(items) } else { None }

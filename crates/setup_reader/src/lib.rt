@@ -6,8 +6,7 @@
 //!
 //! The modules of reading:
 //! - `json_tree`, `shapes`, `lists`, `criteria`, `reading`: from bytes to a parsed setup;
-//! - `places`: the values of a tree at a place of the document;
-//! - `laws`: the properties of what is read.
+//! - `places`: the values of a tree at a place of the document.
 //!
 //! The modules of `verification`, in the order of the tests:
 //! - `counts`: the numbers of items;
@@ -18,7 +17,6 @@
 mod counts;
 mod criteria;
 mod json_tree;
-pub mod laws;
 mod links;
 mod lists;
 mod names;

@@ -1,101 +1,76 @@
-//! The lists of a document. Each is read item by item, up to the first item with a wrong shape.
+//! The lists of a document: their values are verified first, and then read.
 
-ghost use Rattle.std.specs.Prelude.{◌≡◌, List, ℕ, Option, map, option_map};
+ghost use Rattle.std.specs.Prelude.{◌≡◌, IfOk, map, option_map};
 ghost use Rattle.serde_json.specs.Data.{Data};
-ghost use Rattle.serde_json.specs.View.{view, items_view};
-ghost use Rattle.setup_model.specs.Agreement.{IsExpectedResult};
-ghost use Rattle.setup_model.specs.Fault.{non_memory_fault, view_of};
-ghost use Rattle.setup_model.specs.Place.{list_place, item_place};
-ghost use Rattle.setup_reader.specs.declared.lists.ListFault.TheVariants.{Memory};
-ghost use Rattle.setup_reader.specs.Lists.{list_fault, HasShapeFault};
-ghost use Rattle.setup_reader.specs.Reading.{parsed_items_from, parsed_list};
+ghost use Rattle.serde_json.specs.View.{view};
+ghost use Rattle.setup_model.specs.Fault.{IsExpectedReading};
+ghost use Rattle.setup_model.specs.Member.{as_row};
+ghost use Rattle.setup_model.specs.Members.{item_members};
+ghost use Rattle.setup_reader.specs.Reading.{items_test, part_items};
 
-use crate::shapes::shape_fault;
+use crate::shapes::verify_shape;
 use serde_json::Value;
-use setup_model::{Fault, Part, Place};
-use std::alloc::{AllocFailed, Global};
+use setup_model::{Fault, Member, Part, Place, ShapeFault};
+use std::alloc::{AllocError, Global};
 
-/// Why a list can't be read.
-#[derive(Clone, Copy)]
-pub(crate) enum ListFault<'v> {
-    /// The value at this place has another shape.
-    Shape(Place, &'v Value),
-    /// Out of memory.
-    Memory,
-}
-
-impl<'v, T: Drop> From<AllocFailed<T>> for ListFault<'v> {
-    ghost from_gives = { λ _ fault. fault ≡ Memory };
-
-    fn from(_refused: AllocFailed<T>) -> ListFault<'v> {
-        ListFault::Memory
-    }
-}
-
-/// The fault of a document with a list that can't be read.
-pub(crate) fn fault_of(fault: ListFault) -> Fault
-    requires { HasShapeFault (list_fault fault) }
-    ensures { non_memory_fault (view_of result) ≡ list_fault fault.entry }
+/// The values of a part of the document, if it is an array of objects in the shape that these members give them. The
+/// error is the fault of the array, or of its first value with another shape. A part that is absent has no values.
+#[tactic(auto, using(crate::proofs::TreeLemmas::values_seen))]
+pub(crate) fn part_items<'v>(
+    value: Option<&'v Value>,
+    part: Part,
+    members: &[Member],
+) -> Result<&'v [Value], Fault>
+    requires { map as_row members.now ≡ item_members part }
+    ensures { IsExpectedReading (λ items. map view items.now) result
+        (part_items part (option_map (λ v. view v.now) value.entry)) }
 {
-    match fault {
-        ListFault::Shape(place, value) => shape_fault(place, value),
-        ListFault::Memory => Fault::Memory,
+    let Some(value) = value else {
+        return Ok(&[]);
+    };
+    match value.as_array() {
+        Some(items) => {
+            verify_items(items, part, members)?;
+            Ok(items)
+        }
+        None => Err(Fault::Shape(Place::list(part), ShapeFault::NotAnArray)),
     }
 }
 
-/// An item of a list. An implementation names the item as the definitions see it (`ViewType`, `view_of`). It also
-/// names the item that a value describes (`shape`), if the value has the shape of one.
+fn verify_items(items: &[Value], part: Part, members: &[Member]) -> Result<(), Fault>
+    ensures { IsExpectedReading (λ u. u) result
+        (items_test part (map as_row members.now) (map view items.now)) }
+{
+    for (index, item) in items.iter().enumerate() {
+        verify_shape(Place::item(part, index), item, members)?;
+    }
+    Ok(())
+}
+
+/// An item of a list. An implementation names the item as the definitions see it (`ViewType`, `view_of`), and the item
+/// that a value describes (`described`).
 pub(crate) trait Item<'v>: Drop {
     ghost ViewType: { Type 0 };
 
     ghost view_of: { Self → ViewType };
 
-    ghost shape: { List (List ℕ) → Data → Option ViewType };
+    ghost described: { Data → ViewType };
 
-    /// The item that a value describes, or None if the value has another shape. If the item has criteria, the
-    /// letters are those that they can have.
-    fn read(value: &'v Value, letters: &[&str]) -> Option<Self>
-        ensures { option_map view_of result
-            ≡ shape (map (λ letter. letter.now) letters.now) (view value.now) };
+    /// The item that a value in the right shape describes.
+    fn read(value: &'v Value) -> Self
+        ensures { view_of result ≡ described (view value.now) };
 }
 
-/// The items of a part of the document, or the first value with another shape. A part that is absent has no
-/// items.
-pub(crate) fn read_list<'v, T: Item<'v>>(
-    alloc: Global,
-    value: Option<&'v Value>,
-    part: Part,
-    letters: &[&str],
-) -> Result<Vec<T>, ListFault<'v>>
-    ensures { IsExpectedResult list_fault (λ v. map T.view_of v.items) result
-        (parsed_list (T.shape (map (λ letter. letter.now) letters.now)) (list_place part)
-        (item_place part) (option_map (λ v. view v.now) value.entry)) }
-{
-    match value {
-        Some(value) => match value.as_array() {
-            Some(values) => read_items(alloc, values, part, letters),
-            None => Err(ListFault::Shape(Place::list(part), value)),
-        },
-        None => Ok(Vec::new(alloc)),
-    }
-}
-
-fn read_items<'v, T: Item<'v>>(
+/// The items that these values describe.
+pub(crate) fn read_items<'v, T: Item<'v>>(
     alloc: Global,
     values: &'v [Value],
-    part: Part,
-    letters: &[&str],
-) -> Result<Vec<T>, ListFault<'v>>
-    ensures { IsExpectedResult list_fault (λ v. map T.view_of v.items) result
-        (parsed_items_from (T.shape (map (λ letter. letter.now) letters.now)) (item_place part) 0
-        (items_view values.now)) }
+) -> Result<Vec<T>, AllocError>
+    ensures { IfOk result (λ read. map T.view_of read.items ≡ map T.described (map view values.now)) }
 {
     let mut items = Vec::new(alloc);
-    for (index, value) in values.iter().enumerate() {
-        match T::read(value, letters) {
-            Some(item) => items.push(item)?,
-            None => return Err(ListFault::Shape(Place::item(part, index), value)),
-        }
+    for value in values {
+        items.push(T::read(value))?;
     }
     Ok(items)
 }

@@ -1,52 +1,30 @@
 //! Faults of shape, by the table of members.
 
-ghost use Rattle.std.specs.Prelude.{◌≡◌, bytes_eq, find, is_some, map, not, option_map, position, string_bytes, true};
+ghost use Rattle.std.specs.Prelude.{◌≡◌, bytes_eq, find, map, not, option_map, position, string_bytes};
 ghost use Rattle.std.specs.List.{list_any};
 ghost use Rattle.std.specs.BTreeMap.{keys};
 ghost use Rattle.serde_json.specs.Find.{as_str};
 ghost use Rattle.serde_json.specs.View.{view, members_view};
-ghost use Rattle.setup_model.specs.Fault.{view_of, shape_view};
+ghost use Rattle.setup_model.specs.Fault.{IsExpectedReading, shape_view};
 ghost use Rattle.setup_model.specs.Member.{as_row};
-ghost use Rattle.setup_model.specs.Members.{members_at};
-ghost use Rattle.setup_reader.specs.Criteria.{criteria_of};
-ghost use Rattle.setup_reader.specs.Shapes.{first_unknown, has_kind, has_wrong_kind, is_missing, has_other_kind, names};
-ghost use Rattle.setup_reader.specs.Shapes.{shape_fault, list_shape_fault, member_fault, object_fault, value_fault};
-ghost use Rattle.setup_reader.specs.JsonTree.{is_among, ◌>=>◌};
+ghost use Rattle.setup_reader.specs.Criteria.{has_only_letters};
+ghost use Rattle.setup_reader.specs.Shapes.{first_unknown, has_kind, has_wrong_kind, is_missing, names};
+ghost use Rattle.setup_reader.specs.Shapes.{member_fault, object_fault, shape_test};
 
-use crate::criteria::read_criteria;
+use crate::criteria::are_letters;
 use crate::json_tree::{is_known, texts};
 use crate::reading::{delay_method, interleave_factor};
 use serde_json::{Map, Value};
-use setup_model::{
-    Fault, HOST_LETTERS, Kind, Member, Place, SERVICE_LETTERS, ShapeFault, members_at,
-};
+use setup_model::{Fault, HOST_LETTERS, Kind, Member, Place, SERVICE_LETTERS, ShapeFault};
 
-/// The fault of a value at a place whose shape is wrong by the table.
-pub(crate) fn shape_fault(place: Place, value: &Value) -> Fault
-    requires { is_some (value_fault (members_at place) (view value.now)) ≡ true }
-    ensures { view_of result ≡ shape_fault place (view value.now) }
+/// Whether the value at a place is an object in the shape that these members give it. The error is its fault.
+pub(crate) fn verify_shape(place: Place, value: &Value, members: &[Member]) -> Result<(), Fault>
+    ensures { IsExpectedReading (λ u. u) result
+        (shape_test place (map as_row members.now) (view value.now)) }
 {
-    Fault::Shape(place, value_fault(place, value).unwrap())
-}
-
-/// The fault in the shape of the value at a place, or None if its shape is right.
-fn value_fault(place: Place, value: &Value) -> Option<ShapeFault>
-    ensures { option_map shape_view result ≡ value_fault (members_at place) (view value.now) }
-{
-    match members_at(place) {
-        Some(members) => object_fault(value, members),
-        None => list_shape_fault(value),
-    }
-}
-
-/// The fault of a value that must be a list, or None if it is one.
-fn list_shape_fault(value: &Value) -> Option<ShapeFault>
-    ensures { option_map shape_view result ≡ list_shape_fault (view value.now) }
-{
-    if value.as_array().is_some() {
-        None
-    } else {
-        Some(ShapeFault::NotAnArray)
+    match object_fault(value, members) {
+        Some(fault) => Err(Fault::Shape(place, fault)),
+        None => Ok(()),
     }
 }
 
@@ -148,18 +126,18 @@ fn has_kind(value: &Value, kind: Kind) -> bool
         Kind::Number { .. } => value.as_u64().is_some(),
         Kind::Delay => delay_method(value).is_some(),
         Kind::Factor => interleave_factor(value).is_some(),
-        Kind::ServiceLetters => has_letters(value, &SERVICE_LETTERS),
-        Kind::HostLetters => has_letters(value, &HOST_LETTERS),
+        Kind::ServiceLetters => has_only_letters(value, &SERVICE_LETTERS),
+        Kind::HostLetters => has_only_letters(value, &HOST_LETTERS),
     }
 }
 
 /// Whether a value is a text of these letters, with one comma between two of them.
-fn has_letters(value: &Value, letters: &[&str]) -> bool
-    ensures { result ≡ is_some
-        (as_str (view value.now) >=> criteria_of (map (λ letter. letter.now) letters.now)) }
+fn has_only_letters(value: &Value, letters: &[&str]) -> bool
+    ensures { result ≡ has_only_letters (map (λ letter. letter.now) letters.now)
+        (as_str (view value.now)) }
 {
     match value.as_str() {
-        Some(text) => read_criteria(text, letters).is_some(),
+        Some(text) => are_letters(text, letters),
         None => false,
     }
 }
