@@ -1,31 +1,36 @@
 -- A document that is read has only whole numbers: each member of each object is read, and each number that is read is a whole one.
-use Rattle.std.proofs.Common.{◌≡◌, ℕ, ◌+◌, List, [], ◌∷◌, Option, Some, None, Bool, true, false, cond, ◌||◌, bytes_eq, Ok, refl, sym, ap, ◌∙◌, subst}
-use Rattle.std.specs.Prelude.{codes, ok_or, option_and_then, ℤ, Float}
+use Rattle.std.proofs.Common.{◌≡◌, ℕ, ◌+◌, List, [], ◌∷◌, Option, Some, None, Bool, true, false, not, ◌&&◌, ◌||◌, bytes_eq, Result, Ok, refl, sym, ap, ◌∙◌, subst}
+use Rattle.std.specs.Prelude.{is_none, is_some, option_map, ℤ, Float}
+use Rattle.std.specs.List.{list_all}
 use Rattle.std.proofs.lemmas.Bool.{and_parts, or_parts}
 use Rattle.std.proofs.lemmas.Slice.Eq.{bytes_eq-Decides}
 use Rattle.serde_json.specs.Data.{unsigned, negative, float, Data, null, boolean, number, string, array, object, Items, no_items, item, Members, no_members}
 use Rattle.serde_json.specs.Data.{member}
 use Rattle.serde_json.specs.Find.{get, get_member, as_bool, as_str, as_array}
 use Rattle.serde_json.specs.Written.{has_float, items_have_float, members_have_float}
-use Rattle.setup_model.specs.declared.parsed_setup.ParsedCheck.{ParsedCheck}
-use Rattle.setup_model.specs.declared.options.Options.{Options}
+use Rattle.setup_model.specs.declared.member.Kind.{Kind}
+use Rattle.setup_model.specs.declared.member.Kind.TheVariants as kind
 use Rattle.setup_model.specs.declared.options.DelayMethod.{DelayMethod}
-use Rattle.setup_model.specs.declared.options.DelayMethod.TheVariants as method
 use Rattle.setup_model.specs.declared.options.InterleaveFactor.{InterleaveFactor}
-use Rattle.setup_model.specs.declared.options.InterleaveFactor.TheVariants as factor
 use Rattle.setup_model.specs.declared.place.Place.{Place}
+use Rattle.setup_model.specs.declared.place.Part.{Part}
 use Rattle.setup_model.specs.declared.place.Part.TheVariants as part
-use Rattle.setup_model.specs.ParsedSetup.{ParsedHost, ParsedService, ParsedDependency, ParsedSetup}
-use Rattle.setup_model.specs.Agreement.{◌>>=◌}
-use Rattle.setup_model.specs.Place.{hosts_place, host_place, services_place, service_place}
-use Rattle.setup_reader.specs.Criteria.{criteria_of, host_letters, service_letters}
-use Rattle.setup_reader.specs.Shapes.{shape_fault}
+use Rattle.setup_model.specs.Agreement.{each_from, ok_unless}
+use Rattle.setup_model.specs.Fault as fault
+use Rattle.setup_model.specs.Fault.{Fault, ShapeFault}
+use Rattle.setup_model.specs.Member.{Row}
+use Rattle.setup_model.specs.Members as members
+use Rattle.setup_model.specs.Members.{item_members}
+use Rattle.setup_model.specs.ParsedSetup.{ParsedSetup}
+use Rattle.setup_model.specs.Place.{document_place, item_place, options_place}
+use Rattle.setup_model.proofs.RefusalLemmas.{first_ok, rest_ok}
+use Rattle.setup_reader.specs.Criteria.{has_only_letters, host_letters, service_letters}
+use Rattle.setup_reader.specs.JsonTree.{tree_of, is_among, only_members, has_only_members, whole_number, texts_in, texts_of}
+use Rattle.setup_reader.specs.Reading.{array_items, items_test, options_test, parsed_setup, part_items, values_of}
+use Rattle.setup_reader.specs.Shapes.{has_kind, has_other_kind, has_wrong_kind, is_missing, names, object_fault, shape_test}
 use Rattle.setup_reader.specs.Values.{delay_method, interleave_factor}
-use Rattle.setup_reader.specs.JsonTree.{tree_of, is_among, only_members, has_only_members, whole_number, value_or_default, texts_of, member_texts, ◌>=>◌}
-use Rattle.setup_reader.specs.Reading.{parsed_items_from, parsed_list, parsed_check, parsed_host, parsed_service, dependency_members, parsed_dependency}
-use Rattle.setup_reader.specs.Reading.{option_members}
-use Rattle.setup_reader.specs.Reading.{options_but_thresholds, with_thresholds, options_of, document_members, parsed_dependencies, parsed_setup, options_fault}
-use Rattle.setup_reader.proofs.ReadLemmas.{from_ok_or, guarded, guarded_ok, linked, next}
+use Rattle.setup_reader.proofs.ReadLemmas.{linked, next}
+use Rattle.setup_reader.proofs.ShapeLemmas.{by_table, is_fit}
 use Rattle.setup_diagnostics.specs.Numbers.{has_non_u64, items_have_non_u64, members_have_non_u64}
 use Rattle.setup_diagnostics.proofs.KeyLemmas.{IsSorted, AreSorted, HasSorted, OrSorted, found_behind, found_first, sorted_get, tree_is_sorted}
 
@@ -105,7 +110,7 @@ texts_whole (item d ds) ts e =
     (λ more are last. let one : has_non_u64 d ≡ false = text_whole d t is in let others : items_have_non_u64 ds ≡ false = texts_whole ds more are in rw (one, others) refl)
     rest) e
 
-array_whole : (d : Data) (ts : List (List ℕ)) → (as_array d >=> texts_of) ≡ Some ts → has_non_u64 d ≡ false
+array_whole : (d : Data) (ts : List (List ℕ)) → texts_in d ≡ Some ts → has_non_u64 d ≡ false
 array_whole null ts e = refl
 array_whole (boolean b) ts e = refl
 array_whole (number n) ts e = cc
@@ -113,197 +118,131 @@ array_whole (string s) ts e = refl
 array_whole (array ds) ts e = texts_whole ds ts e
 array_whole (object ms) ts e = cc
 
--- ---- members that may be absent
+-- ---- objects in the right shape
 
-or_whole : {A : Type 0} (parse : Data → Option A) (default a : A) (o : Option Data) → ((d : Data) (x : A) → parse d ≡ Some x → has_non_u64 d ≡ false)
-    → value_or_default parse default o ≡ Some a → IsWhole o
-or_whole parse default a None h e = tt
-or_whole parse default a (Some d) h e = h d a e
+-- whether a member is a part of the document
+abbrev is_part : Kind → Bool
+is_part (kind.Part p) = true
+is_part other = false
 
-wanted_whole : {A : Type 0} (parse : Data → Option A) (a : A) (o : Option Data) → ((d : Data) (x : A) → parse d ≡ Some x → has_non_u64 d ≡ false)
-    → option_and_then parse o ≡ Some a → IsWhole o
-wanted_whole parse a None h e = tt
-wanted_whole parse a (Some d) h e = h d a e
+-- none of the members is one
+abbrev HasNoPart : List Row → Type 0
+HasNoPart ms = list_all (λ m. not (is_part m.kind)) ms ≡ true
 
-parents_whole : (o : Option Data) (ts : List (List ℕ)) → member_texts o ≡ Some ts → IsWhole o
-parents_whole None ts e = tt
-parents_whole (Some d) ts e = array_whole d ts e
+kept : (b : Bool) → not b ≡ false → b ≡ true
+kept true e = refl
+kept false e = cc
 
--- ---- hosts, services and dependencies
+dropped : (b : Bool) → not b ≡ true → b ≡ false
+dropped true e = cc
+dropped false e = refl
 
-abbrev IsCheckWhole : Data → Type 0
-IsCheckWhole d = IsWhole (get (codes "check_interval") d) × IsWhole (get (codes "retry_interval") d) × IsWhole (get (codes "max_check_attempts") d)
-    × IsWhole (get (codes "enabled") d)
+read_by : {A : Type 0} (o : Option A) (P : Type 0) → ((x : A) → o ≡ Some x → P) → is_some o ≡ true → P
+read_by None P h e = cc
+read_by (Some x) P h e = h x refl
 
-check_whole : (d : Data) (c : ParsedCheck) → parsed_check d ≡ Some c → IsCheckWhole d
-unfolding parsed_check
-check_whole d c e =
-    linked (value_or_default whole_number 5 (get (codes "check_interval") d)) _ c (IsCheckWhole d) (λ a first more.
-    linked (value_or_default whole_number 1 (get (codes "retry_interval") d)) _ c (IsCheckWhole d) (λ b second later.
-    linked (option_and_then whole_number (get (codes "max_check_attempts") d)) _ c (IsCheckWhole d) (λ m third last.
-    linked (value_or_default as_bool true (get (codes "enabled") d)) _ c (IsCheckWhole d) (λ on fourth end. (
-      or_whole whole_number 5 a _ whole_whole first,
-      or_whole whole_number 1 b _ whole_whole second,
-      wanted_whole whole_number m _ whole_whole third,
-      or_whole as_bool true on _ switch_whole fourth,
-    ))
-    last) later) more) e
+letters_whole : (letters : List (List ℕ)) (d : Data) → has_only_letters letters (as_str d) ≡ true → has_non_u64 d ≡ false
+letters_whole letters null e = refl
+letters_whole letters (boolean b) e = refl
+letters_whole letters (number n) e = cc
+letters_whole letters (string s) e = refl
+letters_whole letters (array ds) e = cc
+letters_whole letters (object ms) e = cc
 
--- an item that has two members besides those that say how it is checked
-item_whole : {A B X : Type 0} (one other : List ℕ) (d : Data) (first : Option A) (second : Option B) (make : A → B → ParsedCheck → X) (x : X)
-    → ((a : A) → first ≡ Some a → IsWhole (get one d)) → ((b : B) → second ≡ Some b → IsWhole (get other d)) → IsSorted d
-    → let names = one ∷ other ∷ codes "check_interval" ∷ codes "retry_interval" ∷ codes "max_check_attempts" ∷ codes "enabled" ∷ [] in
-    cond (has_only_members names d) (first >=> λ a. (second >=> λ b. (parsed_check d >=> λ c. Some (make a b c)))) None ≡ Some x → has_non_u64 d ≡ false
-item_whole one other d first second make x h k s e =
-    let names = one ∷ other ∷ codes "check_interval" ∷ codes "retry_interval" ∷ codes "max_check_attempts" ∷ codes "enabled" ∷ [] in
-    guarded (has_only_members names d) _ x (has_non_u64 d ≡ false) (λ only members.
-    linked first _ x (has_non_u64 d ≡ false) (λ a is more.
-    linked second _ x (has_non_u64 d ≡ false) (λ b then later.
-    linked (parsed_check d) _ x (has_non_u64 d ≡ false) (λ check third last.
-    let checked = check_whole d check third in
-    object_whole names d s only (h a is, (k b then, (checked.0, (checked.1, (checked.2, (checked.3, tt)))))))
-    later) more) members) e
+kind_whole : (k : Kind) (d : Data) → is_part k ≡ false → has_kind k d ≡ true → has_non_u64 d ≡ false
+kind_whole (kind.Part p) d other e = cc
+kind_whole kind.Text d other e = read_by (as_str d) _ (text_whole d) e
+kind_whole kind.Texts d other e = read_by (texts_in d) _ (array_whole d) e
+kind_whole kind.Switch d other e = read_by (as_bool d) _ (switch_whole d) e
+kind_whole (kind.Number low high) d other e = read_by (whole_number d) _ (whole_whole d) e
+kind_whole kind.Delay d other e = read_by (delay_method d) _ (method_whole d) e
+kind_whole kind.Factor d other e = read_by (interleave_factor d) _ (factor_whole d) e
+kind_whole kind.ServiceLetters d other e = letters_whole service_letters d e
+kind_whole kind.HostLetters d other e = letters_whole host_letters d e
 
-host_whole : (d : Data) (h : ParsedHost) → IsSorted d → parsed_host d ≡ Some h → has_non_u64 d ≡ false
-unfolding parsed_host
-host_whole d h s e =
-    item_whole (codes "name") (codes "parents") d (option_and_then as_str (get (codes "name") d)) (member_texts (get (codes "parents") d))
-    (λ name parents check. record { name = name; parents = parents; check = check }) h (λ name is. wanted_whole as_str name _ text_whole is)
-    (λ parents is. parents_whole _ parents is) s e
+value_whole : (k : Kind) (o : Option Data) → is_part k ≡ false → has_other_kind k o ≡ false → IsWhole o
+value_whole k None other e = tt
+value_whole k (Some d) other e = kind_whole k d other (kept (has_kind k d) e)
 
-service_whole : (d : Data) (x : ParsedService) → IsSorted d → parsed_service d ≡ Some x → has_non_u64 d ≡ false
-unfolding parsed_service
-service_whole d x s e =
-    item_whole (codes "host") (codes "description") d (option_and_then as_str (get (codes "host") d)) (option_and_then as_str (get (codes "description") d))
-    (λ host description check. record { host = host; description = description; check = check }) x (λ host is. wanted_whole as_str host _ text_whole is)
-    (λ description is. wanted_whole as_str description _ text_whole is) s e
+fits_whole : (ms : List Row) (d : Data) → HasNoPart ms → list_all (is_fit d) ms ≡ true → AreWhole (names ms) d
+fits_whole [] d none fit = tt
+fits_whole (m ∷ ms) d none fit =
+    let others = and_parts (not (is_part m.kind)) (list_all (λ x. not (is_part x.kind)) ms) none in
+    let all = and_parts (is_fit d m) (list_all (is_fit d) ms) fit in
+    let one = and_parts (not (is_missing d m)) (not (has_wrong_kind d m)) all.0 in
+    (value_whole m.kind (get m.name d) (dropped (is_part m.kind) others.0) (dropped (has_wrong_kind d m) one.1), fits_whole ms d others.1 all.1)
 
-dependency_whole : (letters : List (List ℕ)) (d : Data) (x : ParsedDependency) → IsSorted d → parsed_dependency letters d ≡ Some x → has_non_u64 d ≡ false
-unfolding parsed_dependency
-dependency_whole letters d x s e =
-    guarded (has_only_members dependency_members d) _ x (has_non_u64 d ≡ false) (λ only members.
-    linked (option_and_then as_str (get (codes "dependent") d)) _ x (has_non_u64 d ≡ false) (λ dependent first more.
-    linked (option_and_then as_str (get (codes "master") d)) _ x (has_non_u64 d ≡ false) (λ master second later.
-    linked (option_and_then as_str (get (codes "criteria") d)) _ x (has_non_u64 d ≡ false) (λ text third last.
-    linked (criteria_of letters text) _ x (has_non_u64 d ≡ false) (λ criteria fourth end.
-    linked (value_or_default as_bool false (get (codes "inherits_parent") d)) _ x (has_non_u64 d ≡ false) (λ inherits fifth nothing.
-    object_whole dependency_members d s only
-    (wanted_whole as_str dependent _ text_whole first, (wanted_whole as_str master _ text_whole second, (wanted_whole as_str text _ text_whole third, (or_whole as_bool false inherits _ switch_whole fifth, tt)))))
-    end) last) later) more) members) e
+-- an object that passes the test has known members only, and each is fit
+passed_by : {E : Type 0} (fault : ShapeFault → E) (o : Option ShapeFault) → ok_unless (option_map fault o) ≡ Ok tt → is_none o ≡ true
+passed_by fault None e = refl
+passed_by fault (Some w) e = cc
 
--- ---- lists of them
+shaped : (place : Place) (ms : List Row) (d : Data) → shape_test place ms d ≡ Ok tt
+    → (has_only_members (names ms) d ≡ true) × (list_all (is_fit d) ms ≡ true)
+shaped place ms d e =
+    and_parts (has_only_members (names ms) d) (list_all (is_fit d) ms) (sym (by_table ms d) ∙ passed_by (fault.shape place) (object_fault ms d) e)
 
-module _ {A : Type 0} (shape : Data → Option A) (each : (d : Data) (x : A) → IsSorted d → shape d ≡ Some x → has_non_u64 d ≡ false) where
-  items_whole : (place : ℕ → Place) (i : ℕ) (ds : Items) (xs : List A) → AreSorted ds → parsed_items_from shape place i ds ≡ Ok xs → items_have_non_u64 ds ≡ false
-  items_whole place i no_items xs s e = refl
-  items_whole place i (item d ds) xs s e =
-      next (ok_or (shape d) (shape_fault (place i) d)) _ xs (items_have_non_u64 (item d ds) ≡ false) (λ x is rest.
-      next (parsed_items_from shape place (i + 1) ds) _ xs (items_have_non_u64 (item d ds) ≡ false) (λ more are last.
-      let one : has_non_u64 d ≡ false = each d x s.0 (from_ok_or (shape d) _ x is) in
-      let others : items_have_non_u64 ds ≡ false = items_whole place (i + 1) ds more s.1 are in
-      rw (one, others) refl)
-      rest) e
+shaped_whole : (place : Place) (ms : List Row) (d : Data) → HasNoPart ms → IsSorted d → shape_test place ms d ≡ Ok tt → has_non_u64 d ≡ false
+shaped_whole place ms d none s e =
+    let fit = shaped place ms d e in
+    object_whole (names ms) d s fit.0 (fits_whole ms d none fit.1)
 
-  array_of_whole : (whole : Place) (place : ℕ → Place) (d : Data) (xs : List A) → IsSorted d
-      → (ok_or (as_array d) (shape_fault whole d) >>= λ items. parsed_items_from shape place 0 items) ≡ Ok xs → has_non_u64 d ≡ false
-  array_of_whole whole place null xs s e = refl
-  array_of_whole whole place (boolean b) xs s e = refl
-  array_of_whole whole place (number n) xs s e = cc
-  array_of_whole whole place (string t) xs s e = refl
-  array_of_whole whole place (array ds) xs s e = items_whole place 0 ds xs s e
-  array_of_whole whole place (object ms) xs s e = cc
+-- ---- the parts of the document
 
-  list_whole : (whole : Place) (place : ℕ → Place) (o : Option Data) (xs : List A) → OrSorted o → parsed_list shape whole place o ≡ Ok xs → IsWhole o
-  list_whole whole place None xs s e = tt
-  list_whole whole place (Some d) xs s e = array_of_whole whole place d xs s e
+options_whole : (o : Option Data) → OrSorted o → options_test o ≡ Ok tt → IsWhole o
+options_whole None s e = tt
+options_whole (Some d) s e = shaped_whole options_place members.option_members d refl s e
 
--- ---- options
+module _ (p : Part) (none : HasNoPart (item_members p)) where
+  items_whole : (i : ℕ) (ds : Items) → AreSorted ds → each_from (λ k d. shape_test (item_place p k) (item_members p) d) i (values_of ds) ≡ Ok tt
+      → items_have_non_u64 ds ≡ false
+  items_whole i no_items s e = refl
+  items_whole i (item d ds) s e =
+      let test = shape_test (item_place p i) (item_members p) d in
+      let rest : Unit {0} → Result (Unit {0}) Fault = λ _. each_from (λ k x. shape_test (item_place p k) (item_members p) x) (i + 1) (values_of ds) in
+      let one : has_non_u64 d ≡ false = shaped_whole (item_place p i) (item_members p) d none s.0 (first_ok test rest tt e) in
+      let others : items_have_non_u64 ds ≡ false = items_whole (i + 1) ds s.1 (rest_ok test rest tt e) in
+      rw (one, others) refl
 
-abbrev AreOptionsWhole : Data → Type 0
-AreOptionsWhole d =
-    IsWhole (get (codes "interval_length") d) × IsWhole (get (codes "service_inter_check_delay_method") d) × IsWhole (get (codes "max_service_check_spread") d)
-    × IsWhole (get (codes "service_interleave_factor") d) × IsWhole (get (codes "host_inter_check_delay_method") d)
-    × IsWhole (get (codes "max_host_check_spread") d) × IsWhole (get (codes "max_concurrent_checks") d)
-    × IsWhole (get (codes "soft_state_dependencies") d) × IsWhole (get (codes "use_aggressive_host_checking") d)
+  array_part_whole : (d : Data) (values : List Data) → IsSorted d → array_items p (as_array d) ≡ Ok values → has_non_u64 d ≡ false
+  array_part_whole null values s e = refl
+  array_part_whole (boolean b) values s e = refl
+  array_part_whole (number n) values s e = cc
+  array_part_whole (string t) values s e = refl
+  array_part_whole (array ds) values s e =
+      items_whole 0 ds s (first_ok (items_test p (item_members p) (values_of ds)) (λ _. Ok (values_of ds)) values e)
+  array_part_whole (object ms) values s e = cc
 
-nine_whole : (d : Data) (o : Options) → options_but_thresholds (Some d) ≡ Some o → AreOptionsWhole d
-unfolding options_but_thresholds
-nine_whole d o e =
-    linked (value_or_default whole_number 60 (get (codes "interval_length") d)) _ o (AreOptionsWhole d) (λ a ha ra.
-    linked (value_or_default delay_method method.Smart (get (codes "service_inter_check_delay_method") d)) _ o (AreOptionsWhole d) (λ b hb rb.
-    linked (value_or_default whole_number 30 (get (codes "max_service_check_spread") d)) _ o (AreOptionsWhole d) (λ c hc rc.
-    linked (value_or_default interleave_factor factor.Smart (get (codes "service_interleave_factor") d)) _ o (AreOptionsWhole d) (λ f hf rf.
-    linked (value_or_default delay_method method.Smart (get (codes "host_inter_check_delay_method") d)) _ o (AreOptionsWhole d) (λ g hg rg.
-    linked (value_or_default whole_number 30 (get (codes "max_host_check_spread") d)) _ o (AreOptionsWhole d) (λ h hh rh.
-    linked (value_or_default whole_number 0 (get (codes "max_concurrent_checks") d)) _ o (AreOptionsWhole d) (λ m hm rm.
-    linked (value_or_default as_bool false (get (codes "soft_state_dependencies") d)) _ o (AreOptionsWhole d) (λ s hs rs.
-    linked (value_or_default as_bool false (get (codes "use_aggressive_host_checking") d)) _ o (AreOptionsWhole d) (λ t ht rt. (
-      or_whole whole_number 60 a _ whole_whole ha,
-      or_whole delay_method method.Smart b _ method_whole hb,
-      or_whole whole_number 30 c _ whole_whole hc,
-      or_whole interleave_factor factor.Smart f _ factor_whole hf,
-      or_whole delay_method method.Smart g _ method_whole hg,
-      or_whole whole_number 30 h _ whole_whole hh,
-      or_whole whole_number 0 m _ whole_whole hm,
-      or_whole as_bool false s _ switch_whole hs,
-      or_whole as_bool false t _ switch_whole ht,
-    ))
-    rs) rm) rh) rg) rf) rc) rb) ra) e
-
-abbrev AreThresholdsWhole : Data → Type 0
-AreThresholdsWhole d = IsWhole (get (codes "low_service_flap_threshold") d) × IsWhole (get (codes "high_service_flap_threshold") d)
-    × IsWhole (get (codes "low_host_flap_threshold") d) × IsWhole (get (codes "high_host_flap_threshold") d)
-
-four_whole : (d : Data) (before o : Options) → with_thresholds (Some d) before ≡ Some o → AreThresholdsWhole d
-unfolding with_thresholds
-four_whole d before o e =
-    linked (value_or_default whole_number 20 (get (codes "low_service_flap_threshold") d)) _ o (AreThresholdsWhole d) (λ a ha ra.
-    linked (value_or_default whole_number 30 (get (codes "high_service_flap_threshold") d)) _ o (AreThresholdsWhole d) (λ b hb rb.
-    linked (value_or_default whole_number 20 (get (codes "low_host_flap_threshold") d)) _ o (AreThresholdsWhole d) (λ c hc rc.
-    linked (value_or_default whole_number 30 (get (codes "high_host_flap_threshold") d)) _ o (AreThresholdsWhole d) (λ f hf rf. (
-      or_whole whole_number _ a _ whole_whole ha,
-      or_whole whole_number _ b _ whole_whole hb,
-      or_whole whole_number _ c _ whole_whole hc,
-      or_whole whole_number _ f _ whole_whole hf,
-    ))
-    rc) rb) ra) e
-
-options_whole : (o : Option Data) (options : Options) → OrSorted o → options_of o ≡ Some options → IsWhole o
-options_whole None options s e = tt
-options_whole (Some d) options s e =
-    guarded (has_only_members option_members d) _ options (has_non_u64 d ≡ false) (λ only members.
-    linked (options_but_thresholds (Some d)) _ options (has_non_u64 d ≡ false) (λ before first second.
-    let nine = nine_whole d before first in
-    let four = four_whole d before options second in
-    object_whole option_members d s only
-    (nine.0, (nine.1, (nine.2, (nine.3, (nine.4, (nine.5, (nine.6, (nine.7, (nine.8, (four.0, (four.1, (four.2, (four.3, tt))))))))))))))
-    members) e
+  part_whole : (o : Option Data) (values : List Data) → OrSorted o → part_items p o ≡ Ok values → IsWhole o
+  part_whole None values s e = tt
+  part_whole (Some d) values s e = array_part_whole d values s e
 
 -- ---- documents
 
 parsed_whole : (d : Data) (parsed : ParsedSetup) → IsSorted d → parsed_setup d ≡ Ok parsed → has_non_u64 d ≡ false
 unfolding parsed_setup
 parsed_whole d parsed s e =
-    guarded_ok (has_only_members document_members d) _ _ parsed (has_non_u64 d ≡ false) (λ only members.
-    next (ok_or (options_of (get (codes "options") d)) (options_fault (get (codes "options") d))) _ parsed (has_non_u64 d ≡ false) (λ options ho ro.
-    next (parsed_list parsed_host hosts_place host_place (get (codes "hosts") d)) _ parsed (has_non_u64 d ≡ false) (λ hosts hh rh.
-    next (parsed_list parsed_service services_place service_place (get (codes "services") d)) _ parsed (has_non_u64 d ≡ false) (λ services hs rs.
-    next (parsed_dependencies part.ServiceDependencies service_letters (get (codes "service_dependencies") d)) _ parsed (has_non_u64 d ≡ false) (λ between hb rb.
-    next (parsed_dependencies part.HostDependencies host_letters (get (codes "host_dependencies") d)) _ parsed (has_non_u64 d ≡ false) (λ among ha ra.
-    object_whole document_members d s only (
-      options_whole (get (codes "options") d) options (sorted_get (codes "options") d s) (from_ok_or _ _ options ho),
+    let Goal = has_non_u64 d ≡ false in
+    next (shape_test document_place members.document_members d) _ parsed Goal (λ _ known r.
+    next (options_test (get members.options.name d)) _ parsed Goal (λ _ tested ro.
+    next (part_items part.Hosts (get members.hosts.name d)) _ parsed Goal (λ hosts hh rh.
+    next (part_items part.Services (get members.services.name d)) _ parsed Goal (λ services hs rs.
+    next (part_items part.ServiceDependencies (get members.service_dependencies.name d)) _ parsed Goal (λ between hb rb.
+    next (part_items part.HostDependencies (get members.host_dependencies.name d)) _ parsed Goal (λ among ha ra.
+    object_whole (names members.document_members) d s (shaped document_place members.document_members d known).0 (
+      options_whole (get members.options.name d) (sorted_get members.options.name d s) tested,
       (
-        list_whole parsed_host host_whole hosts_place host_place (get (codes "hosts") d) hosts (sorted_get (codes "hosts") d s) hh,
+        part_whole part.Hosts refl (get members.hosts.name d) hosts (sorted_get members.hosts.name d s) hh,
         (
-          list_whole parsed_service service_whole services_place service_place (get (codes "services") d) services (sorted_get (codes "services") d s) hs,
+          part_whole part.Services refl (get members.services.name d) services (sorted_get members.services.name d s) hs,
           (
-            list_whole (parsed_dependency service_letters) (dependency_whole service_letters) _ _ _ between (sorted_get (codes "service_dependencies") d s) hb,
-            (list_whole (parsed_dependency host_letters) (dependency_whole host_letters) _ _ _ among (sorted_get (codes "host_dependencies") d s) ha, tt),
+            part_whole part.ServiceDependencies refl (get members.service_dependencies.name d) between (sorted_get members.service_dependencies.name d s) hb,
+            (part_whole part.HostDependencies refl (get members.host_dependencies.name d) among (sorted_get members.host_dependencies.name d s) ha, tt),
           ),
         ),
       ),
     ))
-    rb) rs) rh) ro) members) e
+    rb) rs) rh) ro) r) e
 
 -- each number in a document that is read is a whole one
 pub whole_numbers : (document : List ℕ) (d : Data) (parsed : ParsedSetup) → tree_of document ≡ Some d → parsed_setup d ≡ Ok parsed → has_non_u64 d ≡ false
