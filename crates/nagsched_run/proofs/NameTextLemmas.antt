@@ -1,7 +1,7 @@
 -- A setup that was read is one, and its names are UTF-8.
 use Rattle.std.proofs.Common.{◌≡◌, ℕ, ◌+◌, Bool, true, false, cond, List, [], ◌∷◌, length, map, Option, Some, None, Result, Ok, Err}
 use Rattle.std.proofs.Common.{IsUtf8, refl, ap, sym, ◌∙◌, subst, arith}
-use Rattle.std.specs.Prelude.{nat_lt, ok_or, option_map, slice_get, unwrap_or}
+use Rattle.std.specs.Prelude.{nat_lt, ok_or, option_and_then, option_map, slice_get, unwrap_or}
 use Rattle.std.specs.List.{list_all}
 use Rattle.std.specs.Str.{is_utf8}
 use Rattle.std.proofs.lemmas.List.Folds.{list_all-append, list_all-map}
@@ -13,23 +13,19 @@ use Rattle.setup_order.specs.Cycles.{has_cycle}
 use Rattle.setup_model.specs.Agreement.{with_error}
 use Rattle.setup_model.specs.declared.error.LoadError.TheVariants as errors
 use Rattle.setup_model.specs.declared.place.Part.TheVariants as part
-use Rattle.setup_model.specs.declared.place.Place.{Place}
+use Rattle.setup_model.specs.declared.place.Part.{Part}
 use Rattle.setup_model.specs.ParsedSetup.{ParsedSetup, ParsedHost, ParsedService}
 use Rattle.setup_model.specs.Fault as fault
 use Rattle.setup_model.specs.Fault.{load_error}
 use Rattle.setup_model.specs.Keys.{key_of}
 use Rattle.setup_model.specs.Members as members
+use Rattle.setup_model.specs.Members.{item_members}
 use Rattle.setup_model.specs.Name.{full_name}
-use Rattle.setup_model.specs.Place.{host_place, service_place, document_place, hosts_place, services_place}
-use Rattle.setup_reader.specs.Criteria.{host_letters, service_letters}
-use Rattle.setup_reader.specs.Fields.{required_text}
-use Rattle.setup_reader.specs.Reading.{parsed_dependencies, document_members, parsed_setup, parsed_host, parsed_items_from, parsed_list, options_of}
-use Rattle.setup_reader.specs.Reading.{parsed_service}
-use Rattle.setup_reader.specs.Reading.{options_fault}
-use Rattle.setup_reader.specs.Shapes.{shape_fault}
-use Rattle.setup_reader.specs.JsonTree.{has_only_members, tree_of}
-use Rattle.setup_reader.proofs.FieldLaws.{host_by, service_by}
-use Rattle.setup_reader.proofs.ReadLemmas.{from_ok_or, guarded, guarded_ok, next, ok_is}
+use Rattle.setup_model.specs.Place.{document_place}
+use Rattle.setup_reader.specs.JsonTree.{text_at, tree_of}
+use Rattle.setup_reader.specs.Reading.{array_items, host_of, items_test, options_test, parsed_setup, part_items, service_of, values_of}
+use Rattle.setup_reader.specs.Shapes.{shape_test}
+use Rattle.setup_reader.proofs.ReadLemmas.{from_ok_or, guarded, next, ok_is}
 use Rattle.setup_reader.specs.Verification.{verification}
 use Rattle.check_objects.specs.Configuration.{Configuration, IsSetup, NamedObject, masters_of, name_of, named_host, named_service, objects_of, parents_by_host}
 use Rattle.check_objects.specs.Numbering.{host_body, configuration, hosts_in_order, names_in_order, numbered_host, numbered_service, object_of}
@@ -42,39 +38,43 @@ use Rattle.check_saved_state.proofs.Utf8Lemmas.{GoodIf, GoodItems, GoodTree, arr
 
 -- ---- parsed items
 
-text_good : (name : List ℕ) (d : Data) (text : List ℕ) → GoodTree d → required_text name d ≡ Some text → IsUtf8 text
-text_good name d text g e = subst (GoodIf IsUtf8) e (good_then GoodTree IsUtf8 as_str (get name d) str_good (get_good name d g))
+text_or_none : (o : Option (List ℕ)) → GoodIf IsUtf8 o → IsUtf8 (unwrap_or o [])
+text_or_none None g = IsUtf8-nil
+text_or_none (Some text) g = g
 
-host_text : (d : Data) (h : ParsedHost) → GoodTree d → parsed_host d ≡ Some h → is_utf8 h.name ≡ true
-host_text d h g e = is_utf8-from_IsUtf8 h.name (text_good members.host_name.name d h.name g (host_by d h e).name)
+text_good : (name : List ℕ) (d : Data) → GoodTree d → IsUtf8 (text_at name d)
+text_good name d g =
+    text_or_none (option_and_then as_str (get name d)) (good_then GoodTree IsUtf8 as_str (get name d) str_good (get_good name d g))
 
-service_text : (d : Data) (s : ParsedService) → GoodTree d → parsed_service d ≡ Some s → is_utf8 (full_name (key_of s)) ≡ true
-service_text d s g e =
-    let by = service_by d s e in
-    let host = text_good members.service_host.name d s.host g by.host in
-    let description = text_good members.description.name d s.description g by.description in
-    is_utf8-from_IsUtf8 (full_name (key_of s))
-    (IsUtf8-append s.host (59 ∷ s.description) host (IsUtf8-append (59 ∷ []) s.description (one_ascii 59 (omega arith)) description))
+host_text : (d : Data) → GoodTree d → is_utf8 (host_of d).name ≡ true
+host_text d g = is_utf8-from_IsUtf8 (text_at members.host_name.name d) (text_good members.host_name.name d g)
+
+service_text : (d : Data) → GoodTree d → is_utf8 (full_name (key_of (service_of d))) ≡ true
+service_text d g =
+    let host = text_at members.service_host.name d in
+    let description = text_at members.description.name d in
+    is_utf8-from_IsUtf8 (full_name (key_of (service_of d)))
+    (IsUtf8-append host (59 ∷ description) (text_good members.service_host.name d g)
+    (IsUtf8-append (59 ∷ []) description (one_ascii 59 (omega arith)) (text_good members.description.name d g)))
 
 -- each passes the test
 abbrev EachPasses : {A : Type 0} → (A → Bool) → List A → Type 0
 EachPasses test xs = list_all test xs ≡ true
 
-module _ {A : Type 0} (test : A → Bool) (shape : Data → Option A) (each : (d : Data) (x : A) → GoodTree d → shape d ≡ Some x → test x ≡ true) where
-  items_pass : (place : ℕ → Place) (i : ℕ) (ds : Items) (xs : List A) → GoodItems ds → parsed_items_from shape place i ds ≡ Ok xs → EachPasses test xs
-  items_pass place i no_items xs g e = subst (EachPasses test) (ok_is [] xs e) refl
-  items_pass place i (item d ds) xs g e =
-      next (ok_or (shape d) (shape_fault (place i) d)) _ xs (EachPasses test xs) (λ first f in_first.
-      next (parsed_items_from shape place (i + 1) ds) _ xs (EachPasses test xs) (λ more m last.
-      subst (EachPasses test) (ok_is (first ∷ more) xs last)
-      (rw (each d first g.0 (from_ok_or (shape d) (shape_fault (place i) d) first f)) (items_pass place (i + 1) ds more g.1 m))) in_first) e
+module _ {A : Type 0} (test : A → Bool) (described : Data → A) (each : (d : Data) → GoodTree d → test (described d) ≡ true) where
+  values_pass : (ds : Items) → GoodItems ds → EachPasses test (map described (values_of ds))
+  values_pass no_items g = refl
+  values_pass (item d ds) g = rw (each d g.0) (values_pass ds g.1)
 
-  list_passes : (whole : Place) (place : ℕ → Place) (value : Option Data) (xs : List A) → GoodIf GoodTree value
-      → parsed_list shape whole place value ≡ Ok xs → EachPasses test xs
-  list_passes whole place None xs g e = subst (EachPasses test) (ok_is [] xs e) refl
-  list_passes whole place (Some d) xs g e =
-      next (ok_or (as_array d) (shape_fault whole d)) (parsed_items_from shape place 0) xs (EachPasses test xs) (λ items k last.
-      items_pass place 0 items xs (subst (GoodIf GoodItems) (from_ok_or (as_array d) (shape_fault whole d) items k) (array_good d g)) last) e
+  array_passes : (p : Part) (o : Option Items) (values : List Data) → GoodIf GoodItems o → array_items p o ≡ Ok values → EachPasses test (map described values)
+  array_passes p None values g e = cc
+  array_passes p (Some ds) values g e =
+      next (items_test p (item_members p) (values_of ds)) _ values (EachPasses test (map described values)) (λ _ tested last.
+      subst (λ vs. EachPasses test (map described vs)) (ok_is (values_of ds) values last) (values_pass ds g)) e
+
+  part_passes : (p : Part) (o : Option Data) (values : List Data) → GoodIf GoodTree o → part_items p o ≡ Ok values → EachPasses test (map described values)
+  part_passes p None values g e = subst (λ vs. EachPasses test (map described vs)) (ok_is [] values e) refl
+  part_passes p (Some d) values g e = array_passes p (as_array d) values (array_good d g) e
 
 -- the names of hosts and the full names of services are UTF-8
 abbrev HasTexts : ParsedSetup → Type 0
@@ -83,19 +83,17 @@ HasTexts ds = EachPasses (λ h. is_utf8 h.name) ds.hosts × EachPasses (λ s. is
 parsed_texts : (d : Data) (ds : ParsedSetup) → GoodTree d → parsed_setup d ≡ Ok ds → HasTexts ds
 unfolding parsed_setup
 parsed_texts d ds g e =
-    let values = get members.hosts.name d in
-    let others = get members.services.name d in
-    guarded_ok (has_only_members document_members d) _ (shape_fault document_place d) ds (HasTexts ds) (λ only shaped.
-    next (ok_or (options_of (get members.options.name d)) (options_fault (get members.options.name d))) _ ds (HasTexts ds) (λ options o in_options.
-    next (parsed_list parsed_host hosts_place host_place values) _ ds (HasTexts ds) (λ hosts h in_hosts.
-    next (parsed_list parsed_service services_place service_place others) _ ds (HasTexts ds) (λ services s in_services.
-    next (parsed_dependencies part.ServiceDependencies service_letters (get members.service_dependencies.name d)) _ ds (HasTexts ds) (λ inner b in_between.
-    next (parsed_dependencies part.HostDependencies host_letters (get members.host_dependencies.name d)) _ ds (HasTexts ds) (λ outer c last.
+    next (shape_test document_place members.document_members d) _ ds (HasTexts ds) (λ _ shaped rest.
+    next (options_test (get members.options.name d)) _ ds (HasTexts ds) (λ _ tested in_options.
+    next (part_items part.Hosts (get members.hosts.name d)) _ ds (HasTexts ds) (λ hosts h in_hosts.
+    next (part_items part.Services (get members.services.name d)) _ ds (HasTexts ds) (λ services s in_services.
+    next (part_items part.ServiceDependencies (get members.service_dependencies.name d)) _ ds (HasTexts ds) (λ inner b in_between.
+    next (part_items part.HostDependencies (get members.host_dependencies.name d)) _ ds (HasTexts ds) (λ outer c last.
     subst HasTexts (ok_is _ ds last) (
-      list_passes (λ h. is_utf8 h.name) parsed_host host_text hosts_place host_place values hosts (get_good members.hosts.name d g) h,
-      list_passes (λ s. is_utf8 (full_name (key_of s))) parsed_service service_text services_place service_place others services
+      part_passes (λ h. is_utf8 h.name) host_of host_text part.Hosts (get members.hosts.name d) hosts (get_good members.hosts.name d g) h,
+      part_passes (λ s. is_utf8 (full_name (key_of s))) service_of service_text part.Services (get members.services.name d) services
           (get_good members.services.name d g) s,
-    )) in_between) in_services) in_hosts) in_options) shaped) e
+    )) in_between) in_services) in_hosts) in_options) rest) e
 
 -- ---- names
 

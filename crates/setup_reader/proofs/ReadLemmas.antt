@@ -16,10 +16,6 @@ pub next : {A B E : Type 0} (r : Result A E) (f : A → Result B E) (b : B) (P :
 next (Ok a) f b P h e = h a refl e
 next (Err x) f b P h e = cc
 
-pub guarded_ok : {A E : Type 0} (b : Bool) (r : Result A E) (x : E) (a : A) (P : Type 0) → (b ≡ true → r ≡ Ok a → P) → cond b r (Err x) ≡ Ok a → P
-guarded_ok true r x a P h e = h refl e
-guarded_ok false r x a P h e = cc
-
 pub from_ok_or : {A E : Type 0} (o : Option A) (x : E) (a : A) → ok_or o x ≡ Ok a → o ≡ Some a
 from_ok_or None x a e = cc
 from_ok_or (Some b) x a e = cc
