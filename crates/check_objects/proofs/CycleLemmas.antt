@@ -1,14 +1,13 @@
 -- The refusals of cycles: one of dependencies before one of parents.
-use Rattle.std.proofs.Common.{◌≡◌, true, false, cond, Option, Some, None, Ok, Err, ap, ◌∙◌}
+use Rattle.std.proofs.Common.{◌≡◌, ℕ, List, true, false, cond, Some, Ok, Err, ap, ◌∙◌}
 use Rattle.setup_model.specs.declared.error.LoadError.TheVariants as errors
 use Rattle.setup_model.specs.Agreement.{◌>>=◌}
 use Rattle.setup_model.specs.ParsedSetup.{ParsedSetup}
 use Rattle.setup_model.specs.Fault as fault
-use Rattle.setup_model.specs.Fault.{Fault}
 use Rattle.check_objects.specs.Configuration.{Configuration, masters_of, parents_by_host}
 use Rattle.check_objects.specs.Numbering.{configuration}
 use Rattle.setup_order.specs.Cycles.{has_cycle}
-use Rattle.check_objects.specs.Setup.{without_parent_cycle, without_cycles, AreRefusedFor, IsParentFault}
+use Rattle.check_objects.specs.Setup.{without_parent_cycle, without_cycles, AreRefusedFor, IsParentVerdict}
 
 after_dependencies : (c : Configuration) → has_cycle (masters_of c) ≡ false → without_cycles c ≡ without_parent_cycle c
 after_dependencies c free = ap (λ b. cond b (Err errors.DependencyCycle) (Ok c) >>= without_parent_cycle) free
@@ -23,18 +22,6 @@ cyclic_parents : (c : Configuration) → has_cycle (masters_of c) ≡ false → 
 cyclic_parents c free cyclic = after_dependencies c free ∙ ap (λ b. cond b (Err errors.ParentCycle) (Ok c)) cyclic
 
 -- a cycle of parents refuses a parsed setup whose dependencies have none
-pub parents_refuse : (ds : ParsedSetup) (o : Option Fault) → has_cycle (masters_of (configuration ds)) ≡ false → IsParentFault ds o → AreRefusedFor ds o
-parents_refuse ds None free is = tt
-parents_refuse ds (Some (fault.parent_cycle cycle)) free is = ((free, is.1), cyclic_parents (configuration ds) free is.0)
-parents_refuse ds (Some fault.too_long) free is = absurd is
-parents_refuse ds (Some fault.not_json) free is = absurd is
-parents_refuse ds (Some (fault.shape p w)) free is = absurd is
-parents_refuse ds (Some (fault.too_many c n)) free is = absurd is
-parents_refuse ds (Some (fault.bad_name p w)) free is = absurd is
-parents_refuse ds (Some (fault.duplicate p i)) free is = absurd is
-parents_refuse ds (Some (fault.unknown_parent h i)) free is = absurd is
-parents_refuse ds (Some (fault.unknown_host s)) free is = absurd is
-parents_refuse ds (Some (fault.unknown_end p w)) free is = absurd is
-parents_refuse ds (Some (fault.range p w)) free is = absurd is
-parents_refuse ds (Some (fault.dependency_cycle p cycle)) free is = absurd is
-parents_refuse ds (Some fault.memory) free is = absurd is
+pub parents_refuse : (ds : ParsedSetup) (cycle : List ℕ) → has_cycle (masters_of (configuration ds)) ≡ false → IsParentVerdict ds (Some cycle)
+    → AreRefusedFor ds (Some (fault.parent_cycle cycle))
+parents_refuse ds cycle free is = ((free, is.1), cyclic_parents (configuration ds) free is.0)

@@ -1,6 +1,6 @@
 -- The setup of a document, or the document's first refusal. The tests follow the tree, its items and the numbers; no object depends on itself, and
 -- no host is its own parent. The fault has the same refusal, and also the details that the failed test has found.
-use Rattle.std.specs.Prelude.{◌≡◌, ℕ, true, List, length, Option, Some, None, Result, Ok, Err, ok_or, nat_lt, if◌then◌else◌}
+use Rattle.std.specs.Prelude.{◌≡◌, false, ℕ, true, List, length, Option, Some, None, Result, Ok, Err, ok_or, nat_lt, if◌then◌else◌}
 use Rattle.serde_json.specs.Data.{Data}
 use Rattle.setup_model.specs.declared.error.LoadError.{LoadError}
 use Rattle.setup_model.specs.declared.error.LoadError.TheVariants as errors
@@ -69,11 +69,10 @@ abbrev pub AreRefusedFor : ParsedSetup → Option Fault → Type 0
 AreRefusedFor ds None = Unit {0}
 AreRefusedFor ds (Some f) = IsCycleFault ds f × (without_cycles (configuration ds) ≡ Err (load_error f))
 
--- the fault is a cycle of parents
-abbrev pub IsParentFault : ParsedSetup → Option Fault → Type 0
-IsParentFault ds None = Unit {0}
-IsParentFault ds (Some (faults.parent_cycle cycle)) = (has_cycle (parents_by_host (configuration ds)) ≡ true) × IsParentCycle ds cycle
-IsParentFault ds (Some other) = ⊥
+-- no host is its own parent, through one parent or more; or these hosts form a cycle
+abbrev pub IsParentVerdict : ParsedSetup → Option (List ℕ) → Type 0
+IsParentVerdict ds None = has_cycle (parents_by_host (configuration ds)) ≡ false
+IsParentVerdict ds (Some cycle) = (has_cycle (parents_by_host (configuration ds)) ≡ true) × IsParentCycle ds cycle
 
 -- the tree is refused for this fault
 abbrev pub IsRefusedTree : Data → Option Fault → Type 0

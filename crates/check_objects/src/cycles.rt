@@ -9,7 +9,8 @@ ghost use Rattle.setup_reader.specs.Verification.{verification};
 ghost use Rattle.check_objects.specs.Configuration.{masters_of, parents_by_host};
 ghost use Rattle.check_objects.specs.Entries.{host_entry, names_in, service_entry};
 ghost use Rattle.check_objects.specs.Numbering.{configuration};
-ghost use Rattle.check_objects.specs.Setup.{AreRefusedFor, IsParentFault};
+ghost use Rattle.check_objects.specs.Cycles.{IsParentCycle};
+ghost use Rattle.check_objects.specs.Setup.{AreRefusedFor};
 ghost use Rattle.check_objects.specs.Indices.{AreIndices, BeginsWithLeast, HasIndex};
 ghost use Rattle.std.specs.Borrow.{Bor};
 ghost use Rattle.indexmap.specs.IndexMap.{get};
@@ -53,24 +54,23 @@ pub(crate) fn dependency_cycle(
     }
 }
 
-/// A cycle of parents as a fault, from its hosts' numbers. An Err means out of memory.
+/// The indices of the hosts of a cycle of parents, from their numbers. An Err means out of memory.
 pub(crate) fn parent_cycle(
     alloc: Global,
     parsed: &ParsedSetup<'_>,
     hosts: &IndexMap<String, Host>,
     cycle: &[u32],
-) -> Result<Fault, AllocError>
+) -> Result<Vec<usize>, AllocError>
     requires faultless { verification (parsed_view parsed.now) ≡ Ok tt }
     requires hosts { map host_entry hosts.now.entries
         ≡ (configuration (parsed_view parsed.now)).hosts }
-    requires cyclic { has_cycle (parents_by_host (configuration (parsed_view parsed.now))) ≡ true }
     requires cycle { IsCycle (parents_by_host (configuration (parsed_view parsed.now))) cycle.now }
-    ensures { IfOk result (λ fault. IsParentFault (parsed_view parsed.now) (Some (view_of fault))) }
+    ensures { IfOk result (λ indices. IsParentCycle (parsed_view parsed.now) indices.items) }
 {
     let names = host_names(alloc, &parsed.hosts)?;
     let mut indices = document_indices(alloc, cycle, 0, hosts, &names)?;
     begin_with_least(&mut indices);
-    Ok(Fault::ParentCycle(indices))
+    Ok(indices)
 }
 
 /// The names of hosts, in the document's order.

@@ -7,7 +7,7 @@ ghost use Rattle.setup_order.specs.Cycles.{has_cycle};
 ghost use Rattle.setup_order.specs.Orders.{IsOrder};
 ghost use Rattle.check_objects.specs.Numbering.{configuration};
 ghost use Rattle.check_objects.specs.WellFormed.{configuration_of, IsWellFormed};
-ghost use Rattle.check_objects.specs.Setup.{setup_of, setup_of_tree, without_cycles, AreRefusedFor, IsParentFault, IsRefusedFor, IsRefusedTree};
+ghost use Rattle.check_objects.specs.Setup.{setup_of, setup_of_tree, without_cycles, AreRefusedFor, IsParentVerdict, IsRefusedFor, IsRefusedTree};
 ghost use Rattle.setup_reader.specs.Verification.{verification};
 ghost use Rattle.setup_model.specs.ParsedViews.{parsed_view, HasBoundedAttempts};
 ghost use Rattle.check_objects.specs.Entries.{host_entry, named_object, service_entry};
@@ -136,7 +136,9 @@ impl Setup {
     {
         match dependency_order(alloc, &dependencies)? {
             OrderOrCycle::Order(order) => {
-                verify_no_parent_cycle(alloc, parsed, &hosts)?;
+                if let Some(cycle) = find_parent_cycle(alloc, parsed, &hosts)? {
+                    return Err(Fault::ParentCycle(cycle));
+                }
                 Ok(Setup {
                     options: parsed.options,
                     hosts,
@@ -292,24 +294,23 @@ impl Setup {
     }
 }
 
-/// Verifies that no host is its own parent, through one parent or more.
-fn verify_no_parent_cycle(
+/// The indices of hosts that form a cycle of parents, or None if no host is its own parent, through one parent or
+/// more. An Err means out of memory.
+fn find_parent_cycle(
     alloc: Global,
     parsed: &ParsedSetup<'_>,
     hosts: &IndexMap<String, Host>,
-) -> Result<(), Fault>
+) -> Result<Option<Vec<usize>>, AllocError>
     requires faultless { verification (parsed_view parsed.now) ≡ Ok tt }
     requires hosts { map host_entry hosts.now.entries
         ≡ (configuration (parsed_view parsed.now)).hosts }
-    ensures none { OnOk result
-        (has_cycle (parents_by_host (configuration (parsed_view parsed.now))) ≡ false) }
-    ensures cycle { IfErr result (λ fault.
-        IsParentFault (parsed_view parsed.now) (non_memory_fault (view_of fault))) }
+    ensures { IfOk result (λ found.
+        IsParentVerdict (parsed_view parsed.now) (option_map (λ cycle. cycle.items) found)) }
 {
     let links = parent_links(alloc, hosts)?;
     match topological_order(alloc, &links)? {
-        OrderOrCycle::Order(_) => Ok(()),
-        OrderOrCycle::Cycle(cycle) => Err(parent_cycle(alloc, parsed, hosts, &cycle)?),
+        OrderOrCycle::Order(_) => Ok(None),
+        OrderOrCycle::Cycle(cycle) => Ok(Some(parent_cycle(alloc, parsed, hosts, &cycle)?)),
     }
 }
 

@@ -32,9 +32,7 @@ document_indices-requires-clause-known c =
 pub returns : goal.returns
 returns c =
     let ds = parsed_view c.args.parsed.now in
-    let full = ap (map string_bytes) c.deref-2.ensures.value ∙ c.in_ok-names.ensures ∙ ap (λ l. names_of (map host l)) c.deref.ensures.value in (
-      c.requires.cyclic,
-      parent_round ds c.requires.faultless c.args.hosts.now.entries c.requires.hosts c.args.cycle.now c.requires.cycle
-          (hosts_within (configuration ds) _ c.args.cycle.now (host_count_is ds c.requires.faultless c.args.hosts.now.entries c.requires.hosts) c.requires.cycle)
-          _ _ _ full c.in_ok-indices.ensures c.begin_with_least.ensures,
-    )
+    let full = ap (map string_bytes) c.deref-2.ensures.value ∙ c.in_ok-names.ensures ∙ ap (λ l. names_of (map host l)) c.deref.ensures.value in
+    parent_round ds c.requires.faultless c.args.hosts.now.entries c.requires.hosts c.args.cycle.now c.requires.cycle
+    (hosts_within (configuration ds) _ c.args.cycle.now (host_count_is ds c.requires.faultless c.args.hosts.now.entries c.requires.hosts) c.requires.cycle)
+    _ _ _ full c.in_ok-indices.ensures c.begin_with_least.ensures

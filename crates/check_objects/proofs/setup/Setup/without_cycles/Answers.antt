@@ -1,4 +1,4 @@
-use Rattle.std.proofs.Common.{◌≡◌, ◌≤◌, List, sym, ap, subst, ◌∙◌, length, map, true, false, Ok, rules}
+use Rattle.std.proofs.Common.{◌≡◌, ◌≤◌, List, sym, ap, subst, ◌∙◌, length, map, true, false, Ok}
 use Rattle.std.specs.Prelude.{ℕ}
 use Rattle.setup_order.specs.Cycles.{are_within, has_cycle}
 use Rattle.setup_order.specs.Orders.{IsOrder}
@@ -42,12 +42,11 @@ pub dependency_order-requires-clause-within : goal.dependency_order-requires-cla
 dependency_order-requires-clause-within c =
     (seen_lists (λ list. list.items) (parsed_view c.args.parsed.now) _ _ c.requires.faultless c.deref.ensures.value c.requires.dependencies).1
 
-pub returns-in_err-verify_no_parent_cycle-in-Order : goal.returns-in_err-verify_no_parent_cycle-in-Order
-returns-in_err-verify_no_parent_cycle-in-Order c =
+pub returns-in-Some-clause-refused : goal.returns-in-Some-clause-refused
+returns-in-Some-clause-refused c =
     let ds = parsed_view c.args.parsed.now in
     let free = acyclic ds _ _ (ap (map (λ list. list.items)) c.deref.ensures.value ∙ c.requires.dependencies) (rw c.in-Order.is at c.in_ok-order.ensures) in
-    let refused = parents_refuse ds _ free c.in_err-verify_no_parent_cycle-in-Order.ensures.cycle in
-    search (rules, refused)
+    parents_refuse ds c.in-Some.cycle.items free (rw c.in-Some.is at c.in_ok-cycle-in-Order.ensures)
 
 pub invariant_of-result : goal.invariant_of-result
 invariant_of-result c =
@@ -57,17 +56,13 @@ invariant_of-result c =
     record {
       setup =
           subst IsSetup (same_setup ds _ _ _ c.requires.hosts c.requires.services c.requires.dependencies)
-          (configuration_is_setup ds c.requires.faultless free c.in_ok-verify_no_parent_cycle-in-Order.ensures.none);
+          (configuration_is_setup ds c.requires.faultless free (rw c.in_default.is at c.in_ok-cycle-in-Order.ensures));
       order = rw (← c.deref.ensures.value) order;
     }
 
-pub returns-in_ok-verify_no_parent_cycle-in-Order : goal.returns-in_ok-verify_no_parent_cycle-in-Order
-returns-in_ok-verify_no_parent_cycle-in-Order c =
+pub returns-in_default-clause-setup : goal.returns-in_default-clause-setup
+returns-in_default-clause-setup c =
     let ds = parsed_view c.args.parsed.now in
     let free = acyclic ds _ _ (ap (map (λ list. list.items)) c.deref.ensures.value ∙ c.requires.dependencies) (rw c.in-Order.is at c.in_ok-order.ensures) in
-    record {
-      setup =
-          acyclic_setup (configuration ds) free c.in_ok-verify_no_parent_cycle-in-Order.ensures.none
-          ∙ ap Ok (same_setup ds _ _ _ c.requires.hosts c.requires.services c.requires.dependencies);
-      refused = tt;
-    }
+    acyclic_setup (configuration ds) free (rw c.in_default.is at c.in_ok-cycle-in-Order.ensures)
+    ∙ ap Ok (same_setup ds _ _ _ c.requires.hosts c.requires.services c.requires.dependencies)
