@@ -5,7 +5,7 @@
 //! [`verify`] reports all other faults except cycles.
 //!
 //! The modules of reading:
-//! - `json_tree`, `shapes`, `lists`, `criteria`, `reading`: from bytes to a parsed setup;
+//! - `json_tree`, `shapes`, `criteria`, `reading`: from bytes to a parsed setup;
 //! - `places`: the values of a tree at a place of the document.
 //!
 //! The modules of `verification`, in the order of the tests:
@@ -18,7 +18,6 @@ mod counts;
 mod criteria;
 mod json_tree;
 mod links;
-mod lists;
 mod names;
 mod places;
 mod ranges;

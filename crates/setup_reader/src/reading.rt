@@ -1,6 +1,7 @@
 //! Reads a parsed setup from a document's tree. This finds every fault of shape, and no other fault.
 
-ghost use Rattle.std.specs.Prelude.{◌≡◌, option_map};
+ghost use Rattle.std.specs.Prelude.{◌≡◌, IfOk, map, option_map};
+ghost use Rattle.serde_json.specs.Data.{Data};
 ghost use Rattle.serde_json.specs.View.{view};
 ghost use Rattle.setup_model.specs.Fault.{IsExpectedReading};
 ghost use Rattle.setup_model.specs.Member.{as_row};
@@ -11,8 +12,7 @@ ghost use Rattle.setup_reader.specs.Values.{delay_method, interleave_factor};
 
 use crate::criteria::read_criteria;
 use crate::json_tree::{member, number_at, switch_at, text_at, texts_at};
-use crate::lists::{Item, part_items, read_items};
-use crate::shapes::verify_shape;
+use crate::shapes::{part_items, verify_shape};
 use serde_json::Value;
 use setup_model::members::{
     CHECK_INTERVAL, CRITERIA, DEPENDENT, DESCRIPTION, DOCUMENT_MEMBERS, ENABLED,
@@ -28,7 +28,7 @@ use setup_model::{
     DelayMethod, Fault, InterleaveFactor, Member, Options, ParsedCheck, ParsedDependency,
     ParsedHost, ParsedService, ParsedSetup, Part, Place,
 };
-use std::alloc::Global;
+use std::alloc::{AllocError, Global};
 
 /// The parsed setup of a document's tree, or its first fault of shape, in the order of the document's members in
 /// [`Part`]. The fault names the member at fault by the table of members. If memory runs out, the fault is
@@ -141,6 +141,34 @@ pub(crate) fn interleave_factor(value: &Value) -> Option<InterleaveFactor>
 }
 
 // ---- the items of lists
+
+/// An item of a list. An implementation names the item as the definitions see it (`ViewType`, `view_of`), and the item
+/// that a value describes (`described`).
+pub(crate) trait Item<'v>: Drop {
+    ghost ViewType: { Type 0 };
+
+    ghost view_of: { Self → ViewType };
+
+    ghost described: { Data → ViewType };
+
+    /// The item that a value in the right shape describes.
+    fn read(value: &'v Value) -> Self
+        ensures { view_of result ≡ described (view value.now) };
+}
+
+/// The items that these values describe.
+pub(crate) fn read_items<'v, T: Item<'v>>(
+    alloc: Global,
+    values: &'v [Value],
+) -> Result<Vec<T>, AllocError>
+    ensures { IfOk result (λ read. map T.view_of read.items ≡ map T.described (map view values.now)) }
+{
+    let mut items = Vec::new(alloc);
+    for value in values {
+        items.push(T::read(value))?;
+    }
+    Ok(items)
+}
 
 impl<'v> Item<'v> for ParsedHost<'v> {
     ghost ViewType = { spec.ParsedHost };

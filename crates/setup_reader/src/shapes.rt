@@ -7,7 +7,9 @@ ghost use Rattle.serde_json.specs.Find.{as_str};
 ghost use Rattle.serde_json.specs.View.{view, members_view};
 ghost use Rattle.setup_model.specs.Fault.{IsExpectedReading, shape_view};
 ghost use Rattle.setup_model.specs.Member.{as_row};
+ghost use Rattle.setup_model.specs.Members.{item_members};
 ghost use Rattle.setup_reader.specs.Criteria.{has_only_letters};
+ghost use Rattle.setup_reader.specs.Reading.{items_test, part_items};
 ghost use Rattle.setup_reader.specs.Shapes.{first_unknown, has_kind, has_wrong_kind, is_missing, names};
 ghost use Rattle.setup_reader.specs.Shapes.{member_fault, object_fault, shape_test};
 
@@ -15,7 +17,7 @@ use crate::criteria::are_letters;
 use crate::json_tree::{is_known, texts};
 use crate::reading::{delay_method, interleave_factor};
 use serde_json::{Map, Value};
-use setup_model::{Fault, HOST_LETTERS, Kind, Member, Place, SERVICE_LETTERS, ShapeFault};
+use setup_model::{Fault, HOST_LETTERS, Kind, Member, Part, Place, SERVICE_LETTERS, ShapeFault};
 
 /// Whether the value at a place is an object in the shape that these members give it. The error is its fault.
 pub(crate) fn verify_shape(place: Place, value: &Value, members: &[Member]) -> Result<(), Fault>
@@ -26,6 +28,40 @@ pub(crate) fn verify_shape(place: Place, value: &Value, members: &[Member]) -> R
         Some(fault) => Err(Fault::Shape(place, fault)),
         None => Ok(()),
     }
+}
+
+/// The values of a part of the document, if it is an array of objects in the shape that these members give them. The
+/// error is the fault of the array, or of its first value with another shape. A part that is absent has no values.
+#[tactic(auto, using(crate::proofs::TreeLemmas::values_seen))]
+pub(crate) fn part_items<'v>(
+    value: Option<&'v Value>,
+    part: Part,
+    members: &[Member],
+) -> Result<&'v [Value], Fault>
+    requires { map as_row members.now ≡ item_members part }
+    ensures { IsExpectedReading (λ items. map view items.now) result
+        (part_items part (option_map (λ v. view v.now) value.entry)) }
+{
+    let Some(value) = value else {
+        return Ok(&[]);
+    };
+    match value.as_array() {
+        Some(items) => {
+            verify_items(items, part, members)?;
+            Ok(items)
+        }
+        None => Err(Fault::Shape(Place::list(part), ShapeFault::NotAnArray)),
+    }
+}
+
+fn verify_items(items: &[Value], part: Part, members: &[Member]) -> Result<(), Fault>
+    ensures { IsExpectedReading (λ u. u) result
+        (items_test part (map as_row members.now) (map view items.now)) }
+{
+    for (index, item) in items.iter().enumerate() {
+        verify_shape(Place::item(part, index), item, members)?;
+    }
+    Ok(())
 }
 
 /// The fault of a value that must be an object with these members, or None if it is one.

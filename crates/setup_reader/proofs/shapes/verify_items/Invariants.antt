@@ -5,7 +5,7 @@ use Rattle.setup_model.specs.Member.{as_row}
 use Rattle.setup_model.specs.Place.{item_place}
 use Rattle.setup_reader.specs.Reading.{items_test}
 use Rattle.setup_reader.specs.Shapes.{shape_test}
-use Rattle.setup_reader.proofs.lists.verify_items.Given as goal
+use Rattle.setup_reader.proofs.shapes.verify_items.Given as goal
 
 abbrev pub invariant-loop-index : goal.invariant-loop-index
 invariant-loop-index l =
