@@ -9,7 +9,7 @@ ghost use Rattle.setup_diagnostics.specs.Ranges.{above_text, between_text, limit
 use crate::line::{Line, Pushed};
 use crate::places::push_place;
 use serde_json::Value;
-use setup_model::members::{
+use setup_model::options::{
     HIGH_HOST_FLAP_THRESHOLD, HIGH_SERVICE_FLAP_THRESHOLD, LOW_HOST_FLAP_THRESHOLD,
     LOW_SERVICE_FLAP_THRESHOLD,
 };

@@ -10,9 +10,10 @@ use crate::layout::Layout;
 use crate::line::Pushed;
 use crate::names::name_member;
 use setup_model::members::{
-    DOCUMENT_MEMBERS, HOST_DEPENDENCY_MEMBERS, HOST_MEMBERS, OPTION_MEMBERS,
-    SERVICE_DEPENDENCY_MEMBERS, SERVICE_MEMBERS,
+    DOCUMENT_MEMBERS, HOST_DEPENDENCY_MEMBERS, HOST_MEMBERS, SERVICE_DEPENDENCY_MEMBERS,
+    SERVICE_MEMBERS,
 };
+use setup_model::options::OPTION_MEMBERS;
 use setup_model::{
     DefaultValue, HOST_LETTERS, Kind, MAX_DEPENDENCIES, MAX_NAME_BYTES, MAX_OBJECTS, MAX_PARENTS,
     Member, Part, SERVICE_LETTERS,

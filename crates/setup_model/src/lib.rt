@@ -15,7 +15,7 @@ mod limits;
 mod member;
 pub mod members;
 mod name;
-mod options;
+pub mod options;
 mod parsed_setup;
 mod place;
 

@@ -1,4 +1,8 @@
-//! The options of a setup, named after those of the main configuration file.
+//! The options of a setup, named after those of the main configuration file: their fields, and their rows in the table
+//! of members.
+
+use crate::limits;
+use crate::member::{DefaultValue, Kind, Member};
 
 /// How the first checks of a sort of object are spread over time (manual: Service and Host Check
 /// Scheduling, inter-check delay).
@@ -63,3 +67,143 @@ pub struct Options {
     /// How many service checks may run at the same time, up to 1,000,000. 0, the default, means no limit.
     pub max_concurrent_checks: u64,
 }
+
+// ---- the rows of the table
+
+/// The unit of the intervals.
+pub const INTERVAL_LENGTH: Member = Member {
+    name: "interval_length",
+    kind: Kind::Number {
+        low: 1,
+        high: limits::MAX_INTERVAL_LENGTH,
+    },
+    default: Some(DefaultValue::Number(60)),
+    purpose: "how many seconds a unit of the intervals lasts",
+};
+
+/// How the first checks of services are spread.
+pub const SERVICE_INTER_CHECK_DELAY_METHOD: Member = Member {
+    name: "service_inter_check_delay_method",
+    kind: Kind::Delay,
+    default: Some(DefaultValue::Smart),
+    purpose: "how the first checks of services are spread: not (n), a second apart (d), smart (s), or so many milliseconds apart",
+};
+
+/// How long the first checks of services are spread over.
+pub const MAX_SERVICE_CHECK_SPREAD: Member = Member {
+    name: "max_service_check_spread",
+    kind: Kind::Number {
+        low: 1,
+        high: limits::MAX_SPREAD,
+    },
+    default: Some(DefaultValue::Number(30)),
+    purpose: "within how many minutes the smart method has the first checks of all services due",
+};
+
+/// How the first checks of services are interleaved.
+pub const SERVICE_INTERLEAVE_FACTOR: Member = Member {
+    name: "service_interleave_factor",
+    kind: Kind::Factor,
+    default: Some(DefaultValue::Smart),
+    purpose: "how many places further on the next service stands whose first check is due, or smart (s)",
+};
+
+/// How the first checks of hosts are spread.
+pub const HOST_INTER_CHECK_DELAY_METHOD: Member = Member {
+    name: "host_inter_check_delay_method",
+    kind: Kind::Delay,
+    default: Some(DefaultValue::Smart),
+    purpose: "how the first checks of hosts are spread: not (n), a second apart (d), smart (s), or so many milliseconds apart",
+};
+
+/// How long the first checks of hosts are spread over.
+pub const MAX_HOST_CHECK_SPREAD: Member = Member {
+    name: "max_host_check_spread",
+    kind: Kind::Number {
+        low: 1,
+        high: limits::MAX_SPREAD,
+    },
+    default: Some(DefaultValue::Number(30)),
+    purpose: "within how many minutes the smart method has the first checks of all hosts due",
+};
+
+/// How many service checks may run at the same time.
+pub const MAX_CONCURRENT_CHECKS: Member = Member {
+    name: "max_concurrent_checks",
+    kind: Kind::Number {
+        low: 0,
+        high: limits::MAX_CONCURRENT_CHECKS,
+    },
+    default: Some(DefaultValue::Number(0)),
+    purpose: "how many service checks may run at a time; 0 is no limit",
+};
+
+/// Which state of a master dependencies look at.
+pub const SOFT_STATE_DEPENDENCIES: Member = Member {
+    name: "soft_state_dependencies",
+    kind: Kind::Switch,
+    default: Some(DefaultValue::Switch(false)),
+    purpose: "whether dependencies look at the current state of the master in place of its last hard one",
+};
+
+/// How a WARNING of a host's plugin counts.
+pub const USE_AGGRESSIVE_HOST_CHECKING: Member = Member {
+    name: "use_aggressive_host_checking",
+    kind: Kind::Switch,
+    default: Some(DefaultValue::Switch(false)),
+    purpose: "whether a WARNING of a host's plugin counts as a problem",
+};
+
+/// The threshold below which a service stops flapping.
+pub const LOW_SERVICE_FLAP_THRESHOLD: Member = Member {
+    name: "low_service_flap_threshold",
+    kind: PERCENT,
+    default: Some(DefaultValue::Number(20)),
+    purpose: "below how many percent of changes a flapping service stops flapping; at most the high threshold",
+};
+
+/// The threshold from which a service starts flapping.
+pub const HIGH_SERVICE_FLAP_THRESHOLD: Member = Member {
+    name: "high_service_flap_threshold",
+    kind: PERCENT,
+    default: Some(DefaultValue::Number(30)),
+    purpose: "from how many percent of changes on a service flaps",
+};
+
+/// The threshold below which a host stops flapping.
+pub const LOW_HOST_FLAP_THRESHOLD: Member = Member {
+    name: "low_host_flap_threshold",
+    kind: PERCENT,
+    default: Some(DefaultValue::Number(20)),
+    purpose: "below how many percent of changes a flapping host stops flapping; at most the high threshold",
+};
+
+/// The threshold from which a host starts flapping.
+pub const HIGH_HOST_FLAP_THRESHOLD: Member = Member {
+    name: "high_host_flap_threshold",
+    kind: PERCENT,
+    default: Some(DefaultValue::Number(30)),
+    purpose: "from how many percent of changes on a host flaps",
+};
+
+const PERCENT: Kind = Kind::Number {
+    low: 0,
+    high: limits::MAX_FLAP_THRESHOLD,
+};
+
+/// The members of the options.
+pub static OPTION_MEMBERS: [Member; 13] = [
+    INTERVAL_LENGTH,
+    SERVICE_INTER_CHECK_DELAY_METHOD,
+    MAX_SERVICE_CHECK_SPREAD,
+    SERVICE_INTERLEAVE_FACTOR,
+    HOST_INTER_CHECK_DELAY_METHOD,
+    MAX_HOST_CHECK_SPREAD,
+    MAX_CONCURRENT_CHECKS,
+    SOFT_STATE_DEPENDENCIES,
+    USE_AGGRESSIVE_HOST_CHECKING,
+    LOW_SERVICE_FLAP_THRESHOLD,
+    HIGH_SERVICE_FLAP_THRESHOLD,
+    LOW_HOST_FLAP_THRESHOLD,
+    HIGH_HOST_FLAP_THRESHOLD,
+];

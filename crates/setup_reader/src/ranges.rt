@@ -9,11 +9,11 @@ ghost use Rattle.setup_reader.specs.Verification.{check_ranges_test, delay_test,
 ghost use Rattle.setup_reader.specs.Verification.{service_range_test, order_test, option_numbers_test, option_ranges_test, threshold_order_test};
 ghost use Rattle.setup_reader.specs.Verification.{thresholds_test, within};
 
-use setup_model::members::{
-    CHECK_INTERVAL, HIGH_HOST_FLAP_THRESHOLD, HIGH_SERVICE_FLAP_THRESHOLD,
-    HOST_INTER_CHECK_DELAY_METHOD, INTERVAL_LENGTH, LOW_HOST_FLAP_THRESHOLD,
-    LOW_SERVICE_FLAP_THRESHOLD, MAX_CHECK_ATTEMPTS, MAX_CONCURRENT_CHECKS, MAX_HOST_CHECK_SPREAD,
-    MAX_SERVICE_CHECK_SPREAD, RETRY_INTERVAL, SERVICE_INTER_CHECK_DELAY_METHOD,
+use setup_model::members::{CHECK_INTERVAL, MAX_CHECK_ATTEMPTS, RETRY_INTERVAL};
+use setup_model::options::{
+    HIGH_HOST_FLAP_THRESHOLD, HIGH_SERVICE_FLAP_THRESHOLD, HOST_INTER_CHECK_DELAY_METHOD,
+    INTERVAL_LENGTH, LOW_HOST_FLAP_THRESHOLD, LOW_SERVICE_FLAP_THRESHOLD, MAX_CONCURRENT_CHECKS,
+    MAX_HOST_CHECK_SPREAD, MAX_SERVICE_CHECK_SPREAD, SERVICE_INTER_CHECK_DELAY_METHOD,
     SERVICE_INTERLEAVE_FACTOR,
 };
 use setup_model::{
