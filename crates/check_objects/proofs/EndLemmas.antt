@@ -14,7 +14,7 @@ use Rattle.check_objects.specs.declared.object_index.Host.{Host}
 use Rattle.check_objects.specs.declared.object_index.Service.{Service}
 use Rattle.check_objects.specs.Configuration as spec
 use Rattle.check_objects.specs.Entries.{host_entry, service_entry, names_in}
-use Rattle.check_objects.specs.Numbering.{configuration, numbered_host, hosts_in_order, services_in_order, names_in_order, host_body, object_of}
+use Rattle.check_objects.specs.Numbering.{configuration, numbered_host, hosts_in_order, services_in_order, names_in_order, host_body}
 use Rattle.check_objects.proofs.NameLemmas.{found, no_host_has}
 use Rattle.check_objects.proofs.NumberedLemmas.{known_in_order, full_name_in_order}
 use Rattle.check_objects.proofs.OrderLemmas.{hosts_all, services_all}
@@ -58,7 +58,7 @@ module _ (ds : ParsedSetup) (e : verification ds ≡ Ok tt) (hosts : List (Strin
   pub service_known : (name : List ℕ) → is_known (names_in services) name ≡ is_known (full_names ds.services) name
   service_known name =
       service_entry_known services (configuration ds).services services_are name
-      ∙ full_name_in_order ds.services (λ s. object_of s.check) (services_in_order ds.services) (services_all ds e) (names_in_order ds.hosts) name
+      ∙ full_name_in_order ds.services (λ s. s.check) (services_in_order ds.services) (services_all ds e) (names_in_order ds.hosts) name
 
   -- no name is in both maps
   pub names_apart : (name : List ℕ) → is_known (names_in services) name ≡ true → is_known (names_in hosts) name ≡ false

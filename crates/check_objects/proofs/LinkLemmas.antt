@@ -14,7 +14,7 @@ use Rattle.setup_model.specs.Ends.{full_names, has_known_ends, is_known}
 use Rattle.setup_reader.specs.Verification.{verification}
 use Rattle.setup_model.specs.Keys.{names_of}
 use Rattle.check_objects.specs.Links.{named_parents, named_dependency, named_dependencies, all_named_dependencies}
-use Rattle.check_objects.specs.Numbering.{index_of_name, numbered_host, numbered_dependency, all_dependencies, dependencies_among, host_body, object_of}
+use Rattle.check_objects.specs.Numbering.{index_of_name, numbered_host, numbered_dependency, all_dependencies, dependencies_among, host_body}
 use Rattle.check_objects.specs.Numbering.{hosts_in_order, services_in_order, names_in_order, configuration}
 use Rattle.std.proofs.lemmas.List.Folds.{list_all-map}
 use Rattle.setup_model.proofs.ListLemmas.{list_any-map}
@@ -74,7 +74,7 @@ service_is_object ds e name known =
     let c = configuration ds in
     let there : list_any (λ o. bytes_eq name o.name) (map named_service c.services) ≡ true =
     list_any-map (λ o. bytes_eq name o.name) named_service c.services
-    ∙ full_name_in_order ds.services (λ s. object_of s.check) (services_in_order ds.services) (services_all ds e) (names_in_order ds.hosts) name
+    ∙ full_name_in_order ds.services (λ s. s.check) (services_in_order ds.services) (services_all ds e) (names_in_order ds.hosts) name
     ∙ known in
     list_any-append (λ o. bytes_eq name o.name) (map named_host c.hosts) (map named_service c.services) ∙ or_second _ _ there
 

@@ -17,7 +17,7 @@ use Rattle.setup_model.specs.declared.parsed_setup.Object.{Object}
 use Rattle.setup_model.specs.ParsedSetup.{ParsedHost, ParsedService}
 use Rattle.setup_model.specs.Keys.{names_of, first_repeat, is_same_key, key_of}
 use Rattle.setup_model.specs.ParsedViews.{texts}
-use Rattle.check_objects.specs.Numbering.{host_body, object_of, hosts_in_order, services_in_order}
+use Rattle.check_objects.specs.Numbering.{host_body, hosts_in_order, services_in_order}
 use Rattle.setup_model.specs.Name.{is_host_name, text_order, pair_order}
 use Rattle.check_objects.proofs.RankLemmas.{ascending_is_in_order, in_order_all}
 use Rattle.check_objects.proofs.NameLemmas.{all_moved}
@@ -170,19 +170,19 @@ hosts_placed hosts apart =
 
 -- the services put in one after another, where no pair comes twice
 pub services_placed : (services : List ParsedService) → first_repeat is_same_key (map key_of services) ≡ None
-    → placed pair_order key_of (λ s. object_of s.check) [] services ≡ services_in_order services
+    → placed pair_order key_of (λ s. s.check) [] services ≡ services_in_order services
 unfolding IsStrictlySortedBy
 services_placed services apart =
-    ascending_is_in_order pair_order pairs_total key_of (λ s. object_of s.check) services (placed pair_order key_of (λ s. object_of s.check) [] services)
+    ascending_is_in_order pair_order pairs_total key_of (λ s. s.check) services (placed pair_order key_of (λ s. s.check) [] services)
     (placed_all pair_order pairs_total is_same_key pairs_agree key_of
-    (λ s. object_of s.check) [] [] 0 services (λ q. refl) (sym (first_repeat_is is_same_key (map key_of services)) ∙ apart))
-    (placed_ascending pair_order pairs_total key_of (λ s. object_of s.check) [] services tt)
+    (λ s. s.check) [] [] 0 services (λ q. refl) (sym (first_repeat_is is_same_key (map key_of services)) ∙ apart))
+    (placed_ascending pair_order pairs_total key_of (λ s. s.check) [] services tt)
 
 pub every_host : (hosts : List ParsedHost) → IsPermutation (map (λ h. (h.name, host_body h)) hosts) (hosts_in_order hosts)
 every_host hosts = in_order_all text_order texts_total (λ h. h.name) host_body hosts
 
-pub every_service : (services : List ParsedService) → IsPermutation (map (λ s. (key_of s, object_of s.check)) services) (services_in_order services)
-every_service services = in_order_all pair_order pairs_total key_of (λ s. object_of s.check) services
+pub every_service : (services : List ParsedService) → IsPermutation (map (λ s. (key_of s, s.check)) services) (services_in_order services)
+every_service services = in_order_all pair_order pairs_total key_of (λ s. s.check) services
 
 pub apart_hosts_ascend : (hosts : List ParsedHost) → first_repeat bytes_eq (names_of hosts) ≡ None
     → IsStrictlySortedBy text_order (map (λ e. e.0) (hosts_in_order hosts))
@@ -196,7 +196,7 @@ pub apart_services_ascend : (services : List ParsedService) → first_repeat is_
 unfolding IsStrictlySortedBy
 apart_services_ascend services apart =
     subst (λ l. IsStrictlySortedBy pair_order (map (λ e. e.0) l)) (services_placed services apart)
-    (placed_ascending pair_order pairs_total key_of (λ s. object_of s.check) [] services tt)
+    (placed_ascending pair_order pairs_total key_of (λ s. s.check) [] services tt)
 
 -- ---- counts and names, in order
 
@@ -209,15 +209,15 @@ hosts_counted hosts =
 -- as many services in order as there are
 pub services_counted : (services : List ParsedService) → length (services_in_order services) ≡ length services
 services_counted services =
-    length_permutation (map (λ s. (key_of s, object_of s.check)) services) (services_in_order services) (every_service services)
-    ∙ length-map services (λ (s : ParsedService). (key_of s, object_of s.check))
+    length_permutation (map (λ s. (key_of s, s.check)) services) (services_in_order services) (every_service services)
+    ∙ length-map services (λ (s : ParsedService). (key_of s, s.check))
 
 -- where no service's host has a semicolon in its name, none in order has
 pub parted_in_order : (services : List ParsedService) → list_all (λ s. is_host_name s.host) services ≡ true
     → list_all (λ e. is_host_name e.0.0) (services_in_order services) ≡ true
 parted_in_order services without_semicolon =
-    all_moved (λ x. is_host_name x.0.0) (map (λ s. (key_of s, object_of s.check)) services) (services_in_order services) (every_service services)
-    (list_all-map (λ x. is_host_name x.0.0) (λ (s : ParsedService). (key_of s, object_of s.check)) services ∙ without_semicolon)
+    all_moved (λ x. is_host_name x.0.0) (map (λ s. (key_of s, s.check)) services) (services_in_order services) (every_service services)
+    (list_all-map (λ x. is_host_name x.0.0) (λ (s : ParsedService). (key_of s, s.check)) services ∙ without_semicolon)
 
 -- the names of few hosts are few
 pub few_names : (keys : List (Bor (List ℕ))) (sorted ordered : List (List ℕ × (Object × List (List ℕ)))) → texts keys ≡ map (λ e. e.0) sorted

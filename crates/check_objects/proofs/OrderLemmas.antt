@@ -3,7 +3,7 @@ use Rattle.std.proofs.Common.{◌≡◌, map, Ok}
 use Rattle.std.specs.List.Sorted.{IsPermutation, IsStrictlySortedBy}
 use Rattle.setup_model.specs.ParsedSetup.{ParsedSetup}
 use Rattle.setup_model.specs.Name.{text_order, pair_order}
-use Rattle.check_objects.specs.Numbering.{host_body, object_of, hosts_in_order, services_in_order}
+use Rattle.check_objects.specs.Numbering.{host_body, hosts_in_order, services_in_order}
 use Rattle.setup_reader.specs.Verification.{verification}
 use Rattle.setup_model.specs.Keys.{key_of}
 use Rattle.setup_reader.proofs.FaultlessLemmas.{once}
@@ -12,7 +12,7 @@ use Rattle.check_objects.proofs.NumberLaws.{every_host, every_service, apart_hos
 pub hosts_all : (d : ParsedSetup) → verification d ≡ Ok tt → IsPermutation (map (λ h. (h.name, host_body h)) d.hosts) (hosts_in_order d.hosts)
 hosts_all d e = every_host d.hosts
 
-pub services_all : (d : ParsedSetup) → verification d ≡ Ok tt → IsPermutation (map (λ s. (key_of s, object_of s.check)) d.services) (services_in_order d.services)
+pub services_all : (d : ParsedSetup) → verification d ≡ Ok tt → IsPermutation (map (λ s. (key_of s, s.check)) d.services) (services_in_order d.services)
 services_all d e = every_service d.services
 
 pub hosts_ascend : (d : ParsedSetup) → verification d ≡ Ok tt → IsStrictlySortedBy text_order (map (λ e. e.0) (hosts_in_order d.hosts))

@@ -11,7 +11,6 @@ use Rattle.std.proofs.lemmas.List.Elements.{All-from_recursion}
 use Rattle.std.proofs.lemmas.List.Folds.{list_all-append}
 use Rattle.std.proofs.lemmas.Slice.Eq.{bytes_eq-Decides}
 use Rattle.setup_model.specs.declared.dependency.Dependency.{Dependency}
-use Rattle.setup_model.specs.declared.parsed_setup.ParsedCheck.{ParsedCheck}
 use Rattle.setup_model.specs.declared.options.DelayMethod.{DelayMethod}
 use Rattle.setup_model.specs.declared.options.DelayMethod.TheVariants as method
 use Rattle.setup_model.specs.declared.options.InterleaveFactor.{InterleaveFactor}
@@ -35,7 +34,7 @@ use Rattle.setup_reader.specs.Verification as verified
 use Rattle.setup_model.specs.Fault.{RangeFault, out_of_range, host_thresholds, range, service_thresholds}
 use Rattle.setup_model.specs.Place.{host_place, service_place}
 use Rattle.check_objects.specs.Numbering.{index_of_name, dependencies_among, numbered_host, numbered_service, hosts_in_order, services_in_order, names_in_order}
-use Rattle.check_objects.specs.Numbering.{configuration_of_objects, configuration, numbered_dependency, all_dependencies, object_of, host_body}
+use Rattle.check_objects.specs.Numbering.{configuration_of_objects, configuration, numbered_dependency, all_dependencies, host_body}
 use Rattle.setup_order.proofs.TestLemmas.{both_true, all_weaker}
 use Rattle.std.proofs.lemmas.List.Folds.{list_all-map}
 use Rattle.setup_model.proofs.ListLemmas.{list_any-map}
@@ -232,7 +231,7 @@ no_least : (n : ℕ) → nat_le 0 n ≡ true
 no_least n = grind (arith, nat_tests)
 
 -- the numbers of a parsed setup that passes are within the limits of a setup's objects
-check_in_range : (c : ParsedCheck) → verified.check_ranges_test c ≡ Ok tt → is_object_in_range (object_of c) ≡ true
+check_in_range : (c : Object) → verified.check_ranges_test c ≡ Ok tt → is_object_in_range c ≡ true
 check_in_range c e =
     let interval = verified.within members.check_interval c.check_interval in
     let retry = verified.within members.retry_interval c.retry_interval in
@@ -247,19 +246,19 @@ check_in_range c e =
 pub objects_in_range : (ds : ParsedSetup) → verification ds ≡ Ok tt → list_all (λ o. is_object_in_range o.object) (objects_of (configuration ds)) ≡ true
 objects_in_range ds faults =
     let f = faultless ds faults in
-    let hosts : list_all (λ h. is_object_in_range (object_of h.check)) ds.hosts ≡ true =
-    all_of_each verified.host_range_test (λ h. is_object_in_range (object_of h.check)) (λ i h passed.
+    let hosts : list_all (λ h. is_object_in_range h.check) ds.hosts ≡ true =
+    all_of_each verified.host_range_test (λ h. is_object_in_range h.check) (λ i h passed.
     check_in_range h.check (still_ok (range (host_place i)) (verified.check_ranges_test h.check) passed)) 0 ds.hosts f.host_numbers in
-    let services : list_all (λ s. is_object_in_range (object_of s.check)) ds.services ≡ true =
-    all_of_each verified.service_range_test (λ s. is_object_in_range (object_of s.check)) (λ i s passed.
+    let services : list_all (λ s. is_object_in_range s.check) ds.services ≡ true =
+    all_of_each verified.service_range_test (λ s. is_object_in_range s.check) (λ i s passed.
     check_in_range s.check (still_ok (range (service_place i)) (verified.check_ranges_test s.check) passed)) 0 ds.services f.service_numbers in
     let ns = names_in_order ds.hosts in
     let hosts_placed = all_moved (λ x. is_object_in_range x.1.0) (map (λ h. (h.name, host_body h)) ds.hosts) (hosts_in_order ds.hosts) (hosts_all ds faults)
     (list_all-map (λ x. is_object_in_range x.1.0) (λ (h : ParsedHost). (h.name, host_body h)) ds.hosts
     ∙ hosts) in
-    let services_placed = all_moved (λ x. is_object_in_range x.1) (map (λ s. (key_of s, object_of s.check)) ds.services) (services_in_order ds.services)
+    let services_placed = all_moved (λ x. is_object_in_range x.1) (map (λ s. (key_of s, s.check)) ds.services) (services_in_order ds.services)
     (services_all ds faults)
-    (list_all-map (λ x. is_object_in_range x.1) (λ (s : ParsedService). (key_of s, object_of s.check)) ds.services
+    (list_all-map (λ x. is_object_in_range x.1) (λ (s : ParsedService). (key_of s, s.check)) ds.services
     ∙ services) in
     let hosts_numbered : list_all (λ o. is_object_in_range o.object) (map named_host (map (numbered_host ns) (hosts_in_order ds.hosts))) ≡ true =
     list_all-map (λ o. is_object_in_range o.object) named_host (map (numbered_host ns) (hosts_in_order ds.hosts))
@@ -360,9 +359,9 @@ services_known : (ds : ParsedSetup) → verification ds ≡ Ok tt → list_all (
 services_known ds e =
     let agree : (λ (s : ParsedService). is_known (names_of ds.hosts) s.host) ≡ (λ s. is_known (names_in_order ds.hosts) s.host) =
     λ i s. known_in_order ds.hosts host_body (hosts_in_order ds.hosts) (hosts_all ds e) s.host i in
-    all_moved (λ x. is_known (names_in_order ds.hosts) x.0.0) (map (λ s. (key_of s, object_of s.check)) ds.services) (services_in_order ds.services)
+    all_moved (λ x. is_known (names_in_order ds.hosts) x.0.0) (map (λ s. (key_of s, s.check)) ds.services) (services_in_order ds.services)
     (services_all ds e)
-    (list_all-map (λ x. is_known (names_in_order ds.hosts) x.0.0) (λ (s : ParsedService). (key_of s, object_of s.check)) ds.services
+    (list_all-map (λ x. is_known (names_in_order ds.hosts) x.0.0) (λ (s : ParsedService). (key_of s, s.check)) ds.services
     ∙ ap (λ f. list_all f ds.services) (sym agree) ∙ (faultless ds e).known)
 
 named_in_order : (ds : ParsedSetup) → verification ds ≡ Ok tt → list_all (λ x. is_name x.0) (hosts_in_order ds.hosts) ≡ true
@@ -372,8 +371,8 @@ named_in_order ds e =
 
 described_in_order : (ds : ParsedSetup) → verification ds ≡ Ok tt → list_all (λ x. is_name x.0.1) (services_in_order ds.services) ≡ true
 described_in_order ds e =
-    all_moved (λ x. is_name x.0.1) (map (λ s. (key_of s, object_of s.check)) ds.services) (services_in_order ds.services) (services_all ds e)
-    (list_all-map (λ x. is_name x.0.1) (λ (s : ParsedService). (key_of s, object_of s.check)) ds.services ∙ (faultless ds e).described)
+    all_moved (λ x. is_name x.0.1) (map (λ s. (key_of s, s.check)) ds.services) (services_in_order ds.services) (services_all ds e)
+    (list_all-map (λ x. is_name x.0.1) (λ (s : ParsedService). (key_of s, s.check)) ds.services ∙ (faultless ds e).described)
 
 pub parted_hosts : (ds : ParsedSetup) → verification ds ≡ Ok tt → list_all (λ h. is_host_name h.name) (configuration ds).hosts ≡ true
 parted_hosts ds e =
@@ -394,7 +393,7 @@ same_sorts_of ds e =
     let at = found (λ (s : ParsedService). bytes_eq name (full_name (key_of s))) ds.services
     (sym (list_any-map (bytes_eq name) (λ s. full_name (key_of s)) ds.services) ∙ known) in
     service_end c name (key_of at.item) ((bytes_eq-Decides name (full_name (key_of at.item))).0 at.passes) (parted_hosts ds e)
-    (full_name_in_order ds.services (λ s. object_of s.check) (services_in_order ds.services) (services_all ds e) ns name ∙ known))
+    (full_name_in_order ds.services (λ s. s.check) (services_in_order ds.services) (services_all ds e) ns name ∙ known))
     ds.service_dependencies f.service_ends in
     let hosts = ends_alike objects (names_of ds.hosts) n true (λ name known.
     host_end c name (ap (λ l. is_known l name) (host_names_are ns hs) ∙ sym (known_in_order ds.hosts host_body hs (hosts_all ds e) name) ∙ known))
@@ -443,7 +442,7 @@ configuration_is_setup ds e acyclic no_parent_cycle =
     let names = names_of_document ds e in
     record {
       bounded = omega (arith, f.bounded, h, s, length-map hs (numbered_host ns), length-map (services_in_order ds.services) (numbered_service ns));
-      parents_bounded = subst (λ n. n ≤ 16384) (sym (parents_counted ds.hosts (λ h. object_of h.check) hs ns (hosts_all ds e))) f.parents_bounded;
+      parents_bounded = subst (λ n. n ≤ 16384) (sym (parents_counted ds.hosts (λ h. h.check) hs ns (hosts_all ds e))) f.parents_bounded;
       dependencies_bounded =
           let all = map (numbered_dependency (objects_of (configuration_of_objects ds))) (all_dependencies ds) in
           omega (

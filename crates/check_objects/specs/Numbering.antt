@@ -5,7 +5,6 @@ use Rattle.std.specs.List.{count_by, filter, flat_map, range_with_len}
 use Rattle.std.specs.declared.cmp.Ordering.{Ordering}
 use Rattle.std.specs.Ordering.{is_lt}
 use Rattle.setup_model.specs.declared.dependency.Dependency.{Dependency}
-use Rattle.setup_model.specs.declared.parsed_setup.ParsedCheck.{ParsedCheck}
 use Rattle.setup_model.specs.declared.parsed_setup.Object.{Object}
 use Rattle.check_objects.specs.Configuration.{NamedObject, Host, Service, Configuration, objects_of, number_among}
 use Rattle.setup_model.specs.Name.{full_name, text_order, pair_order}
@@ -26,12 +25,9 @@ entries_at_rank order key value xs n = map (λ x. (key x, value x)) (filter (λ 
 abbrev pub sorted_entries : {K V A : Type 0} → (K → K → Ordering) → (A → K) → (A → V) → List A → List (K × V)
 sorted_entries order key value xs = flat_map (entries_at_rank order key value xs) (range_with_len 0 (length xs))
 
-abbrev pub object_of : ParsedCheck → Object
-object_of c = record { check_interval = c.check_interval; retry_interval = c.retry_interval; max_check_attempts = c.max_check_attempts; enabled = c.enabled }
-
 -- a host as it is stored under its name: the object, and its parents' names
 abbrev pub host_body : ParsedHost → Object × List (List ℕ)
-host_body h = (object_of h.check, h.parents)
+host_body h = (h.check, h.parents)
 
 -- the hosts by name
 abbrev pub hosts_in_order : List ParsedHost → List (List ℕ × (Object × List (List ℕ)))
@@ -39,7 +35,7 @@ hosts_in_order hosts = sorted_entries text_order (λ h. h.name) host_body hosts
 
 -- the services by host and description
 abbrev pub services_in_order : List ParsedService → List ((List ℕ × List ℕ) × Object)
-services_in_order services = sorted_entries pair_order key_of (λ s. object_of s.check) services
+services_in_order services = sorted_entries pair_order key_of (λ s. s.check) services
 
 -- ---- the numbers
 

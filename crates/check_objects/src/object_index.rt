@@ -1,20 +1,19 @@
 //! The numbers of objects, and the links between them by number. Hosts come first, in the order of their
 //! names' bytes. Then come services, in the order of their hosts' names and then of their descriptions.
 
-ghost use Rattle.std.specs.Prelude.{◌≡◌, ◌≤◌, ◌<◌, length, map, bytes_eq, IfOk, OnOk, All, None, true, false, [], ◌∷◌, ◌++◌, string_bytes};
+ghost use Rattle.std.specs.Prelude.{◌≡◌, ◌≤◌, ◌<◌, length, map, bytes_eq, IfOk, OnOk, None, true, false, [], ◌∷◌, ◌++◌, string_bytes};
 ghost use Rattle.std.specs.List.{list_all, list_any};
 ghost use Rattle.check_objects.specs.Numbering.{configuration_of_objects, hosts_in_order, services_in_order, index_of_name, numbered_host, numbered_service};
-ghost use Rattle.check_objects.specs.Numbering.{object_of};
 ghost use Rattle.setup_model.specs.Name.{is_host_name, full_name};
 ghost use Rattle.check_objects.specs.Configuration.{number_among};
 ghost use Rattle.setup_model.specs.Keys.{first_repeat, names_of, key_of, is_same_key};
-ghost use Rattle.setup_model.specs.ParsedViews.{host, service, parsed_view, texts, HasBoundedAttempts};
+ghost use Rattle.setup_model.specs.ParsedViews.{host, service, parsed_view, texts};
 ghost use Rattle.check_objects.specs.Entries.{objects_in, host_entry, service_entry, sorted_host, sorted_service};
 ghost use Rattle.setup_model.specs.Text.{text};
 
 use indexmap::{IndexMap, IndexSet};
 use serde_json::Value;
-use setup_model::{Object, ParsedCheck, ParsedHost, ParsedService, ParsedSetup, full_name, text};
+use setup_model::{Object, ParsedHost, ParsedService, ParsedSetup, full_name, text};
 use smallvec::SmallVec;
 use std::alloc::{AllocError, Global};
 use std::collections::BTreeMap;
@@ -51,8 +50,6 @@ pub fn number_objects(
     requires names { first_repeat bytes_eq (names_of (parsed_view parsed.now).hosts) ≡ None }
     requires keys { first_repeat is_same_key (map key_of (parsed_view parsed.now).services) ≡ None }
     requires without_semicolon { list_all (λ s. is_host_name s.host) (parsed_view parsed.now).services ≡ true }
-    requires hosts { All (λ h. HasBoundedAttempts h.check) parsed.now.hosts.items }
-    requires services { All (λ s. HasBoundedAttempts s.check) parsed.now.services.items }
     ensures hosts { IfOk result (λ objects.
         map host_entry objects.0.entries ≡ (configuration_of_objects (parsed_view parsed.now)).hosts) }
     ensures services { IfOk result (λ objects.
@@ -74,14 +71,13 @@ fn sort_hosts<'v>(
     alloc: Global,
     parsed: &[ParsedHost<'v>],
 ) -> Result<BTreeMap<&'v str, (Object, &'v [Value])>, AllocError>
-    requires attempts { All (λ h. HasBoundedAttempts h.check) parsed.now }
     requires distinct { first_repeat bytes_eq (names_of (map host parsed.now)) ≡ None }
     ensures { IfOk result (λ m.
         map sorted_host m.entries ≡ hosts_in_order (map host parsed.now)) }
 {
     let mut sorted = BTreeMap::new(alloc);
     for item in parsed {
-        sorted.insert(item.name, (object(item.check), item.parents))?;
+        sorted.insert(item.name, (item.check, item.parents))?;
     }
     Ok(sorted)
 }
@@ -92,28 +88,15 @@ fn sort_services<'v>(
     alloc: Global,
     parsed: &[ParsedService<'v>],
 ) -> Result<BTreeMap<(&'v str, &'v str), Object>, AllocError>
-    requires attempts { All (λ s. HasBoundedAttempts s.check) parsed.now }
     requires distinct { first_repeat is_same_key (map key_of (map service parsed.now)) ≡ None }
     ensures { IfOk result (λ m.
         map sorted_service m.entries ≡ services_in_order (map service parsed.now)) }
 {
     let mut sorted = BTreeMap::new(alloc);
     for item in parsed {
-        sorted.insert((item.host, item.description), object(item.check))?;
+        sorted.insert((item.host, item.description), item.check)?;
     }
     Ok(sorted)
-}
-
-fn object(check: ParsedCheck) -> Object
-    requires { HasBoundedAttempts check }
-    ensures { result ≡ object_of check }
-{
-    Object {
-        check_interval: check.check_interval,
-        retry_interval: check.retry_interval,
-        max_check_attempts: check.max_check_attempts as u8,
-        enabled: check.enabled,
-    }
 }
 
 // ---- links

@@ -9,7 +9,7 @@ ghost use Rattle.check_objects.specs.Numbering.{configuration};
 ghost use Rattle.check_objects.specs.WellFormed.{configuration_of, IsWellFormed};
 ghost use Rattle.check_objects.specs.Setup.{setup_of, setup_of_tree, without_cycles, AreRefusedFor, IsParentVerdict, IsRefusedFor, IsRefusedTree};
 ghost use Rattle.setup_reader.specs.Verification.{verification};
-ghost use Rattle.setup_model.specs.ParsedViews.{parsed_view, HasBoundedAttempts};
+ghost use Rattle.setup_model.specs.ParsedViews.{parsed_view};
 ghost use Rattle.check_objects.specs.Entries.{host_entry, named_object, service_entry};
 ghost use Rattle.setup_model.specs.LoadError.{IsExpectedResult};
 ghost use Rattle.setup_model.specs.Fault.{non_memory_fault, view_of};
@@ -101,8 +101,6 @@ impl Setup {
     /// dependency or more. It is also refused if some host is its own parent through one parent or more.
     fn from_parsed(alloc: Global, parsed: &ParsedSetup<'_>) -> Result<Setup, Fault>
         requires faultless { verification (parsed_view parsed.now) ≡ Ok tt }
-        requires hosts { All (λ h. HasBoundedAttempts h.check) parsed.now.hosts.items }
-        requires services { All (λ s. HasBoundedAttempts s.check) parsed.now.services.items }
         ensures setup { IfOk result (λ setup.
             without_cycles (configuration (parsed_view parsed.now)) ≡ Ok setup) }
         ensures refused { IfErr result (λ fault.

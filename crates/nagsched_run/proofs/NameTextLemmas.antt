@@ -28,7 +28,7 @@ use Rattle.setup_reader.specs.Shapes.{shape_test}
 use Rattle.setup_reader.proofs.ReadLemmas.{from_ok_or, guarded, next, ok_is}
 use Rattle.setup_reader.specs.Verification.{verification}
 use Rattle.check_objects.specs.Configuration.{Configuration, IsSetup, NamedObject, masters_of, name_of, named_host, named_service, objects_of, parents_by_host}
-use Rattle.check_objects.specs.Numbering.{host_body, configuration, hosts_in_order, names_in_order, numbered_host, numbered_service, object_of}
+use Rattle.check_objects.specs.Numbering.{host_body, configuration, hosts_in_order, names_in_order, numbered_host, numbered_service}
 use Rattle.check_objects.specs.Numbering.{services_in_order}
 use Rattle.check_objects.proofs.NameLemmas.{all_moved, all_passes}
 use Rattle.check_objects.specs.Setup.{document_tree, verified_setup, setup_of, setup_of_tree, without_cycles, without_dependency_cycle, without_parent_cycle}
@@ -118,8 +118,8 @@ names_are_texts ds e g =
     (list_all-map (λ x. is_utf8 x.0) (λ (h : ParsedHost). (h.name, host_body h)) ds.hosts ∙ g.0) in
     let services : EachPasses is_text (map named_service (map (numbered_service ns) ss)) =
     list_all-map is_text named_service (map (numbered_service ns) ss) ∙ list_all-map (λ s. is_utf8 s.name) (numbered_service ns) ss
-    ∙ all_moved (λ x. is_utf8 (full_name x.0)) (map (λ s. (key_of s, object_of s.check)) ds.services) ss (services_all ds e)
-    (list_all-map (λ x. is_utf8 (full_name x.0)) (λ (s : ParsedService). (key_of s, object_of s.check)) ds.services ∙ g.1) in
+    ∙ all_moved (λ x. is_utf8 (full_name x.0)) (map (λ s. (key_of s, s.check)) ds.services) ss (services_all ds e)
+    (list_all-map (λ x. is_utf8 (full_name x.0)) (λ (s : ParsedService). (key_of s, s.check)) ds.services ∙ g.1) in
     let objects = objects_of (configuration ds) in
     let all : EachPasses is_text objects =
     list_all-append is_text (map named_host (map (numbered_host ns) hs)) (map named_service (map (numbered_service ns) ss)) ∙ rw (hosts, services) refl in

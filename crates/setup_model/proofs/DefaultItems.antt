@@ -1,11 +1,11 @@
 -- What slices of parsed items give past their ends.
 use Rattle.std.proofs.Common.{[], false}
-use Rattle.setup_model.specs.declared.parsed_setup.ParsedCheck.{ParsedCheck}
+use Rattle.setup_model.specs.declared.parsed_setup.Object.{Object}
 use Rattle.setup_model.specs.declared.parsed_setup.ParsedDependency.{ParsedDependency}
 use Rattle.setup_model.specs.declared.parsed_setup.ParsedHost.{ParsedHost}
 use Rattle.setup_model.specs.declared.parsed_setup.ParsedService.{ParsedService}
 
-abbrev pub no_check : ParsedCheck
+abbrev pub no_check : Object
 no_check = record { check_interval = 0; retry_interval = 0; max_check_attempts = 0; enabled = false }
 
 abbrev pub no_host : ParsedHost

@@ -1,7 +1,6 @@
 -- The parsed setup of the code, as the definitions see them.
-use Rattle.std.specs.Prelude.{◌<◌, ℕ, List, map}
+use Rattle.std.specs.Prelude.{ℕ, List, map}
 use Rattle.std.specs.Borrow.{Bor}
-use Rattle.setup_model.specs.declared.parsed_setup.ParsedCheck.{ParsedCheck}
 use Rattle.setup_model.specs.declared.parsed_setup.ParsedHost.{ParsedHost}
 use Rattle.setup_model.specs.declared.parsed_setup.ParsedService.{ParsedService}
 use Rattle.setup_model.specs.declared.parsed_setup.ParsedDependency.{ParsedDependency}
@@ -26,10 +25,6 @@ parsed_view d = record {
   service_dependencies = map dependency d.service_dependencies.items;
   host_dependencies = map dependency d.host_dependencies.items;
 }
-
--- the attempts fit a byte
-abbrev pub HasBoundedAttempts : ParsedCheck → Type 0
-HasBoundedAttempts c = c.max_check_attempts < 256
 
 -- the texts that references point to
 abbrev pub texts : List (Bor (List ℕ)) → List (List ℕ)

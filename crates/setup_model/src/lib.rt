@@ -30,7 +30,5 @@ pub use limits::{
 pub use member::{DefaultValue, Kind, Member};
 pub use name::{full_name, is_name, name_fault};
 pub use options::{DelayMethod, InterleaveFactor, Options};
-pub use parsed_setup::{
-    Object, ParsedCheck, ParsedDependency, ParsedHost, ParsedService, ParsedSetup, text,
-};
+pub use parsed_setup::{Object, ParsedDependency, ParsedHost, ParsedService, ParsedSetup, text};
 pub use place::{Part, Place};

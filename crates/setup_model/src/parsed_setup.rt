@@ -9,18 +9,21 @@ use crate::dependency::Criteria;
 use crate::options::Options;
 use serde_json::Value;
 
-/// How an object is checked, as the document says it.
-#[derive(Clone, Copy)]
-pub struct ParsedCheck {
-    /// From one check to the next, in units of `interval_length`.
+/// How a host or a service is checked (manual: Service and Host Check Scheduling; State Types). In a setup that was
+/// verified each number is in its range.
+#[derive(Clone, Copy, Debug, PartialEq, Eq)]
+pub struct Object {
+    // The fields that each report reads come first, next to each other.
+    /// From one check to the next, in units of `interval_length`, 0 to 525,600. 0 means that no check follows
+    /// automatically.
     pub check_interval: u64,
-    /// From one check to the next while the object is a soft problem, in units of
-    /// `interval_length`.
-    pub retry_interval: u64,
-    /// How many checks in a row must find a problem before it is hard.
+    /// How many checks in a row must find a problem before it is hard, 1 to 255.
     pub max_check_attempts: u64,
     /// Whether the object's checks are scheduled.
     pub enabled: bool,
+    /// From one check to the next while the object is a soft problem, in units of
+    /// `interval_length`, 0 to 525,600.
+    pub retry_interval: u64,
 }
 
 /// A host as the document describes it.
@@ -31,7 +34,7 @@ pub struct ParsedHost<'v> {
     /// Its parents' names, each a text.
     pub parents: &'v [Value],
     /// How the host is checked.
-    pub check: ParsedCheck,
+    pub check: Object,
 }
 
 /// A service as the document describes it.
@@ -42,7 +45,7 @@ pub struct ParsedService<'v> {
     /// The service's description.
     pub description: &'v str,
     /// How the service is checked.
-    pub check: ParsedCheck,
+    pub check: Object,
 }
 
 /// A dependency as the document describes it, between services or between hosts.
@@ -78,20 +81,4 @@ pub fn text(value: &Value) -> &str
     ensures { result.now ≡ text value.now }
 {
     value.as_str().unwrap_or("")
-}
-
-/// How one host or service is checked (manual: Service and Host Check Scheduling; State Types).
-#[derive(Clone, Copy, Debug, PartialEq, Eq)]
-pub struct Object {
-    // The fields that each report reads come first, next to each other.
-    /// From one check to the next, in units of `interval_length`, 0 to 525,600. 0 means that no check follows
-    /// automatically.
-    pub check_interval: u64,
-    /// How many checks in a row must find a problem before it is hard, 1 to 255.
-    pub max_check_attempts: u8,
-    /// Whether the object's checks are scheduled.
-    pub enabled: bool,
-    /// From one check to the next while the object is a soft problem, in units of
-    /// `interval_length`, 0 to 525,600.
-    pub retry_interval: u64,
 }

@@ -1,13 +1,12 @@
 -- Parents counted, the first key that stood before, and sets of texts.
-use Rattle.std.proofs.Common.{◌≡◌, ℕ, Bor, bytes_eq, ◌||◌, ◌+◌, ◌<◌, ◌≤◌, not, Bool, true, false, cond, List, [], ◌∷◌, ◌++◌, map, length, drop, take, get_or}
-use Rattle.std.proofs.Common.{subst, option_map}
+use Rattle.std.proofs.Common.{◌≡◌, ℕ, Bor, bytes_eq, ◌||◌, ◌+◌, ◌<◌, ◌≤◌, not, Bool, true, false, cond, List, [], ◌∷◌, ◌++◌, map, length, drop, get_or}
+use Rattle.std.proofs.Common.{option_map}
 use Rattle.std.proofs.Common.{Option, Some, refl, sym, ap, ◌∙◌, Ok, Err, append_assoc, arith}
-use Rattle.std.specs.Prelude.{All, nat_lt, option_and_then, slice_get, sum_by, unwrap_or}
+use Rattle.std.specs.Prelude.{nat_lt, option_and_then, slice_get, sum_by, unwrap_or}
 use Rattle.std.specs.List.{list_any, position, position_or_len}
 use Rattle.std.proofs.lemmas.Bool.Decides.{nat_tests}
 use Rattle.std.proofs.lemmas.Grind.{common_steps}
-use Rattle.std.proofs.lemmas.List.{map-append, take_more}
-use Rattle.std.proofs.lemmas.List.Elements.{All-append, All-from_recursion}
+use Rattle.std.proofs.lemmas.List.{map-append}
 use Rattle.setup_model.specs.declared.parsed_setup.ParsedHost.{ParsedHost}
 use Rattle.setup_model.specs.declared.fault.End.TheVariants as end
 use Rattle.setup_model.specs.declared.fault.EndFault.TheVariants as wrong
@@ -155,12 +154,7 @@ pub repeated_at : (place : ℕ → Place) (like : ℕ → ℕ) (o : Option ℕ) 
 repeated_at place like o i p first at here is =
     ap (error_at (λ j. fault.duplicate (place j) (like j))) at ∙ (λ k. Err (fault.duplicate (sym here k) (is k)))
 
--- ---- items so far
-
-pub all_next : {A : Type 0} (P : A → Type 0) (xs : List A) (i : ℕ) (x : A) → All P (take i xs) → i < length xs → x ≡ get_or xs i x → P x → All P (take (i + 1) xs)
-all_next P xs i x before below is here =
-    let more : take (i + 1) xs ≡ take i xs ++ x ∷ [] = take_more xs i x below ∙ ap (λ y. take i xs ++ y ∷ []) (sym is) in
-    subst (All P) (sym more) (All-append P (take i xs) (x ∷ []) before (All-from_recursion P (x ∷ []) (here, tt)))
+-- ---- items past an end
 
 pub get_or_same : {A : Type 0} (xs : List A) (i : ℕ) (d e : A) → i < length xs → get_or xs i d ≡ get_or xs i e
 get_or_same xs i d e below = grind (arith, common_steps)

@@ -2,7 +2,7 @@
 use Rattle.std.specs.Prelude.{List, [], ◌∷◌, map, Option, Some, None, unwrap_or, Result, Ok, Err}
 use Rattle.serde_json.specs.Data.{Data, Items, no_items, item}
 use Rattle.serde_json.specs.Find.{get, as_array}
-use Rattle.setup_model.specs.declared.parsed_setup.ParsedCheck.{ParsedCheck}
+use Rattle.setup_model.specs.declared.parsed_setup.Object.{Object}
 use Rattle.setup_model.specs.declared.options.Options.{Options}
 use Rattle.setup_model.specs.declared.options.DelayMethod.{DelayMethod}
 use Rattle.setup_model.specs.declared.options.DelayMethod.TheVariants as method
@@ -47,7 +47,7 @@ part_items p (Some d) = array_items p (as_array d)
 -- ---- hosts and services
 
 -- how an object is checked
-unfoldable pub check_of : Data → ParsedCheck
+unfoldable pub check_of : Data → Object
 check_of d = record {
   check_interval = number_at members.check_interval (Some d);
   retry_interval = number_at members.retry_interval (Some d);

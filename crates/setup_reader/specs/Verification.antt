@@ -1,7 +1,7 @@
 -- Verifies a parsed setup that is in the right shape: one test after another, each over all items. The fault is that of the first item that doesn't pass a
 -- test.
 use Rattle.std.specs.Prelude.{ℕ, ◌+◌, List, length, map, option_map, sum_by, position, not, Result, Ok, Err, bytes_eq, nat_lt, nat_le, if◌then◌else◌}
-use Rattle.setup_model.specs.declared.parsed_setup.ParsedCheck.{ParsedCheck}
+use Rattle.setup_model.specs.declared.parsed_setup.Object.{Object}
 use Rattle.setup_model.specs.declared.fault.Count.{Count}
 use Rattle.setup_model.specs.declared.fault.Count.TheVariants as count
 use Rattle.setup_model.specs.declared.options.DelayMethod.{DelayMethod}
@@ -112,7 +112,7 @@ factor_test m factor.Smart = Ok tt
 factor_test m (factor.Fixed n) = within m n
 
 -- both intervals and the attempts are within their limits
-abbrev pub check_ranges_test : ParsedCheck → Result (Unit {0}) RangeFault
+abbrev pub check_ranges_test : Object → Result (Unit {0}) RangeFault
 check_ranges_test c =
     within members.check_interval c.check_interval >>= λ _.
     (within members.retry_interval c.retry_interval >>= λ _. within members.max_check_attempts c.max_check_attempts)

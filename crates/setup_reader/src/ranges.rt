@@ -1,8 +1,8 @@
 //! Numbers and their limits, in the order of the table of members.
 
-ghost use Rattle.std.specs.Prelude.{map, OnOk, All, Some};
+ghost use Rattle.std.specs.Prelude.{map, Some};
 ghost use Rattle.setup_model.specs.Agreement.{each, IsExpectedResult};
-ghost use Rattle.setup_model.specs.ParsedViews.{host, service, HasBoundedAttempts};
+ghost use Rattle.setup_model.specs.ParsedViews.{host, service};
 ghost use Rattle.setup_model.specs.Fault.{IsExpectedReading, range_view, service_thresholds, host_thresholds};
 ghost use Rattle.setup_model.specs.Member.{as_row};
 ghost use Rattle.setup_reader.specs.Verification.{check_ranges_test, delay_test, factor_test, host_range_test, options_test, setup_ranges_test};
@@ -17,7 +17,7 @@ use setup_model::options::{
     SERVICE_INTERLEAVE_FACTOR,
 };
 use setup_model::{
-    DelayMethod, Fault, InterleaveFactor, Member, Options, ParsedCheck, ParsedHost, ParsedService,
+    DelayMethod, Fault, InterleaveFactor, Member, Object, Options, ParsedHost, ParsedService,
     Place, RangeFault,
 };
 
@@ -26,10 +26,8 @@ pub(crate) fn verify_ranges(
     hosts: &[ParsedHost<'_>],
     services: &[ParsedService<'_>],
 ) -> Result<(), Fault>
-    ensures exact { IsExpectedReading (λ u. u) result
+    ensures { IsExpectedReading (λ u. u) result
         (setup_ranges_test options.now (map host hosts.now) (map service services.now)) }
-    ensures hosts { OnOk result (All (λ h. HasBoundedAttempts h.check) hosts.now) }
-    ensures services { OnOk result (All (λ s. HasBoundedAttempts s.check) services.now) }
 {
     verify_options(options)?;
     verify_host_ranges(hosts)?;
@@ -37,8 +35,7 @@ pub(crate) fn verify_ranges(
 }
 
 fn verify_host_ranges(hosts: &[ParsedHost<'_>]) -> Result<(), Fault>
-    ensures exact { IsExpectedReading (λ u. u) result (each host_range_test (map host hosts.now)) }
-    ensures bounded { OnOk result (All (λ h. HasBoundedAttempts h.check) hosts.now) }
+    ensures { IsExpectedReading (λ u. u) result (each host_range_test (map host hosts.now)) }
 {
     for (index, host) in hosts.iter().enumerate() {
         if let Err(fault) = verify_check(host.check) {
@@ -49,8 +46,7 @@ fn verify_host_ranges(hosts: &[ParsedHost<'_>]) -> Result<(), Fault>
 }
 
 fn verify_service_ranges(services: &[ParsedService<'_>]) -> Result<(), Fault>
-    ensures exact { IsExpectedReading (λ u. u) result (each service_range_test (map service services.now)) }
-    ensures bounded { OnOk result (All (λ s. HasBoundedAttempts s.check) services.now) }
+    ensures { IsExpectedReading (λ u. u) result (each service_range_test (map service services.now)) }
 {
     for (index, service) in services.iter().enumerate() {
         if let Err(fault) = verify_check(service.check) {
@@ -60,9 +56,8 @@ fn verify_service_ranges(services: &[ParsedService<'_>]) -> Result<(), Fault>
     Ok(())
 }
 
-fn verify_check(check: ParsedCheck) -> Result<(), RangeFault>
-    ensures exact { IsExpectedResult (λ f. Some (range_view f)) (λ u. u) result (check_ranges_test check) }
-    ensures bounded { OnOk result (HasBoundedAttempts check) }
+fn verify_check(check: Object) -> Result<(), RangeFault>
+    ensures { IsExpectedResult (λ f. Some (range_view f)) (λ u. u) result (check_ranges_test check) }
 {
     verify_number(CHECK_INTERVAL, check.check_interval)?;
     verify_number(RETRY_INTERVAL, check.retry_interval)?;

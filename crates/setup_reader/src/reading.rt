@@ -28,8 +28,8 @@ use setup_model::options::{
     USE_AGGRESSIVE_HOST_CHECKING,
 };
 use setup_model::{
-    DelayMethod, Fault, InterleaveFactor, Member, Options, ParsedCheck, ParsedDependency,
-    ParsedHost, ParsedService, ParsedSetup, Part, Place,
+    DelayMethod, Fault, InterleaveFactor, Member, Object, Options, ParsedDependency, ParsedHost,
+    ParsedService, ParsedSetup, Part, Place,
 };
 use std::alloc::{AllocError, Global};
 
@@ -224,10 +224,10 @@ impl<'v> Item<'v> for ParsedDependency<'v> {
 
 /// How an object in the right shape is checked.
 #[tactic(auto, unfolding(crate::specs::Reading::check_of))]
-fn read_check(value: &Value) -> ParsedCheck
+fn read_check(value: &Value) -> Object
     ensures { result ≡ check_of (view value.now) }
 {
-    ParsedCheck {
+    Object {
         check_interval: number_at(Some(value), CHECK_INTERVAL),
         retry_interval: number_at(Some(value), RETRY_INTERVAL),
         max_check_attempts: number_at(Some(value), MAX_CHECK_ATTEMPTS),

@@ -1,8 +1,8 @@
 //! Verifies a parsed setup (manual: "Verifying Your Configuration"): counts, names, repeats, links, limits. Each test
 //! covers all items before the next test begins.
 
-ghost use Rattle.std.specs.Prelude.{◌≤◌, ◌+◌, length, OnOk, All};
-ghost use Rattle.setup_model.specs.ParsedViews.{parsed_view, HasBoundedAttempts};
+ghost use Rattle.std.specs.Prelude.{◌≤◌, ◌+◌, length, OnOk};
+ghost use Rattle.setup_model.specs.ParsedViews.{parsed_view};
 ghost use Rattle.setup_model.specs.Fault.{IsExpectedReading};
 ghost use Rattle.setup_reader.specs.Verification.{verification};
 
@@ -21,8 +21,6 @@ pub fn verify(alloc: Global, parsed: &ParsedSetup<'_>) -> Result<(), Fault>
     ensures exact { IsExpectedReading (λ u. u) result (verification (parsed_view parsed.now)) }
     ensures bounded { OnOk result
         (length parsed.now.hosts.items + length parsed.now.services.items ≤ 4096) }
-    ensures hosts { OnOk result (All (λ h. HasBoundedAttempts h.check) parsed.now.hosts.items) }
-    ensures services { OnOk result (All (λ s. HasBoundedAttempts s.check) parsed.now.services.items) }
 {
     verify_counts(parsed)?;
     verify_names(&parsed.hosts, &parsed.services)?;

@@ -1,4 +1,3 @@
-use Rattle.std.proofs.Common.{◌≡◌, get_or}
 use Rattle.setup_model.specs.ParsedViews.{dependency}
 use Rattle.setup_model.specs.Ends.{has_known_ends}
 use Rattle.setup_model.proofs.DefaultItems.{no_dependency}

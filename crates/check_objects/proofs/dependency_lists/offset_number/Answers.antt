@@ -1,4 +1,4 @@
-use Rattle.std.proofs.Common.{◌≡◌, ◌∙◌, ap, sym}
+use Rattle.std.proofs.Common.{◌∙◌, ap, sym}
 use Rattle.std.specs.Prelude.{is_some}
 use Rattle.check_objects.specs.Entries.{names_in}
 use Rattle.check_objects.proofs.DependencyEndLemmas.{number_known, place_known, place_of_name}

@@ -14,15 +14,11 @@ use Rattle.check_objects.proofs.object_index.number_objects.Goals as goal
 few_in_order : (hosts : List ParsedHost) → length hosts ≤ 4096 → length (hosts_in_order (map host hosts)) ≤ 4096
 few_in_order hosts bounded = omega (arith, bounded, hosts_counted (map host hosts), length-map hosts host)
 
-pub sort_hosts-requires-clause-distinct : goal.sort_hosts-requires-clause-distinct
-sort_hosts-requires-clause-distinct c =
-    ap (λ l. first_repeat bytes_eq (names_of (map host l))) c.deref.ensures.value
-    ∙ c.requires.names
+pub sort_hosts-requires : goal.sort_hosts-requires
+sort_hosts-requires c = record { distinct = ap (λ l. first_repeat bytes_eq (names_of (map host l))) c.deref.ensures.value ∙ c.requires.names }
 
-pub sort_services-requires-clause-distinct : goal.sort_services-requires-clause-distinct
-sort_services-requires-clause-distinct c =
-    ap (λ l. first_repeat is_same_key (map key_of (map service l))) c.deref-2.ensures.value
-    ∙ c.requires.keys
+pub sort_services-requires : goal.sort_services-requires
+sort_services-requires c = record { distinct = ap (λ l. first_repeat is_same_key (map key_of (map service l))) c.deref-2.ensures.value ∙ c.requires.keys }
 
 pub index_hosts-requires : goal.index_hosts-requires
 index_hosts-requires c =

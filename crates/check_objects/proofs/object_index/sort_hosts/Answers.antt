@@ -18,9 +18,8 @@ loop-item-preserved c =
     let item = c.item-item.result in
     c.loop-item.invariant
     ∙ placed_next _ text_order (λ k. k.now) (λ v. (v.0, map text v.1.now)) (λ a b. refl) (λ h. h.name) host_body (map host) host
-    (λ d more. refl) c.loop-item.sorted.entries c.insert.new.self.entries item.name (c.object.result, item.parents) ds i item
-    (dropped_as ds i item c.loop-item-test.true c.item-item.is) c.in_ok-insert.ensures.entries refl
-    (ap (λ o. (o, map text item.parents.now)) c.object.ensures)
+    (λ d more. refl) c.loop-item.sorted.entries c.insert.new.self.entries item.name (item.check, item.parents) ds i item
+    (dropped_as ds i item c.loop-item-test.true c.item-item.is) c.in_ok-insert.ensures.entries refl refl
 
 pub returns : goal.returns
 returns c =

@@ -1,6 +1,5 @@
 use Rattle.std.proofs.Common.{◌≡◌, [], map, drop}
 use Rattle.setup_model.specs.Keys.{key_of}
-use Rattle.check_objects.specs.Numbering.{object_of}
 use Rattle.setup_model.specs.Name.{pair_order}
 use Rattle.setup_model.specs.ParsedViews.{service}
 use Rattle.check_objects.specs.Entries.{sorted_service}
@@ -9,5 +8,5 @@ use Rattle.check_objects.proofs.InsertionLemmas.{placed}
 
 abbrev pub invariant-loop-item : goal.invariant-loop-item
 invariant-loop-item l =
-    placed pair_order key_of (λ s. object_of s.check) [] (map service l.parsed)
-    ≡ placed pair_order key_of (λ s. object_of s.check) (map sorted_service l.sorted.entries) (map service (drop l.item-index l.parsed))
+    placed pair_order key_of (λ s. s.check) [] (map service l.parsed)
+    ≡ placed pair_order key_of (λ s. s.check) (map sorted_service l.sorted.entries) (map service (drop l.item-index l.parsed))
