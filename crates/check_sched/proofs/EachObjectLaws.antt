@@ -71,31 +71,33 @@ name_is c n o e = ap (λ found. unwrap_or (option_map (λ (x : NamedObject). x.n
 
 -- ---- what is saved of an object
 
-pub saved_made : (s : State) (n : ℕ) (o : NamedObject) (object : Object) (name : List ℕ) (standing : Standing) (results : List rules.State) (x y : Scheduling) (interval : ℕ)
+pub saved_made : (s : State) (n : ℕ) (o : NamedObject) (object : Object) (name : List ℕ) (standing : Standing) (results : List rules.State) (x y : Scheduling)
+    (interval attempts : ℕ)
     → slice_get (objects_of s.setup) n ≡ Some o → option_map (λ z. z.object) (slice_get (objects_of s.setup) n) ≡ Some object
     → name ≡ name_of s.setup n → standing_at s.standings n ≡ standing → results ≡ results_at s.results n
-    → slice_get s.objects n ≡ Some x → y ≡ x → interval ≡ milliseconds s.setup object.check_interval
+    → slice_get s.objects n ≡ Some x → y ≡ x → interval ≡ milliseconds s.setup object.check_interval → attempts ≡ object.max_check_attempts
     → let made : SavedObject = record {
       name = name;
       standing = standing;
       results = results;
       scheduling = y;
       interval = interval;
-      max_attempts = object.max_check_attempts;
+      max_attempts = attempts;
       setup_enabled = object.enabled;
     } in made ≡ saved_object s (n, o)
-saved_made s n o object name standing results x y interval e f named stands kept at is every =
+saved_made s n o object name standing results x y interval attempts e f named stands kept at is every limit =
     let same = object_is (slice_get (objects_of s.setup) n) o object e f in
     let full = named ∙ name_is s.setup n o e in
     let scheduled = is ∙ sym (ap (λ found. unwrap_or found (opening_object None false)) at) in
     let times = every ∙ ap (λ (z : Object). milliseconds s.setup z.check_interval) same in
+    let most = limit ∙ ap (λ (z : Object). z.max_check_attempts) same in
     λ i. record {
       name = full i;
       standing = sym stands i;
       results = kept i;
       scheduling = scheduled i;
       interval = times i;
-      max_attempts = ap (λ (z : Object). z.max_check_attempts) same i;
+      max_attempts = most i;
       setup_enabled = ap (λ (z : Object). z.enabled) same i;
     }
 

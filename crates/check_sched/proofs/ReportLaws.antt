@@ -50,6 +50,9 @@ object_in_range setup n o h e = all_at (λ x. is_object_in_range x.object) (obje
 pub one_attempt : (o : Object) → is_object_in_range o ≡ true → 1 ≤ o.max_check_attempts
 one_attempt o e = grind (arith, nat_tests, e)
 
+pub few_attempts : (o : Object) → is_object_in_range o ≡ true → o.max_check_attempts ≤ 255
+few_attempts o e = grind (arith, nat_tests, e)
+
 attempts_by : (setup : Configuration) (n : ℕ) (found : Option NamedObject) → IsSetup setup → slice_get (objects_of setup) n ≡ found
     → 1 ≤ option_map_or (λ o. o.object.max_check_attempts) found 1
 attempts_by setup n None h e = omega arith

@@ -6,7 +6,7 @@ ghost use Rattle.check_rules.specs.State.{is_another_state, is_host_state, is_pr
 ghost use Rattle.check_sched.specs.State.{IsStandingOf, flap_thresholds_of, is_host, max_attempts_of, standing_at};
 ghost use Rattle.check_sched.specs.Report.{is_host_up, new_standing, state_found};
 
-use check_objects::Setup;
+use check_objects::{Object, Setup};
 use check_rules::{Code, Standing, State, host_state, service_state, verdict};
 
 /// The state of the object with this number after its check returned this code, given the standings
@@ -99,7 +99,15 @@ fn max_attempts(setup: &Setup, number: u32) -> u8
     ensures value { result ≡ max_attempts_of setup.now number }
     ensures nonempty { 1 ≤ result }
 {
-    setup.object(number).max_check_attempts
+    attempts_of(setup.object(number))
+}
+
+/// The maximum of check attempts of an object whose numbers are in their ranges.
+pub(crate) fn attempts_of(object: &Object) -> u8
+    requires { object.now.max_check_attempts ≤ 255 }
+    ensures { result ≡ object.now.max_check_attempts }
+{
+    object.max_check_attempts as u8
 }
 
 /// Whether the state differs from the one before.

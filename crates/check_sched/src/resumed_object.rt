@@ -6,6 +6,7 @@ ghost use Rattle.check_sched.specs.Saved.{is_same_switch, keeps_time, scheduling
 ghost use Rattle.check_sched.specs.Saved.{standing_after_resume};
 
 use crate::object_state::ObjectState;
+use crate::report::attempts_of;
 use check_objects::{MAX_INTERVAL, Object, Setup};
 use check_rules::{Kind, Standing, pending};
 use check_saved_state::SavedObject;
@@ -77,11 +78,12 @@ fn is_same_switch(one: bool, other: bool) -> bool
 
 /// The standing of an object, a host or a service. The standing of a new object is pending.
 pub(crate) fn standing(host: bool, object: &Object, kept: Option<&SavedObject>) -> Standing
-    requires { 1 ≤ object.now.max_check_attempts }
+    requires nonempty { 1 ≤ object.now.max_check_attempts }
+    requires bounded { object.now.max_check_attempts ≤ 255 }
     ensures { result ≡ standing_after_resume host object.now (option_map (λ o. o.now) kept.entry) }
 {
     match kept {
-        Some(saved) => standing_kept(saved.standing, object.max_check_attempts),
+        Some(saved) => standing_kept(saved.standing, attempts_of(object)),
         None => pending(host),
     }
 }

@@ -50,7 +50,7 @@ fn object_diff(setup: &Setup, object: &Object, saved: &SavedObject) -> ObjectDif
 {
     ObjectDiff {
         running: saved.run.is_some(),
-        attempts: object.max_check_attempts != saved.max_attempts,
+        attempts: object.max_check_attempts != u64::from(saved.max_attempts),
         interval: milliseconds(setup, object.check_interval) != saved.interval,
         enabled: object.enabled != saved.setup_enabled,
     }

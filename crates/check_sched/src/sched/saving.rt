@@ -5,6 +5,7 @@ ghost use Rattle.check_objects.specs.Configuration.{NamedObject, object_count, o
 ghost use Rattle.check_sched.specs.Saved.{saved_object, saved_of};
 
 use super::Sched;
+use crate::report::attempts_of;
 use check_saved_state::{Saved, SavedObject};
 use check_spread::milliseconds;
 use std::alloc::{AllocError, Global};
@@ -53,7 +54,7 @@ impl Sched {
             enabled: state.is_enabled(),
             forced: state.is_forced(),
             interval: milliseconds(&self.setup, object.check_interval),
-            max_attempts: object.max_check_attempts,
+            max_attempts: attempts_of(object),
             setup_enabled: object.enabled,
         })
     }

@@ -5,12 +5,17 @@ use Rattle.check_sched.specs.Sched.{state_of}
 use Rattle.check_saved_state.specs.Scheduling.{Scheduling}
 use Rattle.check_sched.specs.State.{State, results_at}
 use Rattle.check_sched.proofs.EachObjectLaws.{saved_made}
-use Rattle.check_sched.proofs.ReportLaws.{check_in_range, object_read_in_range, standing_read}
+use Rattle.check_sched.proofs.ReportLaws.{check_in_range, few_attempts, object_read_in_range, standing_read}
 use Rattle.check_sched.proofs.sched.Sched.saved_object.Goals as goal
 
 pub milliseconds-requires-clause-interval : goal.milliseconds-requires-clause-interval
 milliseconds-requires-clause-interval c =
     check_in_range c.object-object.result.now
+    (object_read_in_range c.self.inside.setup c.args.number c.object-object.result.now c.self.invariant.state.valid_setup c.object-object.ensures)
+
+pub attempts_of-requires : goal.attempts_of-requires
+attempts_of-requires c =
+    few_attempts c.object-object.result.now
     (object_read_in_range c.self.inside.setup c.args.number c.object-object.result.now c.self.invariant.state.valid_setup c.object-object.ensures)
 
 pub returns : goal.returns
@@ -31,4 +36,5 @@ returns c =
     } in
     rw (← c.self.view_is)
     (λ o e. saved_made s n o c.object-object.result.now (string_bytes c.in_ok-name.name) c.index.result.now c.in_ok-results.results.items c.at-state.result.now state
-    c.milliseconds.result e c.object-object.ensures (c.in_ok-name.ensures.ok ∙ c.name.ensures) stands kept c.at-state.ensures same c.milliseconds.ensures.value)
+    c.milliseconds.result c.attempts_of.result e c.object-object.ensures (c.in_ok-name.ensures.ok ∙ c.name.ensures) stands kept c.at-state.ensures same
+    c.milliseconds.ensures.value c.attempts_of.ensures)

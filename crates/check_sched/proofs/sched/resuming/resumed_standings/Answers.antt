@@ -6,13 +6,18 @@ use Rattle.check_saved_state.specs.Saved.{saved_by_name}
 use Rattle.check_sched.specs.Saved.{standing_after_resume}
 use Rattle.check_sched.specs.State.{is_host}
 use Rattle.check_sched.proofs.EachObjectLaws.{one_each, standing_seen}
-use Rattle.check_sched.proofs.ReportLaws.{object_read_in_range, one_attempt}
+use Rattle.check_sched.proofs.ReportLaws.{few_attempts, object_read_in_range, one_attempt}
 use Rattle.check_sched.proofs.ResumedLaws.{length-made}
 use Rattle.check_sched.proofs.sched.resuming.resumed_standings.Goals as goal
 
-pub standing-requires : goal.standing-requires
-standing-requires c =
+pub standing-requires-clause-nonempty : goal.standing-requires-clause-nonempty
+standing-requires-clause-nonempty c =
     one_attempt c.object-object.result.now
+    (object_read_in_range c.args.setup.now c.loop-index.index c.object-object.result.now c.len-count.ensures.setup c.object-object.ensures)
+
+pub standing-requires-clause-bounded : goal.standing-requires-clause-bounded
+standing-requires-clause-bounded c =
+    few_attempts c.object-object.result.now
     (object_read_in_range c.args.setup.now c.loop-index.index c.object-object.result.now c.len-count.ensures.setup c.object-object.ensures)
 
 pub loop-index-preserved : goal.loop-index-preserved
