@@ -4,7 +4,7 @@ use Rattle.std.proofs.Math.Nat.{mod-lt}
 use Rattle.std.proofs.lemmas.Grind.{get_or_default_zero}
 use Rattle.std.proofs.lemmas.List.{take_all}
 use Rattle.std.proofs.lemmas.List.Elements.{All-push}
-use Rattle.setup_model.specs.declared.parsed_setup.Object.{Object}
+use Rattle.setup_model.proofs.DefaultItems.{no_check}
 use Rattle.check_spread.specs.Spread.{first_times}
 use Rattle.check_spread.specs.declared.limits.TheConstants.{LAST_TIME}
 use Rattle.check_spread.specs.Visits.{is_visited_earlier}
@@ -42,8 +42,7 @@ loop-position-preserved c =
     let position = c.loop-position.position in
     let has = c.loop-position.invariant.0 in
     let below : position % spread.factor < spread.factor = mod-lt position c.requires.limits.steps in
-    let none : Object = record { check_interval = 0; retry_interval = 0; max_check_attempts = 0; enabled = false } in
-    let more = first_times_more spread objects position none c.loop-position-test.true in
+    let more = first_times_more spread objects position no_check c.loop-position-test.true in
     elim c.if-is_scheduled.branch [
       | then-is_scheduled+in_ok-push w ↦
           let ranks_at = get_or_default_zero c.loop-position.ranks.items (position % spread.factor) w.index_mut.result.now (omega (arith, below, has.size)) in
@@ -51,11 +50,11 @@ loop-position-preserved c =
           let is = sym c.is_scheduled.ensures ∙ w.if-is_scheduled.true in (
             rw (w.ranks-is, w.index_mut.ensures.value, ranks_at)
                 (counts_add (is_visited_earlier spread.factor position) (is_visited_earlier spread.factor (position + 1)) spread.factor position objects
-                none c.loop-position.ranks.items c.requires.limits.steps below c.loop-position-test.true is (earlier_same spread.factor position)
+                no_check c.loop-position.ranks.items c.requires.limits.steps below c.loop-position-test.true is (earlier_same spread.factor position)
                 (earlier_more spread.factor position) has),
             rw w.times-is (pushed c.args.times.now.items c.loop-position.times.items w.push.new.self.items _ _
                 (Some w.time.result) _ w.in_ok-push.ensures.items c.loop-position.invariant.1 more
-                (first_time_is spread objects position w.index.result.now (slice_index_or objects position none) c.of-scheduled.result is c.of-scheduled.ensures
+                (first_time_is spread objects position w.index.result.now (slice_index_or objects position no_check) c.of-scheduled.result is c.of-scheduled.ensures
                 (let at = has.at (position % spread.factor) below in w.index.ensures ∙ rank_at ∙ at) ∙ ap Some (sym w.time.ensures.time))),
             rw (w.times-is, w.in_ok-push.ensures.items) (All-push
                 (λ first. IfSome first (λ time. time < LAST_TIME)) c.loop-position.times.items (Some w.time.result)
@@ -63,11 +62,11 @@ loop-position-preserved c =
           )
       | else-is_scheduled+in_ok-push-2 w ↦ (
         rw w.ranks-is (counts_skip (is_visited_earlier spread.factor position) (is_visited_earlier spread.factor (position + 1)) spread.factor position
-            objects none c.loop-position.ranks.items c.loop-position-test.true (sym c.is_scheduled.ensures ∙ w.if-is_scheduled.false)
+            objects no_check c.loop-position.ranks.items c.loop-position-test.true (sym c.is_scheduled.ensures ∙ w.if-is_scheduled.false)
             (earlier_same spread.factor position) (earlier_more spread.factor position) has),
         rw w.times-is (pushed c.args.times.now.items c.loop-position.times.items w.push-else-is_scheduled.new.self.items _ _ None _
             w.in_ok-push-2.ensures.items c.loop-position.invariant.1 more
-            (first_time_none spread objects position (slice_index_or objects position none) (sym c.is_scheduled.ensures ∙ w.if-is_scheduled.false))),
+            (first_time_none spread objects position (slice_index_or objects position no_check) (sym c.is_scheduled.ensures ∙ w.if-is_scheduled.false))),
         rw (w.times-is, w.in_ok-push-2.ensures.items) (All-push
             (λ first. IfSome first (λ time. time < LAST_TIME)) c.loop-position.times.items None c.loop-position.invariant.2 tt),
       )
