@@ -8,9 +8,9 @@ use Rattle.setup_model.specs.LoadError.{error_number}
 use Rattle.check_saved_state.specs.declared.fault.SavedFault.{SavedFault}
 use Rattle.check_saved_state.specs.declared.fault.SavedFault.TheVariants as fault
 use Rattle.nagsched_handles.specs.declared.structs.CRefusal.{CRefusal}
-use Rattle.nagsched_handles.specs.Structs.{c_refusal, refusal_from_c}
+use Rattle.nagsched_handles.specs.Structs.{c_refusal}
 use Rattle.nagsched_handles.specs.SavedFaults.{fault_from_c, c_fault, IsNoFault}
-use Rattle.nagsched_handles.proofs.StructLaws.{none_has, number_is, refusal_is, output}
+use Rattle.nagsched_handles.proofs.StructLaws.{none_has, number_is, refusal_from_c, refusal_is, output}
 
 fault_is : (e : SavedFault) → fault_from_c (c_fault e) ≡ e
 fault_is fault.TooLong = refl

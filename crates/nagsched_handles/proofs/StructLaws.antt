@@ -25,7 +25,7 @@ use Rattle.check_sched.specs.declared.call.Refusal.TheVariants as refused
 use Rattle.nagsched_handles.specs.declared.structs.CReply.{CReply}
 use Rattle.nagsched_handles.specs.declared.structs.CEntry.{CEntry}
 use Rattle.nagsched_handles.specs.declared.structs.CRefusal.{CRefusal}
-use Rattle.nagsched_handles.specs.Structs.{call_from_c, code_or_unknown, kind_or_hard, optional_number, part_or_host_dependencies, place_from_c, refusal_from_c}
+use Rattle.nagsched_handles.specs.Structs.{call_from_c, code_or_unknown, kind_or_hard, optional_number, part_or_host_dependencies, place_from_c}
 use Rattle.nagsched_handles.specs.Structs.{reply_from_c, standing_from_c, state_or_unreachable}
 use Rattle.nagsched_handles.specs.Structs.{IsNoRefusal, IsNoReply}
 use Rattle.check_rules.specs.Numbers.{code_number, kind_number, state_number}
@@ -123,6 +123,10 @@ place_of_struct kind None = refl
 kind_of_struct : (kind : ℕ) (o : Option Place) → (refusal_of_place kind o).kind ≡ kind
 kind_of_struct kind (Some p) = refl
 kind_of_struct kind None = refl
+
+-- read back: the refusal that the fields of a struct name; if they name none, it is out of memory
+abbrev pub refusal_from_c : CRefusal → LoadError
+refusal_from_c p = unwrap_or (numbered_error p.kind (place_from_c p)) load.Memory
 
 pub refusal_is : (e : LoadError) → refusal_from_c (c_refusal e) ≡ e
 refusal_is e =

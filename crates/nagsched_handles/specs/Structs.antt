@@ -6,7 +6,7 @@ use Rattle.setup_model.specs.declared.error.LoadError.TheVariants as load
 use Rattle.setup_model.specs.declared.place.Place.{Place}
 use Rattle.setup_model.specs.declared.place.Part.{Part}
 use Rattle.setup_model.specs.declared.place.Part.TheVariants as part
-use Rattle.setup_model.specs.LoadError.{error_number, numbered_error, place_of}
+use Rattle.setup_model.specs.LoadError.{error_number, place_of}
 use Rattle.setup_model.specs.Place.{part_of_number, part_number}
 use Rattle.check_rules.specs.declared.standing.Kind.{Kind}
 use Rattle.check_rules.specs.declared.standing.Kind.TheVariants as kind
@@ -190,9 +190,6 @@ reply_from_c p = cond (p.kind == REPLY_TAKEN) (reply.Taken p.object p.run)
 
 abbrev pub place_from_c : CRefusal → Place
 place_from_c p = record { part = part_or_host_dependencies p.part; index = optional_number p.has_index p.index }
-
-abbrev pub refusal_from_c : CRefusal → LoadError
-refusal_from_c p = unwrap_or (numbered_error p.kind (place_from_c p)) load.Memory
 
 -- ---- structs of no value
 

@@ -2,7 +2,7 @@
 
 ghost use Rattle.std.specs.Prelude.{◌≡◌, ◌≢◌, IfNone, IfSome};
 ghost use Rattle.setup_model.specs.declared.error.LoadError.TheVariants.{Memory};
-ghost use Rattle.nagsched_handles.specs.Structs.{place_from_c, c_refusal, refusal_at, refusal_from_c, refusal_without_place, IsNoRefusal};
+ghost use Rattle.nagsched_handles.specs.Structs.{place_from_c, c_refusal, refusal_at, refusal_without_place, IsNoRefusal};
 
 use crate::numbers::{index_parts, optional_index, part_or_host_dependencies};
 use crate::structs::CRefusal;
@@ -49,18 +49,8 @@ pub fn refusal_of(plain: CRefusal) -> Option<LoadError>
     ensures output { IfSome result (λ error. error ≢ Memory) }
     ensures none { IfNone result (IsNoRefusal plain) }
 {
-    match refusal_from_c(plain) {
-        LoadError::Memory => None,
-        error => (c_refusal(error) == plain).then_some(error),
-    }
-}
-
-/// The refusal that the fields of a struct name, if they are those of a refusal. For other fields it is
-/// `Memory`, whose struct no function writes.
-fn refusal_from_c(plain: CRefusal) -> LoadError
-    ensures { result ≡ refusal_from_c plain }
-{
-    LoadError::from_number(plain.kind, place_from_c(plain)).unwrap_or(LoadError::Memory)
+    let error = LoadError::from_number(plain.kind, place_from_c(plain))?;
+    (c_refusal(error) == plain).then_some(error)
 }
 
 /// The place that the fields of a struct name, if they name one.

@@ -1,4 +1,4 @@
 mod FaultLemmas
 mod MonthLemmas
 mod RoundLemmas
-mod RunLemmas
+pub mod RunLemmas

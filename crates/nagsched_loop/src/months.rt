@@ -21,7 +21,7 @@ ghost use Rattle.nagsched_loop.specs.Months.{IsGeneration, IsGenerationText, IsS
 use crate::environment::{End, Environment, Files};
 use crate::fault::Fault;
 use crate::resuming::{begin, saved_text};
-use crate::round::{GenerationEnd, round};
+use crate::round::{GenerationEnd, Round};
 use crate::runs::{Run, running_checks};
 use check_book::Book;
 use check_desk::{Desk, Pass};
@@ -166,8 +166,12 @@ fn watch<O: Environment>(
 {
     let mut pass = pass;
     for _round in 0..rounds {
-        let now = environment.now();
-        pass = match round(rt, desk, pass, environment, runs, now) {
+        let round = Round {
+            rt,
+            desk,
+            moment: environment.now(),
+        };
+        pass = match round.run(pass, environment, runs) {
             Ok(pass) => pass,
             Err(ended) => return ended,
         };

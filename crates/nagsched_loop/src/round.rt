@@ -28,154 +28,172 @@ pub(crate) struct GenerationEnd {
     pub(crate) end: End,
 }
 
-/// One round, at this moment. If a check was taken or put off, the next round comes at once. Otherwise the
-/// round sleeps.
-pub(crate) fn round<O: Environment>(
-    rt: &impl Wait,
-    desk: &Desk,
-    pass: Pass,
-    environment: &mut O,
-    runs: &mut Vec<Run>,
-    now: u64,
-) -> Result<Pass, GenerationEnd>
-    requires desk { IsPassOf desk.now pass }
-    requires moment { now ≤ LAST_MOMENT }
-    ensures returned { IsReturnedResult desk.now (pass_of pass) runs.old.items runs.new.items result }
-    ensures taken { IfOk result (λ returned. IsLoopRound O.does now (pass_of pass) (pass_of returned)
-        runs.old.items runs.new.items environment.old environment.new) }
-{
-    let pass = make_calls(rt, desk, pass, environment, runs)?;
-    let pass = abandon_overdue(rt, desk, pass, runs, now)?;
-    let (pass, reply) = take(rt, desk, pass, environment, runs, now)?;
-    rest(environment, now, reply, runs.as_slice());
-    Ok(pass)
+/// A round: the desk at which it works, the handle to wait there, and its moment.
+#[derive(Drop)]
+pub(crate) struct Round<'a, R> {
+    pub(crate) rt: &'a R,
+    pub(crate) desk: &'a Desk,
+    pub(crate) moment: u64,
 }
 
-/// Makes the calls that have come in: reports of plugins, and calls of operators.
-fn make_calls<O: Environment>(
-    rt: &impl Wait,
-    desk: &Desk,
-    pass: Pass,
-    environment: &mut O,
-    runs: &mut Vec<Run>,
-) -> Result<Pass, GenerationEnd>
-    requires { IsPassOf desk.now pass }
-    ensures returned { IsReturnedResult desk.now (pass_of pass) runs.old.items runs.new.items result }
-    ensures called { IfOk result (λ returned. HasMadeIncomingCalls O.does (pass_of pass) (pass_of returned)
-        runs.old.items runs.new.items environment.old environment.new) }
-{
-    let mut pass = pass;
-    for _call in 0..CALLS_AT_ONCE {
-        match environment.next_event() {
-            Some(Event::Call(call)) => {
-                pass = make_call(rt, desk, pass, environment, runs, call)?;
+impl<R: Wait> Round<'_, R> {
+    /// Runs the round. If a check was taken or put off, the next round comes at once. Otherwise the round
+    /// sleeps.
+    pub(crate) fn run<O: Environment>(
+        &self,
+        pass: Pass,
+        environment: &mut O,
+        runs: &mut Vec<Run>,
+    ) -> Result<Pass, GenerationEnd>
+        requires desk { IsPassOf self.now.desk.now pass }
+        requires moment { self.now.moment ≤ LAST_MOMENT }
+        ensures returned { IsReturnedResult self.now.desk.now (pass_of pass)
+            runs.old.items runs.new.items result }
+        ensures taken { IfOk result (λ returned. IsLoopRound O.does self.now.moment
+            (pass_of pass) (pass_of returned) runs.old.items runs.new.items environment.old environment.new) }
+    {
+        let pass = self.make_calls(pass, environment, runs)?;
+        let pass = self.abandon_overdue(pass, runs)?;
+        let (pass, reply) = self.take(pass, environment, runs)?;
+        rest(environment, self.moment, reply, runs.as_slice());
+        Ok(pass)
+    }
+
+    /// Makes the calls that have come in: reports of plugins, and calls of operators.
+    fn make_calls<O: Environment>(
+        &self,
+        pass: Pass,
+        environment: &mut O,
+        runs: &mut Vec<Run>,
+    ) -> Result<Pass, GenerationEnd>
+        requires { IsPassOf self.now.desk.now pass }
+        ensures returned { IsReturnedResult self.now.desk.now (pass_of pass)
+            runs.old.items runs.new.items result }
+        ensures called { IfOk result (λ returned. HasMadeIncomingCalls O.does
+            (pass_of pass) (pass_of returned) runs.old.items runs.new.items environment.old environment.new) }
+    {
+        let mut pass = pass;
+        for _call in 0..CALLS_AT_ONCE {
+            match environment.next_event() {
+                Some(Event::Call(call)) => {
+                    pass = self.make_call(pass, environment, runs, call)?;
+                }
+                Some(Event::Ends(end)) => return Err(GenerationEnd { pass, end }),
+                None => return Ok(pass),
             }
-            Some(Event::Ends(end)) => return Err(GenerationEnd { pass, end }),
-            None => return Ok(pass),
+        }
+        Ok(pass)
+    }
+
+    /// Makes a call that came in. A call that can't be made isn't answered, and comes in again.
+    #[tactic(auto, using(crate::proofs::RunLemmas::keeps_same))]
+    fn make_call<O: Environment>(
+        &self,
+        pass: Pass,
+        environment: &mut O,
+        runs: &mut Vec<Run>,
+        call: Call,
+    ) -> Result<Pass, GenerationEnd>
+        requires { IsPassOf self.now.desk.now pass }
+        ensures returned { IsReturnedResult self.now.desk.now (pass_of pass)
+            runs.old.items runs.new.items result }
+        ensures made { IfOk result (λ returned. (reply : ReplyOf)
+            × HasRecorded call reply (pass_of pass) (pass_of returned)
+            × O.does environment.old (answers call reply) environment.new
+            × (runs.new.items ≡ runs_after_call call runs.old.items)) }
+        ensures stays { OnErr result ((environment.new ≡ environment.old)
+            × (runs.new.items ≡ runs.old.items)) }
+    {
+        let (pass, reply) = self.ask(pass, call)?;
+        forget(runs, call);
+        environment.accept_reply(call, reply);
+        Ok(pass)
+    }
+
+    /// Abandons each run that is past its limit, so that its object is due again.
+    fn abandon_overdue(&self, pass: Pass, runs: &mut Vec<Run>) -> Result<Pass, GenerationEnd>
+        requires { IsPassOf self.now.desk.now pass }
+        ensures returned { IsReturnedResult self.now.desk.now (pass_of pass)
+            runs.old.items runs.new.items result }
+        ensures abandoned { IfOk result (λ returned. HasAbandoned self.now.moment
+            (pass_of pass) (pass_of returned) runs.old.items runs.new.items) }
+        ensures none_left { OnOk result (All (λ run. self.now.moment < run.limit) runs.new.items) }
+    {
+        let mut pass = pass;
+        while let Some(run) = overdue_run(runs.as_slice(), self.moment) {
+            pass = self.abandon_run(pass, runs, run)?;
+        }
+        Ok(pass)
+    }
+
+    /// Abandons a run, and removes it from the list.
+    #[tactic(auto, using(crate::proofs::RunLemmas::keeps_same))]
+    fn abandon_run(&self, pass: Pass, runs: &mut Vec<Run>, run: Run) -> Result<Pass, GenerationEnd>
+        requires desk { IsPassOf self.now.desk.now pass }
+        requires overdue_run { run.limit ≤ self.now.moment }
+        ensures returned { IsReturnedResult self.now.desk.now (pass_of pass)
+            runs.old.items runs.new.items result }
+        ensures abandoned { IfOk result (λ returned. (reply : ReplyOf)
+            × HasRecorded (call.Abandon run.object run.number self.now.moment) reply
+            (pass_of pass) (pass_of returned)
+            × (runs.new.items
+            ≡ runs_after_call (call.Abandon run.object run.number self.now.moment) runs.old.items)) }
+    {
+        let abandoned = Call::Abandon {
+            object: run.object,
+            run: run.number,
+            now: self.moment,
+        };
+        let (pass, _reply) = self.ask(pass, abandoned)?;
+        forget(runs, abandoned);
+        Ok(pass)
+    }
+
+    /// Takes a check, and starts its plugin. If the plugin can't be started, the run is past its limit at
+    /// once.
+    fn take<O: Environment>(
+        &self,
+        pass: Pass,
+        environment: &mut O,
+        runs: &mut Vec<Run>,
+    ) -> Result<(Pass, Reply), GenerationEnd>
+        requires desk { IsPassOf self.now.desk.now pass }
+        requires moment { self.now.moment ≤ LAST_MOMENT }
+        ensures returned { IsReturnedWithReply self.now.desk.now (pass_of pass) result }
+        ensures taken { IfOk result (λ made.
+            HasRecorded (call.Take self.now.moment) made.1 (pass_of pass) (pass_of made.0)) }
+        ensures begun { IfOk result (λ made. HasBegunCheck O.does self.now.moment made.1
+            runs.old.items runs.new.items environment.old environment.new) }
+        ensures stays { OnErr result (runs.new.items ≡ runs.old.items) }
+    {
+        if runs.reserve(1).is_err() {
+            let end = End::Renewal;
+            return Err(GenerationEnd { pass, end });
+        }
+        let (pass, reply) = self.ask(pass, Call::Take { now: self.moment })?;
+        if let Reply::Taken { object, run } = reply {
+            start(environment, runs, object, run, self.moment);
+        }
+        Ok((pass, reply))
+    }
+
+    /// Makes a call. If the call can't be made, the generation ends. The next one has room and makes the
+    /// call.
+    fn ask(&self, pass: Pass, call: Call) -> Result<(Pass, Reply), GenerationEnd>
+        requires { IsPassOf self.now.desk.now pass }
+        ensures returned { IsReturnedWithReply self.now.desk.now (pass_of pass) result }
+        ensures made { IfOk result (λ made.
+            HasRecorded call made.1 (pass_of pass) (pass_of made.0)) }
+    {
+        let (pass, answer) = self.desk.ask(self.rt, pass, call);
+        match answer {
+            Answer::Reply(reply) => Ok((pass, reply)),
+            Answer::NoMemory | Answer::Spent => {
+                let end = End::Renewal;
+                Err(GenerationEnd { pass, end })
+            }
         }
     }
-    Ok(pass)
-}
-
-/// Makes a call that came in. A call that can't be made isn't answered, and comes in again.
-fn make_call<O: Environment>(
-    rt: &impl Wait,
-    desk: &Desk,
-    pass: Pass,
-    environment: &mut O,
-    runs: &mut Vec<Run>,
-    call: Call,
-) -> Result<Pass, GenerationEnd>
-    requires { IsPassOf desk.now pass }
-    ensures returned { IsReturnedResult desk.now (pass_of pass) runs.old.items runs.new.items result }
-    ensures made { IfOk result (λ returned. (reply : ReplyOf)
-        × HasRecorded call reply (pass_of pass) (pass_of returned)
-        × O.does environment.old (answers call reply) environment.new
-        × (runs.new.items ≡ runs_after_call call runs.old.items)) }
-    ensures stays { OnErr result ((environment.new ≡ environment.old)
-        × (runs.new.items ≡ runs.old.items)) }
-{
-    let (pass, reply) = ask(rt, desk, pass, call)?;
-    forget(runs, call);
-    environment.accept_reply(call, reply);
-    Ok(pass)
-}
-
-/// Abandons each run that is past its limit, so that its object is due again.
-fn abandon_overdue(
-    rt: &impl Wait,
-    desk: &Desk,
-    pass: Pass,
-    runs: &mut Vec<Run>,
-    now: u64,
-) -> Result<Pass, GenerationEnd>
-    requires { IsPassOf desk.now pass }
-    ensures returned { IsReturnedResult desk.now (pass_of pass) runs.old.items runs.new.items result }
-    ensures abandoned { IfOk result (λ returned. HasAbandoned now (pass_of pass) (pass_of returned)
-        runs.old.items runs.new.items) }
-    ensures none_left { OnOk result (All (λ run. now < run.limit) runs.new.items) }
-{
-    let mut pass = pass;
-    while let Some(run) = overdue_run(runs.as_slice(), now) {
-        pass = abandon_run(rt, desk, pass, runs, run, now)?;
-    }
-    Ok(pass)
-}
-
-/// Abandons a run, and removes it from the list.
-fn abandon_run(
-    rt: &impl Wait,
-    desk: &Desk,
-    pass: Pass,
-    runs: &mut Vec<Run>,
-    run: Run,
-    now: u64,
-) -> Result<Pass, GenerationEnd>
-    requires desk { IsPassOf desk.now pass }
-    requires overdue_run { run.limit ≤ now }
-    ensures returned { IsReturnedResult desk.now (pass_of pass) runs.old.items runs.new.items result }
-    ensures abandoned { IfOk result (λ returned. (reply : ReplyOf)
-        × HasRecorded (call.Abandon run.object run.number now) reply
-        (pass_of pass) (pass_of returned)
-        × (runs.new.items ≡ runs_after_call (call.Abandon run.object run.number now) runs.old.items)) }
-{
-    let abandoned = Call::Abandon {
-        object: run.object,
-        run: run.number,
-        now,
-    };
-    let (pass, _reply) = ask(rt, desk, pass, abandoned)?;
-    forget(runs, abandoned);
-    Ok(pass)
-}
-
-/// Takes a check, and starts its plugin. If the plugin can't be started, the run is past its limit at once.
-fn take<O: Environment>(
-    rt: &impl Wait,
-    desk: &Desk,
-    pass: Pass,
-    environment: &mut O,
-    runs: &mut Vec<Run>,
-    now: u64,
-) -> Result<(Pass, Reply), GenerationEnd>
-    requires desk { IsPassOf desk.now pass }
-    requires moment { now ≤ LAST_MOMENT }
-    ensures returned { IsReturnedWithReply desk.now (pass_of pass) result }
-    ensures taken { IfOk result (λ made.
-        HasRecorded (call.Take now) made.1 (pass_of pass) (pass_of made.0)) }
-    ensures begun { IfOk result (λ made. HasBegunCheck O.does now made.1
-        runs.old.items runs.new.items environment.old environment.new) }
-    ensures stays { OnErr result (runs.new.items ≡ runs.old.items) }
-{
-    if runs.reserve(1).is_err() {
-        let end = End::Renewal;
-        return Err(GenerationEnd { pass, end });
-    }
-    let (pass, reply) = ask(rt, desk, pass, Call::Take { now })?;
-    if let Reply::Taken { object, run } = reply {
-        start(environment, runs, object, run, now);
-    }
-    Ok((pass, reply))
 }
 
 /// Starts the plugin of a check that was taken, and adds its run to the list. The list has room.
@@ -209,22 +227,5 @@ fn rest<O: Environment>(environment: &mut O, now: u64, reply: Reply, runs: &[Run
     match reply {
         Reply::Taken { .. } | Reply::PutOff { .. } => {}
         _ => environment.sleep(wake_time(now, reply, runs)),
-    }
-}
-
-/// Makes a call. If the call can't be made, the generation ends. The next one has room and makes the call.
-fn ask(rt: &impl Wait, desk: &Desk, pass: Pass, call: Call) -> Result<(Pass, Reply), GenerationEnd>
-    requires { IsPassOf desk.now pass }
-    ensures returned { IsReturnedWithReply desk.now (pass_of pass) result }
-    ensures made { IfOk result (λ made.
-        HasRecorded call made.1 (pass_of pass) (pass_of made.0)) }
-{
-    let (pass, answer) = desk.ask(rt, pass, call);
-    match answer {
-        Answer::Reply(reply) => Ok((pass, reply)),
-        Answer::NoMemory | Answer::Spent => {
-            let end = End::Renewal;
-            Err(GenerationEnd { pass, end })
-        }
     }
 }

@@ -2,7 +2,7 @@ use Rattle.std.proofs.lemmas.Result.{err_from_is_err_and}
 use Rattle.check_desk.specs.Passes.{pass_of}
 use Rattle.nagsched_loop.proofs.RoundLemmas.{answered_more, answered_none, called_all}
 use Rattle.nagsched_loop.proofs.RunLemmas.{keeps_none, keeps_then}
-use Rattle.nagsched_loop.proofs.round.make_calls.Goals as goal
+use Rattle.nagsched_loop.proofs.round.Round.make_calls.Goals as goal
 
 pub loop-call-init : goal.loop-call-init
 loop-call-init g c =

@@ -3,7 +3,7 @@ use Rattle.std.proofs.lemmas.Result.{err_from_is_err_and}
 use Rattle.nagsched_loop.specs.Loop.{HasSlept}
 use Rattle.nagsched_loop.proofs.RoundLemmas.{begun_keeps, taken_round}
 use Rattle.nagsched_loop.proofs.RunLemmas.{keeps_same, keeps_then}
-use Rattle.nagsched_loop.proofs.round.round.Goals as goal
+use Rattle.nagsched_loop.proofs.round.Round.run.Goals as goal
 
 pub returns-in_err-pass-2-clause-returned : goal.returns-in_err-pass-2-clause-returned
 returns-in_err-pass-2-clause-returned g c =
@@ -27,7 +27,7 @@ returns-clause-returned g c =
 pub returns-clause-taken : goal.returns-clause-taken
 returns-clause-taken g c =
     let slept =
-    subst (λ runs. HasSlept g.O.Environment.does c.args.now c.in_ok-pass-3.reply runs c.take.new.environment c.rest.new.environment)
+    subst (λ runs. HasSlept g.O.Environment.does c.args.self.now.moment c.in_ok-pass-3.reply runs c.take.new.environment c.rest.new.environment)
     c.as_slice.ensures.value c.rest.ensures in
-    taken_round g.O.Environment.does c.args.now _ _ _ _ _ _ _ _ _ _ _ _ _ c.in_ok-pass.ensures.called c.in_ok-pass-2.ensures.abandoned
+    taken_round g.O.Environment.does c.args.self.now.moment _ _ _ _ _ _ _ _ _ _ _ _ _ c.in_ok-pass.ensures.called c.in_ok-pass-2.ensures.abandoned
     c.in_ok-pass-2.ensures.none_left c.in_ok-pass-3.ensures.taken c.in_ok-pass-3.ensures.begun slept
