@@ -1,12 +1,10 @@
 //! The line of a setup document: the text of its tree.
 
 ghost use Rattle.std.specs.Prelude.{◌≡◌, ◌≤◌, ◌<◌, ◌⊎◌, ℕ, IfOk, IfErr, List, Some, false, length};
-ghost use Rattle.json.specs.Lex.{tokens};
-ghost use Rattle.json.specs.Print.{print};
+ghost use Rattle.json.specs.{Lex.tokens, Print.print};
 ghost use Rattle.serde_json.specs.View.{view};
 ghost use Rattle.serde_json.specs.Written.{compact_text, has_float};
-ghost use Rattle.setup_reader.specs.Feeds.{HasNoLineFeed};
-ghost use Rattle.setup_reader.specs.JsonTree.{tree_of};
+ghost use Rattle.setup_reader.specs.{Feeds.HasNoLineFeed, JsonTree.tree_of};
 
 use serde_json::Value;
 use setup_model::{Fault, MAX_DOCUMENT_BYTES};

@@ -1,11 +1,9 @@
 //! Laws of the definitions. Each is the contract of a function without parameters and code.
 
 ghost use Rattle.std.specs.Prelude.{◌≡◌, ℕ, List, false, Ok, Some};
-ghost use Rattle.serde_json.specs.Data.{Data};
-ghost use Rattle.serde_json.specs.Written.{has_float};
+ghost use Rattle.serde_json.specs.{Data.Data, Written.has_float};
 ghost use Rattle.setup_model.specs.ParsedSetup.{ParsedSetup};
-ghost use Rattle.setup_reader.specs.Reading.{parsed_setup};
-ghost use Rattle.setup_reader.specs.JsonTree.{tree_of};
+ghost use Rattle.setup_reader.specs.{JsonTree.tree_of, Reading.parsed_setup};
 ghost use Rattle.setup_diagnostics.specs.Numbers.{has_non_u64};
 
 /// Each number anywhere in a document of the right shape is a whole number from 0 to 2^64 - 1 (`whole`). So

@@ -2,8 +2,7 @@
 
 ghost use Rattle.std.specs.Prelude.{◌≡◌, ◌++◌, IfOk, OnOk, string_bytes};
 ghost use Rattle.json.specs.Print.{quoted};
-ghost use Rattle.setup_diagnostics.specs.Schema.{ContainsText};
-ghost use Rattle.setup_diagnostics.specs.Shapes.{BeginsWith};
+ghost use Rattle.setup_diagnostics.specs.{Schema.ContainsText, Shapes.BeginsWith};
 
 use crate::line::Pushed;
 use itoa::Buffer;
