@@ -66,14 +66,18 @@ both false b e = cc
 pub is_long : (input : List ℕ) → is_full_with_feed input ≡ true → length input ≡ MAX_DOCUMENT_INPUT
 is_long input e = eqb-true (length input) MAX_DOCUMENT_INPUT (both (length input == MAX_DOCUMENT_INPUT) _ e)
 
--- behind so many bytes it doesn't matter what else was read
+-- after so many bytes it doesn't matter what else was read
+pub started_on : (had mid left : Option (List ℕ)) (input behind : List ℕ) → HasStartedReadingBy had mid input → is_full_with_feed input ≡ true
+    → HasStartedReadingBy mid left behind → HasStartedReadingBy had left (input ++ behind)
+started_on had mid left input behind h e b =
+    let long : length input ≡ 16777217 = is_long input e in (
+      Consumes-then had mid left input behind h.0 b.0,
+      some_there (input ++ behind) (omega (arith, length-append input behind, long)),
+    )
+
 pub begun_long : (had mid left : Option (List ℕ)) (input : List ℕ) → HasStartedReadingBy had mid input → is_full_with_feed input ≡ true → HasStartedReading mid left
     → HasStartedReading had left
-begun_long had mid left input h e b =
-    let long : length input ≡ 16777217 = is_long input e in (
-      input ++ b.0,
-      (Consumes-then had mid left input b.0 h.0 b.1.0, some_there (input ++ b.0) (omega (arith, length-append input b.0, long))),
-    )
+begun_long had mid left input h e b = (input ++ b.0, started_on had mid left input b.0 h e b.1)
 
 pub undecided : (had mid : Option (List ℕ)) (input behind : List ℕ) → IfSome had (λ bytes. input ≡ take MAX_DOCUMENT_INPUT bytes)
     → Consumes had mid input → IfSome mid (λ bytes. behind ≡ take 1 bytes) → is_full_with_feed input ≡ true

@@ -41,10 +41,37 @@ Example:
     '[\"take\",0]' '[\"report\",\"gateway\",1,2]' | nagsched run",
 };
 
+/// The help of a subcommand, from its purpose, its notes and an example. A text about the exit statuses 0 and 1
+/// may come before the example. Without one, they are those of `run`.
+macro_rules! subcommand_help {
+    ($about:literal, $notes:literal, $example:literal) => {
+        subcommand_help!($about, $notes, "ran  1 input refused", $example)
+    };
+    ($about:literal, $notes:literal, $ended:literal, $example:literal) => {
+        Help {
+            about: $about,
+            notes: concat!(
+                $notes,
+                "
+
+nagsched(1) and nagsched(5) describe every line, member and refusal.
+
+Exit status:
+  0 ",
+                $ended,
+                "  2 arguments refused  3 device failed  4 out of memory
+
+",
+                $example,
+            ),
+        }
+    };
+}
+
 /// The help of the subcommand `run`.
-pub(crate) const HELP_RUN: Help = Help {
-    about: "Makes the calls of a script on one scheduler",
-    notes: "\
+pub(crate) const HELP_RUN: Help = subcommand_help!(
+    "Makes the calls of a script on one scheduler",
+    "\
 Input after the setup, one call per line; moments and times in milliseconds:
   [\"take\",now]                    asks what is due, and takes it
   [\"report\",name,run,code]        the return code of a check, 0 to 3
@@ -59,22 +86,17 @@ Output, one line per call:
   taken RUN NAME        putoff TIME NAME        idle TIME        atlimit
   standing STATE KIND ATTEMPT CHANGED FLAP TIME NAME
   freed TIME NAME       done NAME               refused CODE WHY
-  saved STATE           the answer to `save`
-
-nagsched(1) and nagsched(5) describe every line, member and refusal.
-
-Exit status:
-  0 ran  1 input refused  2 arguments refused  3 device failed  4 out of memory
-
+  saved STATE           the answer to `save`",
+    "\
 Example:
   printf '%s\\n' '{\"hosts\":[{\"name\":\"gateway\",\"max_check_attempts\":3}]}' \\
-    '[\"take\",0]' '[\"report\",\"gateway\",1,2]' | nagsched run --start 0",
-};
+    '[\"take\",0]' '[\"report\",\"gateway\",1,2]' | nagsched run --start 0"
+);
 
 /// The help of the subcommand `live`.
-pub(crate) const HELP_LIVE: Help = Help {
-    about: "Answers each line as soon as it arrives, and waits for the next",
-    notes: "\
+pub(crate) const HELP_LIVE: Help = subcommand_help!(
+    "Answers each line as soon as it arrives, and waits for the next",
+    "\
 Input and output are those of `run`, but each line is answered as soon as it
 arrives, before more is read, and there is no limit on the whole.
   A line that isn't a command is answered with `refused CODE WHY LINE`, and
@@ -83,22 +105,18 @@ arrives, before more is read, and there is no limit on the whole.
   A refused setup is answered with its line, and ends the conversation. So is a
   refused saved state, which is line 2 with --resume.
 It doesn't read while it writes: if you send more than a pipe holds, read the
-answers meanwhile.
-
-nagsched(1) and nagsched(5) describe every line, member and refusal.
-
-Exit status:
-  0 ran  1 setup refused  2 arguments refused  3 device failed  4 out of memory
-
+answers meanwhile.",
+    "ran  1 setup refused",
+    "\
 Example, whose second answer comes two seconds after the first:
   (printf '%s\\n' '{\"hosts\":[{\"name\":\"gateway\",\"max_check_attempts\":3}]}' \\
-    '[\"take\",0]'; sleep 2; echo '[\"report\",\"gateway\",1,2]') | nagsched live",
-};
+    '[\"take\",0]'; sleep 2; echo '[\"report\",\"gateway\",1,2]') | nagsched live"
+);
 
 /// The help of the subcommand `check`.
-pub(crate) const HELP_CHECK: Help = Help {
-    about: "Prints what is in a setup, or why it is refused",
-    notes: "\
+pub(crate) const HELP_CHECK: Help = subcommand_help!(
+    "Prints what is in a setup, or why it is refused",
+    "\
 Input is one setup, on any number of lines. No check is scheduled.
 
 Output, one word and its value per line:
@@ -123,22 +141,18 @@ saved state. After the figures, the output says what becomes of saved objects:
   changed attempts NAME     the setup has another maximum of attempts for it;
                             likewise `interval` and `enabled`
 A refused saved state is answered like a refused setup. --start is the start of
-the run to come.
-
-nagsched(1) and nagsched(5) describe every line, member and refusal.
-
-Exit status:
-  0 good  1 input refused  2 arguments refused  3 device failed  4 out of memory
-
+the run to come.",
+    "good  1 input refused",
+    "\
 Example:
   echo '{\"hosts\":[{\"name\":\"gateway\",\"max_check_attempts\":3}]}' |
-    nagsched check",
-};
+    nagsched check"
+);
 
 /// The help of the subcommand `drill`.
-pub(crate) const HELP_DRILL: Help = Help {
-    about: "Has workers share one scheduler, with scripted plugins",
-    notes: "\
+pub(crate) const HELP_DRILL: Help = subcommand_help!(
+    "Has workers share one scheduler, with scripted plugins",
+    "\
 Input after the setup, in any order:
   [\"plugin\",name,code,..]  the return codes of an object's plugin, by the run's
                            number, over and over; without such a line it is 0
@@ -146,33 +160,24 @@ Input after the setup, in any order:
 
 Output:
   PASS LINE              the worker's pass and the line of `run`, for each call
-  total ENTRIES REFUSED  calls recorded, and refused out of memory
-
-nagsched(1) and nagsched(5) describe every line, member and refusal.
-
-Exit status:
-  0 ran  1 input refused  2 arguments refused  3 device failed  4 out of memory
-
+  total ENTRIES REFUSED  calls recorded, and refused out of memory",
+    "\
 Example:
   printf '%s\\n' '{\"hosts\":[{\"name\":\"gateway\",\"max_check_attempts\":3}]}' \\
-    '[\"plugin\",\"gateway\",2]' '[\"moment\",0]' | nagsched drill --workers 1",
-};
+    '[\"plugin\",\"gateway\",2]' '[\"moment\",0]' | nagsched drill --workers 1"
+);
 
 /// The help of the subcommand `schema`.
-pub(crate) const HELP_SCHEMA: Help = Help {
-    about: "Writes the JSON schema of a setup",
-    notes: "\
+pub(crate) const HELP_SCHEMA: Help = subcommand_help!(
+    "Writes the JSON schema of a setup",
+    "\
 No input is read. Output is a JSON schema of draft 2020-12, with the name, the
-kind, the limits and the default of each member.
-
-nagsched(1) and nagsched(5) describe every line, member and refusal.
-
-Exit status:
-  0 written  2 arguments refused  3 device failed  4 out of memory
-
+kind, the limits and the default of each member.",
+    "written",
+    "\
 Example:
-  nagsched schema",
-};
+  nagsched schema"
+);
 
 /// The help text of the option `--start` of `drill`.
 pub(crate) const ABOUT_START: &str = "Moment of the start, in ms, from 0 to 2^60";

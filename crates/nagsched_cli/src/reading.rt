@@ -1,8 +1,8 @@
 //! Reads the input of a check, and finds the document in it.
 
-ghost use Rattle.std.specs.Prelude.{◌≡◌, ◌≢◌, IfOk, IfErr, IfSome};
-ghost use Rattle.nagsched_protocol.specs.Input.{HasStartedReading, HasStartedReadingBy, without_last_feed};
-ghost use Rattle.nagsched_cli.specs.Reading.{is_full_with_feed, check_input_of, document_input_of};
+ghost use Rattle.std.specs.Prelude.{◌≡◌};
+ghost use Rattle.nagsched_protocol.specs.Input.{without_last_feed};
+ghost use Rattle.nagsched_cli.specs.Reading.{ReadsPart, is_full_with_feed, check_input_of, document_input_of};
 
 use nagsched_protocol::{DriveError, MAX_READ_BYTES, Start, read_at_most};
 use std::alloc::Global;
@@ -19,13 +19,7 @@ pub(crate) fn read_input<R: Read>(
     start: Start,
     reader: &mut R,
 ) -> Result<Vec<u8>, DriveError>
-    ensures all { IfOk result (λ input.
-        IfSome (R.remaining reader.old) (λ bytes. input.items ≡ check_input_of start bytes)) }
-    ensures left { IfOk result (λ input.
-        HasStartedReadingBy (R.remaining reader.old) (R.remaining reader.new) input.items) }
-    ensures errors { IfErr result (λ e. e ≢ DriveError.Write) }
-    ensures memory { IfErr result (λ e. e ≡ DriveError.Memory
-        → HasStartedReading (R.remaining reader.old) (R.remaining reader.new)) }
+    ensures { ReadsPart (check_input_of start) (R.remaining reader.old) (R.remaining reader.new) result }
 {
     match start {
         Start::Fresh(_) => read_document_input(alloc, reader),
@@ -43,13 +37,7 @@ pub(crate) fn read_document_input<R: Read>(
     alloc: Global,
     reader: &mut R,
 ) -> Result<Vec<u8>, DriveError>
-    ensures all { IfOk result (λ input.
-        IfSome (R.remaining reader.old) (λ bytes. input.items ≡ document_input_of bytes)) }
-    ensures left { IfOk result (λ input.
-        HasStartedReadingBy (R.remaining reader.old) (R.remaining reader.new) input.items) }
-    ensures errors { IfErr result (λ e. e ≢ DriveError.Write) }
-    ensures memory { IfErr result (λ e. e ≡ DriveError.Memory
-        → HasStartedReading (R.remaining reader.old) (R.remaining reader.new)) }
+    ensures { ReadsPart document_input_of (R.remaining reader.old) (R.remaining reader.new) result }
 {
     let mut input = read_at_most(alloc, reader, MAX_DOCUMENT_INPUT)?;
     if is_full_with_feed(&input) {

@@ -3,8 +3,8 @@ use Rattle.std.proofs.Common.{◌≡◌, ℕ, zero, suc, ◌+◌, ◌-◌, min, 
 use Rattle.std.proofs.Common.{Some}
 use Rattle.std.proofs.Common.{refl, sym, ◌∙◌, ap, arith, ◌≤◌, ◌<◌, length-append, length-take, append-nil, append_assoc, subst}
 use Rattle.std.specs.List.{position_or_len, position}
-use Rattle.std.specs.Prelude.{nat_lt, IfOk, Result, Ok, Err}
-use Rattle.std.specs.Result.{IsErr}
+use Rattle.std.specs.Prelude.{nat_lt, IfErr, IfOk, Result, Ok, Err}
+use Rattle.std.specs.Result.{IsErr, IsErrAnd}
 use Rattle.std.proofs.lemmas.Bool.Decides.{nat_tests}
 use Rattle.std.proofs.lemmas.List.Folds.{list_all-append}
 use Rattle.std.proofs.lemmas.List.{take_min}
@@ -393,3 +393,8 @@ after_input bytes_read errors.ReadsSpent h = absurd h
 pub if_ok_never : {T E : Type 0} (r : Result T E) (P : T → Type 0) → IsErr r → IfOk r P
 if_ok_never (Ok x) P h = cc
 if_ok_never (Err e) P h = tt
+
+-- of an error that is passed on, what follows from its cause holds
+pub if_err_passed : {T E : Type 0} {Q : E → Type 0} (r : Result T E) (P : E → Type 0) → IsErrAnd r Q → ((e : E) → Q e → P e) → IfErr r P
+if_err_passed (Ok x) P h f = absurd h
+if_err_passed (Err e) P h f = f e h

@@ -9,7 +9,7 @@ ghost use Rattle.nagsched_protocol.specs.Command.{reschedule_call, enable_call, 
 ghost use Rattle.nagsched_protocol.specs.Command.{sole_name, name_and_switch, name_and_numbers};
 ghost use Rattle.nagsched_protocol.specs.Command.{name_number_switch, object_named};
 
-use crate::line::{Command, line_refusal};
+use crate::line::{Command, ScriptLine, line_refusal};
 use crate::refusal::{LineFault, ScriptError};
 use check_objects::Setup;
 use check_rules::Code;
@@ -35,16 +35,10 @@ impl Command for RunCommand {
 
     ghost meaning = { command_by };
 
-    fn read(
-        _alloc: Global,
-        setup: &Setup,
-        word: &str,
-        members: &[Value],
-        number: usize,
-    ) -> Result<RunCommand, ScriptError> {
-        match command_by(setup, word, members) {
+    fn read(_alloc: Global, setup: &Setup, line: ScriptLine) -> Result<RunCommand, ScriptError> {
+        match command_by(setup, line.word, line.members) {
             Ok(command) => Ok(command),
-            Err(fault) => Err(line_refusal(fault, number)),
+            Err(fault) => Err(line_refusal(fault, line.number)),
         }
     }
 }

@@ -13,7 +13,7 @@ ghost use Rattle.nagsched_protocol.specs.DrillScript.{moment_of};
 ghost use Rattle.nagsched_protocol.specs.Agreement.{IsExpectedResult};
 
 use crate::command::object_named;
-use crate::line::{Command, line_refusal};
+use crate::line::{Command, ScriptLine, line_refusal};
 use crate::refusal::{LineFault, ScriptError};
 use check_objects::Setup;
 use check_rules::Code;
@@ -40,17 +40,11 @@ impl Command for DrillCommand {
 
     ghost meaning = { spec.drill_command_by };
 
-    fn read(
-        alloc: Global,
-        setup: &Setup,
-        word: &str,
-        members: &[Value],
-        number: usize,
-    ) -> Result<DrillCommand, ScriptError> {
-        match word {
-            "plugin" => DrillCommand::of_plugin(alloc, setup, members, number),
-            "moment" => DrillCommand::of_moment(members, number),
-            _ => Err(line_refusal(LineFault::Shape, number)),
+    fn read(alloc: Global, setup: &Setup, line: ScriptLine) -> Result<DrillCommand, ScriptError> {
+        match line.word {
+            "plugin" => DrillCommand::of_plugin(alloc, setup, line.members, line.number),
+            "moment" => DrillCommand::of_moment(line.members, line.number),
+            _ => Err(line_refusal(LineFault::Shape, line.number)),
         }
     }
 }

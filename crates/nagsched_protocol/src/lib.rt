@@ -44,7 +44,7 @@ pub use drill_command::DrillCommand;
 pub use drill_script::DrillScript;
 pub use drive_error::DriveError;
 pub use input::{Lines, MAX_READ_BYTES, read_at_most, split_line};
-pub use line::Command;
+pub use line::{Command, ScriptLine};
 pub use line_reader::{
     InputBuffer, LINE_PREFIX_BYTES, LineBuffer, READ_BYTES, SAVED_PREFIX_BYTES, SETUP_PREFIX_BYTES,
     read_buffered, take_document,

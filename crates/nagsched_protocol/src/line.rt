@@ -28,18 +28,21 @@ pub trait Command: Drop {
 
     ghost meaning: { Configuration → List ℕ → Items → Result Seen LineFault };
 
-    /// The command of a word with these members after it, or its first fault. The faults are, in order:
-    /// another shape, a return code above 3, a name that the setup doesn't have. A fault is reported as
-    /// that of the line with this number. Out of memory is an error of its own.
-    fn read(
-        alloc: Global,
-        setup: &Setup,
-        word: &str,
-        members: &[Value],
-        number: usize,
-    ) -> Result<Self, ScriptError>
+    /// The command of a line, or its first fault. The faults are, in order: another shape, a return code
+    /// above 3, a name that the setup doesn't have. Out of memory is an error of its own.
+    fn read(alloc: Global, setup: &Setup, line: ScriptLine) -> Result<Self, ScriptError>
         ensures { IsExpectedResult seen result
-            (at_line number (meaning setup.now word.now (items_view members.now))) };
+            (at_line line.entry.number
+            (meaning setup.now line.entry.word.now (items_view line.entry.members.now))) };
+}
+
+/// A line that is an array and begins with a word. It has a number, by which a fault is reported, and members
+/// after the word.
+#[derive(Clone, Copy)]
+pub struct ScriptLine<'a> {
+    pub number: usize,
+    pub word: &'a str,
+    pub members: &'a [Value],
 }
 
 /// Whether a line has only spaces, tabs and carriage returns, or nothing. Such a line is skipped.
@@ -66,7 +69,15 @@ pub fn read_command<C: Command>(
     }
     let tree = read_tree(alloc, line, number)?;
     match word_and_members(&tree) {
-        Some((word, members)) => C::read(alloc, setup, word, members, number),
+        Some((word, members)) => C::read(
+            alloc,
+            setup,
+            ScriptLine {
+                number,
+                word,
+                members,
+            },
+        ),
         None => Err(line_refusal(LineFault::Shape, number)),
     }
 }

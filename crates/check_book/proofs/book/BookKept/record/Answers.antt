@@ -42,9 +42,3 @@ returns-clause-replied c =
 -- where there is a reply nothing was refused: said by name, so that a body that refuses here is refused at once
 pub returns-clause-refused : goal.returns-clause-refused
 returns-clause-refused c = tt
-
-pub returns-clause-full : goal.returns-clause-full
-returns-clause-full c = tt
-
-pub returns-clause-used_up : goal.returns-clause-used_up
-returns-clause-used_up c = tt
