@@ -36,12 +36,14 @@ pub trait Command: Drop {
             (meaning setup.now line.entry.word.now (items_view line.entry.members.now))) };
 }
 
-/// A line that is an array and begins with a word. It has a number, by which a fault is reported, and members
-/// after the word.
+/// A line of a script that is an array and begins with a word.
 #[derive(Clone, Copy)]
 pub struct ScriptLine<'a> {
+    /// The number of the line in its input, by which a fault is reported.
     pub number: usize,
+    /// The word that the line begins with.
     pub word: &'a str,
+    /// The members of the array after the word.
     pub members: &'a [Value],
 }
 
