@@ -6,3 +6,4 @@ pub mod KeyLemmas
 pub mod LineLemmas
 pub mod NumberLemmas
 pub mod GrowthLemmas
+pub mod KindLemmas

@@ -9,3 +9,4 @@ pub mod Cycles
 pub mod Explanation
 pub mod Numbers
 pub mod Schema
+pub mod Kinds
