@@ -1,5 +1,5 @@
 -- Nothing is lost on the way to C: each value can be read back from its struct.
-use Rattle.std.proofs.Common.{◌≡◌, ℕ, ◌==◌, Bool, true, false, Some, None, refl, sym, ap, subst, ◌∙◌}
+use Rattle.std.proofs.Common.{◌≡◌, ℕ, ◌==◌, Bool, true, false, Some, None, refl, sym, ap, subst, ◌∙◌, arith}
 use mathlib.Core.Logic.{◌≢◌}
 use Rattle.std.specs.Prelude.{Option, unwrap_or}
 use Rattle.ticket_steps.specs.declared.books.Entry.{Entry}
@@ -10,7 +10,6 @@ use Rattle.setup_model.specs.declared.place.Part.{Part}
 use Rattle.setup_model.specs.declared.place.Part.TheVariants as part
 use Rattle.setup_model.specs.LoadError.{error_number, numbered_error, place_of}
 use Rattle.setup_model.specs.Place.{part_number}
-use Rattle.setup_model.proofs.ErrorLemmas.{error_numbered}
 use Rattle.check_rules.specs.declared.standing.Kind.{Kind}
 use Rattle.check_rules.specs.declared.standing.Kind.TheVariants as kind
 use Rattle.check_rules.specs.declared.standing.Standing.{Standing}
@@ -127,6 +126,10 @@ kind_of_struct kind None = refl
 -- read back: the refusal that the fields of a struct name; if they name none, it is out of memory
 abbrev pub refusal_from_c : CRefusal → LoadError
 refusal_from_c p = unwrap_or (numbered_error p.kind (place_from_c p)) load.Memory
+
+-- its number and its place are all that there is of it; out of memory has no number here
+error_numbered : (e : LoadError) (p : Place) → unwrap_or (numbered_error (error_number e) (unwrap_or (place_of e) p)) load.Memory ≡ e
+error_numbered e p = grind arith
 
 pub refusal_is : (e : LoadError) → refusal_from_c (c_refusal e) ≡ e
 refusal_is e =

@@ -3,4 +3,3 @@ pub mod RepeatLemmas
 pub mod DefaultItems
 pub mod RefusalLemmas
 pub mod NameLemmas
-pub mod ErrorLemmas

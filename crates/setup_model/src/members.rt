@@ -64,7 +64,7 @@ pub const NAME: Member = Member {
     name: "name",
     kind: Kind::Text,
     default: None,
-    purpose: "the host's name: 1 to 255 bytes, no control character and no semicolon",
+    purpose: "the name of the host: no control character and no semicolon",
 };
 
 /// The parents of a host.
@@ -72,7 +72,7 @@ pub const PARENTS: Member = Member {
     name: "parents",
     kind: Kind::Texts,
     default: Some(DefaultValue::Empty),
-    purpose: "the names of the hosts that the host is reached through",
+    purpose: "names of the hosts through which this host is reached",
 };
 
 /// The host of a service.
@@ -88,7 +88,7 @@ pub const DESCRIPTION: Member = Member {
     name: "description",
     kind: Kind::Text,
     default: None,
-    purpose: "the service's description: 1 to 255 bytes, no control character and no semicolon",
+    purpose: "the name of the service on its host: no control character and no semicolon",
 };
 
 /// The time from one check to the next.
@@ -96,7 +96,7 @@ pub const CHECK_INTERVAL: Member = Member {
     name: "check_interval",
     kind: UNITS,
     default: Some(DefaultValue::Number(5)),
-    purpose: "from one check to the next, in units of interval_length; 0 means that no check follows by itself",
+    purpose: "units of interval_length from one check to the next; 0 means no automatic checks",
 };
 
 /// The time from one check to the next of a soft problem.
@@ -104,7 +104,7 @@ pub const RETRY_INTERVAL: Member = Member {
     name: "retry_interval",
     kind: UNITS,
     default: Some(DefaultValue::Number(1)),
-    purpose: "from one check to the next while the object is a soft problem, in units of interval_length",
+    purpose: "units of interval_length to the next check while a problem is soft",
 };
 
 /// The number of checks that find a problem before it is hard.
@@ -115,7 +115,7 @@ pub const MAX_CHECK_ATTEMPTS: Member = Member {
         high: limits::MAX_ATTEMPTS,
     },
     default: None,
-    purpose: "how many checks in a row must find a problem before it is hard",
+    purpose: "checks in a row that must find a problem before it is hard",
 };
 
 /// Whether checks are scheduled.
@@ -123,7 +123,7 @@ pub const ENABLED: Member = Member {
     name: "enabled",
     kind: Kind::Switch,
     default: Some(DefaultValue::Switch(true)),
-    purpose: "whether the object's checks are scheduled",
+    purpose: "active checks are on",
 };
 
 const UNITS: Kind = Kind::Number {
@@ -158,7 +158,7 @@ pub const DEPENDENT: Member = Member {
     name: "dependent",
     kind: Kind::Text,
     default: None,
-    purpose: "the full name of the object that depends on the other: a host's name, or host;description",
+    purpose: "full name of the object that depends on the other: a host's name, or host;description",
 };
 
 /// The object that the other depends on.
@@ -166,7 +166,7 @@ pub const MASTER: Member = Member {
     name: "master",
     kind: Kind::Text,
     default: None,
-    purpose: "the full name of the object that is depended on: a host's name, or host;description",
+    purpose: "full name of the object that it depends on: a host's name, or host;description",
 };
 
 /// The name of the member with the criteria, for both sorts of dependencies.
@@ -177,7 +177,7 @@ pub const SERVICE_CRITERIA: Member = Member {
     name: CRITERIA,
     kind: Kind::ServiceLetters,
     default: None,
-    purpose: "the states of the master in which the dependency fails: OK (o), WARNING (w), UNKNOWN (u), CRITICAL (c), pending (p), none (n)",
+    purpose: "letters of the states of the master that forbid the check, separated by commas: OK (o), WARNING (w), UNKNOWN (u), CRITICAL (c), pending (p), none (n)",
 };
 
 /// The states of the master in which a dependency between hosts fails.
@@ -185,7 +185,7 @@ pub const HOST_CRITERIA: Member = Member {
     name: CRITERIA,
     kind: Kind::HostLetters,
     default: None,
-    purpose: "the states of the master in which the dependency fails: UP (o), UNREACHABLE (u), DOWN (d), pending (p), none (n)",
+    purpose: "letters of the states of the master that forbid the check, separated by commas: UP (o), UNREACHABLE (u), DOWN (d), pending (p), none (n)",
 };
 
 /// Whether a dependency also looks at the master's own dependencies.
@@ -193,7 +193,7 @@ pub const INHERITS_PARENT: Member = Member {
     name: "inherits_parent",
     kind: Kind::Switch,
     default: Some(DefaultValue::Switch(false)),
-    purpose: "whether the dependency fails too where one of the master's own does",
+    purpose: "dependencies of the master also apply to the dependent",
 };
 
 /// The members of a dependency between services.

@@ -78,7 +78,7 @@ pub const INTERVAL_LENGTH: Member = Member {
         high: limits::MAX_INTERVAL_LENGTH,
     },
     default: Some(DefaultValue::Number(60)),
-    purpose: "how many seconds a unit of the intervals lasts",
+    purpose: "seconds per unit of the intervals",
 };
 
 /// How the first checks of services are spread.
@@ -86,7 +86,7 @@ pub const SERVICE_INTER_CHECK_DELAY_METHOD: Member = Member {
     name: "service_inter_check_delay_method",
     kind: Kind::Delay,
     default: Some(DefaultValue::Smart),
-    purpose: "how the first checks of services are spread: not (n), a second apart (d), smart (s), or so many milliseconds apart",
+    purpose: "first checks of services are not spread (n), one second apart (d), spread by the average check interval (s), or so many milliseconds apart",
 };
 
 /// How long the first checks of services are spread over.
@@ -97,7 +97,7 @@ pub const MAX_SERVICE_CHECK_SPREAD: Member = Member {
         high: limits::MAX_SPREAD,
     },
     default: Some(DefaultValue::Number(30)),
-    purpose: "within how many minutes the smart method has the first checks of all services due",
+    purpose: "minutes within which the smart method (s) places all first checks of services",
 };
 
 /// How the first checks of services are interleaved.
@@ -105,7 +105,7 @@ pub const SERVICE_INTERLEAVE_FACTOR: Member = Member {
     name: "service_interleave_factor",
     kind: Kind::Factor,
     default: Some(DefaultValue::Smart),
-    purpose: "how many places further on the next service stands whose first check is due, or smart (s)",
+    purpose: "step between services when first checks are spread; 1 is no interleaving, s is services per host, rounded up",
 };
 
 /// How the first checks of hosts are spread.
@@ -113,7 +113,7 @@ pub const HOST_INTER_CHECK_DELAY_METHOD: Member = Member {
     name: "host_inter_check_delay_method",
     kind: Kind::Delay,
     default: Some(DefaultValue::Smart),
-    purpose: "how the first checks of hosts are spread: not (n), a second apart (d), smart (s), or so many milliseconds apart",
+    purpose: "first checks of hosts are not spread (n), one second apart (d), spread by the average check interval (s), or so many milliseconds apart",
 };
 
 /// How long the first checks of hosts are spread over.
@@ -124,7 +124,7 @@ pub const MAX_HOST_CHECK_SPREAD: Member = Member {
         high: limits::MAX_SPREAD,
     },
     default: Some(DefaultValue::Number(30)),
-    purpose: "within how many minutes the smart method has the first checks of all hosts due",
+    purpose: "minutes within which the smart method (s) places all first checks of hosts",
 };
 
 /// How many service checks may run at the same time.
@@ -135,7 +135,7 @@ pub const MAX_CONCURRENT_CHECKS: Member = Member {
         high: limits::MAX_CONCURRENT_CHECKS,
     },
     default: Some(DefaultValue::Number(0)),
-    purpose: "how many service checks may run at a time; 0 is no limit",
+    purpose: "checks of services that may run at a time; 0 is no limit",
 };
 
 /// Which state of a master dependencies look at.
@@ -143,7 +143,7 @@ pub const SOFT_STATE_DEPENDENCIES: Member = Member {
     name: "soft_state_dependencies",
     kind: Kind::Switch,
     default: Some(DefaultValue::Switch(false)),
-    purpose: "whether dependencies look at the current state of the master in place of its last hard one",
+    purpose: "dependencies look at the master's current state, not at its last hard state",
 };
 
 /// How a WARNING of a host's plugin counts.
@@ -151,7 +151,7 @@ pub const USE_AGGRESSIVE_HOST_CHECKING: Member = Member {
     name: "use_aggressive_host_checking",
     kind: Kind::Switch,
     default: Some(DefaultValue::Switch(false)),
-    purpose: "whether a WARNING of a host's plugin counts as a problem",
+    purpose: "return code 1 of a host's plugin counts as a problem",
 };
 
 /// The threshold below which a service stops flapping.
@@ -159,7 +159,7 @@ pub const LOW_SERVICE_FLAP_THRESHOLD: Member = Member {
     name: "low_service_flap_threshold",
     kind: PERCENT,
     default: Some(DefaultValue::Number(20)),
-    purpose: "below how many percent of changes a flapping service stops flapping; at most the high threshold",
+    purpose: "percent of changes below which a service stops flapping; at most the high threshold",
 };
 
 /// The threshold from which a service starts flapping.
@@ -167,7 +167,7 @@ pub const HIGH_SERVICE_FLAP_THRESHOLD: Member = Member {
     name: "high_service_flap_threshold",
     kind: PERCENT,
     default: Some(DefaultValue::Number(30)),
-    purpose: "from how many percent of changes on a service flaps",
+    purpose: "percent of changes from which a service flaps",
 };
 
 /// The threshold below which a host stops flapping.
@@ -175,7 +175,7 @@ pub const LOW_HOST_FLAP_THRESHOLD: Member = Member {
     name: "low_host_flap_threshold",
     kind: PERCENT,
     default: Some(DefaultValue::Number(20)),
-    purpose: "below how many percent of changes a flapping host stops flapping; at most the high threshold",
+    purpose: "percent of changes below which a host stops flapping; at most the high threshold",
 };
 
 /// The threshold from which a host starts flapping.
@@ -183,7 +183,7 @@ pub const HIGH_HOST_FLAP_THRESHOLD: Member = Member {
     name: "high_host_flap_threshold",
     kind: PERCENT,
     default: Some(DefaultValue::Number(30)),
-    purpose: "from how many percent of changes on a host flaps",
+    purpose: "percent of changes from which a host flaps",
 };
 
 const PERCENT: Kind = Kind::Number {
