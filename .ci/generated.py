@@ -24,35 +24,6 @@ OBJECTS = {
     "services": SCHEMA["properties"]["services"]["items"],
     "dependencies": SCHEMA["properties"]["service_dependencies"]["items"],
 }
-DELAY = "spread of first checks: `\"n\"` none, `\"d\"` one second apart, `\"s\"` by the average check interval, or a number of milliseconds"
-# Members whose meaning the page describes in other words than the schema.
-MEANINGS = {
-    "interval_length": "seconds per unit of the intervals",
-    "service_inter_check_delay_method": DELAY,
-    "host_inter_check_delay_method": DELAY,
-    "max_service_check_spread": "minutes within which `\"s\"` places all first checks of services",
-    "max_host_check_spread": "minutes within which `\"s\"` places all first checks of hosts",
-    "service_interleave_factor": "step between services when first checks are spread; 1 is no interleaving, `\"s\"` is services per host, rounded up",
-    "max_concurrent_checks": "checks of services that may run at a time; 0 is no limit",
-    "soft_state_dependencies": "dependencies look at the master's current state, not at its last hard state",
-    "use_aggressive_host_checking": "return code 1 of a host's plugin counts as a problem",
-    "low_service_flap_threshold": "percent of changes below which a service stops flapping",
-    "high_service_flap_threshold": "percent of changes from which a service flaps",
-    "low_host_flap_threshold": "percent of changes below which a host stops flapping",
-    "high_host_flap_threshold": "percent of changes from which a host flaps",
-    "name": "the name of the host",
-    "host": "the name of the service's host",
-    "description": "the name of the service on its host",
-    "parents": "names of the hosts through which this host is reached",
-    "check_interval": "units from one check to the next; 0 means no automatic checks",
-    "retry_interval": "units to the next check while a problem is soft",
-    "max_check_attempts": "checks in a row that must find a problem before it is hard",
-    "enabled": "active checks are on",
-    "dependent": "full name of the object that depends on the other",
-    "master": "full name of the object that it depends on",
-    "criteria": "letters of the states of the master that forbid the check, separated by commas",
-    "inherits_parent": "dependencies of the master also apply to the dependent",
-}
 
 
 def value_of(part: dict[str, object]) -> str:
@@ -71,14 +42,14 @@ def value_of(part: dict[str, object]) -> str:
 
 
 def member_table(what: str) -> str:
-    """The table of the members of an object of the setup. Members that a service shares with a host are left out."""
+    """The table of the members of an object of the setup. Members that a service shares with a host are left out, and so is what follows a colon."""
     rows = ["| Member | Value | Default | Meaning |", "|---|---|---|---|"]
     of_hosts = OBJECTS["hosts"]["properties"] if what == "services" else {}
     for name, part in OBJECTS[what]["properties"].items():
         if of_hosts.get(name) == part:
             continue
         default = "required" if name in OBJECTS[what].get("required", ()) else f"`{json.dumps(part['default'])}`"
-        rows.append(f"| `{name}` | {value_of(part)} | {default} | {MEANINGS.get(name, part['description'])} |")
+        rows.append(f"| `{name}` | {value_of(part)} | {default} | {part['description'].partition(': ')[0]} |")
     return "\n" + "\n".join(rows) + "\n"
 
 

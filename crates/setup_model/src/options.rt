@@ -159,7 +159,7 @@ pub const LOW_SERVICE_FLAP_THRESHOLD: Member = Member {
     name: "low_service_flap_threshold",
     kind: PERCENT,
     default: Some(DefaultValue::Number(20)),
-    purpose: "percent of changes below which a service stops flapping; at most the high threshold",
+    purpose: "percent of changes below which a service stops flapping: at most the high threshold",
 };
 
 /// The threshold from which a service starts flapping.
@@ -175,7 +175,7 @@ pub const LOW_HOST_FLAP_THRESHOLD: Member = Member {
     name: "low_host_flap_threshold",
     kind: PERCENT,
     default: Some(DefaultValue::Number(20)),
-    purpose: "percent of changes below which a host stops flapping; at most the high threshold",
+    purpose: "percent of changes below which a host stops flapping: at most the high threshold",
 };
 
 /// The threshold from which a host starts flapping.
