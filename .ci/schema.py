@@ -22,35 +22,30 @@ from program import TOP, Harness
 SCHEMA = json.loads((TOP / "docs/setup.schema.json").read_text(encoding="utf-8"))
 MISSING = object()
 
+
+def defaults(part):
+    """The members of a part's objects that have a default. The thresholds of flapping are as far apart as they can be, so that each may have all its values."""
+    known = SCHEMA["properties"][part]
+    members = known.get("items", known)["properties"]
+    ends = {name: {"low": "minimum", "high": "maximum"}.get(name.partition("_")[0], "default") for name in members}
+    return {name: member[ends[name]] for name, member in members.items() if ends[name] in member}
+
+
 # Each member once; the spare host and service are named by no other object.
 DOCUMENT = {
-    "options": {
-        "interval_length": 60,
-        "service_inter_check_delay_method": "s",
-        "max_service_check_spread": 30,
-        "service_interleave_factor": "s",
-        "host_inter_check_delay_method": 250,
-        "max_host_check_spread": 30,
-        "max_concurrent_checks": 20,
-        "soft_state_dependencies": False,
-        "use_aggressive_host_checking": False,
-        "low_service_flap_threshold": 0,
-        "high_service_flap_threshold": 100,
-        "low_host_flap_threshold": 0,
-        "high_host_flap_threshold": 100,
-    },
+    "options": defaults("options") | {"host_inter_check_delay_method": 250},
     "hosts": [
         {"name": "a", "max_check_attempts": 3},
-        {"name": "b", "parents": ["a"], "max_check_attempts": 3, "check_interval": 5, "retry_interval": 1, "enabled": True},
+        defaults("hosts") | {"name": "b", "parents": ["a"], "max_check_attempts": 3},
         {"name": "spare", "max_check_attempts": 3},
     ],
     "services": [
         {"host": "a", "description": "s", "max_check_attempts": 3},
-        {"host": "b", "description": "t", "max_check_attempts": 3, "check_interval": 5, "retry_interval": 1, "enabled": True},
+        defaults("services") | {"host": "b", "description": "t", "max_check_attempts": 3},
         {"host": "b", "description": "spare", "max_check_attempts": 3},
     ],
-    "service_dependencies": [{"dependent": "b;t", "master": "a;s", "criteria": "c", "inherits_parent": True}],
-    "host_dependencies": [{"dependent": "b", "master": "a", "criteria": "d", "inherits_parent": True}],
+    "service_dependencies": [defaults("service_dependencies") | {"dependent": "b;t", "master": "a;s", "criteria": "c"}],
+    "host_dependencies": [defaults("host_dependencies") | {"dependent": "b", "master": "a", "criteria": "d"}],
 }
 NAMES = [("hosts", 2, "name"), ("services", 2, "description")]
 KINDS = [None, True, -1, 1.5, "", "x", [], {}, ["x"], {"x": 1}]
