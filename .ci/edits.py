@@ -69,6 +69,11 @@ def is_stale(rt, crate):
     return not fits or any(rt.read_edit(str(edit), crate.folder)[1] for edit in edits_of(crate))
 
 
+def is_refused(rt, kind, line):
+    """Whether the prover refused an edit, for its own meaning."""
+    return kind in (rt.REFUSED, rt.AT_LIMIT) and SHOWS_NOTHING not in line
+
+
 def edit_results(rt, crate):
     """For each edit of a crate, whether the prover refused it, and a line. It starts from the crate's stored proofs, if there are any."""
     edits = [str(edit) for edit in edits_of(crate)]
@@ -78,9 +83,9 @@ def edit_results(rt, crate):
             shutil.copytree(kept, room, dirs_exist_ok=True)
         results = [rt.must_fail(crate, edit, FLAGS, room) for edit in edits]
         is_sound = rt.checked(crate, {}, FLAGS, room).returncode == 0
-    if not is_sound or not all(refused for refused, _ in results):
-        results = rt.must_fail_all(crate, edits, FLAGS)
-    return [(refused and SHOWS_NOTHING not in line, line) for refused, line in results]
+    if not is_sound or not all(is_refused(rt, kind, line) for kind, line in results):
+        results = [rt.must_fail(crate, edit, FLAGS) for edit in edits]
+    return [(is_refused(rt, kind, line), line) for kind, line in results]
 
 
 def prepare(rt, crates):
