@@ -69,23 +69,20 @@ def is_stale(rt, crate):
     return not fits or any(rt.read_edit(str(edit), crate.folder)[1] for edit in edits_of(crate))
 
 
-def is_refused(rt, kind, line):
-    """Whether the prover refused an edit, for its own meaning."""
-    return kind in (rt.REFUSED, rt.AT_LIMIT) and SHOWS_NOTHING not in line
-
-
 def edit_results(rt, crate):
-    """For each edit of a crate, whether the prover refused it, and a line. It starts from the crate's stored proofs, if there are any."""
-    edits = [str(edit) for edit in edits_of(crate)]
+    """For each edit of a crate, whether the prover refused it for its meaning, and a line. It starts from the crate's stored proofs, if there are any."""
+
+    def tried(room):
+        found = [rt.must_fail(crate, str(edit), FLAGS, room) for edit in edits_of(crate)]
+        return [(kind in (rt.REFUSED, rt.AT_LIMIT) and SHOWS_NOTHING not in line, line) for kind, line in found]
+
     kept = pathlib.Path(crate.folder) / "out" / "incremental"
     with tempfile.TemporaryDirectory(prefix="edits-") as room:
         if kept.is_dir():
             shutil.copytree(kept, room, dirs_exist_ok=True)
-        results = [rt.must_fail(crate, edit, FLAGS, room) for edit in edits]
+        results = tried(room)
         is_sound = rt.checked(crate, {}, FLAGS, room).returncode == 0
-    if not is_sound or not all(is_refused(rt, kind, line) for kind, line in results):
-        results = [rt.must_fail(crate, edit, FLAGS) for edit in edits]
-    return [(is_refused(rt, kind, line), line) for kind, line in results]
+    return results if is_sound and all(refused for refused, _ in results) else tried(None)
 
 
 def prepare(rt, crates):
