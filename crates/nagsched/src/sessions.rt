@@ -1,10 +1,9 @@
-//! Tests of facts that no clause states and the built program doesn't show: runs over readers and
-//! writers that fail, flushes, and the statuses of arguments. `.ci/devices.py` runs the built program over
-//! devices that fail.
+//! Tests of facts that no clause states and the built program doesn't show: which device a job says has failed,
+//! the one flush of a run, and the statuses of arguments. `.ci/devices.py` runs the built program over devices
+//! that fail, and looks at the order of its reads and writes.
 
 mod devices;
 mod faults;
-mod live;
 mod sessions;
 
 use std::alloc::Global;

@@ -1,6 +1,1 @@
 pub mod ArgumentLemmas
-pub mod DrillDriveLemmas
-pub mod DrillLaws
-pub mod ReadingLemmas
-pub mod CheckLemmas
-pub mod CheckResumedLemmas

@@ -1,9 +1,2 @@
 pub mod Arguments
-pub mod Check
-pub mod CheckResumed
-pub mod CheckEnded
-pub mod Drill
-pub mod Reading
 pub mod Session
-pub mod ScriptedCodes
-pub mod SetupReading

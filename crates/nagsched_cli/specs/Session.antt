@@ -4,20 +4,20 @@ use Rattle.std.specs.Io.KnownBytes.{Appends}
 use Rattle.clap.specs.Words.{Text, fault_of}
 use Rattle.nagsched_protocol.specs.declared.drive_error.DriveError.{DriveError}
 use Rattle.nagsched_protocol.specs.declared.drive_error.DriveError.TheVariants as errors
-use Rattle.nagsched_run.specs.declared.drive.Outcome.{Outcome}
-use Rattle.nagsched_run.specs.declared.drive.Outcome.TheVariants as outcome
+use Rattle.nagsched_protocol.specs.declared.outcome.Outcome.{Outcome}
+use Rattle.nagsched_protocol.specs.declared.outcome.Outcome.TheVariants as outcome
 use Rattle.nagsched_cli.specs.declared.session.Ending.{Ending}
 use Rattle.nagsched_cli.specs.declared.session.Ending.TheVariants as ending
 use Rattle.nagsched_cli.specs.declared.arguments.Job.{Job}
 use Rattle.nagsched_cli.specs.declared.arguments.Job.TheVariants as job
 use Rattle.nagsched_cli.specs.declared.arguments.WordsError.{WordsError}
 use Rattle.nagsched_cli.specs.declared.arguments.WordsError.TheVariants as words_error
-use Rattle.nagsched_cli.specs.CheckEnded.{CheckEnded, IsSetupLineReport, IsReportFrom}
-use Rattle.nagsched_cli.specs.Reading.{check_input_of, document_input_of}
-use Rattle.nagsched_cli.specs.Drill.{DrillEnded}
+use Rattle.nagsched_jobs.specs.CheckEnded.{CheckEnded, IsSetupLineReport, IsReportFrom}
+use Rattle.nagsched_jobs.specs.Reading.{check_input_of, document_input_of}
+use Rattle.nagsched_jobs.specs.Drill.{DrillEnded}
 use Rattle.nagsched_run.specs.Drive.{RunEnded}
 use Rattle.nagsched_run.specs.Live.{ConversationEnded}
-use Rattle.nagsched_run.specs.Streams.{Streams}
+use Rattle.nagsched_protocol.specs.Streams.{Streams}
 use Rattle.nagsched_protocol.specs.Output.{WroteFront}
 use Rattle.nagsched_cli.specs.Arguments.{AsksText, IsRefused, requested_job, program}
 

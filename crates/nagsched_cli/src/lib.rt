@@ -4,30 +4,15 @@
 //! conversation, a check, a drill, or the schema of a setup. If the arguments ask for none of them, a line
 //! says why.
 //!
-//! The modules of the arguments:
+//! The modules:
 //!
-//! - `arguments`: the jobs that the arguments can ask for.
-//! - `job`: reads the arguments.
-//! - `help`: the help texts.
+//! - `arguments`: the jobs that the arguments can ask for. `job` reads the arguments, and `help` has the help
+//!   texts.
+//! - `session`: does the job that the arguments ask for. `nagsched_run` and `nagsched_jobs` have the jobs.
 //!
-//! The modules of the jobs:
-//!
-//! - `session`: does the job that the arguments ask for.
-//! - `check`: reports the contents of a setup. `reading` says how much of the input is read, and
-//!   `check_resumed` reports what happens to a saved state over a setup.
-//! - `drill`: lets workers work on an input, with the plugin of `scripted_plugin`, and writes the result.
-//! - `printing`: prints the whole text of a job.
-//!
-//! All modules except `help` and `printing` are public. A function `drill` and a module `drill` can't both be
-//! at the root, nor can a function `job` and a module `job`.
+//! A function `job` and a module `job` can't both be at the root.
 
 pub mod arguments;
-pub mod check;
-pub mod check_resumed;
-pub mod drill;
 mod help;
 pub mod job;
-mod printing;
-pub mod reading;
-pub mod scripted_plugin;
 pub mod session;

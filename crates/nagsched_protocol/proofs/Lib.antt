@@ -1,4 +1,5 @@
 pub mod InputLemmas
+pub mod ReadLemmas
 pub mod LineLaws
 pub mod LiveInputLemmas
 pub mod KeptLemmas

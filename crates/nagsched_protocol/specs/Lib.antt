@@ -2,6 +2,7 @@ pub mod Input
 pub mod LiveInput
 pub mod LiveError
 pub mod Script
+pub mod Streams
 pub mod Line
 pub mod Command
 pub mod DrillCommand

@@ -12,7 +12,7 @@
 //! - `drill_command`: the vocabulary of `drill`. `drill_script` puts its commands together.
 //! - `start`: how a scheduler starts; it also starts one.
 //! - `refusal`: the errors of an input.
-//! - `drive_error`: why a run or a drill ends early.
+//! - `outcome`: how a job ends. `drive_error`: why it ends early.
 //! - `line_reader`: the lines of a conversation.
 //! - `live_error`: why a conversation ends early.
 //!
@@ -31,6 +31,7 @@ pub mod laws;
 mod line;
 mod line_reader;
 mod live_error;
+mod outcome;
 mod output;
 mod reader;
 mod refusal;
@@ -50,7 +51,8 @@ pub use line_reader::{
     read_buffered, take_document,
 };
 pub use live_error::LiveError;
-pub use output::{flush, write_refusal, write_saved, write_text};
+pub use outcome::{Ended, Outcome};
+pub use output::{flush, print_text, write_refusal, write_saved, write_text};
 pub use reader::{ReaderFault, ask_reader};
 pub use refusal::{InputRefusal, LineFault, ScriptError};
 pub use refusal_text::push_refusal;

@@ -66,6 +66,18 @@ pub fn write_saved<W: Write>(alloc: Global, sched: &Sched, writer: &mut W) -> Re
     write_text(writer, &line)
 }
 
+/// Writes a text and flushes it. The error is `Write`, and a prefix of the text was written then.
+pub fn print_text<W: Write>(writer: &mut W, text: &[u8]) -> Result<(), DriveError>
+    ensures written { OnOk result
+        (Appends (W.contents writer.old) (W.contents writer.new) text.now) }
+    ensures fault { OnErr result
+        (WroteFront (W.contents writer.old) (W.contents writer.new) text.now) }
+    ensures only { IsOkUnless result DriveError.Write }
+{
+    write_text(writer, text)?;
+    flush(writer)
+}
+
 /// Flushes the writer. The error is `Write`.
 pub fn flush<W: Write>(writer: &mut W) -> Result<(), DriveError>
     ensures kept { Keeps (W.contents writer.old) (W.contents writer.new) }

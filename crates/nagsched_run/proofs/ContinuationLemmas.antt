@@ -35,13 +35,13 @@ use Rattle.nagsched_protocol.proofs.ScriptLemmas.{length-lines_of}
 use Rattle.nagsched_protocol.proofs.OutputLemmas.{Appends-none}
 use Rattle.nagsched_protocol.specs.LiveText.{answers_from, answers_over, live_text}
 use Rattle.nagsched_protocol.specs.Text.{refusal_line}
-use Rattle.nagsched_run.specs.declared.drive.Outcome.{Outcome}
-use Rattle.nagsched_run.specs.declared.drive.Outcome.TheVariants as outcome
-use Rattle.nagsched_run.specs.Drive.{IsInput, outcome_by}
-use Rattle.nagsched_run.specs.Streams.{streams}
+use Rattle.nagsched_protocol.specs.declared.outcome.Outcome.{Outcome}
+use Rattle.nagsched_protocol.specs.declared.outcome.Outcome.TheVariants as outcome
+use Rattle.nagsched_protocol.specs.Streams.{IsInput, outcome_by}
+use Rattle.nagsched_protocol.specs.Streams.{streams}
 use Rattle.nagsched_run.specs.Live.{IsSpentAfterInput, IsSpentAfterSetup, IsSpentAfterLines, ConversationEnded, HasHadAtLeast, HasReadLive, LeavesText, ReadBy}
 use Rattle.nagsched_run.specs.Live.{ReadOver, AnsweringEnded, HasTakenDocument, IsContinuation, saved_at_start}
-use Rattle.nagsched_run.proofs.DriveLemmas.{front_tells}
+use Rattle.nagsched_protocol.proofs.ReadLemmas.{front_tells}
 use Rattle.nagsched_run.proofs.LiveLemmas.{end_input, input_all, input_on, leaves_kept, live_failed}
 use Rattle.nagsched_run.proofs.LiveLemmas.{not_long, refused_stays, rest_input, rest_of, setup_is, setup_refused, written_errs, written_ifs, written_oks}
 

@@ -33,10 +33,10 @@ use Rattle.nagsched_protocol.specs.Text.{input_refusal_text, refused_text}
 use Rattle.nagsched_protocol.specs.Output.{AreWholeLines}
 use Rattle.nagsched_protocol.proofs.OutputLemmas.{Appends-Keeps, Appends-none, Appends-trans, front_none, whole_on}
 use Rattle.nagsched_protocol.proofs.TextLemmas.{answer_line_ends}
-use Rattle.nagsched_run.specs.Drive.{IsInput}
+use Rattle.nagsched_protocol.specs.Streams.{IsInput}
 use Rattle.nagsched_protocol.specs.Written.{IsLineWritten, LeftOfLine}
 use Rattle.nagsched_run.specs.Live.{IsSpentAfterInput, IsSpentAfterLines, HasAnsweredLines, ConversationEnded, LeavesText, LineFailed, AnsweringEnded}
-use Rattle.nagsched_run.specs.Streams.{streams}
+use Rattle.nagsched_protocol.specs.Streams.{streams}
 
 -- ---- what is read
 

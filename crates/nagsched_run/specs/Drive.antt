@@ -1,34 +1,18 @@
 -- How a run from a reader to a writer ends, with or without a fault.
-use Rattle.std.specs.Prelude.{ℕ, ◌≡◌, ◌⊎◌, List, Option, Result, Ok, Err, IfErr, IfOk, IfSome, OnErr, OnOk, take}
-use Rattle.std.specs.Io.KnownBytes.{Appends, Keeps, Consumes}
+use Rattle.std.specs.Prelude.{ℕ, ◌≡◌, ◌⊎◌, List, Option, Result, IfErr, IfOk, OnErr, OnOk}
+use Rattle.std.specs.Io.KnownBytes.{Appends, Keeps}
 use Rattle.nagsched_protocol.specs.declared.drive_error.DriveError.{DriveError}
 use Rattle.nagsched_protocol.specs.declared.drive_error.DriveError.TheVariants as errors
-use Rattle.nagsched_protocol.specs.declared.input.TheConstants.{MAX_READ_BYTES}
-use Rattle.nagsched_protocol.specs.declared.refusal.InputRefusal.{InputRefusal}
 use Rattle.nagsched_protocol.specs.declared.start.Start.{Start}
 use Rattle.nagsched_protocol.specs.Script.{script_of}
 use Rattle.nagsched_protocol.specs.Output.{WroteFront, WroteShort}
 use Rattle.nagsched_protocol.specs.Text.{text}
-use Rattle.nagsched_run.specs.declared.drive.Outcome.{Outcome}
-use Rattle.nagsched_run.specs.declared.drive.Outcome.TheVariants as outcome
-use Rattle.nagsched_run.specs.Streams.{Streams}
-
--- the outcome of a reading: a run, or a refusal
-abbrev pub outcome_by : {A : Type 0} → Result A InputRefusal → Outcome
-outcome_by (Ok x) = outcome.Ran
-outcome_by (Err r) = outcome.Refused
+use Rattle.nagsched_protocol.specs.declared.outcome.Outcome.{Outcome}
+use Rattle.nagsched_protocol.specs.Streams.{HasRead, IsInput, Streams, outcome_by}
 
 -- whether a run on the input makes its calls or refuses it
 unfoldable pub outcome_of : Start → List ℕ → Outcome
 outcome_of how input = outcome_by (script_of how input)
-
--- The whole input was read, or one byte more than an input may have.
-abbrev pub HasRead : Option (List ℕ) → Option (List ℕ) → List ℕ → Type 0
-HasRead had left input = Consumes had left (take MAX_READ_BYTES input)
-
--- An input of a reader. If it is known what the reader had, the input is that.
-abbrev pub IsInput : Option (List ℕ) → List ℕ → Type 0
-IsInput had input = IfSome had (λ bytes. input ≡ bytes)
 
 -- The part of a text that an error leaves. After a fault of the reader nothing was written, and after a fault of the writer a prefix of the text. Out
 -- of memory, nothing was written, or whole lines of the text that aren't all of it.

@@ -1,4 +1,3 @@
 pub mod Cut
 pub mod Drive
 pub mod Live
-pub mod Streams

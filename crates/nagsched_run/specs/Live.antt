@@ -20,9 +20,9 @@ use Rattle.nagsched_protocol.specs.LiveInput.{IsBoundedReading, rest_after_line,
 use Rattle.nagsched_protocol.specs.Script.{Beginning, beginning_of, beginning_over, with_saved_refusal}
 use Rattle.nagsched_protocol.specs.LiveText.{line_answer, answers_from, answers_over, live_text, line_meaning, state_after_line}
 use Rattle.nagsched_protocol.specs.Output.{AreWholeLines, WroteFront}
-use Rattle.nagsched_run.specs.declared.drive.Outcome.{Outcome}
-use Rattle.nagsched_run.specs.Drive.{IsInput, outcome_by}
-use Rattle.nagsched_run.specs.Streams.{Streams}
+use Rattle.nagsched_protocol.specs.declared.outcome.Outcome.{Outcome}
+use Rattle.nagsched_protocol.specs.Streams.{IsInput, outcome_by}
+use Rattle.nagsched_protocol.specs.Streams.{Streams}
 
 -- ---- a whole conversation
 

@@ -6,29 +6,15 @@ ghost use Rattle.nagsched_protocol.specs.Start.{CanStart};
 ghost use Rattle.nagsched_protocol.specs.Text.{answer_line, line_from, state_after_command, text, text_from};
 ghost use Rattle.nagsched_protocol.specs.Written.{IsLineWritten, IsTextWritten};
 ghost use Rattle.nagsched_run.specs.Drive.{RunEnded, outcome_of};
-ghost use Rattle.nagsched_run.specs.Streams.{streams};
+ghost use Rattle.nagsched_protocol.specs.Streams.{streams};
 
 use check_sched::{Call, LAST_MOMENT, Sched};
 use nagsched_protocol::{
-    DriveError, MAX_READ_BYTES, REPLY_BYTES, RunCommand, Script, Start, flush, push_reply,
-    read_at_most, write_refusal, write_saved, write_text,
+    DriveError, Ended, MAX_READ_BYTES, Outcome, REPLY_BYTES, RunCommand, Script, Start, flush,
+    push_reply, read_at_most, write_refusal, write_saved, write_text,
 };
 use std::alloc::Global;
 use std::io::{Read, Write};
-
-/// How a run, a conversation, a drill, a check or the writing of a schema ended, if it met no fault and
-/// wasn't out of memory.
-#[derive(Clone, Copy, Debug, PartialEq, Eq)]
-pub enum Outcome {
-    /// The job was done. A run made each call of its script and wrote the line of each reply.
-    Ran,
-    /// The input was refused before any call was made, and the line of its first refusal was written. A
-    /// conversation refuses its input only for the setup or the saved state.
-    Refused,
-}
-
-/// How a job ended, or the error that ended it early.
-pub type Ended = Result<Outcome, DriveError>;
 
 /// Makes the calls of a script on a scheduler that starts fresh at the moment `start`, in milliseconds.
 /// It is [`run`] with this start.

@@ -13,18 +13,19 @@ ghost use Rattle.nagsched_protocol.specs.LiveText.{line_answer, line_meaning, st
 ghost use Rattle.nagsched_protocol.specs.Text.{refusal_line};
 ghost use Rattle.nagsched_run.specs.Live.{IsSpentAfterInput, IsSpentAfterSetup, IsSpentAfterLines, HasAnsweredLine, ConversationEnded, LeavesText};
 ghost use Rattle.nagsched_run.specs.Live.{LineFailed, AnsweringEnded, HasTakenDocument, IsContinuation, saved_at_start};
-ghost use Rattle.nagsched_run.specs.Streams.{streams};
+ghost use Rattle.nagsched_protocol.specs.Streams.{streams};
 
-use crate::drive::{Ended, Outcome, answer_command};
+use crate::drive::answer_command;
 use crate::live_errors::{as_drive_result, as_live_result};
 use crate::next_line::take_next_line;
 use check_objects::Setup;
 use check_saved_state::Saved;
 use check_sched::Sched;
 use nagsched_protocol::{
-    DriveError, InputBuffer, InputRefusal, LINE_PREFIX_BYTES, LineBuffer, LiveError, READ_BYTES,
-    REPLY_BYTES, RunCommand, SAVED_PREFIX_BYTES, SETUP_PREFIX_BYTES, ScriptError, Start, flush,
-    open, read_buffered, read_saved, read_setup, resume, take_document, write_refusal,
+    DriveError, Ended, InputBuffer, InputRefusal, LINE_PREFIX_BYTES, LineBuffer, LiveError,
+    Outcome, READ_BYTES, REPLY_BYTES, RunCommand, SAVED_PREFIX_BYTES, SETUP_PREFIX_BYTES,
+    ScriptError, Start, flush, open, read_buffered, read_saved, read_setup, resume, take_document,
+    write_refusal,
 };
 use std::alloc::{AllocError, Global};
 use std::io::{Read, Write};

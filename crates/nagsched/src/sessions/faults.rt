@@ -2,10 +2,10 @@
 
 use super::devices::{FailingReader, KINDS, ShortWriter};
 use super::with_host;
-use nagsched_cli::check::{check, write_setup_line};
-use nagsched_cli::drill::drill;
-use nagsched_protocol::{DriveError, Start};
-use nagsched_run::drive::{Outcome, drive};
+use nagsched_jobs::check::{check, write_setup_line};
+use nagsched_jobs::drill::drill;
+use nagsched_protocol::{DriveError, Outcome, Start};
+use nagsched_run::drive::drive;
 use nagsched_run::live::live;
 use std::alloc::Global;
 use std::io::ErrorKind;
@@ -52,20 +52,6 @@ fn writers_fail(rt: HostRuntime) -> Result<(), Fail> {
             assert_eq!(rt; result, Err(DriveError::Write));
             assert!(rt; writer.taken.as_slice() == &TEXT[..room]);
         }
-    }
-    Ok(())
-}
-
-#[test]
-fn writers_fail_with_any_error(rt: HostRuntime) -> Result<(), Fail> {
-    let alloc = rt.alloc();
-    let input = with_host(alloc, LINES)?;
-    for error in KINDS {
-        let mut writer = ShortWriter::new(alloc, 3);
-        writer.room = 5;
-        writer.error = error;
-        let result = drive_over(alloc, &input, &mut writer);
-        assert_eq!(rt; result, Err(DriveError::Write));
     }
     Ok(())
 }

@@ -1,6 +1,6 @@
 use Rattle.std.proofs.lemmas.Result.{err_from_is_err_and}
 use Rattle.nagsched_protocol.specs.Text.{text}
-use Rattle.nagsched_run.proofs.DriveLemmas.{met_refusal, no_refusal}
+use Rattle.nagsched_protocol.proofs.ReadLemmas.{met_refusal, no_refusal}
 use Rattle.nagsched_protocol.proofs.WrittenLemmas.{line_none, text_line}
 use Rattle.nagsched_run.proofs.drive.answer.Goals as goal
 

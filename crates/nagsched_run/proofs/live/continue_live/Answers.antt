@@ -1,6 +1,6 @@
 use Rattle.std.proofs.Common.{◌≡◌, ◌∙◌, ◌++◌, [], Ok, Err}
 use Rattle.std.proofs.lemmas.Result.{err_from_is_err_and}
-use Rattle.nagsched_run.specs.declared.drive.Outcome.TheVariants as outcome
+use Rattle.nagsched_protocol.specs.declared.outcome.Outcome.TheVariants as outcome
 use Rattle.nagsched_run.specs.Live.{saved_at_start}
 use Rattle.nagsched_protocol.proofs.LiveInputLemmas.{Consumes-none}
 use Rattle.nagsched_run.proofs.LiveLemmas.{gives_refused}
