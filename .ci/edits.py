@@ -45,10 +45,6 @@ def edits_of(crate):
     return sorted(TOP.glob(f"crates/{crate.name}/edits/*.edit"))
 
 
-def result_file(crate):
-    return TOP / "crates" / crate.name / "edits" / "TRIED"
-
-
 def checksum(crate):
     """The checksum of everything that the outcome of a crate's edits depends on, except the kit."""
     folder = TOP / "crates" / crate.name
@@ -65,7 +61,8 @@ def checksum(crate):
 
 def is_stale(rt, crate):
     """Whether TRIED is out of date, or an edit doesn't fit its file any more, as when it changes a comment."""
-    fits = result_file(crate).is_file() and result_file(crate).read_text() == checksum(crate)
+    tried = pathlib.Path(crate.folder, "edits", "TRIED")
+    fits = tried.is_file() and tried.read_text() == checksum(crate)
     return not fits or any(rt.read_edit(str(edit), crate.folder)[1] for edit in edits_of(crate))
 
 
@@ -108,7 +105,7 @@ def main(arguments):
             print("\n".join(f"edits: {crate.name}: {line}" for _, line in results), flush=True)
             failed += sum(not refused for refused, _ in results)
             if is_by_hand and all(refused for refused, _ in results):
-                result_file(crate).write_text(checksum(crate))
+                pathlib.Path(crate.folder, "edits", "TRIED").write_text(checksum(crate))
     passed = sum(len(edits_of(crate)) for crate in crates) - failed
     print(f"edits: {passed} passed, {failed} failed")
     return 1 if failed else 0
