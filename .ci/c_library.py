@@ -35,7 +35,7 @@ COUNTED = ["-Wl,--wrap=malloc,--wrap=realloc"]
 DEFINITIONS = [
     TOP / "crates" / "setup_model" / "specs" / "LoadError.antt",
     TOP / "crates" / "setup_model" / "specs" / "Place.antt",
-    TOP / "crates" / "check_rules" / "specs" / "Numbers.antt",
+    TOP / "crates" / "check_states" / "specs" / "Numbers.antt",
     TOP / "crates" / "nagsched_handles" / "specs" / "Structs.antt",
     TOP / "crates" / "nagsched_handles" / "specs" / "SavedFaults.antt",
 ]

@@ -6,14 +6,14 @@ use Rattle.std.proofs.lemmas.Bool.Decides.{nat_tests}
 use Rattle.ticket_steps.specs.declared.books.Entry.{Entry}
 use Rattle.ticket_steps.specs.History.{replay}
 use Rattle.check_objects.specs.Configuration.{Configuration, NamedObject, IsSetup, object_count, objects_of}
-use Rattle.check_rules.specs.declared.standing.Kind.{Kind}
-use Rattle.check_rules.specs.declared.standing.Kind.TheVariants as kind
-use Rattle.check_rules.specs.declared.standing.Standing.{Standing}
-use Rattle.check_rules.specs.declared.state.State as rules
-use Rattle.check_rules.specs.declared.state.State.TheVariants as state
-use Rattle.check_rules.specs.Board.{word_of_standing, standing_of_word}
-use Rattle.check_rules.specs.Standing.{is_lawful}
-use Rattle.check_rules.proofs.BoardLemmas.{coded_back}
+use Rattle.check_states.specs.declared.standing.Kind.{Kind}
+use Rattle.check_states.specs.declared.standing.Kind.TheVariants as kind
+use Rattle.check_states.specs.declared.standing.Standing.{Standing}
+use Rattle.check_states.specs.declared.state.State as rules
+use Rattle.check_states.specs.declared.state.State.TheVariants as state
+use Rattle.check_states.specs.Board.{word_of_standing, standing_of_word}
+use Rattle.check_states.specs.Standing.{is_lawful}
+use Rattle.check_states.proofs.BoardLemmas.{coded_back}
 use Rattle.check_sched.specs.declared.call.Call.{Call}
 use Rattle.check_sched.specs.declared.call.Reply.{Reply}
 use Rattle.check_sched.specs.State.{State, IsState, max_attempts_of, standing_at}

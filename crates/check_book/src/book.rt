@@ -283,8 +283,8 @@ impl Kept for Book {
         self.log.sched.words()
     }
 
-    /// The [`code`](check_rules::code) of the standing of the object with this number, which
-    /// [`decode`](check_rules::decode) reads: see
+    /// The [`code`](check_states::code) of the standing of the object with this number, which
+    /// [`decode`](check_states::decode) reads: see
     /// [`board_shows_standings`](crate::laws::board_shows_standings).
     fn word(&self, place: u32) -> u64 {
         self.log.sched.word(place)

@@ -4,8 +4,8 @@ ghost use Rattle.std.specs.Prelude.{ℕ, ◌≡◌, ◌<◌, ◌≤◌, List, �
 ghost use Rattle.ticket_steps.specs.declared.books.Entry.{Entry};
 ghost use Rattle.ticket_steps.specs.History.{entry, replay, IsLegal};
 ghost use Rattle.check_objects.specs.Configuration.{Configuration, IsSetup, object_count};
-ghost use Rattle.check_rules.specs.Board.{standing_of_word};
-ghost use Rattle.check_rules.specs.declared.state.Code.{Code};
+ghost use Rattle.check_states.specs.Board.{standing_of_word};
+ghost use Rattle.check_states.specs.declared.state.Code.{Code};
 ghost use Rattle.check_sched.specs.declared.call.Call.{Call};
 ghost use Rattle.check_sched.specs.declared.call.Call.TheVariants as call;
 ghost use Rattle.check_sched.specs.declared.call.Reply.{Reply};
@@ -50,7 +50,7 @@ pub fn replies()
 {}
 
 /// The board of a book, after any calls since the book was opened, one after another. It has a word for each
-/// object of the setup (`words`). [`decode`](check_rules::decode) reads the word as the standing of the
+/// object of the setup (`words`). [`decode`](check_states::decode) reads the word as the standing of the
 /// object with that number (`read`). This holds from every state that a scheduler can be in (`words_from`,
 /// `read_from`). Each book opens in such a state (`opened`), and so does a renewed book. A book is in such a
 /// state at any time (`state`). Each book is over a setup like those of [`Setup`](check_objects::Setup)

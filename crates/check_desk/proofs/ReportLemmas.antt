@@ -8,9 +8,9 @@ use Rattle.ticket_steps.specs.declared.books.Entry.{Entry}
 use Rattle.ticket_steps.specs.History.{entry, replay, IsLegal}
 use Rattle.ticket_lock.specs.Callers.{Caller}
 use Rattle.ticket_lock.specs.Tokens.{start_of}
-use Rattle.check_rules.specs.declared.state.Code.{Code}
-use Rattle.check_rules.specs.declared.standing.Standing.{Standing}
-use Rattle.check_rules.specs.Standing.{pending_standing}
+use Rattle.check_states.specs.declared.state.Code.{Code}
+use Rattle.check_states.specs.declared.standing.Standing.{Standing}
+use Rattle.check_states.specs.Standing.{pending_standing}
 use Rattle.check_sched.specs.declared.call.Call.{Call}
 use Rattle.check_sched.specs.declared.call.Call.TheVariants as call
 use Rattle.check_sched.specs.declared.call.Reply.{Reply}

@@ -6,7 +6,7 @@ use Rattle.ticket_lock.specs.Callers.{Caller, caller_after_draw, caller_after_ca
 use Rattle.ticket_lock.specs.Views.{Follows}
 use Rattle.ticket_lock.specs.Tokens.{start_of, IsSeatOf, IsTurnOf, IsHoldOf}
 use Rattle.check_objects.specs.Configuration.{object_count}
-use Rattle.check_rules.specs.declared.standing.Standing.{Standing}
+use Rattle.check_states.specs.declared.standing.Standing.{Standing}
 use Rattle.check_sched.specs.declared.call.Call.{Call}
 use Rattle.check_sched.specs.declared.call.Reply.{Reply}
 use Rattle.check_sched.specs.State.{standing_at}

@@ -15,8 +15,8 @@ ghost use Rattle.check_book.specs.Books.{entries_of, opening_of, refused_of, roo
 
 use crate::passes::{Hold, Pass, Turn};
 use check_book::Book;
-use check_rules::{Standing, decode};
 use check_sched::{Call, Reply};
+use check_states::{Standing, decode};
 use crossbeam_utils::Backoff;
 use std::alloc::Global;
 use std::sync::Wait;

@@ -4,8 +4,8 @@ use Rattle.setup_model.specs.declared.error.LoadError.TheVariants as errors
 use Rattle.setup_model.specs.Agreement.{◌>>=◌}
 use Rattle.setup_model.specs.ParsedSetup.{ParsedSetup}
 use Rattle.setup_model.specs.Fault as fault
-use Rattle.check_objects.specs.Configuration.{Configuration, masters_of, parents_by_host}
-use Rattle.check_objects.specs.Numbering.{configuration}
+use Rattle.setup_objects.specs.Configuration.{Configuration, masters_of, parents_by_host}
+use Rattle.setup_objects.specs.Numbering.{configuration}
 use Rattle.setup_order.specs.Cycles.{has_cycle}
 use Rattle.check_objects.specs.Setup.{without_parent_cycle, without_cycles, AreRefusedFor, IsParentVerdict}
 

@@ -7,16 +7,16 @@ use Rattle.setup_model.specs.Ends.{is_known, full_names}
 use Rattle.setup_model.specs.Keys.{names_of, key_of}
 use Rattle.setup_model.specs.Name.{full_name}
 use Rattle.setup_model.proofs.ListLemmas.{list_any-map}
-use Rattle.setup_reader.specs.Verification.{verification}
-use Rattle.setup_reader.proofs.FaultlessLemmas.{faultless}
+use Rattle.setup_verification.specs.Verification.{verification}
+use Rattle.setup_verification.proofs.FaultlessLemmas.{faultless}
 use Rattle.setup_model.proofs.RefusalLemmas.{have_known_ends}
-use Rattle.check_objects.specs.declared.object_index.Host.{Host}
-use Rattle.check_objects.specs.declared.object_index.Service.{Service}
-use Rattle.check_objects.specs.Configuration as spec
-use Rattle.check_objects.specs.Entries.{host_entry, service_entry, names_in}
-use Rattle.check_objects.specs.Numbering.{configuration, numbered_host, hosts_in_order, services_in_order, names_in_order, host_body}
-use Rattle.check_objects.proofs.NameLemmas.{found, no_host_has}
-use Rattle.check_objects.proofs.NumberedLemmas.{known_in_order, full_name_in_order}
+use Rattle.setup_objects.specs.declared.object_index.Host.{Host}
+use Rattle.setup_objects.specs.declared.object_index.Service.{Service}
+use Rattle.setup_objects.specs.Configuration as spec
+use Rattle.setup_objects.specs.Entries.{host_entry, service_entry, names_in}
+use Rattle.setup_objects.specs.Numbering.{configuration, numbered_host, hosts_in_order, services_in_order, names_in_order, host_body}
+use Rattle.setup_objects.proofs.NameLemmas.{found, no_host_has}
+use Rattle.setup_objects.proofs.NumberedLemmas.{known_in_order, full_name_in_order}
 use Rattle.check_objects.proofs.OrderLemmas.{hosts_all, services_all}
 use Rattle.check_objects.proofs.SetupLemmas.{parted_hosts}
 

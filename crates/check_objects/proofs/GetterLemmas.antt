@@ -8,9 +8,9 @@ use Rattle.std.proofs.lemmas.List.Elements.{All-weaker}
 use Rattle.std.proofs.lemmas.Bool.{ltb-true}
 use Rattle.std.proofs.lemmas.List.Sums.{AllPass-from_list_all}
 use Rattle.setup_model.specs.declared.dependency.Dependency.{Dependency}
-use Rattle.check_objects.specs.declared.object_index.Host.{Host}
-use Rattle.check_objects.specs.Configuration.{Configuration, IsSetup, masters_in, dependencies_of, object_count}
-use Rattle.check_objects.specs.Entries.{host_entry}
+use Rattle.setup_objects.specs.declared.object_index.Host.{Host}
+use Rattle.setup_objects.specs.Configuration.{Configuration, IsSetup, masters_in, dependencies_of, object_count}
+use Rattle.setup_objects.specs.Entries.{host_entry}
 use Rattle.setup_order.proofs.TestLemmas.{both_true}
 use Rattle.std.proofs.lemmas.List.Folds.{list_all-map}
 

@@ -11,7 +11,7 @@ use Rattle.std.proofs.lemmas.Option.{slice_get-map, unwrap_or-slice_get}
 use Rattle.std.proofs.lemmas.Slice.Eq.{bytes_eq-Decides}
 use Rattle.setup_model.specs.Ends.{is_known}
 use Rattle.setup_model.proofs.ListLemmas.{mapped_next}
-use Rattle.check_objects.specs.Entries.{names_in}
+use Rattle.setup_objects.specs.Entries.{names_in}
 use Rattle.setup_order.proofs.TestLemmas.{or_cases}
 use Rattle.check_objects.specs.Indices.{AreIndices, HasIndex, IsIndex}
 

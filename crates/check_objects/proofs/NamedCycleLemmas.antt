@@ -17,16 +17,16 @@ use Rattle.setup_model.specs.Keys.{key_of, names_of}
 use Rattle.setup_model.specs.Name.{full_name}
 use Rattle.setup_model.proofs.ListLemmas.{list_any-map}
 use Rattle.setup_model.proofs.RefusalLemmas.{have_known_ends}
-use Rattle.setup_reader.specs.Verification.{verification}
-use Rattle.setup_reader.proofs.FaultlessLemmas.{faultless}
-use Rattle.check_objects.specs.declared.object_index.Host.{Host}
-use Rattle.check_objects.specs.declared.object_index.Service.{Service}
-use Rattle.check_objects.specs.Configuration as spec
-use Rattle.check_objects.specs.Configuration.{Configuration, IsSameSort, dependencies_of, host_count, masters_in, masters_of, name_of, named_host}
-use Rattle.check_objects.specs.Configuration.{named_service, number_by_name, object_count, objects_of, parents_by_host}
-use Rattle.check_objects.specs.Entries.{host_entry, names_in, service_entry}
-use Rattle.check_objects.specs.Numbering.{all_dependencies, configuration}
-use Rattle.check_objects.proofs.NameLemmas.{found, item_at, name_leads_back, name_of_host}
+use Rattle.setup_verification.specs.Verification.{verification}
+use Rattle.setup_verification.proofs.FaultlessLemmas.{faultless}
+use Rattle.setup_objects.specs.declared.object_index.Host.{Host}
+use Rattle.setup_objects.specs.declared.object_index.Service.{Service}
+use Rattle.setup_objects.specs.Configuration as spec
+use Rattle.setup_objects.specs.Configuration.{Configuration, IsSameSort, dependencies_of, host_count, masters_in, masters_of, name_of, named_host}
+use Rattle.setup_objects.specs.Configuration.{named_service, number_by_name, object_count, objects_of, parents_by_host}
+use Rattle.setup_objects.specs.Entries.{host_entry, names_in, service_entry}
+use Rattle.setup_objects.specs.Numbering.{all_dependencies, configuration}
+use Rattle.setup_objects.proofs.NameLemmas.{found, item_at, name_leads_back, name_of_host}
 use Rattle.setup_order.specs.Cycles.{links_of}
 use Rattle.setup_order.specs.Results.{successor, IsCycle}
 use Rattle.setup_order.specs.Orders.{is_among}

@@ -3,11 +3,11 @@ use Rattle.std.proofs.Common.{◌≡◌, map, Ok}
 use Rattle.std.specs.List.Sorted.{IsPermutation, IsStrictlySortedBy}
 use Rattle.setup_model.specs.ParsedSetup.{ParsedSetup}
 use Rattle.setup_model.specs.Name.{text_order, pair_order}
-use Rattle.check_objects.specs.Numbering.{host_body, hosts_in_order, services_in_order}
-use Rattle.setup_reader.specs.Verification.{verification}
+use Rattle.setup_objects.specs.Numbering.{host_body, hosts_in_order, services_in_order}
+use Rattle.setup_verification.specs.Verification.{verification}
 use Rattle.setup_model.specs.Keys.{key_of}
-use Rattle.setup_reader.proofs.FaultlessLemmas.{once}
-use Rattle.check_objects.proofs.NumberLaws.{every_host, every_service, apart_hosts_ascend, apart_services_ascend}
+use Rattle.setup_verification.proofs.FaultlessLemmas.{once}
+use Rattle.setup_objects.proofs.NumberLaws.{every_host, every_service, apart_hosts_ascend, apart_services_ascend}
 
 pub hosts_all : (d : ParsedSetup) → verification d ≡ Ok tt → IsPermutation (map (λ h. (h.name, host_body h)) d.hosts) (hosts_in_order d.hosts)
 hosts_all d e = every_host d.hosts

@@ -4,7 +4,7 @@ use Rattle.std.specs.Prelude.{nat_lt}
 use Rattle.std.proofs.lemmas.Bool.Decides.{nat_tests}
 use Rattle.std.proofs.lemmas.List.{get_or-append_right, get_or-drop, get_or-take, get_or_append_left, get_or_past, length-append, length-drop, length-take}
 use Rattle.std.proofs.lemmas.Option.{unwrap_or-slice_get}
-use Rattle.setup_reader.proofs.VerificationLemmas.{get_or_same}
+use Rattle.setup_verification.proofs.VerificationLemmas.{get_or_same}
 use Rattle.setup_order.specs.Results.{successor, IsCycle}
 use Rattle.check_objects.specs.Cycles.{IsCanonicalCycle}
 use Rattle.check_objects.specs.Indices.{AreIndices, BeginsWithLeast}

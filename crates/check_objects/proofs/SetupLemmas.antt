@@ -21,31 +21,31 @@ use Rattle.setup_model.specs.declared.member.Kind.TheVariants as kind
 use Rattle.setup_model.specs.Member.{Row, is_between, is_within_limits, limits_of}
 use Rattle.setup_model.specs.Members as members
 use Rattle.setup_model.specs.declared.parsed_setup.Object.{Object}
-use Rattle.check_objects.specs.Configuration.{Configuration, Host, IsSetup, IsWithin, IsDelayInRange, IsFactorInRange, is_object_in_range, named_host}
-use Rattle.check_objects.specs.Configuration.{named_service, objects_of, object_count, masters_in, masters_of, parents_by_host, host_count}
+use Rattle.setup_objects.specs.Configuration.{Configuration, Host, IsSetup, IsWithin, IsDelayInRange, IsFactorInRange, is_object_in_range, named_host}
+use Rattle.setup_objects.specs.Configuration.{named_service, objects_of, object_count, masters_in, masters_of, parents_by_host, host_count}
 use Rattle.setup_model.specs.Name.{full_name, is_host_name, is_name, text_order, pair_order}
-use Rattle.check_objects.specs.Configuration.{dependencies_of, pair_of, IsSameSort}
+use Rattle.setup_objects.specs.Configuration.{dependencies_of, pair_of, IsSameSort}
 use Rattle.setup_order.specs.Cycles.{has_cycle, are_within}
 use Rattle.setup_model.specs.ParsedSetup.{ParsedSetup, ParsedHost, ParsedService, ParsedDependency}
 use Rattle.setup_model.specs.Ends.{full_names, is_known}
-use Rattle.setup_reader.specs.Verification.{verification}
+use Rattle.setup_verification.specs.Verification.{verification}
 use Rattle.setup_model.specs.Keys.{names_of, key_of}
-use Rattle.setup_reader.specs.Verification as verified
+use Rattle.setup_verification.specs.Verification as verified
 use Rattle.setup_model.specs.Fault.{RangeFault, out_of_range, host_thresholds, range, service_thresholds}
 use Rattle.setup_model.specs.Place.{host_place, service_place}
-use Rattle.check_objects.specs.Numbering.{index_of_name, dependencies_among, numbered_host, numbered_service, hosts_in_order, services_in_order, names_in_order}
-use Rattle.check_objects.specs.Numbering.{configuration_of_objects, configuration, numbered_dependency, all_dependencies, host_body}
+use Rattle.setup_objects.specs.Numbering.{index_of_name, dependencies_among, numbered_host, numbered_service, hosts_in_order, services_in_order, names_in_order}
+use Rattle.setup_objects.specs.Numbering.{configuration_of_objects, configuration, numbered_dependency, all_dependencies, host_body}
 use Rattle.setup_order.proofs.TestLemmas.{both_true, all_weaker}
 use Rattle.std.proofs.lemmas.List.Folds.{list_all-map}
 use Rattle.setup_model.proofs.ListLemmas.{list_any-map}
 use Rattle.check_objects.proofs.OrderLemmas.{hosts_all, services_all, hosts_ascend, services_ascend}
-use Rattle.check_objects.proofs.NameLemmas.{HasNames, found, all_moved, parted_name}
-use Rattle.check_objects.proofs.NumberedLemmas.{AreAlike, host_names_are, pairs_are, full_names_are, known_in_order, full_name_in_order, parents_counted}
-use Rattle.check_objects.proofs.NumberedLemmas.{listed_few, host_end, service_end, ends_alike, both_hold, alike_among}
-use Rattle.check_objects.proofs.DependencyLemmas.{dependents_below, masters_below, masters_within_lists, length-dependency_lists, list_of_object}
-use Rattle.check_objects.proofs.NumberLaws.{hosts_counted, services_counted}
+use Rattle.setup_objects.proofs.NameLemmas.{HasNames, found, all_moved, parted_name}
+use Rattle.setup_objects.proofs.NumberedLemmas.{AreAlike, host_names_are, pairs_are, full_names_are, known_in_order, full_name_in_order, parents_counted}
+use Rattle.setup_objects.proofs.NumberedLemmas.{listed_few, host_end, service_end, ends_alike, both_hold, alike_among}
+use Rattle.setup_objects.proofs.DependencyLemmas.{dependents_below, masters_below, masters_within_lists, length-dependency_lists, list_of_object}
+use Rattle.setup_objects.proofs.NumberLaws.{hosts_counted, services_counted}
 use Rattle.setup_model.proofs.RefusalLemmas.{all_of_each, first_ok, have_known_ends, rest_ok, still_ok}
-use Rattle.setup_reader.proofs.FaultlessLemmas.{IsFaultless, faultless}
+use Rattle.setup_verification.proofs.FaultlessLemmas.{IsFaultless, faultless}
 
 -- ---- hosts' names have no semicolon
 

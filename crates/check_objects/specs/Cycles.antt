@@ -7,8 +7,8 @@ use Rattle.setup_model.specs.ParsedSetup.{ParsedSetup, ParsedDependency}
 use Rattle.setup_model.specs.Ends.{full_names, is_known}
 use Rattle.setup_model.specs.Fault.{Fault, dependency_cycle, parent_cycle}
 use Rattle.setup_model.specs.Keys.{names_of}
-use Rattle.check_objects.specs.Configuration.{masters_of}
-use Rattle.check_objects.specs.Numbering.{configuration}
+use Rattle.setup_objects.specs.Configuration.{masters_of}
+use Rattle.setup_objects.specs.Numbering.{configuration}
 use Rattle.setup_order.specs.Cycles.{has_cycle}
 use Rattle.setup_order.specs.Results.{successor}
 

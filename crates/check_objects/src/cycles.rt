@@ -5,10 +5,10 @@ ghost use Rattle.setup_model.specs.ParsedViews.{parsed_view, host};
 ghost use Rattle.setup_model.specs.Ends.{is_known};
 ghost use Rattle.setup_model.specs.Fault.{view_of};
 ghost use Rattle.setup_model.specs.Keys.{names_of};
-ghost use Rattle.setup_reader.specs.Verification.{verification};
-ghost use Rattle.check_objects.specs.Configuration.{masters_of, parents_by_host};
-ghost use Rattle.check_objects.specs.Entries.{host_entry, names_in, service_entry};
-ghost use Rattle.check_objects.specs.Numbering.{configuration};
+ghost use Rattle.setup_verification.specs.Verification.{verification};
+ghost use Rattle.setup_objects.specs.Configuration.{masters_of, parents_by_host};
+ghost use Rattle.setup_objects.specs.Entries.{host_entry, names_in, service_entry};
+ghost use Rattle.setup_objects.specs.Numbering.{configuration};
 ghost use Rattle.check_objects.specs.Cycles.{IsParentCycle};
 ghost use Rattle.check_objects.specs.Setup.{AreRefusedFor};
 ghost use Rattle.check_objects.specs.Indices.{AreIndices, BeginsWithLeast, HasIndex};
@@ -17,10 +17,10 @@ ghost use Rattle.indexmap.specs.IndexMap.{get};
 ghost use Rattle.setup_order.specs.Cycles.{has_cycle};
 ghost use Rattle.setup_order.specs.Results.{IsCycle};
 
-use crate::object_index::{Host, Service};
 use indexmap::IndexMap;
 use setup_model::{Fault, ParsedHost, ParsedSetup, Part};
-use setup_reader::full_names;
+use setup_objects::{Host, Service};
+use setup_verification::full_names;
 use std::alloc::{AllocError, Global};
 
 /// A cycle of dependencies as a fault, from its objects' numbers. An Err means out of memory.

@@ -11,22 +11,16 @@
 //!
 //! The modules:
 //! - `document`: reads the tree;
-//! - `object_index`: numbers the objects;
-//! - `dependency_lists`: the dependencies of each object by number, and an order in which masters come first;
 //! - `setup`: makes a setup from the tree;
 //! - `cycles`: makes a fault from a cycle;
 //! - `laws`: the properties of numbers and links.
 
 mod cycles;
-mod dependency_lists;
 mod document;
 pub mod laws;
-mod object_index;
 mod setup;
 
-pub use dependency_lists::{Dependencies, dependency_order, list_dependencies, master_links};
 pub use document::read_document;
-pub use object_index::{Host, Parents, Service, number_objects, object_number};
 pub use setup::Setup;
 pub use setup_model::{
     Count, Criteria, DefaultValue, DelayMethod, Dependency, End, EndFault, Fault, HOST_LETTERS,

@@ -7,7 +7,7 @@ use Rattle.std.proofs.Math.ListN.{get_or-map}
 use Rattle.setup_model.specs.declared.dependency.Dependency.{Dependency}
 use Rattle.check_objects.specs.Configuration.{Configuration, dependencies_of, masters_in, masters_of, object_count, IsSetup}
 use Rattle.setup_order.specs.Cycles.{links_of, deep, any_below, has_cycle}
-use Rattle.check_rules.specs.declared.standing.Standing.{Standing}
+use Rattle.check_states.specs.declared.standing.Standing.{Standing}
 use Rattle.check_rules.specs.Dependencies.{fails, is_met, is_blocked_within, is_blocked}
 
 -- the masters of an object are those of its dependencies

@@ -9,7 +9,7 @@ use Rattle.std.proofs.lemmas.List.{get_or-set_other}
 use Rattle.setup_model.specs.declared.dependency.Dependency.{Dependency}
 use Rattle.check_objects.specs.Configuration.{Configuration, dependencies_of, masters_in, masters_of, object_count, IsSetup}
 use Rattle.setup_order.specs.Cycles.{deep}
-use Rattle.check_rules.specs.declared.standing.Standing.{Standing}
+use Rattle.check_states.specs.declared.standing.Standing.{Standing}
 use Rattle.check_rules.specs.Dependencies.{is_met, is_blocked}
 use Rattle.check_rules.specs.Marks.{AreUnblocked, is_inheriting}
 use Rattle.check_rules.proofs.BlockedLaws.{masters_at, blocked_by_masters}

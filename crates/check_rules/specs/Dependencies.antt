@@ -5,9 +5,9 @@ use Rattle.std.specs.Option.{option_map_or}
 use Rattle.setup_model.specs.declared.dependency.Criteria.{Criteria}
 use Rattle.setup_model.specs.declared.dependency.Dependency.{Dependency}
 use Rattle.check_objects.specs.Configuration.{Configuration, dependencies_of, object_count}
-use Rattle.check_rules.specs.declared.state.State.{State}
-use Rattle.check_rules.specs.declared.state.State.TheVariants as state
-use Rattle.check_rules.specs.declared.standing.Standing.{Standing}
+use Rattle.check_states.specs.declared.state.State.{State}
+use Rattle.check_states.specs.declared.state.State.TheVariants as state
+use Rattle.check_states.specs.declared.standing.Standing.{Standing}
 
 -- whether the state is one of the criteria
 abbrev pub is_criterion : Criteria → State → Bool

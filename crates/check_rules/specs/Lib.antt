@@ -1,12 +1,3 @@
-pub mod Numbers
-pub mod Words
-pub mod State
-pub mod Standing
 pub mod Reachability
-pub mod Verdict
-pub mod Flapping
-pub mod Changes
-pub mod LastResults
-pub mod Board
 pub mod Dependencies
 pub mod Marks

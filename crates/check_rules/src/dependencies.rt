@@ -7,9 +7,8 @@ ghost use Rattle.setup_order.specs.Cycles.{deep};
 ghost use Rattle.check_rules.specs.Dependencies.{is_blocked, is_criterion, is_met, meets, state_for_dependency};
 ghost use Rattle.check_rules.specs.Marks.{AreUnblocked, is_inheriting};
 
-use crate::standing::Standing;
-use crate::state::State;
 use check_objects::{Criteria, Dependency, Setup};
+use check_states::{Standing, State};
 
 /// Whether some execution dependency of the object with this number fails, given the standings of all
 /// objects, by number.

@@ -5,8 +5,7 @@ ghost use Rattle.std.specs.List.{list_any};
 ghost use Rattle.check_objects.specs.Configuration.{Configuration, dependencies_of, masters_of, object_count};
 ghost use Rattle.setup_order.specs.Cycles.{has_cycle};
 ghost use Rattle.check_rules.specs.Dependencies.{fails, is_blocked};
-ghost use Rattle.check_rules.specs.declared.flapping.TheConstants.{STORED_RESULTS};
-ghost use Rattle.check_rules.specs.declared.standing.Standing.{Standing};
+ghost use Rattle.check_states.specs.declared.standing.Standing.{Standing};
 
 /// In a setup whose dependencies have no cycle, an object is blocked if and only if some dependency of it
 /// fails. A dependency fails because its master meets one of its criteria, or because it inherits and its
@@ -22,9 +21,4 @@ pub fn blocked_where_a_dependency_fails()
         → ((object : ℕ) → answer object
         ≡ list_any (fails answer setup standings) (dependencies_of setup object))
         → (object : ℕ) → answer object ≡ is_blocked setup standings object }
-{}
-
-/// The number of an object's stored results: 21, between which there are 20 changes. (Our own profile.)
-pub fn stored_results_limit()
-    ensures { STORED_RESULTS ≡ 21 }
 {}

@@ -3,12 +3,11 @@
 ghost use Rattle.std.specs.Prelude.{◌≡◌, ◌<◌, IsTrue, length};
 ghost use Rattle.std.specs.List.{list_all};
 ghost use Rattle.check_objects.specs.Configuration.{host_count, object_count, parents_of};
-ghost use Rattle.check_rules.specs.State.{is_host_state};
+ghost use Rattle.check_states.specs.State.{is_host_state};
 ghost use Rattle.check_rules.specs.Reachability.{host_state_of, is_cut_off, is_down_at, is_problem_of_host};
 
-use crate::standing::Standing;
-use crate::state::{Code, State};
 use check_objects::Setup;
+use check_states::{Code, Standing, State};
 
 /// The state of the host with this number after its check returned this code, given the standings of all
 /// objects, by number.

@@ -5,16 +5,16 @@ use Rattle.std.specs.List.{list_all}
 use Rattle.std.proofs.lemmas.Bool.{and_parts, leb-true}
 use Rattle.std.proofs.lemmas.Bool.Decides.{nat_tests}
 use Rattle.json.proofs.Printed.Utf8.{IsUtf8-are_ascii, are_ascii}
-use Rattle.check_rules.specs.declared.standing.Kind.{Kind}
-use Rattle.check_rules.specs.declared.standing.Kind.TheVariants as kind
-use Rattle.check_rules.specs.declared.state.State as rules
-use Rattle.check_rules.specs.declared.state.State.TheVariants as state
+use Rattle.check_states.specs.declared.standing.Kind.{Kind}
+use Rattle.check_states.specs.declared.standing.Kind.TheVariants as kind
+use Rattle.check_states.specs.declared.state.State as rules
+use Rattle.check_states.specs.declared.state.State.TheVariants as state
 use Rattle.check_saved_state.specs.Members.{has_u64_interval}
 use Rattle.check_saved_state.specs.Saved.{IsSaved, IsSavedObject, Saved, SavedObject}
 use Rattle.check_saved_state.specs.Scheduling.{OpenRun, is_moment, is_time}
 use Rattle.check_saved_state.specs.Text.{saved_of_text, saved_text}
 use Rattle.check_saved_state.specs.Tree.{object_tree, objects_tree, run_tree, saved_tree, time_tree}
-use Rattle.check_rules.specs.Words.{kind_word, state_word}
+use Rattle.check_states.specs.Words.{kind_word, state_word}
 use Rattle.check_saved_state.specs.Words.{flapping_word, letters_of}
 use Rattle.check_saved_state.specs.Written.{IsWritable, IsWritableObject}
 use Rattle.check_saved_state.proofs.PlainLemmas.{ArePlain, IsPlain, read_compact, text_is_utf8}

@@ -5,13 +5,13 @@ use Rattle.std.specs.List.{list_all}
 use Rattle.std.proofs.lemmas.Bool.{and_parts, eqb-true, leb-true}
 use borrow.Author.Tests.{ltb-true}
 use Rattle.setup_model.specs.Name.{is_name, is_name_byte}
-use Rattle.check_rules.specs.declared.standing.Kind.{Kind}
-use Rattle.check_rules.specs.declared.standing.Kind.TheVariants as kind
-use Rattle.check_rules.specs.declared.standing.Standing.{Standing}
-use Rattle.check_rules.specs.declared.state.State.{State}
-use Rattle.check_rules.specs.declared.state.State.TheVariants as state
-use Rattle.check_rules.specs.Standing.{is_lawful}
-use Rattle.check_rules.specs.State.{is_problem}
+use Rattle.check_states.specs.declared.standing.Kind.{Kind}
+use Rattle.check_states.specs.declared.standing.Kind.TheVariants as kind
+use Rattle.check_states.specs.declared.standing.Standing.{Standing}
+use Rattle.check_states.specs.declared.state.State.{State}
+use Rattle.check_states.specs.declared.state.State.TheVariants as state
+use Rattle.check_states.specs.Standing.{is_lawful}
+use Rattle.check_states.specs.State.{is_problem}
 
 fine : (attempt max : ℕ) (b : Bool) → (nat_le 1 attempt && nat_le attempt max && b) ≡ true → (1 ≤ attempt) × (attempt ≤ max)
 fine attempt max b e =

@@ -18,19 +18,19 @@ use Rattle.setup_model.specs.Keys.{first_repeat}
 use Rattle.setup_model.specs.Name.{is_host_name, is_name}
 use Rattle.setup_model.proofs.RefusalLemmas.{all_by_position, first_ok, nowhere, rest_ok}
 use Rattle.setup_model.proofs.RepeatLemmas.{first_repeat_is, repeat_after}
-use Rattle.check_rules.specs.declared.standing.Kind.{Kind}
-use Rattle.check_rules.specs.declared.standing.Kind.TheVariants as kind
-use Rattle.check_rules.specs.declared.standing.Standing.{Standing}
-use Rattle.check_rules.specs.declared.state.State as rules
-use Rattle.check_rules.specs.declared.state.State.TheVariants as state
-use Rattle.check_rules.specs.Flapping.{AreResultsFor}
-use Rattle.check_rules.specs.Standing.{IsStandingFor, is_lawful, pending_standing}
-use Rattle.check_rules.specs.State.{ok_or_up_state, is_host_state, is_of_sort, is_problem}
+use Rattle.check_states.specs.declared.standing.Kind.{Kind}
+use Rattle.check_states.specs.declared.standing.Kind.TheVariants as kind
+use Rattle.check_states.specs.declared.standing.Standing.{Standing}
+use Rattle.check_states.specs.declared.state.State as rules
+use Rattle.check_states.specs.declared.state.State.TheVariants as state
+use Rattle.check_states.specs.Flapping.{AreResultsFor}
+use Rattle.check_states.specs.Standing.{IsStandingFor, is_lawful, pending_standing}
+use Rattle.check_states.specs.State.{ok_or_up_state, is_host_state, is_of_sort, is_problem}
 use Rattle.check_saved_state.specs.declared.fault.SavedFault.{SavedFault}
 use Rattle.check_saved_state.specs.declared.fault.SavedFault.TheVariants as faults
 use Rattle.check_saved_state.specs.Saved.{IsFullName, IsSaved, IsSavedObject, Saved, SavedObject}
 use Rattle.check_saved_state.specs.Scheduling.{OpenRun, is_in_time, is_timed_if_forced}
-use Rattle.check_spread.specs.Spread.{earlier}
+use Rattle.check_states.specs.Times.{earlier}
 use Rattle.check_saved_state.specs.Verification.{is_possible, are_possible_results, is_possible_standing, distinct_names_test, object_count_test, names_test}
 use Rattle.check_saved_state.specs.Verification.{is_like_pending, is_attempt}
 use Rattle.check_saved_state.specs.Verification.{is_full_name, is_hard, is_in_range, has_valid_run, is_same_run, is_semicolon, possible_objects_test}

@@ -7,19 +7,19 @@ use Rattle.serde_json.specs.Data.{depth, items_depth}
 use Rattle.serde_json.specs.Written.{has_float, items_have_float}
 use Rattle.setup_reader.specs.JsonTree.{◌>=>◌}
 use Rattle.setup_model.specs.Name.{is_host_name}
-use Rattle.check_rules.specs.declared.standing.Kind.{Kind}
-use Rattle.check_rules.specs.declared.standing.Kind.TheVariants as kind
-use Rattle.check_rules.specs.declared.standing.Standing.{Standing}
-use Rattle.check_rules.specs.declared.state.State as rules
-use Rattle.check_rules.specs.declared.state.State.TheVariants as state
-use Rattle.check_rules.proofs.Cases.{each_state}
-use Rattle.check_rules.specs.State.{is_of_sort}
+use Rattle.check_states.specs.declared.standing.Kind.{Kind}
+use Rattle.check_states.specs.declared.standing.Kind.TheVariants as kind
+use Rattle.check_states.specs.declared.standing.Standing.{Standing}
+use Rattle.check_states.specs.declared.state.State as rules
+use Rattle.check_states.specs.declared.state.State.TheVariants as state
+use Rattle.check_states.proofs.Cases.{each_state}
+use Rattle.check_states.specs.State.{is_of_sort}
 use Rattle.check_saved_state.specs.Reading.{draft_in, format_test, object_with_letters, letters_member, object_in, objects_from, optional_run, scheduling_in}
 use Rattle.check_saved_state.specs.Reading.{standing_in, standing_with, optional_time}
 use Rattle.check_saved_state.specs.Saved.{Saved, SavedObject}
 use Rattle.check_saved_state.specs.Scheduling.{OpenRun, Scheduling}
 use Rattle.check_saved_state.specs.Tree.{object_tree, objects_tree, run_tree, saved_tree, time_tree}
-use Rattle.check_rules.specs.Words.{is_letter, kind_word, state_of_letter, state_letter, state_word, kind_of_word, state_of_word}
+use Rattle.check_states.specs.Words.{is_letter, kind_word, state_of_letter, state_letter, state_word, kind_of_word, state_of_word}
 use Rattle.check_saved_state.specs.Words.{are_letters, flapping_of_word, flapping_word, letters_of, results_of_letters}
 
 -- ---- no floats

@@ -11,11 +11,11 @@ use Rattle.std.proofs.lemmas.Slice.Eq.{bytes_eq-Decides}
 use Rattle.setup_model.specs.Keys.{first_repeat}
 use Rattle.setup_model.specs.Name.{is_host_name, is_name, is_name_byte}
 use Rattle.setup_model.proofs.RepeatLemmas.{first_repeat_is, repeat_after}
-use Rattle.check_rules.specs.declared.standing.Standing.{Standing}
-use Rattle.check_rules.specs.declared.state.State as rules
-use Rattle.check_rules.specs.Flapping.{AreResultsFor}
-use Rattle.check_rules.specs.Standing.{IsStandingFor, pending_standing}
-use Rattle.check_rules.specs.State.{is_host_state, is_of_sort}
+use Rattle.check_states.specs.declared.standing.Standing.{Standing}
+use Rattle.check_states.specs.declared.state.State as rules
+use Rattle.check_states.specs.Flapping.{AreResultsFor}
+use Rattle.check_states.specs.Standing.{IsStandingFor, pending_standing}
+use Rattle.check_states.specs.State.{is_host_state, is_of_sort}
 use Rattle.check_saved_state.specs.Saved.{IsFullName, IsSaved, IsSavedObject, Saved, SavedObject}
 use Rattle.check_saved_state.specs.Scheduling.{OpenRun}
 use Rattle.check_saved_state.specs.Verification.{is_possible, are_possible_results, is_possible_standing, is_like_pending, is_attempt, is_full_name}

@@ -1,11 +1,11 @@
 -- The members of an object's tree, in the order in which they are written.
 use Rattle.std.specs.Prelude.{◌^◌, ⊤, Bool, codes, nat_lt}
 use Rattle.serde_json.specs.Data.{boolean, string, Members, put}
-use Rattle.check_rules.specs.declared.standing.Standing.{Standing}
+use Rattle.check_states.specs.declared.standing.Standing.{Standing}
 use Rattle.check_saved_state.specs.Saved.{SavedObject}
 use Rattle.check_saved_state.specs.Scheduling.{Scheduling}
 use Rattle.check_saved_state.specs.Tree.{number_tree, run_tree, time_tree}
-use Rattle.check_rules.specs.Words.{kind_word, state_word}
+use Rattle.check_states.specs.Words.{kind_word, state_word}
 use Rattle.check_saved_state.specs.Words.{flapping_word}
 
 unfoldable pub state_members : Standing → Members → Members

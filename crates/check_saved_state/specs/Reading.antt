@@ -6,14 +6,14 @@ use Rattle.serde_json.specs.Find.{get, as_bool, as_null, as_str, as_array}
 use Rattle.setup_reader.specs.JsonTree.{has_only_members, whole_number, ◌>=>◌}
 use Rattle.setup_model.specs.Agreement.{◌>>=◌}
 use Rattle.setup_model.specs.Name.{is_host_name}
-use Rattle.check_rules.specs.declared.standing.Kind.{Kind}
-use Rattle.check_rules.specs.declared.standing.Standing.{Standing}
-use Rattle.check_rules.specs.declared.state.State as rules
+use Rattle.check_states.specs.declared.standing.Kind.{Kind}
+use Rattle.check_states.specs.declared.standing.Standing.{Standing}
+use Rattle.check_states.specs.declared.state.State as rules
 use Rattle.check_saved_state.specs.declared.fault.SavedFault.{SavedFault}
 use Rattle.check_saved_state.specs.declared.fault.SavedFault.TheVariants as faults
 use Rattle.check_saved_state.specs.Saved.{Saved, SavedObject}
 use Rattle.check_saved_state.specs.Scheduling.{OpenRun, Scheduling}
-use Rattle.check_rules.specs.Words.{kind_of_word, state_of_word}
+use Rattle.check_states.specs.Words.{kind_of_word, state_of_word}
 use Rattle.check_saved_state.specs.Words.{are_letters, flapping_of_word, results_of_letters}
 
 -- ---- members by their names

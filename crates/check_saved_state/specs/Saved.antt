@@ -3,10 +3,10 @@
 use Rattle.std.specs.Prelude.{ℕ, ◌≡◌, ◌⊎◌, ◌^◌, ◌≤◌, Bool, true, List, length, find, bytes_eq}
 use Rattle.std.specs.Prelude.{Option, Some, option_map, slice_get}
 use Rattle.setup_model.specs.Name.{full_name, is_host_name, is_name}
-use Rattle.check_rules.specs.declared.state.State as rules
-use Rattle.check_rules.specs.declared.standing.Standing.{Standing}
-use Rattle.check_rules.specs.Flapping.{AreResultsFor}
-use Rattle.check_rules.specs.Standing.{IsStandingFor}
+use Rattle.check_states.specs.declared.state.State as rules
+use Rattle.check_states.specs.declared.standing.Standing.{Standing}
+use Rattle.check_states.specs.Flapping.{AreResultsFor}
+use Rattle.check_states.specs.Standing.{IsStandingFor}
 use Rattle.check_saved_state.specs.Scheduling.{Scheduling, is_in_time, is_timed_if_forced}
 
 -- one saved object

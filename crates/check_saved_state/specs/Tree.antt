@@ -4,7 +4,7 @@ use Rattle.serde_json.specs.Data.{unsigned, Data, null, boolean, number, string,
 use Rattle.serde_json.specs.View.{items_of}
 use Rattle.check_saved_state.specs.Saved.{Saved, SavedObject}
 use Rattle.check_saved_state.specs.Scheduling.{OpenRun}
-use Rattle.check_rules.specs.Words.{kind_word, state_word}
+use Rattle.check_states.specs.Words.{kind_word, state_word}
 use Rattle.check_saved_state.specs.Words.{flapping_word, letters_of}
 
 abbrev pub number_tree : ℕ → Data

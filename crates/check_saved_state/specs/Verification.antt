@@ -5,17 +5,17 @@ use Rattle.std.specs.List.{after_first, before_first, list_all}
 use Rattle.setup_model.specs.Agreement.{◌>>=◌, error_at}
 use Rattle.setup_model.specs.Keys.{first_repeat}
 use Rattle.setup_model.specs.Name.{is_host_name, is_name}
-use Rattle.check_rules.specs.declared.standing.Kind.{Kind}
-use Rattle.check_rules.specs.declared.standing.Kind.TheVariants as kind
-use Rattle.check_rules.specs.declared.standing.Standing.{Standing}
-use Rattle.check_rules.specs.declared.state.State as rules
-use Rattle.check_rules.specs.Standing.{is_lawful}
-use Rattle.check_rules.specs.State.{is_of_sort, is_problem}
+use Rattle.check_states.specs.declared.standing.Kind.{Kind}
+use Rattle.check_states.specs.declared.standing.Kind.TheVariants as kind
+use Rattle.check_states.specs.declared.standing.Standing.{Standing}
+use Rattle.check_states.specs.declared.state.State as rules
+use Rattle.check_states.specs.Standing.{is_lawful}
+use Rattle.check_states.specs.State.{is_of_sort, is_problem}
 use Rattle.check_saved_state.specs.declared.fault.SavedFault.{SavedFault}
 use Rattle.check_saved_state.specs.declared.fault.SavedFault.TheVariants as faults
 use Rattle.check_saved_state.specs.Saved.{Saved, SavedObject}
 use Rattle.check_saved_state.specs.Scheduling.{OpenRun, is_in_time, is_timed_if_forced}
-use Rattle.check_spread.specs.Spread.{earlier}
+use Rattle.check_states.specs.Times.{earlier}
 
 -- ---- counts
 

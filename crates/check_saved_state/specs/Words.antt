@@ -1,8 +1,8 @@
 -- The words of flapping, and the letters of results. The words and the letters of states are those of the line that reports a standing.
 use Rattle.std.specs.Prelude.{ℕ, Bool, true, false, List, map, Option, Some, None, codes, bytes_eq, if◌then◌else◌}
 use Rattle.std.specs.List.{list_all}
-use Rattle.check_rules.specs.declared.state.State.{State}
-use Rattle.check_rules.specs.Words.{is_letter, state_of_letter, state_letter}
+use Rattle.check_states.specs.declared.state.State.{State}
+use Rattle.check_states.specs.Words.{is_letter, state_of_letter, state_letter}
 
 -- ---- flapping
 

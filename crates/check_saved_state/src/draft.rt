@@ -6,7 +6,7 @@ ghost use Rattle.std.specs.Prelude.{◌≡◌, ◌≤◌, IfOk};
 use crate::name::is_host_name;
 use crate::result_letters::results_of_letters;
 use crate::saved::{SavedObject, SavedRun};
-use check_rules::{Kind, Standing, State};
+use check_states::{Kind, Standing, State};
 use std::alloc::{AllocError, Global};
 use std::marker::Model;
 
@@ -22,7 +22,7 @@ pub(crate) struct StandingDraft {
 }
 
 impl Model for StandingDraft {
-    ghost use Rattle.check_rules.specs.declared.standing.Standing as rules;
+    ghost use Rattle.check_states.specs.declared.standing.Standing as rules;
     ghost use Rattle.check_saved_state.specs.Reading.{standing_with};
 
     ghost Value = { rules.Standing };

@@ -3,17 +3,17 @@
 ghost use Rattle.std.specs.Prelude.{◌≡◌, IfOk, IsOkUnless, map, not, position};
 ghost use Rattle.std.specs.List.{list_all};
 ghost use Rattle.setup_model.specs.Keys.{first_repeat};
-ghost use Rattle.check_rules.specs.State.{is_of_sort};
+ghost use Rattle.check_states.specs.State.{is_of_sort};
 ghost use Rattle.check_saved_state.specs.SavedFault.{IsExpectedResult};
 ghost use Rattle.check_saved_state.specs.Scheduling.{is_timed};
 ghost use Rattle.check_saved_state.specs.Verification.{is_possible, are_possible_results, is_possible_standing, is_like_pending};
-ghost use Rattle.check_spread.specs.Spread.{earlier};
+ghost use Rattle.check_states.specs.Times.{earlier};
 ghost use Rattle.check_saved_state.specs.Verification.{has_valid_run, is_same_run, possible_objects_test, run_number};
 
 use crate::fault::SavedFault;
 use crate::name::is_host_name;
 use crate::saved::{SavedObject, SavedRun};
-use check_rules::{Kind, STORED_RESULTS, Standing, State, lawful};
+use check_states::{Kind, STORED_RESULTS, Standing, State, lawful};
 use indexmap::IndexSet;
 use std::alloc::Global;
 

@@ -11,7 +11,7 @@ ghost use Rattle.check_saved_state.specs.Tree.{object_tree, run_tree, saved_tree
 use crate::result_letters::letters_of;
 use crate::saved::{Saved, SavedObject, SavedRun};
 use crate::words::flapping_word;
-use check_rules::Standing;
+use check_states::Standing;
 use serde_json::{Map, Value, json, put};
 use std::alloc::{AllocError, Global};
 

@@ -7,7 +7,7 @@ ghost use Rattle.serde_json.specs.View.{view};
 ghost use Rattle.setup_reader.specs.JsonTree.{has_only_members};
 ghost use Rattle.check_saved_state.specs.Reading.{number_member, state_member, bool_member, text_member};
 
-use check_rules::State;
+use check_states::State;
 use serde_json::{Map, Value};
 
 /// Whether the value is an object with no other members than these.

@@ -13,7 +13,7 @@ use crate::members::{bool_member, has_only_members, number_member, state_member,
 use crate::result_letters::are_letters;
 use crate::saved::SavedRun;
 use crate::words::flapping_of_word;
-use check_rules::Kind;
+use check_states::Kind;
 use serde_json::Value;
 use std::alloc::Global;
 

@@ -4,7 +4,7 @@
 ghost use Rattle.std.specs.Prelude.{◌≡◌, IfOk, string_bytes};
 ghost use Rattle.check_saved_state.specs.Words.{are_letters, letters_of, results_of_letters};
 
-use check_rules::State;
+use check_states::State;
 use std::alloc::{AllocError, Global};
 
 /// The letters of these results.

@@ -2,8 +2,7 @@
 
 ghost use Rattle.std.specs.Prelude.{◌≡◌};
 
-use check_rules::{Standing, State};
-use check_spread::LAST_MOMENT;
+use check_states::{LAST_MOMENT, Standing, State};
 use std::marker::Model;
 
 /// A running check: it was handed out, and its result hasn't come back. Contracts see it as a record

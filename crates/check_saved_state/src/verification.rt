@@ -11,7 +11,7 @@ use crate::draft::{ObjectDraft, SavedDraft, SchedulingDraft};
 use crate::fault::SavedFault;
 use crate::name::is_full_name;
 use crate::saved::{MAX_RUNS, SavedRun};
-use check_spread::{LAST_MOMENT, LAST_TIME};
+use check_states::{LAST_MOMENT, LAST_TIME};
 use indexmap::IndexSet;
 use setup_model::{MAX_ATTEMPTS, MAX_OBJECTS};
 use std::alloc::Global;

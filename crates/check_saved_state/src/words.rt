@@ -1,4 +1,4 @@
-//! The words of a saved state for flapping. The words of states and kinds are in `check_rules`.
+//! The words of a saved state for flapping. The words of states and kinds are in `check_states`.
 
 ghost use Rattle.std.specs.Prelude.{◌≡◌};
 ghost use Rattle.check_saved_state.specs.Words.{flapping_of_word, flapping_word};

@@ -5,10 +5,10 @@ use Rattle.std.specs.Prelude.{slice_get}
 use Rattle.std.specs.List.{enumerate_from}
 use Rattle.std.proofs.lemmas.List.{take_more}
 use Rattle.setup_model.specs.declared.parsed_setup.Object.{Object}
-use Rattle.check_objects.proofs.NameLemmas.{item_at}
+use Rattle.setup_objects.proofs.NameLemmas.{item_at}
 use Rattle.check_objects.specs.Configuration.{Configuration, NamedObject, name_of, object_count, objects_of}
-use Rattle.check_rules.specs.declared.standing.Standing.{Standing}
-use Rattle.check_rules.specs.declared.state.State as rules
+use Rattle.check_states.specs.declared.standing.Standing.{Standing}
+use Rattle.check_states.specs.declared.state.State as rules
 use Rattle.check_saved_state.specs.Saved.{Saved, SavedObject, saved_by_name}
 use Rattle.check_saved_state.specs.Scheduling.{Scheduling}
 use Rattle.check_spread.specs.Spread.{milliseconds}

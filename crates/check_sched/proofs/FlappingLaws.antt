@@ -11,11 +11,11 @@ use Rattle.circular_buffer.specs.Buffer.{keep_last}
 use Rattle.ticket_steps.specs.declared.books.Entry.{Entry}
 use Rattle.ticket_steps.specs.History.{replay, IsLegal}
 use Rattle.check_objects.specs.Configuration.{Configuration, NamedObject, object_count, objects_of}
-use Rattle.check_rules.specs.declared.state.State as rules
-use Rattle.check_rules.specs.declared.standing.Standing.{Standing}
-use Rattle.check_rules.specs.declared.flapping.TheConstants.{STORED_RESULTS}
-use Rattle.check_rules.specs.Flapping.{results_after}
-use Rattle.check_rules.specs.Standing.{pending_standing}
+use Rattle.check_states.specs.declared.state.State as rules
+use Rattle.check_states.specs.declared.standing.Standing.{Standing}
+use Rattle.check_states.specs.declared.flapping.TheConstants.{STORED_RESULTS}
+use Rattle.check_states.specs.Flapping.{results_after}
+use Rattle.check_states.specs.Standing.{pending_standing}
 use Rattle.check_spread.specs.Spread.{initial_times}
 use Rattle.check_sched.specs.declared.call.Call.{Call}
 use Rattle.check_sched.specs.declared.call.Call.TheVariants as call

@@ -2,9 +2,9 @@
 use Rattle.std.proofs.Common.{◌≡◌, ℕ, zero, suc, ◌+◌, ◌<◌, ◌≤◌, ◌^◌, List, [], ◌∷◌, map, Option, Some, None, false, true, unwrap_or, refl, sym, ap, ◌∙◌, arith}
 use Rattle.std.specs.Prelude.{slice_get, zip}
 use Rattle.std.proofs.lemmas.List.{length-replicate}
-use Rattle.check_objects.proofs.NameLemmas.{item_at}
+use Rattle.setup_objects.proofs.NameLemmas.{item_at}
 use Rattle.check_objects.specs.Configuration.{Configuration, IsSetup, NamedObject, host_count, name_of, object_count, objects_of}
-use Rattle.check_rules.specs.Standing.{pending_standing}
+use Rattle.check_states.specs.Standing.{pending_standing}
 use Rattle.check_saved_state.specs.Saved.{Saved, saved_by_name}
 use Rattle.check_saved_state.specs.Scheduling.{Scheduling}
 use Rattle.check_sched.specs.Saved.{first_time, object_after_abandon, objects_kept, objects_after_resume, state_after_resume, results_after_resume}

@@ -11,10 +11,10 @@ use Rattle.std.proofs.lemmas.Slice.Zip.{length-zip}
 use Rattle.std.proofs.lemmas.Bool.{and_from}
 use Rattle.setup_model.specs.declared.parsed_setup.Object.{Object}
 use Rattle.check_objects.specs.Configuration.{Configuration, NamedObject, objects_of, object_count, host_count, IsSetup}
-use Rattle.check_rules.specs.declared.standing.Standing.{Standing}
-use Rattle.check_rules.specs.declared.state.State as rules
-use Rattle.check_rules.specs.Standing.{pending_standing}
-use Rattle.check_rules.proofs.VerdictLaws.{pending_is_lawful, pending_sort}
+use Rattle.check_states.specs.declared.standing.Standing.{Standing}
+use Rattle.check_states.specs.declared.state.State as rules
+use Rattle.check_states.specs.Standing.{pending_standing}
+use Rattle.check_states.proofs.VerdictLaws.{pending_is_lawful, pending_sort}
 use Rattle.check_sched.specs.Scheduling.{opening_object}
 use Rattle.check_saved_state.specs.Scheduling.{Scheduling, is_in_time, is_time}
 use Rattle.check_spread.specs.Spread.{initial_times}

@@ -1,6 +1,6 @@
 -- What holds of each sort of reply holds of all.
 use Rattle.std.proofs.Common.{ℕ, Bool, Option}
-use Rattle.check_rules.specs.declared.standing.Standing.{Standing}
+use Rattle.check_states.specs.declared.standing.Standing.{Standing}
 use Rattle.check_sched.specs.declared.call.Refusal.{Refusal}
 use Rattle.check_sched.specs.declared.call.Reply.{Reply}
 use Rattle.check_sched.specs.declared.call.Reply.TheVariants as reply

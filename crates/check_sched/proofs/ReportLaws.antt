@@ -8,18 +8,18 @@ use Rattle.std.proofs.lemmas.Option.{slice_get-get_or, slice_get_read, slice_get
 use Rattle.std.proofs.lemmas.Bool.{and_parts, and_from}
 use Rattle.setup_model.specs.declared.parsed_setup.Object.{Object}
 use Rattle.check_objects.specs.Configuration.{Configuration, NamedObject, objects_of, object_count, host_of, IsSetup, is_object_in_range}
-use Rattle.check_rules.specs.declared.state.Code.{Code}
-use Rattle.check_rules.specs.declared.state.State as rules
-use Rattle.check_rules.specs.declared.state.State.TheVariants as state
-use Rattle.check_rules.specs.declared.standing.Kind.{Kind}
-use Rattle.check_rules.specs.declared.standing.Kind.TheVariants as kind
-use Rattle.check_rules.specs.declared.standing.Standing.{Standing}
-use Rattle.check_rules.specs.State.{is_host_state, is_problem}
-use Rattle.check_rules.specs.Flapping.{results_after}
-use Rattle.check_rules.specs.Verdict.{kind_and_attempt, last_hard_after, verdict_on}
-use Rattle.check_rules.specs.Standing.{as_checked}
-use Rattle.check_rules.proofs.VerdictLaws.{pending_sort, verdict_is_lawful}
-use Rattle.check_rules.specs.Standing.{pending_standing}
+use Rattle.check_states.specs.declared.state.Code.{Code}
+use Rattle.check_states.specs.declared.state.State as rules
+use Rattle.check_states.specs.declared.state.State.TheVariants as state
+use Rattle.check_states.specs.declared.standing.Kind.{Kind}
+use Rattle.check_states.specs.declared.standing.Kind.TheVariants as kind
+use Rattle.check_states.specs.declared.standing.Standing.{Standing}
+use Rattle.check_states.specs.State.{is_host_state, is_problem}
+use Rattle.check_states.specs.Flapping.{results_after}
+use Rattle.check_states.specs.Verdict.{kind_and_attempt, last_hard_after, verdict_on}
+use Rattle.check_states.specs.Standing.{as_checked}
+use Rattle.check_states.proofs.VerdictLaws.{pending_sort, verdict_is_lawful}
+use Rattle.check_states.specs.Standing.{pending_standing}
 use Rattle.check_sched.specs.Scheduling.{object_after_run, run_under}
 use Rattle.check_saved_state.specs.Scheduling.{Scheduling, OpenRun, is_time, is_moment, is_in_time, is_timed_if_forced}
 use Rattle.check_sched.specs.declared.call.Reply.{Reply}

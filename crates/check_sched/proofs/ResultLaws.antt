@@ -5,9 +5,9 @@ use Rattle.std.proofs.lemmas.Bool.{and_from, and_parts}
 use Rattle.std.proofs.lemmas.List.{length-drop}
 use Rattle.std.proofs.lemmas.List.Folds.{list_all-append}
 use Rattle.check_objects.specs.Configuration.{Configuration}
-use Rattle.check_rules.specs.declared.state.State as rules
-use Rattle.check_rules.specs.Flapping.{results_after}
-use Rattle.check_rules.specs.State.{is_host_state, is_of_sort}
+use Rattle.check_states.specs.declared.state.State as rules
+use Rattle.check_states.specs.Flapping.{results_after}
+use Rattle.check_states.specs.State.{is_host_state, is_of_sort}
 use Rattle.check_saved_state.proofs.VerifiedLemmas.{of_sort}
 use Rattle.check_sched.specs.State.{AreResultsOf, is_host}
 

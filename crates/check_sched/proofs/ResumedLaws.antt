@@ -13,13 +13,13 @@ use Rattle.setup_model.specs.declared.parsed_setup.Object.{Object}
 use Rattle.setup_model.specs.Name.{full_name, is_host_name, is_name}
 use Rattle.check_objects.specs.Configuration.{Configuration, Host, IsSetup, NamedObject, Service, host_count, named_host, named_service, object_count}
 use Rattle.check_objects.specs.Configuration.{objects_of, pair_of}
-use Rattle.check_objects.proofs.NameLemmas.{parted_name}
-use Rattle.check_rules.specs.declared.standing.Kind.{Kind}
-use Rattle.check_rules.specs.declared.standing.Kind.TheVariants as kind
-use Rattle.check_rules.specs.declared.standing.Standing.{Standing}
-use Rattle.check_rules.specs.Standing.{is_lawful, is_soft_problem, pending_standing, IsStandingFor}
-use Rattle.check_rules.specs.State.{ok_or_up_state, is_problem}
-use Rattle.check_rules.proofs.VerdictLaws.{pending_is_lawful, pending_sort}
+use Rattle.setup_objects.proofs.NameLemmas.{parted_name}
+use Rattle.check_states.specs.declared.standing.Kind.{Kind}
+use Rattle.check_states.specs.declared.standing.Kind.TheVariants as kind
+use Rattle.check_states.specs.declared.standing.Standing.{Standing}
+use Rattle.check_states.specs.Standing.{is_lawful, is_soft_problem, pending_standing, IsStandingFor}
+use Rattle.check_states.specs.State.{ok_or_up_state, is_problem}
+use Rattle.check_states.proofs.VerdictLaws.{pending_is_lawful, pending_sort}
 use Rattle.check_sched.specs.Roster.{running_among}
 use Rattle.check_sched.specs.Saved.{each_object, first_time, object_after_abandon, keeps_time, objects_after_resume, results_after_resume, state_after_resume}
 use Rattle.check_saved_state.specs.Saved.{IsSaved, IsSavedObject, Saved, SavedObject, saved_by_name}
@@ -27,7 +27,7 @@ use Rattle.check_sched.specs.Saved.{scheduling_after_resume, standing_kept, stan
 use Rattle.check_sched.specs.Scheduling.{freed_time}
 use Rattle.check_saved_state.specs.Scheduling.{OpenRun, Scheduling, is_in_time, is_moment, is_time, is_timed, is_timed_if_forced}
 use Rattle.check_sched.specs.State.{AreResultsOf, IsState, is_host, max_attempts_of, run_number_of}
-use Rattle.check_rules.specs.Flapping.{AreResultsFor}
+use Rattle.check_states.specs.Flapping.{AreResultsFor}
 use Rattle.check_sched.specs.State.{limit_of}
 use Rattle.check_sched.proofs.ResultLaws.{all_dropped}
 use Rattle.check_sched.proofs.LimitLaws.{busy_none}
@@ -35,7 +35,8 @@ use Rattle.check_sched.proofs.OpeningLaws.{first_in_time}
 use Rattle.check_sched.proofs.RunningLaws.{none_out, run_in, timed_unforced}
 use Rattle.check_sched.proofs.ReportLaws.{nonzero_attempts}
 use Rattle.check_sched.proofs.SavedLaws.{alone, attempts_at, text_is}
-use Rattle.check_spread.specs.Spread.{earlier, initial_times}
+use Rattle.check_spread.specs.Spread.{initial_times}
+use Rattle.check_states.specs.Times.{earlier}
 
 -- ---- the sort of a name
 

@@ -9,15 +9,15 @@ use Rattle.std.proofs.lemmas.Option.{slice_get_within}
 use Rattle.setup_model.specs.Name.{is_name}
 use Rattle.check_objects.specs.Configuration.{Configuration, Host, IsSetup, NamedObject, Service, name_of, named_host, named_service}
 use Rattle.check_objects.specs.Configuration.{objects_of, pair_of}
-use Rattle.check_objects.proofs.NameLemmas.{name_of_host}
+use Rattle.setup_objects.proofs.NameLemmas.{name_of_host}
 use Rattle.check_sched.specs.Saved.{saved_object, saved_of}
 use Rattle.check_saved_state.specs.Saved.{IsFullName, IsSaved, IsSavedObject, SavedObject}
 use Rattle.check_sched.specs.Scheduling.{opening_object}
 use Rattle.check_saved_state.specs.Written.{IsWritable, IsWritableObject}
 use Rattle.check_saved_state.specs.Scheduling.{OpenRun, Scheduling, is_in_time, is_timed_if_forced}
 use Rattle.check_sched.specs.State.{IsState, State, is_host, results_at}
-use Rattle.check_rules.specs.Flapping.{AreResultsFor}
-use Rattle.check_rules.specs.Standing.{IsStandingFor}
+use Rattle.check_states.specs.Flapping.{AreResultsFor}
+use Rattle.check_states.specs.Standing.{IsStandingFor}
 use Rattle.check_sched.specs.State.{standing_at}
 use Rattle.check_sched.proofs.EachObjectLaws.{name_is}
 use Rattle.check_sched.proofs.IntervalLaws.{few_milliseconds}

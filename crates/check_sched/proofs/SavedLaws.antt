@@ -8,12 +8,12 @@ use Rattle.std.proofs.lemmas.Bool.{eq-eqb}
 use Rattle.std.proofs.lemmas.Option.{slice_get_within}
 use Rattle.std.proofs.lemmas.Slice.Eq.{bytes_eq-Decides}
 use Rattle.check_objects.specs.Configuration.{Configuration, IsSetup, NamedObject, host_count, name_of, number_by_name, objects_of}
-use Rattle.check_objects.proofs.NameLemmas.{name_leads_back, names_of_setup, same_text}
-use Rattle.check_rules.specs.declared.standing.Kind.{Kind}
-use Rattle.check_rules.specs.declared.standing.Kind.TheVariants as kind
-use Rattle.check_rules.specs.declared.standing.Standing.{Standing}
-use Rattle.check_rules.specs.Standing.{is_lawful, is_soft_problem}
-use Rattle.check_rules.specs.State.{is_problem}
+use Rattle.setup_objects.proofs.NameLemmas.{name_leads_back, names_of_setup, same_text}
+use Rattle.check_states.specs.declared.standing.Kind.{Kind}
+use Rattle.check_states.specs.declared.standing.Kind.TheVariants as kind
+use Rattle.check_states.specs.declared.standing.Standing.{Standing}
+use Rattle.check_states.specs.Standing.{is_lawful, is_soft_problem}
+use Rattle.check_states.specs.State.{is_problem}
 use Rattle.check_sched.specs.Roster.{running_among}
 use Rattle.check_sched.specs.Saved.{is_same_switch, objects_after_resume, state_after_resume, result_lists_after_resume, saved_object, saved_of, standing_kept}
 use Rattle.check_saved_state.specs.Saved.{saved_by_name}

@@ -8,13 +8,13 @@ use Rattle.check_objects.specs.Configuration.{Configuration, IsSetup, Service, h
 use Rattle.check_spread.specs.Spread.{first_times, host_objects, host_spread, initial_times, service_objects, service_spread}
 use Rattle.check_spread.proofs.TimesLemmas.{length-all_objects, length-first_times}
 use Rattle.std.proofs.lemmas.List.{length-append}
-use Rattle.check_rules.specs.declared.standing.Standing.{Standing}
-use Rattle.check_rules.specs.declared.state.Code.{Code}
-use Rattle.check_rules.specs.declared.state.Code.TheVariants as code
-use Rattle.check_rules.specs.declared.state.State.TheVariants as state
+use Rattle.check_states.specs.declared.standing.Standing.{Standing}
+use Rattle.check_states.specs.declared.state.Code.{Code}
+use Rattle.check_states.specs.declared.state.Code.TheVariants as code
+use Rattle.check_states.specs.declared.state.State.TheVariants as state
 use Rattle.check_rules.specs.Reachability.{host_state_of, is_cut_off, is_problem_of_host}
-use Rattle.check_rules.specs.Standing.{pending_standing}
-use Rattle.check_rules.specs.State.{is_host_state, service_state_of}
+use Rattle.check_states.specs.Standing.{pending_standing}
+use Rattle.check_states.specs.State.{is_host_state, service_state_of}
 use Rattle.check_sched.specs.declared.call.Call.{Call}
 use Rattle.check_sched.specs.declared.call.Call.TheVariants as call
 use Rattle.check_sched.specs.declared.call.Reply.{Reply}

@@ -9,7 +9,7 @@ use Rattle.ticket_steps.specs.declared.books.Entry.{Entry}
 use Rattle.ticket_steps.specs.History.{replay, IsLegal}
 use Rattle.check_objects.specs.Configuration.{Configuration, IsSetup, NamedObject, objects_of}
 use Rattle.check_queue.specs.Order.{least}
-use Rattle.check_rules.specs.declared.standing.Standing.{Standing}
+use Rattle.check_states.specs.declared.standing.Standing.{Standing}
 use Rattle.check_sched.specs.Candidate.{Candidate}
 use Rattle.check_sched.specs.declared.call.Call.{Call}
 use Rattle.check_sched.specs.declared.call.Call.TheVariants as call

@@ -4,15 +4,15 @@ use Rattle.std.specs.Prelude.{is_some, option_and_then, slice_get, unwrap_or}
 use Rattle.std.specs.Option.{option_map_or}
 use Rattle.std.proofs.lemmas.Bool.{eqb-true, eqb-false}
 use Rattle.check_objects.specs.Configuration.{Configuration, host_of, object_count}
-use Rattle.check_rules.specs.declared.state.Code.{Code}
-use Rattle.check_rules.specs.declared.state.Code.TheVariants as code
-use Rattle.check_rules.specs.declared.state.State as rules
-use Rattle.check_rules.specs.declared.state.State.TheVariants as state
-use Rattle.check_rules.specs.declared.standing.Standing.{Standing}
-use Rattle.check_rules.specs.Flapping.{is_flapping, results_after}
-use Rattle.check_rules.specs.Standing.{pending_standing}
-use Rattle.check_rules.specs.State.{ok_or_up_state, is_another_state, is_host_state, is_problem}
-use Rattle.check_rules.specs.Verdict.{verdict_on}
+use Rattle.check_states.specs.declared.state.Code.{Code}
+use Rattle.check_states.specs.declared.state.Code.TheVariants as code
+use Rattle.check_states.specs.declared.state.State as rules
+use Rattle.check_states.specs.declared.state.State.TheVariants as state
+use Rattle.check_states.specs.declared.standing.Standing.{Standing}
+use Rattle.check_states.specs.Flapping.{is_flapping, results_after}
+use Rattle.check_states.specs.Standing.{pending_standing}
+use Rattle.check_states.specs.State.{ok_or_up_state, is_another_state, is_host_state, is_problem}
+use Rattle.check_states.specs.Verdict.{verdict_on}
 use Rattle.check_saved_state.specs.Scheduling.{Scheduling, is_timed, is_timed_if_forced}
 use Rattle.check_sched.specs.declared.call.Reply.{Reply}
 use Rattle.check_sched.specs.declared.call.Reply.TheVariants as reply

@@ -6,7 +6,7 @@ use Rattle.std.specs.Prelude.{nat_lt, nat_le}
 use Rattle.std.proofs.lemmas.Bool.Decides.{nat_tests}
 use Rattle.std.proofs.lemmas.List.{nil_from_length}
 use Rattle.check_objects.specs.Configuration.{Configuration, dependencies_of, object_count}
-use Rattle.check_rules.specs.declared.standing.Standing.{Standing}
+use Rattle.check_states.specs.declared.standing.Standing.{Standing}
 use Rattle.check_rules.specs.Dependencies.{is_blocked}
 use Rattle.check_rules.proofs.BlockedLaws as rules
 use Rattle.check_sched.specs.Scheduling.{object_with_run}

@@ -7,7 +7,7 @@ use Rattle.setup_model.specs.declared.options.DelayMethod.TheVariants as method
 use Rattle.setup_model.specs.declared.options.InterleaveFactor.{InterleaveFactor}
 use Rattle.setup_model.specs.declared.options.InterleaveFactor.TheVariants as factor
 use Rattle.check_objects.specs.Configuration.{Configuration, IsDelayInRange, IsFactorInRange, IsSetup}
-use Rattle.check_rules.specs.declared.standing.Standing.{Standing}
+use Rattle.check_states.specs.declared.standing.Standing.{Standing}
 use Rattle.check_sched.specs.State.{State, IsState, IsStandingOf}
 
 delay_prop : (m : DelayMethod) → IsProp (IsDelayInRange m)

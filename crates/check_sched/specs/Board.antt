@@ -1,7 +1,7 @@
 -- The board: a word for each object of a state, for readers that don't hold the lock.
 use Rattle.std.specs.Prelude.{ℕ, List, length, map, Option, Some, None}
 use Rattle.std.specs.List.{range_with_len}
-use Rattle.check_rules.specs.Board.{word_of_standing}
+use Rattle.check_states.specs.Board.{word_of_standing}
 use Rattle.check_sched.specs.declared.call.Call.{Call}
 use Rattle.check_sched.specs.declared.call.Call.TheVariants as call
 use Rattle.check_sched.specs.declared.call.Reply.{Reply}

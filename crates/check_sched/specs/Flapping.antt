@@ -2,8 +2,8 @@
 use Rattle.std.specs.Prelude.{ℕ, ◌==◌, Bool, false, List, [], ◌∷◌, Option, Some, None, if◌then◌else◌}
 use Rattle.std.specs.List.{filter_map}
 use Rattle.ticket_steps.specs.declared.books.Entry.{Entry}
-use Rattle.check_rules.specs.declared.state.State.{State}
-use Rattle.check_rules.specs.Flapping.{is_flapping, results_after}
+use Rattle.check_states.specs.declared.state.State.{State}
+use Rattle.check_states.specs.Flapping.{is_flapping, results_after}
 use Rattle.check_sched.specs.declared.call.Call.{Call}
 use Rattle.check_sched.specs.declared.call.Call.TheVariants as call
 use Rattle.check_sched.specs.declared.call.Reply.{Reply}

@@ -2,14 +2,14 @@
 use Rattle.std.specs.Prelude.{ℕ, Bool, true, not, List, Option, Some, None, option_and_then, slice_get}
 use Rattle.std.specs.Option.{option_or}
 use Rattle.check_objects.specs.Configuration.{Configuration, objects_of, host_of}
-use Rattle.check_rules.specs.declared.state.Code.{Code}
-use Rattle.check_rules.specs.declared.state.State.{State}
-use Rattle.check_rules.specs.declared.standing.Standing.{Standing}
-use Rattle.check_rules.specs.State.{service_state_of}
-use Rattle.check_rules.specs.Flapping.{is_flapping, results_after}
-use Rattle.check_rules.specs.Standing.{is_down}
+use Rattle.check_states.specs.declared.state.Code.{Code}
+use Rattle.check_states.specs.declared.state.State.{State}
+use Rattle.check_states.specs.declared.standing.Standing.{Standing}
+use Rattle.check_states.specs.State.{service_state_of}
+use Rattle.check_states.specs.Flapping.{is_flapping, results_after}
+use Rattle.check_states.specs.Standing.{is_down}
 use Rattle.check_rules.specs.Reachability.{host_state_of}
-use Rattle.check_rules.specs.Verdict.{verdict_on}
+use Rattle.check_states.specs.Verdict.{verdict_on}
 use Rattle.check_sched.specs.Intervals.{interval_for_standing, intervals_for, time_after}
 use Rattle.check_sched.specs.State.{flap_thresholds_of, max_attempts_of, results_at, standing_at}
 

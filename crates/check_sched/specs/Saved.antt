@@ -5,17 +5,18 @@ use Rattle.std.specs.Prelude.{Option, Some, None, is_some, option_and_then, opti
 use Rattle.std.specs.List.{enumerate_from}
 use Rattle.setup_model.specs.declared.parsed_setup.Object.{Object}
 use Rattle.check_objects.specs.Configuration.{Configuration, NamedObject, host_count, name_of, objects_of}
-use Rattle.check_rules.specs.declared.state.State as rules
-use Rattle.check_rules.specs.declared.standing.Kind.TheVariants as kind
-use Rattle.check_rules.specs.declared.standing.Standing.{Standing}
-use Rattle.check_rules.specs.Standing.{is_soft_problem, pending_standing}
-use Rattle.check_rules.specs.State.{is_problem}
+use Rattle.check_states.specs.declared.state.State as rules
+use Rattle.check_states.specs.declared.standing.Kind.TheVariants as kind
+use Rattle.check_states.specs.declared.standing.Standing.{Standing}
+use Rattle.check_states.specs.Standing.{is_soft_problem, pending_standing}
+use Rattle.check_states.specs.State.{is_problem}
 use Rattle.check_sched.specs.Roster.{running_among}
 use Rattle.check_sched.specs.Scheduling.{object_after_run, freed_time, opening_object}
 use Rattle.check_saved_state.specs.Saved.{Saved, SavedObject, saved_by_name}
 use Rattle.check_saved_state.specs.Scheduling.{Scheduling}
 use Rattle.check_sched.specs.State.{State, is_host, limit_of, results_at, scheduling_at, standing_at}
-use Rattle.check_spread.specs.Spread.{earlier, initial_times, milliseconds}
+use Rattle.check_spread.specs.Spread.{initial_times, milliseconds}
+use Rattle.check_states.specs.Times.{earlier}
 
 -- ---- the saved state
 

@@ -4,12 +4,12 @@ use Rattle.std.specs.Prelude.{None, is_some, option_map, option_and_then, slice_
 use Rattle.std.specs.List.{list_all, enumerate_from}
 use Rattle.std.specs.Option.{option_map_or}
 use Rattle.check_objects.specs.Configuration.{Configuration, objects_of, object_count, host_count, IsSetup}
-use Rattle.check_rules.specs.declared.standing.Standing.{Standing}
-use Rattle.check_rules.specs.declared.state.State as rules
-use Rattle.check_rules.specs.Standing.{IsStandingFor, pending_standing}
+use Rattle.check_states.specs.declared.standing.Standing.{Standing}
+use Rattle.check_states.specs.declared.state.State as rules
+use Rattle.check_states.specs.Standing.{IsStandingFor, pending_standing}
 use Rattle.check_sched.specs.Scheduling.{opening_object}
 use Rattle.check_saved_state.specs.Scheduling.{Scheduling, is_in_time, is_timed_if_forced}
-use Rattle.check_rules.specs.Flapping.{AreResultsFor}
+use Rattle.check_states.specs.Flapping.{AreResultsFor}
 use Rattle.check_spread.specs.Spread.{initial_times}
 
 pub record State : Type 0 where

@@ -1,11 +1,11 @@
 -- An object that an OK leaves unchanged.
 use Rattle.std.specs.Prelude.{ℕ, ◌≡◌, true, List}
 use Rattle.check_objects.specs.Configuration.{Configuration}
-use Rattle.check_rules.specs.declared.standing.Standing.{Standing}
-use Rattle.check_rules.specs.declared.state.State as rules
-use Rattle.check_rules.specs.Flapping.{is_flapping, results_after}
-use Rattle.check_rules.specs.State.{ok_or_up_state}
-use Rattle.check_rules.specs.Verdict.{verdict_on}
+use Rattle.check_states.specs.declared.standing.Standing.{Standing}
+use Rattle.check_states.specs.declared.state.State as rules
+use Rattle.check_states.specs.Flapping.{is_flapping, results_after}
+use Rattle.check_states.specs.State.{ok_or_up_state}
+use Rattle.check_states.specs.Verdict.{verdict_on}
 use Rattle.check_sched.specs.State.{State, flap_thresholds_of, is_host, max_attempts_of, results_at, standing_at}
 
 -- An OK leaves an object with this standing and these results unchanged. All stored results are OK, or UP for a host, and the verdict on one more is

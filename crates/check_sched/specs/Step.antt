@@ -13,11 +13,11 @@ use Rattle.check_sched.specs.Scheduling.{object_with_run, object_after_run, run_
 use Rattle.check_saved_state.specs.Scheduling.{Scheduling}
 use Rattle.check_sched.specs.Candidate.{Candidate, candidates_among, due_among}
 use Rattle.check_queue.specs.Order.{least}
-use Rattle.check_rules.specs.declared.state.Code.{Code}
-use Rattle.check_rules.specs.declared.standing.Standing.{Standing}
-use Rattle.check_rules.specs.declared.state.State as rules
-use Rattle.check_rules.specs.Flapping.{results_after}
-use Rattle.check_rules.specs.State.{is_another_state}
+use Rattle.check_states.specs.declared.state.Code.{Code}
+use Rattle.check_states.specs.declared.standing.Standing.{Standing}
+use Rattle.check_states.specs.declared.state.State as rules
+use Rattle.check_states.specs.Flapping.{results_after}
+use Rattle.check_states.specs.State.{is_another_state}
 use Rattle.check_sched.specs.State.{State, is_below_limit, is_host, standing_at}
 use Rattle.check_sched.specs.Report.{flaps_with, new_standing, next_after, put_off_until, state_found}
 use Rattle.check_rules.specs.Dependencies.{is_blocked}

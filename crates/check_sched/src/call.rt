@@ -1,6 +1,6 @@
 //! The calls of the scheduler, and its replies.
 
-use check_rules::{Code, Standing};
+use check_states::{Code, Standing};
 
 /// A call of the scheduler.
 ///

@@ -7,8 +7,8 @@ ghost use Rattle.std.specs.Option.{option_or};
 ghost use Rattle.check_sched.specs.Intervals.{AreBounded, interval_for_standing, intervals_for, intervals_of, time_after};
 
 use check_objects::{MAX_INTERVAL, Object, Setup};
-use check_rules::Standing;
-use check_spread::{LAST_MOMENT, LAST_TIME, milliseconds};
+use check_spread::milliseconds;
+use check_states::{LAST_MOMENT, LAST_TIME, Standing};
 use std::alloc::{AllocError, Global};
 
 /// The intervals of an object in milliseconds: from a check to the next, and from a check to the next while

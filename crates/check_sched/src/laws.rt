@@ -7,9 +7,9 @@ ghost use Rattle.ticket_steps.specs.declared.books.Entry.{Entry};
 ghost use Rattle.ticket_steps.specs.History.{replay, IsLegal};
 ghost use Rattle.circular_buffer.specs.Buffer.{keep_last};
 ghost use Rattle.check_objects.specs.Configuration.{Configuration, IsSetup, name_of, object_count};
-ghost use Rattle.check_spread.specs.declared.limits.TheConstants.{LAST_MOMENT, LAST_TIME};
-ghost use Rattle.check_rules.specs.declared.standing.Standing.{Standing};
-ghost use Rattle.check_rules.specs.Standing.{is_soft_problem, pending_standing};
+ghost use Rattle.check_states.specs.declared.times.TheConstants.{LAST_MOMENT, LAST_TIME};
+ghost use Rattle.check_states.specs.declared.standing.Standing.{Standing};
+ghost use Rattle.check_states.specs.Standing.{is_soft_problem, pending_standing};
 ghost use Rattle.check_saved_state.specs.declared.saved.TheConstants.{MAX_RUNS};
 ghost use Rattle.check_sched.specs.declared.call.Call.{Call};
 ghost use Rattle.check_saved_state.specs.Saved.{IsSaved, Saved, SavedObject, saved_by_name};
@@ -30,7 +30,7 @@ pub fn limit()
 {}
 
 /// After every sequence of calls of a newly opened scheduler, an object that was never checked has the
-/// standing [`pending`](check_rules::pending).
+/// standing [`pending`](check_states::pending).
 pub fn never_checked()
     ensures { (setup : Configuration) → (start : ℕ) → (calls : List Call) → (object : ℕ)
         → (standing : Standing)

@@ -38,5 +38,5 @@ mod sched;
 
 pub use call::{Call, Refusal, Reply};
 pub use check_saved_state::{MAX_RUNS, Saved, SavedRun};
-pub use check_spread::{LAST_MOMENT, LAST_TIME};
+pub use check_states::{LAST_MOMENT, LAST_TIME};
 pub use sched::Sched;

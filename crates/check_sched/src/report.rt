@@ -2,12 +2,13 @@
 
 ghost use Rattle.std.specs.Prelude.{◌≡◌, ◌<◌, ◌≤◌, length, true};
 ghost use Rattle.check_objects.specs.Configuration.{IsSetup, host_of, object_count};
-ghost use Rattle.check_rules.specs.State.{is_another_state, is_host_state, is_problem};
+ghost use Rattle.check_states.specs.State.{is_another_state, is_host_state, is_problem};
 ghost use Rattle.check_sched.specs.State.{IsStandingOf, flap_thresholds_of, is_host, max_attempts_of, standing_at};
 ghost use Rattle.check_sched.specs.Report.{is_host_up, new_standing, state_found};
 
 use check_objects::{Object, Setup};
-use check_rules::{Code, Standing, State, host_state, service_state, verdict};
+use check_rules::host_state;
+use check_states::{Code, Standing, State, service_state, verdict};
 
 /// The state of the object with this number after its check returned this code, given the standings
 /// of all objects, by number.

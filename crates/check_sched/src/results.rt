@@ -1,12 +1,12 @@
 //! The last results of each object, which decide whether it flaps.
 
 ghost use Rattle.std.specs.Prelude.{◌≡◌, ◌<◌, List, [], IfOk, length, replicate, true};
-ghost use Rattle.check_rules.specs.declared.state.State.{State};
-ghost use Rattle.check_rules.specs.Flapping.{is_flapping, results_after};
+ghost use Rattle.check_states.specs.declared.state.State.{State};
+ghost use Rattle.check_states.specs.Flapping.{is_flapping, results_after};
 ghost use Rattle.check_sched.specs.State.{results_at};
 ghost use Rattle.check_sched.specs.Step.{update_at};
 
-use check_rules::{LastResults, State};
+use check_states::{LastResults, State};
 use std::alloc::{AllocError, Global};
 use std::marker::Model;
 

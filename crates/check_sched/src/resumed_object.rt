@@ -8,9 +8,9 @@ ghost use Rattle.check_sched.specs.Saved.{standing_after_resume};
 use crate::object_state::ObjectState;
 use crate::report::attempts_of;
 use check_objects::{MAX_INTERVAL, Object, Setup};
-use check_rules::{Kind, Standing, pending};
 use check_saved_state::SavedObject;
-use check_spread::{earlier, milliseconds};
+use check_spread::milliseconds;
+use check_states::{Kind, Standing, earlier, pending};
 
 /// The scheduling of an object whose first time by the spread is `first`. A new object begins as at an
 /// opening.

@@ -18,9 +18,9 @@ use crate::object_state::{Change, ObjectState};
 use crate::results::Results;
 use crate::roster::Roster;
 use check_objects::Setup;
-use check_rules::{Standing, code, pending};
 use check_saved_state::SavedRun;
-use check_spread::{LAST_MOMENT, LAST_TIME, initial_times};
+use check_spread::initial_times;
+use check_states::{LAST_MOMENT, LAST_TIME, Standing, code, pending};
 use std::alloc::{AllocError, Global};
 use std::marker::Model;
 
@@ -189,7 +189,7 @@ impl Sched {
     }
 
     /// The word of its board for the object with this number: the [`code`] of the object's standing,
-    /// which [`decode`](check_rules::decode) reads.
+    /// which [`decode`](check_states::decode) reads.
     pub fn word(&self, number: u32) -> u64
         requires { number < length (board_of self.now) }
         ensures { result ≡ slice_index (board_of self.now) number }

@@ -1,5 +1,5 @@
 -- The times of the first checks ("Service and Host Check Scheduling": inter-check delay, service interleaving).
-use Rattle.std.specs.Prelude.{ℕ, ◌+◌, ◌*◌, ◌/◌, ◌%◌, ◌==◌, ◌&&◌, ◌||◌, Bool, not, List, ◌++◌, length, map, min, filter, count_by, sum_by, nat_lt, nat_le}
+use Rattle.std.specs.Prelude.{ℕ, ◌+◌, ◌*◌, ◌/◌, ◌%◌, ◌==◌, ◌&&◌, ◌||◌, Bool, not, List, ◌++◌, length, map, filter, count_by, sum_by, nat_lt, nat_le}
 use Rattle.std.specs.Prelude.{Option}
 use Rattle.std.specs.Prelude.{Some, None, if◌then◌else◌}
 use Rattle.std.specs.Int.{div_ceil}
@@ -78,16 +78,6 @@ first_time spread objects position object =
 -- the times of the first checks of one sort of object, by position
 abbrev pub first_times : Spread → List Object → List (Option ℕ)
 first_times spread objects = map (λ p. first_time spread objects p.0 p.1) (enumerate_from 0 objects)
-
--- The time that pick chooses of two, or the only one.
-abbrev pub choice_of : (ℕ → ℕ → ℕ) → Option ℕ → Option ℕ → Option ℕ
-choice_of pick None other = other
-choice_of pick (Some one) None = Some one
-choice_of pick (Some one) (Some other) = Some (pick one other)
-
--- the earlier of two times, or the only one
-abbrev pub earlier : Option ℕ → Option ℕ → Option ℕ
-earlier one other = choice_of min one other
 
 -- the number of services for each host, rounded up; 1 if there is no service
 abbrev pub smart_factor : ℕ → ℕ → ℕ

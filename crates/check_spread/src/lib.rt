@@ -7,16 +7,12 @@
 //! profile of this project makes it, and the item says so.
 //!
 //! The modules:
-//! - `times`: the times of all objects of a setup, and functions of intervals and times that other crates
-//!   share;
+//! - `times`: the times of all objects of a setup, and functions that other crates share;
 //! - `spread`: the time of one rank;
-//! - `visits`: the order in which objects are visited;
-//! - `limits`: the limits of moments and times.
+//! - `visits`: the order in which objects are visited.
 
-mod limits;
 mod spread;
 mod times;
 mod visits;
 
-pub use limits::{LAST_MOMENT, LAST_TIME, MINUTE, limits_of_times};
-pub use times::{copy_objects, earlier, initial_times, interleave_factor, milliseconds};
+pub use times::{copy_objects, initial_times, interleave_factor, milliseconds};

@@ -4,10 +4,10 @@ ghost use Rattle.std.specs.Prelude.{◌≡◌, ◌<◌, ◌≤◌, ◌*◌, leng
 ghost use Rattle.check_spread.specs.Spread.{interval_milliseconds, is_scheduled, scheduled_among, smart_delay, time_at};
 ghost use Rattle.check_spread.specs.Limits.{IsInLimits};
 
-use crate::limits::{LAST_TIME, MINUTE};
 use check_objects::{
     DelayMethod, MAX_INTERVAL, MAX_INTERVAL_LENGTH, MAX_OBJECTS, MAX_SPREAD, Object,
 };
+use check_states::{LAST_TIME, MINUTE};
 
 /// How the first checks of one sort of object are spread over time.
 #[derive(Clone, Copy)]

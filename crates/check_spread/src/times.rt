@@ -2,16 +2,16 @@
 
 ghost use Rattle.std.specs.Prelude.{◌≡◌, ◌<◌, ◌≤◌, ◌*◌, ◌++◌, IfOk, IfSome, OnOk, All, length};
 ghost use Rattle.check_objects.specs.Configuration.{object_count, IsSetup};
-ghost use Rattle.check_spread.specs.Spread.{all_objects, earlier, factor_by, first_times, initial_times, milliseconds};
+ghost use Rattle.check_spread.specs.Spread.{all_objects, factor_by, first_times, initial_times, milliseconds};
 ghost use Rattle.check_spread.specs.Spread.{host_spread, service_spread};
 ghost use Rattle.check_spread.specs.Limits.{IsInLimits};
 
-use crate::limits::{LAST_MOMENT, LAST_TIME, MINUTE};
 use crate::spread::{Scheduled, Spread, is_scheduled};
 use crate::visits::first_ranks;
 use check_objects::{
     InterleaveFactor, MAX_INTERVAL, MAX_INTERVAL_LENGTH, MAX_OBJECTS, Object, Setup,
 };
+use check_states::{LAST_MOMENT, LAST_TIME, MINUTE};
 use std::alloc::{AllocError, Global};
 
 /// The time of the first check of each object of the setup, by number, in milliseconds. Scheduling starts at
@@ -123,17 +123,6 @@ pub fn milliseconds(setup: &Setup, interval: u64) -> u64
     ensures within { result ≤ MAX_INTERVAL * MAX_INTERVAL_LENGTH * 1000 }
 {
     interval * setup.options().interval_length * 1000
-}
-
-/// The earlier of two times, or the only one. None if neither is given.
-pub fn earlier(one: Option<u64>, other: Option<u64>) -> Option<u64>
-    ensures { result ≡ earlier one other }
-{
-    match (one, other) {
-        (Some(one), Some(other)) => Some(one.min(other)),
-        (Some(one), None) => Some(one),
-        (None, other) => other,
-    }
 }
 
 /// Copies all objects of the setup, in the order of their numbers. An Err means out of memory.

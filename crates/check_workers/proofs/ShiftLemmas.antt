@@ -11,7 +11,7 @@ use Rattle.std.proofs.lemmas.Option.{none-some}
 use mathlib.Core.List.{IsPrefix}
 use Rattle.ticket_steps.specs.declared.books.Entry.{Entry}
 use Rattle.ticket_lock.specs.Callers.{Caller}
-use Rattle.check_rules.specs.declared.state.Code.{Code}
+use Rattle.check_states.specs.declared.state.Code.{Code}
 use Rattle.check_sched.specs.declared.call.Call.{Call}
 use Rattle.check_sched.specs.declared.call.Reply.{Reply}
 use Rattle.check_sched.specs.declared.call.Reply.TheVariants as reply

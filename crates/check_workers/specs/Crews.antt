@@ -6,7 +6,7 @@ use Rattle.ticket_steps.specs.Sums.{occurrences}
 use Rattle.std.specs.List.{All}
 use Rattle.ticket_lock.specs.Callers.{Caller}
 use Rattle.ticket_lock.specs.Views.{Follows}
-use Rattle.check_rules.specs.declared.state.Code.{Code}
+use Rattle.check_states.specs.declared.state.Code.{Code}
 use Rattle.check_sched.specs.declared.call.Call.{Call}
 use Rattle.check_sched.specs.declared.call.Reply.{Reply}
 use Rattle.check_desk.specs.declared.desk.Desk.{Desk}

@@ -1,9 +1,9 @@
 //! The interface to the code that runs a check.
 
 ghost use Rattle.std.specs.Prelude.{ℕ};
-ghost use Rattle.check_rules.specs.declared.state.Code.{Code as CodeOf};
+ghost use Rattle.check_states.specs.declared.state.Code.{Code as CodeOf};
 
-use check_rules::Code;
+use check_states::Code;
 
 /// Runs the checks: the program's own code, which starts a plugin and waits for its return code.
 ///

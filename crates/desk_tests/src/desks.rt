@@ -5,8 +5,8 @@ ghost use Rattle.check_desk.specs.Desks.{IsHolderAt, IsPassOf, IsWaitingAt};
 
 use crate::openings::{ONE_SERVICE, close_desk, two_passes};
 use check_desk::{Answer, Desk, Hold, Pass, Poll, Turn};
-use check_rules::{Code, Standing, code};
 use check_sched::{Call, Reply};
+use check_states::{Code, Standing, code};
 use std::process::Abort;
 use std::sync::Wait;
 use std::test::Fail;

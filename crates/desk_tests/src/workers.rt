@@ -11,7 +11,7 @@ mod visiting;
 use crate::openings::{
     MOST_CALLS, ONE_SERVICE, TWO_SERVICES, close_desk, one_pass, open_desk, two_passes,
 };
-use check_rules::Code;
+use check_states::Code;
 use check_workers::{CrewError, Plugin, Tally, crew, work};
 use std::hint::spin_loop;
 use std::sync::atomic::AtomicU64;

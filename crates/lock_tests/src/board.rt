@@ -1,6 +1,6 @@
 //! Standings as words of a board.
 
-use check_rules::{Kind, Standing, State, code, decode, pending};
+use check_states::{Kind, Standing, State, code, decode, pending};
 
 /// A standing of an object that was checked.
 fn standing(state: State, kind: Kind, attempt: u8, last_hard: State) -> Standing {

@@ -1,6 +1,6 @@
 -- The result of a glance for C.
 use Rattle.std.specs.Prelude.{◌≡◌, ℕ, Option, Some, None}
-use Rattle.check_rules.specs.declared.standing.Standing.{Standing}
+use Rattle.check_states.specs.declared.standing.Standing.{Standing}
 use Rattle.nagsched_handles.specs.declared.target.HandleTarget.{HandleTarget}
 use Rattle.nagsched_handles.specs.declared.target.HandleTarget.TheVariants as target
 use Rattle.nagsched_handles.specs.declared.structs.CStanding.{CStanding}

@@ -4,15 +4,15 @@
 //! has. So no pass holds the book between two calls of C.
 
 ghost use Rattle.std.specs.Prelude.{◌≡◌, Option, Some, None};
-ghost use Rattle.check_rules.specs.Numbers.{code_of_number};
+ghost use Rattle.check_states.specs.Numbers.{code_of_number};
 ghost use Rattle.check_sched.specs.declared.call.Call.TheVariants as call;
 ghost use Rattle.nagsched_handles.specs.Handles.{contents_of};
 ghost use Rattle.nagsched_handles.specs.Structs.{flag_of};
 ghost use Rattle.nagsched_c.specs.Tries.{reply_after, status_of, HasTried, HasTriedIf};
 
 use crate::status::{NO_MEMORY, OK, SPENT, WAIT, WRONG};
-use check_rules::Code;
 use check_sched::Call;
+use check_states::Code;
 use nagsched_handles::{CReply, Handle, HandleTarget, Step, flag_of, write_reply};
 use std::alloc::Global;
 

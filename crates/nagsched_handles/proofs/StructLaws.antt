@@ -10,12 +10,12 @@ use Rattle.setup_model.specs.declared.place.Part.{Part}
 use Rattle.setup_model.specs.declared.place.Part.TheVariants as part
 use Rattle.setup_model.specs.LoadError.{error_number, numbered_error, place_of}
 use Rattle.setup_model.specs.Place.{part_number}
-use Rattle.check_rules.specs.declared.standing.Kind.{Kind}
-use Rattle.check_rules.specs.declared.standing.Kind.TheVariants as kind
-use Rattle.check_rules.specs.declared.standing.Standing.{Standing}
-use Rattle.check_rules.specs.declared.state.Code.{Code}
-use Rattle.check_rules.specs.declared.state.Code.TheVariants as code
-use Rattle.check_rules.specs.declared.state.State.{State}
+use Rattle.check_states.specs.declared.standing.Kind.{Kind}
+use Rattle.check_states.specs.declared.standing.Kind.TheVariants as kind
+use Rattle.check_states.specs.declared.standing.Standing.{Standing}
+use Rattle.check_states.specs.declared.state.Code.{Code}
+use Rattle.check_states.specs.declared.state.Code.TheVariants as code
+use Rattle.check_states.specs.declared.state.State.{State}
 use Rattle.check_sched.specs.declared.call.Call.{Call}
 use Rattle.check_sched.specs.declared.call.Call.TheVariants as call
 use Rattle.check_sched.specs.declared.call.Reply.{Reply}
@@ -27,8 +27,8 @@ use Rattle.nagsched_handles.specs.declared.structs.CRefusal.{CRefusal}
 use Rattle.nagsched_handles.specs.Structs.{call_from_c, code_or_unknown, kind_or_hard, optional_number, part_or_host_dependencies, place_from_c}
 use Rattle.nagsched_handles.specs.Structs.{reply_from_c, standing_from_c, state_or_unreachable}
 use Rattle.nagsched_handles.specs.Structs.{IsNoRefusal, IsNoReply}
-use Rattle.check_rules.specs.Numbers.{code_number, kind_number, state_number}
-use Rattle.check_rules.proofs.Cases.{each_state}
+use Rattle.check_states.specs.Numbers.{code_number, kind_number, state_number}
+use Rattle.check_states.proofs.Cases.{each_state}
 use Rattle.nagsched_handles.specs.Structs.{flag, presence, number_or_0}
 use Rattle.nagsched_handles.specs.Structs.{c_call, c_entry, c_refusal, c_reply, c_standing, refusal_at, refusal_of_place}
 

@@ -6,7 +6,7 @@ use Rattle.check_desk.specs.declared.desk.Desk.{Desk}
 use Rattle.check_desk.specs.declared.passes.Pass.{Pass}
 use Rattle.check_desk.specs.Desks.{objects_of, standing_after, IsHistoryOf}
 use Rattle.check_desk.specs.Passes.{pass_of}
-use Rattle.check_rules.specs.declared.standing.Standing.{Standing}
+use Rattle.check_states.specs.declared.standing.Standing.{Standing}
 use Rattle.nagsched_handles.specs.declared.pass_state.PassState.{PassState}
 use Rattle.nagsched_handles.specs.declared.pass_state.PassState.TheVariants as state
 

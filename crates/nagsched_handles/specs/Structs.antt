@@ -8,14 +8,14 @@ use Rattle.setup_model.specs.declared.place.Part.{Part}
 use Rattle.setup_model.specs.declared.place.Part.TheVariants as part
 use Rattle.setup_model.specs.LoadError.{error_number, place_of}
 use Rattle.setup_model.specs.Place.{part_of_number, part_number}
-use Rattle.check_rules.specs.declared.standing.Kind.{Kind}
-use Rattle.check_rules.specs.declared.standing.Kind.TheVariants as kind
-use Rattle.check_rules.specs.declared.standing.Standing.{Standing}
-use Rattle.check_rules.specs.declared.state.Code.{Code}
-use Rattle.check_rules.specs.declared.state.Code.TheVariants as code
-use Rattle.check_rules.specs.declared.state.State.{State}
-use Rattle.check_rules.specs.declared.state.State.TheVariants as state
-use Rattle.check_rules.specs.Numbers.{code_number, kind_number, code_of_number, state_of_number, state_number}
+use Rattle.check_states.specs.declared.standing.Kind.{Kind}
+use Rattle.check_states.specs.declared.standing.Kind.TheVariants as kind
+use Rattle.check_states.specs.declared.standing.Standing.{Standing}
+use Rattle.check_states.specs.declared.state.Code.{Code}
+use Rattle.check_states.specs.declared.state.Code.TheVariants as code
+use Rattle.check_states.specs.declared.state.State.{State}
+use Rattle.check_states.specs.declared.state.State.TheVariants as state
+use Rattle.check_states.specs.Numbers.{code_number, kind_number, code_of_number, state_of_number, state_number}
 use Rattle.check_sched.specs.declared.call.Call.{Call}
 use Rattle.check_sched.specs.declared.call.Call.TheVariants as call
 use Rattle.check_sched.specs.declared.call.Reply.{Reply}

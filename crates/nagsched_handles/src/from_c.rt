@@ -8,8 +8,8 @@ ghost use Rattle.nagsched_handles.specs.Structs.{c_call, c_entry, c_reply};
 use crate::kinds;
 use crate::numbers::{code_or_unknown, kind_or_hard, optional_time, state_or_unreachable};
 use crate::structs::{CCall, CEntry, CReply, CStanding, c_call, c_reply};
-use check_rules::Standing;
 use check_sched::{Call, Refusal, Reply};
+use check_states::Standing;
 use ticket_steps::Entry;
 
 /// The call with this struct, if there is one.

@@ -3,7 +3,7 @@
 ghost use Rattle.std.specs.Prelude.{◌≡◌, ◌≢◌};
 ghost use Rattle.ticket_steps.specs.declared.books.Entry.{Entry};
 ghost use Rattle.setup_model.specs.declared.error.LoadError.{LoadError};
-ghost use Rattle.check_rules.specs.declared.standing.Standing.{Standing};
+ghost use Rattle.check_states.specs.declared.standing.Standing.{Standing};
 ghost use Rattle.check_sched.specs.declared.call.Call.{Call};
 ghost use Rattle.check_sched.specs.declared.call.Reply.{Reply};
 ghost use Rattle.check_saved_state.specs.declared.fault.SavedFault.{SavedFault};

@@ -1,11 +1,11 @@
 //! The numbers of switches, times and indices, and the values with given numbers. `setup_model` has the
-//! numbers of parts, and `check_rules` those of codes, states and kinds.
+//! numbers of parts, and `check_states` those of codes, states and kinds.
 
 ghost use Rattle.std.specs.Prelude.{◌≡◌};
 ghost use Rattle.nagsched_handles.specs.Structs.{flag, flag_of, presence, number_or_0};
 ghost use Rattle.nagsched_handles.specs.Structs.{code_or_unknown, kind_or_hard, optional_number, part_or_host_dependencies, state_or_unreachable};
 
-use check_rules::{Code, Kind, State};
+use check_states::{Code, Kind, State};
 use setup_model::Part;
 
 /// Yes as 1, no as 0.

@@ -9,8 +9,8 @@ ghost use Rattle.nagsched_handles.specs.Structs.{call_struct, c_call, c_entry, c
 
 use crate::kinds;
 use crate::numbers::{flag, number_or_0, presence};
-use check_rules::Standing;
 use check_sched::{Call, Refusal, Reply};
+use check_states::Standing;
 use ticket_steps::Entry;
 
 /// The standing of an object.

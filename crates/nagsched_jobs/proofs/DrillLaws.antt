@@ -9,7 +9,7 @@ use Rattle.ticket_steps.specs.History.{entry, of, IsLegal}
 use Rattle.ticket_steps.specs.Sums.{numbers_from, occurrences}
 use Rattle.ticket_steps.proofs.EntryLemmas.{of-append, of-lengths, of-yes}
 use Rattle.ticket_steps.proofs.SumLemmas.{occurrences-same}
-use Rattle.check_rules.specs.declared.state.Code.{Code}
+use Rattle.check_states.specs.declared.state.Code.{Code}
 use Rattle.check_sched.specs.declared.call.Call.{Call}
 use Rattle.check_sched.specs.declared.call.Call.TheVariants as call
 use Rattle.check_sched.specs.declared.call.Reply.{Reply}

@@ -1,7 +1,7 @@
 -- The return codes that the plugin of a drill gives.
 use Rattle.std.specs.Prelude.{ℕ, ◌==◌, ◌-◌, ◌%◌, if◌then◌else◌, List, [], ◌∷◌, length, slice_index_or}
-use Rattle.check_rules.specs.declared.state.Code.{Code}
-use Rattle.check_rules.specs.declared.state.Code.TheVariants as code
+use Rattle.check_states.specs.declared.state.Code.{Code}
+use Rattle.check_states.specs.declared.state.Code.TheVariants as code
 
 -- The code of a run over these codes. Runs count from 1, and after the last code the first comes again. Run 0 gives Ok, and so does every run if there
 -- is no code.

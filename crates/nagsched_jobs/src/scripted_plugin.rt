@@ -3,7 +3,7 @@
 ghost use Rattle.std.specs.Prelude.{◌≡◌, map};
 ghost use Rattle.nagsched_jobs.specs.ScriptedCodes.{code_of_run, scripted_code};
 
-use check_rules::Code;
+use check_states::Code;
 use check_workers::Plugin;
 
 /// A plugin that returns the codes of a script, at any moment.

@@ -1,6 +1,6 @@
 //! The machine room: its setups, its clock, and the reports of its machines.
 
-use check_rules::Code;
+use check_states::Code;
 
 /// The gateway, the storage that is connected through it, and two services on each, as one line. All checks
 /// are due at 0, then every 4 hours, and every half hour while a problem is soft. The backup isn't checked

@@ -13,7 +13,7 @@ use Rattle.serde_json.specs.View.{view, items_view}
 use Rattle.serde_json.specs.declared.value.Value.{Value}
 use Rattle.check_objects.specs.Configuration.{Configuration, object_count}
 use Rattle.check_objects.specs.JsonTree.{◌>=>◌, whole_number}
-use Rattle.check_rules.specs.declared.state.Code.{Code}
+use Rattle.check_states.specs.declared.state.Code.{Code}
 use Rattle.nagsched_protocol.specs.DrillCommand.{Command, PluginOf, MomentAt, are_numbers, are_nonempty_numbers, drill_command_by}
 use Rattle.nagsched_protocol.specs.DrillCommanded.{drill_command}
 use Rattle.nagsched_protocol.specs.DrillScript.{DrillScript, drill_over, drill_script_of, returns_after, moment_of, moments_in}

@@ -4,7 +4,7 @@ use Rattle.serde_json.specs.Data.{Data, Items, no_items, item}
 use Rattle.serde_json.specs.Find.{as_bool, as_str}
 use Rattle.check_objects.specs.JsonTree.{◌>=>◌, whole_number}
 use Rattle.check_objects.specs.Configuration.{Configuration, number_by_name}
-use Rattle.check_rules.specs.Numbers.{code_of_number}
+use Rattle.check_states.specs.Numbers.{code_of_number}
 use Rattle.check_sched.specs.declared.call.Call.{Call}
 use Rattle.check_sched.specs.declared.call.Call.TheVariants as call
 use Rattle.nagsched_protocol.specs.declared.command.RunCommand.{RunCommand}

@@ -4,11 +4,11 @@ use Rattle.serde_json.specs.Data.{Data, Items, no_items, item}
 use Rattle.serde_json.specs.Find.{as_str}
 use Rattle.check_objects.specs.JsonTree.{◌>=>◌, whole_number}
 use Rattle.check_objects.specs.Configuration.{Configuration}
-use Rattle.check_rules.specs.declared.state.Code.{Code}
+use Rattle.check_states.specs.declared.state.Code.{Code}
 use Rattle.nagsched_protocol.specs.declared.refusal.LineFault.{LineFault}
 use Rattle.nagsched_protocol.specs.declared.refusal.LineFault.TheVariants as fault
 use Rattle.setup_model.specs.Agreement.{◌>>=◌}
-use Rattle.check_rules.specs.Numbers.{code_of_number}
+use Rattle.check_states.specs.Numbers.{code_of_number}
 use Rattle.nagsched_protocol.specs.Command.{object_named, one_of}
 
 -- a command of a drill

@@ -4,7 +4,7 @@ use Rattle.std.specs.List.{last_or, range_with_len}
 use Rattle.check_objects.specs.Configuration.{Configuration, object_count}
 use Rattle.check_objects.specs.Setup.{setup_of}
 use Rattle.setup_model.specs.Agreement.{◌>>=◌}
-use Rattle.check_rules.specs.declared.state.Code.{Code}
+use Rattle.check_states.specs.declared.state.Code.{Code}
 use Rattle.nagsched_protocol.specs.declared.refusal.InputRefusal.{InputRefusal}
 use Rattle.nagsched_protocol.specs.DrillCommand.{Command, PluginOf, MomentAt, drill_command_by}
 use Rattle.nagsched_protocol.specs.Input.{first_line_of, lines_of}

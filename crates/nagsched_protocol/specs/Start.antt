@@ -1,6 +1,6 @@
 -- The moments at which a scheduler can start.
 use Rattle.std.specs.Prelude.{◌≤◌, IfSome}
-use Rattle.check_spread.specs.declared.limits.TheConstants.{LAST_MOMENT}
+use Rattle.check_states.specs.declared.times.TheConstants.{LAST_MOMENT}
 use Rattle.nagsched_protocol.specs.declared.start.Start.{Start}
 use Rattle.nagsched_protocol.specs.declared.start.Start.TheVariants as start
 

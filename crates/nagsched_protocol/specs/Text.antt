@@ -6,8 +6,8 @@ use Rattle.setup_model.specs.declared.error.LoadError.{LoadError}
 use Rattle.setup_model.specs.declared.place.Place.{Place}
 use Rattle.setup_model.specs.LoadError.{error_reason, place_of}
 use Rattle.setup_model.specs.Members.{part_name}
-use Rattle.check_rules.specs.declared.standing.Standing.{Standing}
-use Rattle.check_rules.specs.Words.{kind_word, state_word}
+use Rattle.check_states.specs.declared.standing.Standing.{Standing}
+use Rattle.check_states.specs.Words.{kind_word, state_word}
 use Rattle.check_sched.specs.declared.call.Call.{Call}
 use Rattle.check_sched.specs.declared.call.Call.TheVariants as call
 use Rattle.check_sched.specs.declared.call.Reply.{Reply}

@@ -12,8 +12,8 @@ ghost use Rattle.nagsched_protocol.specs.Command.{name_number_switch, object_nam
 use crate::line::{Command, ScriptLine, line_refusal};
 use crate::refusal::{LineFault, ScriptError};
 use check_objects::Setup;
-use check_rules::Code;
 use check_sched::Call;
+use check_states::Code;
 use serde_json::Value;
 use std::alloc::Global;
 

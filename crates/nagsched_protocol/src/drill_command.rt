@@ -16,7 +16,7 @@ use crate::command::object_named;
 use crate::line::{Command, ScriptLine, line_refusal};
 use crate::refusal::{LineFault, ScriptError};
 use check_objects::Setup;
-use check_rules::Code;
+use check_states::Code;
 use serde_json::Value;
 use std::alloc::{AllocError, Global};
 

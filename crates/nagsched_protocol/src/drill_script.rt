@@ -12,7 +12,7 @@ use crate::line::line_refusal;
 use crate::refusal::{LineFault, ScriptError};
 use crate::script::{MAX_INPUT_BYTES, read_commands, read_setup};
 use check_objects::Setup;
-use check_rules::Code;
+use check_states::Code;
 use std::alloc::{AllocError, Global};
 
 /// A setup, the return codes of its objects' plugins, and the moments at which each worker asks for a

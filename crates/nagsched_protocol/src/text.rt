@@ -10,8 +10,8 @@ ghost use Rattle.check_saved_state.specs.Words.{flapping_word};
 ghost use Rattle.nagsched_protocol.specs.Capacity.{PushesAtMost};
 
 use check_objects::Setup;
-use check_rules::Standing;
 use check_sched::{Call, Refusal, Reply, Sched};
+use check_states::Standing;
 use itoa::Buffer;
 use std::alloc::{AllocError, Global};
 use ticket_steps::Entry;

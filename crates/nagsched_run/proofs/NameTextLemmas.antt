@@ -26,11 +26,11 @@ use Rattle.setup_reader.specs.JsonTree.{text_at, tree_of}
 use Rattle.setup_reader.specs.Reading.{array_items, host_of, items_test, options_test, parsed_setup, part_items, service_of, values_of}
 use Rattle.setup_reader.specs.Shapes.{shape_test}
 use Rattle.setup_reader.proofs.ReadLemmas.{from_ok_or, guarded, next, ok_is}
-use Rattle.setup_reader.specs.Verification.{verification}
+use Rattle.setup_verification.specs.Verification.{verification}
 use Rattle.check_objects.specs.Configuration.{Configuration, IsSetup, NamedObject, masters_of, name_of, named_host, named_service, objects_of, parents_by_host}
 use Rattle.check_objects.specs.Numbering.{host_body, configuration, hosts_in_order, names_in_order, numbered_host, numbered_service}
 use Rattle.check_objects.specs.Numbering.{services_in_order}
-use Rattle.check_objects.proofs.NameLemmas.{all_moved, all_passes}
+use Rattle.setup_objects.proofs.NameLemmas.{all_moved, all_passes}
 use Rattle.check_objects.specs.Setup.{document_tree, verified_setup, setup_of, setup_of_tree, without_cycles, without_dependency_cycle, without_parent_cycle}
 use Rattle.check_objects.proofs.OrderLemmas.{hosts_all, services_all}
 use Rattle.check_objects.proofs.SetupLemmas.{configuration_is_setup}

@@ -7,7 +7,7 @@ ghost use Rattle.nagsched_protocol.specs.declared.script.TheConstants.{MAX_INPUT
 ghost use Rattle.nagsched_protocol.specs.declared.start.Start.TheVariants.{Fresh, Resumed};
 ghost use Rattle.nagsched_protocol.specs.LiveInput.{has_feed};
 ghost use Rattle.nagsched_protocol.specs.Script.{Script, script_of};
-ghost use Rattle.check_spread.specs.declared.limits.TheConstants.{LAST_MOMENT};
+ghost use Rattle.check_states.specs.declared.times.TheConstants.{LAST_MOMENT};
 ghost use Rattle.nagsched_protocol.specs.Output.{AreWholeLines};
 ghost use Rattle.nagsched_protocol.specs.Text.{saved_line, text};
 ghost use Rattle.nagsched_run.specs.Cut.{first_part, second_part, whole_input};

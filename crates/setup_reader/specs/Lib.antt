@@ -8,4 +8,3 @@ pub mod Shapes
 pub mod Reading
 pub mod Places
 pub mod Feeds
-pub mod Verification

@@ -10,8 +10,9 @@ use Rattle.std.proofs.lemmas.List.Elements.{All-nil, All-cons, All-weaker}
 use Rattle.setup_model.specs.declared.parsed_setup.Object.{Object}
 use Rattle.setup_model.specs.declared.options.DelayMethod.{DelayMethod}
 use Rattle.check_objects.specs.Configuration.{Configuration, host_count}
-use Rattle.check_spread.specs.Spread.{earlier, factor_by, first_time, first_times, host_objects, host_spread, initial_times, is_scheduled, rank}
-use Rattle.check_spread.specs.Spread.{scheduled_among, choice_of}
+use Rattle.check_spread.specs.Spread.{factor_by, first_time, first_times, host_objects, host_spread, initial_times, is_scheduled, rank}
+use Rattle.check_spread.specs.Spread.{scheduled_among}
+use Rattle.check_states.specs.Times.{choice_of, earlier}
 use Rattle.check_spread.specs.Spread.{service_objects, service_spread, spread_of_method, time_at}
 use Rattle.setup_order.specs.Cycles.{deep, has_cycle}
 use Rattle.setup_order.proofs.ChainLemmas.{some_below}

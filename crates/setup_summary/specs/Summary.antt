@@ -2,7 +2,8 @@
 use Rattle.std.specs.Prelude.{ℕ, max, ◌==◌, ◌&&◌, Bool, not, List, [], ◌∷◌, length, take, drop, count_by, sum_by, Option, None}
 use Rattle.setup_model.specs.declared.parsed_setup.Object.{Object}
 use Rattle.check_objects.specs.Configuration.{Configuration, host_count, masters_of, parents_by_host}
-use Rattle.check_spread.specs.Spread.{all_objects, earlier, factor_by, initial_times, is_scheduled, choice_of}
+use Rattle.check_spread.specs.Spread.{all_objects, factor_by, initial_times, is_scheduled}
+use Rattle.check_states.specs.Times.{choice_of, earlier}
 use Rattle.setup_summary.specs.Chains.{longest_chain}
 use Rattle.setup_summary.specs.declared.chains.Chains.{Chains}
 use Rattle.setup_summary.specs.declared.counts.Links.{Links}

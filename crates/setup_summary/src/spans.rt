@@ -3,7 +3,7 @@
 ghost use Rattle.std.specs.Prelude.{◌≡◌};
 ghost use Rattle.setup_summary.specs.Summary.{earliest, latest, later, span_of};
 
-use check_spread::earlier;
+use check_states::earlier;
 
 /// The times at which the first checks of one sort of object are due, in milliseconds, from `first` to
 /// `last`. Both are None if no object of the sort is scheduled.

@@ -8,7 +8,8 @@ use crate::chains::{Chains, chains_in};
 use crate::counts::{Links, Reasons, count_links, count_reasons};
 use crate::spans::{Span, span_of};
 use check_objects::{DelayMethod, Setup};
-use check_spread::{LAST_MOMENT, copy_objects, initial_times, interleave_factor};
+use check_spread::{copy_objects, initial_times, interleave_factor};
+use check_states::LAST_MOMENT;
 use std::alloc::{AllocError, Global};
 
 /// The summary of a setup. Times are moments in milliseconds, as a scheduler sets them that starts at the

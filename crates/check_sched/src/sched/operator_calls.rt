@@ -8,8 +8,7 @@ use super::Sched;
 use super::worker_calls::test_moment;
 use crate::call::{Call, Refusal, Reply};
 use crate::object_state::Change;
-use check_rules::Standing;
-use check_spread::LAST_TIME;
+use check_states::{LAST_TIME, Standing};
 
 // Each is a separate call in `Sched::apply`, so that takes and reports, which are most calls, don't pay for
 // the values that these functions keep.

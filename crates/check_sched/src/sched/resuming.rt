@@ -18,9 +18,9 @@ use crate::resumed_object::{scheduling, standing};
 use crate::roster::{Roster, running_from};
 use crate::saved_indexes::{saved_indexes, saved_match};
 use check_objects::Setup;
-use check_rules::{LastResults, STORED_RESULTS, Standing};
 use check_saved_state::{Saved, SavedObject};
-use check_spread::{LAST_MOMENT, initial_times};
+use check_spread::initial_times;
+use check_states::{LAST_MOMENT, LastResults, STORED_RESULTS, Standing};
 use std::alloc::{AllocError, Global};
 
 impl Sched {

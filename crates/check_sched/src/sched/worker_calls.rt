@@ -2,7 +2,7 @@
 
 ghost use Rattle.std.specs.Prelude.{◌≡◌, ◌+◌, ◌<◌, ◌≤◌, IfSome, IsTrue, Ok, OnOk, None, false, length, slice_set, true};
 ghost use Rattle.check_objects.specs.Configuration.{object_count};
-ghost use Rattle.check_rules.specs.Flapping.{results_after};
+ghost use Rattle.check_states.specs.Flapping.{results_after};
 ghost use Rattle.check_sched.specs.State.{is_below_limit, next_of, results_at};
 ghost use Rattle.check_sched.specs.Steady.{IsSteadyIn};
 ghost use Rattle.check_queue.specs.Order.{least};
@@ -18,9 +18,9 @@ use crate::intervals::{next_check_time, time_after};
 use crate::object_state::Change;
 use crate::report::{flap_thresholds, is_changed, new_standing, state_found};
 use crate::results::Results;
-use check_rules::{Code, Standing, State, blocked};
+use check_rules::blocked;
 use check_saved_state::{MAX_RUNS, SavedRun};
-use check_spread::{LAST_MOMENT, LAST_TIME};
+use check_states::{Code, LAST_MOMENT, LAST_TIME, Standing, State};
 
 impl Sched {
     /// Begins the check of the least object that is due and may be checked, or puts the object off. If there

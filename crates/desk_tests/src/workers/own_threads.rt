@@ -2,14 +2,14 @@
 //! than any code, an operator and a dashboard share one scheduler.
 
 ghost use Rattle.std.specs.Prelude.{◌≡◌, ◌⊎◌, IfOk};
-ghost use Rattle.check_rules.specs.declared.state.Code.TheVariants as code;
+ghost use Rattle.check_states.specs.declared.state.Code.TheVariants as code;
 ghost use Rattle.check_desk.specs.Desks.{IsPassOf};
 
 use crate::openings::{MOST_CALLS, close_desk, open_desk};
 use check_book::Book;
 use check_desk::{Answer, Desk, Pass};
-use check_rules::{Code, Standing, State};
 use check_sched::{Call, Reply};
+use check_states::{Code, Standing, State};
 use check_workers::{Plugin, work};
 use std::alloc::Global;
 use std::process::Abort;

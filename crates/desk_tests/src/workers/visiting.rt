@@ -7,8 +7,8 @@ ghost use Rattle.std.specs.Prelude.{⊤};
 
 use crate::openings::{TWO_SERVICES, two_passes};
 use check_desk::{Desk, Pass, Poll, Turn};
-use check_rules::Code;
 use check_sched::Call;
+use check_states::Code;
 use check_workers::{Plugin, work};
 use std::cell::Cell;
 use std::process::Abort;

@@ -2,8 +2,8 @@ use Rattle.std.proofs.Common.{[], get_or, ap, ◌∙◌, map, string_bytes, arit
 use Rattle.setup_model.specs.ParsedViews.{parsed_view, host, service}
 use Rattle.setup_model.specs.Ends.{full_names, is_known}
 use Rattle.setup_model.specs.Keys.{names_of}
-use Rattle.check_objects.specs.Entries.{names_in}
-use Rattle.check_objects.specs.Numbering.{configuration}
+use Rattle.setup_objects.specs.Entries.{names_in}
+use Rattle.setup_objects.specs.Numbering.{configuration}
 use Rattle.check_objects.proofs.CycleLemmas.{cyclic_dependencies}
 use Rattle.check_objects.proofs.NamedCycleLemmas.{all_hosts, host_round, hosts_listed, no_host, no_more, service_round, services_listed}
 use Rattle.check_objects.proofs.cycles.dependency_cycle.Goals as goal

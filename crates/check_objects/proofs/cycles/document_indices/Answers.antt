@@ -1,7 +1,7 @@
 use Rattle.std.proofs.Common.{◌≡◌, ◌-◌, ◌<◌, [], sym, ap, ◌∙◌, get_or, length, map, option_map, string_bytes, subst, refl}
 use Rattle.std.specs.Map.Iter.{deref_pair}
 use Rattle.std.proofs.lemmas.List.{take_all}
-use Rattle.check_objects.specs.Entries.{names_in}
+use Rattle.setup_objects.specs.Entries.{names_in}
 use Rattle.check_objects.specs.Indices.{AreIndices}
 use Rattle.check_objects.proofs.IndexLemmas.{entry_known, entry_named, index_is, indices_next, place_below, some_index}
 use Rattle.check_objects.proofs.cycles.document_indices.Goals as goal

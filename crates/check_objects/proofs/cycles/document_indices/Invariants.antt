@@ -1,5 +1,5 @@
 use Rattle.std.proofs.Common.{◌-◌, [], get_or, map, take, string_bytes}
-use Rattle.check_objects.specs.Entries.{names_in}
+use Rattle.setup_objects.specs.Entries.{names_in}
 use Rattle.check_objects.specs.Indices.{AreIndices}
 use Rattle.check_objects.proofs.cycles.document_indices.Given as goal
 

@@ -3,9 +3,9 @@ use Rattle.std.proofs.lemmas.List.{length-map}
 use Rattle.setup_model.specs.ParsedViews.{parsed_view, host}
 use Rattle.setup_model.specs.Ends.{is_known}
 use Rattle.setup_model.specs.Keys.{names_of}
-use Rattle.check_objects.specs.Configuration.{Configuration, parents_by_host}
-use Rattle.check_objects.specs.Entries.{names_in}
-use Rattle.check_objects.specs.Numbering.{configuration}
+use Rattle.setup_objects.specs.Configuration.{Configuration, parents_by_host}
+use Rattle.setup_objects.specs.Entries.{names_in}
+use Rattle.setup_objects.specs.Numbering.{configuration}
 use Rattle.setup_order.specs.Results.{IsCycle}
 use Rattle.check_objects.proofs.NamedCycleLemmas.{host_count_is, hosts_listed, parent_round}
 use Rattle.check_objects.proofs.cycles.parent_cycle.Goals as goal

@@ -1,5 +1,5 @@
 use Rattle.std.proofs.Common.{◌≡◌, map, string_bytes, take}
-use Rattle.check_rules.specs.Words.{state_letter}
+use Rattle.check_states.specs.Words.{state_letter}
 use Rattle.check_saved_state.proofs.result_letters.letters_of.Given as goal
 
 abbrev pub invariant-loop-found : goal.invariant-loop-found

@@ -1,6 +1,6 @@
 use Rattle.std.proofs.Common.{◌∙◌}
 use Rattle.check_objects.specs.Configuration.{host_of}
-use Rattle.check_rules.specs.Verdict.{verdict_on}
+use Rattle.check_states.specs.Verdict.{verdict_on}
 use Rattle.check_sched.specs.Report.{is_host_up}
 use Rattle.check_sched.specs.State.{max_attempts_of, standing_at}
 use Rattle.check_sched.proofs.ReportLaws.{verdict_by_host}

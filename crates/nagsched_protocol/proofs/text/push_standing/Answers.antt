@@ -1,6 +1,6 @@
 use Rattle.std.proofs.Common.{ℕ, List, ◌++◌, ap}
 use Rattle.std.specs.Prelude.{codes, decimal, string_bytes}
-use Rattle.check_rules.specs.Words.{kind_word}
+use Rattle.check_states.specs.Words.{kind_word}
 use Rattle.check_saved_state.specs.Words.{flapping_word}
 use Rattle.nagsched_protocol.specs.Text.{state_text, changed_word, time_text}
 use Rattle.nagsched_protocol.proofs.TextLemmas.{standing_appended}

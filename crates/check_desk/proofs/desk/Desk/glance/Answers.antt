@@ -1,5 +1,5 @@
 use Rattle.std.proofs.Common.{◌≡◌, ◌<◌, ◌∙◌, Some, None, sym, ap, arith}
-use Rattle.check_rules.specs.Board.{standing_of_word}
+use Rattle.check_states.specs.Board.{standing_of_word}
 use Rattle.check_book.specs.Books.{opening_of}
 use Rattle.ticket_lock.specs.Tokens.{seat_of, start_of, words_of}
 use Rattle.check_desk.specs.Desks.{objects_of, standing_after}

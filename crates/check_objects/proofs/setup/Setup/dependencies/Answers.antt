@@ -1,6 +1,6 @@
 use Rattle.std.proofs.Common.{◌<◌, sym, subst, ◌∙◌, refl}
 use Rattle.std.specs.Prelude.{All}
-use Rattle.check_objects.specs.Configuration.{object_count}
+use Rattle.setup_objects.specs.Configuration.{object_count}
 use Rattle.check_objects.specs.WellFormed.{configuration_of}
 use Rattle.check_objects.proofs.GetterLemmas.{masters_below, dependencies_at}
 use Rattle.check_objects.proofs.setup.Setup.dependencies.Goals as goal

@@ -3,7 +3,7 @@ use Rattle.std.specs.Prelude.{nat_lt}
 use Rattle.std.specs.Map.Iter.{deref_pair}
 use Rattle.std.proofs.lemmas.Bool.{ltb-true}
 use Rattle.std.proofs.lemmas.Option.{slice_get-map}
-use Rattle.check_objects.specs.Entries.{host_entry, service_entry}
+use Rattle.setup_objects.specs.Entries.{host_entry, service_entry}
 use Rattle.check_objects.proofs.GetterLemmas.{all_at}
 use Rattle.check_objects.proofs.setup.Setup.host_of.Goals as goal
 

@@ -5,7 +5,7 @@ use Rattle.std.proofs.lemmas.Bool.{ltb-true}
 use Rattle.std.proofs.lemmas.List.Elements.{All-weaker}
 use Rattle.std.proofs.lemmas.List.Sums.{AllPass-from_list_all}
 use Rattle.std.proofs.lemmas.Option.{slice_get-map}
-use Rattle.check_objects.specs.Entries.{host_entry}
+use Rattle.setup_objects.specs.Entries.{host_entry}
 use Rattle.check_objects.proofs.GetterLemmas.{all_at}
 use Rattle.check_objects.proofs.setup.Setup.parents.Goals as goal
 

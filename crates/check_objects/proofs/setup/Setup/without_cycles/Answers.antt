@@ -4,11 +4,11 @@ use Rattle.setup_order.specs.Cycles.{are_within, has_cycle}
 use Rattle.setup_order.specs.Orders.{IsOrder}
 use Rattle.setup_order.proofs.ChainLemmas.{order_has_no_cycle}
 use Rattle.setup_model.specs.declared.dependency.Dependency.{Dependency}
-use Rattle.check_objects.specs.Configuration.{Host, Service, IsSetup, masters_of, masters_in}
+use Rattle.setup_objects.specs.Configuration.{Host, Service, IsSetup, masters_of, masters_in}
 use Rattle.setup_model.specs.ParsedSetup.{ParsedSetup}
 use Rattle.setup_model.specs.ParsedViews.{parsed_view}
-use Rattle.check_objects.specs.Numbering.{configuration}
-use Rattle.setup_reader.specs.Verification.{verification}
+use Rattle.setup_objects.specs.Numbering.{configuration}
+use Rattle.setup_verification.specs.Verification.{verification}
 use Rattle.check_objects.proofs.CycleLemmas.{acyclic_setup, parents_refuse}
 use Rattle.check_objects.proofs.SetupLemmas.{configuration_is_setup, has_lists, few_lists, masters_within}
 use Rattle.check_objects.proofs.setup.Setup.without_cycles.Goals as goal

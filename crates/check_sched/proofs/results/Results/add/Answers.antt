@@ -1,6 +1,6 @@
 use Rattle.std.proofs.Common.{◌≡◌, ◌<◌, ℕ, List, length, ap, arith, ◌∙◌, unwrap_or, []}
-use Rattle.check_rules.specs.declared.state.State.{State}
-use Rattle.check_rules.specs.Flapping.{results_after}
+use Rattle.check_states.specs.declared.state.State.{State}
+use Rattle.check_states.specs.Flapping.{results_after}
 use Rattle.check_sched.proofs.ReportLaws.{read_at}
 use Rattle.check_sched.proofs.UpdateLaws.{set_is_update}
 use Rattle.check_sched.proofs.results.Results.add.Goals as goal

@@ -1,10 +1,10 @@
 use Rattle.std.proofs.Common.{◌≡◌, ◌<◌, ◌∙◌, ap, subst, sym, arith, length, set, Bool, List, Some, refl, true}
 use Rattle.std.specs.Prelude.{is_some, option_and_then, slice_get}
 use Rattle.check_objects.specs.Configuration.{object_count}
-use Rattle.check_rules.specs.declared.standing.Standing.{Standing}
-use Rattle.check_rules.specs.declared.state.State as rules
-use Rattle.check_rules.specs.Flapping.{is_flapping, results_after}
-use Rattle.check_rules.specs.State.{is_another_state}
+use Rattle.check_states.specs.declared.standing.Standing.{Standing}
+use Rattle.check_states.specs.declared.state.State as rules
+use Rattle.check_states.specs.Flapping.{is_flapping, results_after}
+use Rattle.check_states.specs.State.{is_another_state}
 use Rattle.check_sched.specs.Scheduling.{object_after_run}
 use Rattle.check_saved_state.specs.Scheduling.{Scheduling}
 use Rattle.check_sched.specs.declared.call.Reply.{Reply}

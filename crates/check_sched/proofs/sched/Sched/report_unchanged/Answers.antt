@@ -1,5 +1,5 @@
 use Rattle.std.proofs.Common.{◌≡◌, ◌∙◌, ap, arith, false, subst, sym}
-use Rattle.check_rules.specs.declared.state.Code.TheVariants as code
+use Rattle.check_states.specs.declared.state.Code.TheVariants as code
 use Rattle.check_sched.specs.declared.call.Reply.{Reply}
 use Rattle.check_sched.specs.declared.call.Reply.TheVariants as reply
 use Rattle.check_sched.specs.Report.{next_after}

@@ -1,5 +1,5 @@
 use Rattle.std.proofs.Common.{◌<◌, ap, arith, length, sym, ◌∙◌}
-use Rattle.check_rules.specs.Board.{word_of_standing}
+use Rattle.check_states.specs.Board.{word_of_standing}
 use Rattle.check_sched.specs.Board.{board_of}
 use Rattle.check_sched.proofs.BoardLaws.{length-board_of, word_at}
 use Rattle.check_sched.specs.Sched.{state_of}

@@ -1,0 +1,5 @@
+pub mod Cases
+pub mod BoardLemmas
+pub mod ChangeLemmas
+pub mod FlappingLemmas
+pub mod VerdictLaws

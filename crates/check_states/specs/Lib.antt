@@ -1,0 +1,10 @@
+pub mod Numbers
+pub mod Words
+pub mod State
+pub mod Standing
+pub mod Verdict
+pub mod Flapping
+pub mod Changes
+pub mod LastResults
+pub mod Board
+pub mod Times

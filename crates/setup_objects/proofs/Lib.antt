@@ -1,0 +1,11 @@
+pub mod NumberingLemmas
+pub mod ObjectLemmas
+pub mod NameLemmas
+pub mod InsertionLemmas
+pub mod BucketLemmas
+pub mod RankLemmas
+pub mod NumberLaws
+pub mod DependencyLemmas
+pub mod DependencyEndLemmas
+pub mod CountLaws
+pub mod NumberedLemmas

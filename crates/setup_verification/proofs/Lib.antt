@@ -1,0 +1,2 @@
+pub mod VerificationLemmas
+pub mod FaultlessLemmas
