@@ -1,7 +1,6 @@
 #![tactic(auto)]
-//! The rules that turn results of checks into states. Those of a single object are in check_states. Those
-//! between objects are here: the meaning of a return code for a host with parents, and dependencies that
-//! block checks.
+//! The rules between objects: the state of a host by its parents, and dependencies that block checks. The
+//! rules of a single object are in check_states, and this crate exports them too.
 //!
 //! The rules are those of the Nagios Core 4 manual. Its chapters are "Host Checks", "Determining Status and
 //! Reachability of Network Hosts" and "Host and Service Dependencies". If the manual leaves a choice, the
