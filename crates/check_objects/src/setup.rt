@@ -2,7 +2,7 @@
 
 ghost use Rattle.std.specs.Prelude.{◌≡◌, ◌<◌, ◌≤◌, length, map, Ok, option_map, slice_get, Some, IfSome, IfOk, IfErr, OnOk, Err, ◌==◌, All, false};
 ghost use Rattle.setup_objects.specs.Configuration.{Configuration, object_count, host_count, objects_of, number_by_name, name_of, host_of, parents_of};
-ghost use Rattle.setup_objects.specs.Configuration.{dependencies_of, masters_of, parents_by_host, IsSetup};
+ghost use Rattle.setup_objects.specs.Configuration.{dependencies_of, masters_in, masters_of, parents_by_host, IsSetup};
 ghost use Rattle.setup_order.specs.Cycles.{has_cycle};
 ghost use Rattle.setup_order.specs.Orders.{IsOrder};
 ghost use Rattle.setup_objects.specs.Numbering.{configuration};
@@ -111,47 +111,14 @@ impl Setup {
     {
         let (hosts, services) = number_objects(alloc, parsed)?;
         let dependencies = list_dependencies(alloc, parsed, &hosts, &services)?;
-        Setup::without_cycles(alloc, parsed, hosts, services, dependencies)
-    }
-
-    /// The setup of a parsed setup without a fault, after their objects and dependencies were numbered. It is refused
-    /// if it has a cycle.
-    fn without_cycles(
-        alloc: Global,
-        parsed: &ParsedSetup<'_>,
-        hosts: IndexMap<String, Host>,
-        services: IndexMap<String, Service>,
-        dependencies: Vec<Dependencies>,
-    ) -> Result<Setup, Fault>
-        requires faultless { verification (parsed_view parsed.now) ≡ Ok tt }
-        requires hosts { map host_entry hosts.entries
-            ≡ (configuration (parsed_view parsed.now)).hosts }
-        requires services { map service_entry services.entries
-            ≡ (configuration (parsed_view parsed.now)).services }
-        requires dependencies { map (λ list. list.items) dependencies.items
-            ≡ (configuration (parsed_view parsed.now)).dependencies }
-        ensures setup { IfOk result (λ setup.
-            without_cycles (configuration (parsed_view parsed.now)) ≡ Ok setup) }
-        ensures refused { IfErr result (λ fault.
-            AreRefusedFor (parsed_view parsed.now) (non_memory_fault (view_of fault))) }
-    {
-        match dependency_order(alloc, &dependencies)? {
-            OrderOrCycle::Order(order) => {
-                if let Some(cycle) = find_parent_cycle(alloc, parsed, &hosts)? {
-                    return Err(Fault::ParentCycle(cycle));
-                }
-                Ok(Setup {
-                    options: parsed.options,
-                    hosts,
-                    services,
-                    dependencies,
-                    order,
-                })
-            }
-            OrderOrCycle::Cycle(cycle) => {
-                Err(dependency_cycle(alloc, parsed, &hosts, &services, &cycle)?)
-            }
-        }
+        let order = order_without_cycles(alloc, parsed, &hosts, &services, &dependencies)?;
+        Ok(Setup {
+            options: parsed.options,
+            hosts,
+            services,
+            dependencies,
+            order,
+        })
     }
 
     /// The number of objects, 0 to 4,096. The clause `setup` also states the facts that hold of every setup.
@@ -292,6 +259,41 @@ impl Setup {
         ensures { IsOrder (masters_of self.now) result.now }
     {
         &self.order
+    }
+}
+
+/// The numbers of the objects in an order in which each comes after all that it depends on. A setup with a cycle
+/// is refused.
+fn order_without_cycles(
+    alloc: Global,
+    parsed: &ParsedSetup<'_>,
+    hosts: &IndexMap<String, Host>,
+    services: &IndexMap<String, Service>,
+    dependencies: &[Dependencies],
+) -> Result<Vec<u32>, Fault>
+    requires faultless { verification (parsed_view parsed.now) ≡ Ok tt }
+    requires hosts { map host_entry hosts.now.entries
+        ≡ (configuration (parsed_view parsed.now)).hosts }
+    requires services { map service_entry services.now.entries
+        ≡ (configuration (parsed_view parsed.now)).services }
+    requires dependencies { map (λ list. list.items) dependencies.now
+        ≡ (configuration (parsed_view parsed.now)).dependencies }
+    ensures order { IfOk result (λ order.
+        IsOrder (map masters_in (map (λ list. list.items) dependencies.now)) order.items) }
+    ensures acyclic { IfOk result (λ order.
+        has_cycle (parents_by_host (configuration (parsed_view parsed.now))) ≡ false) }
+    ensures refused { IfErr result (λ fault.
+        AreRefusedFor (parsed_view parsed.now) (non_memory_fault (view_of fault))) }
+{
+    let order = match dependency_order(alloc, dependencies)? {
+        OrderOrCycle::Order(order) => order,
+        OrderOrCycle::Cycle(cycle) => {
+            return Err(dependency_cycle(alloc, parsed, hosts, services, &cycle)?);
+        }
+    };
+    match find_parent_cycle(alloc, parsed, hosts)? {
+        Some(cycle) => Err(Fault::ParentCycle(cycle)),
+        None => Ok(order),
     }
 }
 

@@ -6,10 +6,11 @@ use Rattle.setup_model.specs.ParsedSetup.{ParsedSetup}
 use Rattle.setup_model.specs.ParsedViews.{parsed_view, host}
 use Rattle.setup_verification.specs.Verification.{verification}
 use Rattle.setup_verification.proofs.FaultlessLemmas.{faultless, once}
-use Rattle.setup_objects.specs.Configuration.{Host, Service, objects_of, named_host, named_service}
+use Rattle.setup_objects.specs.Configuration.{Host, Service, IsSetup, objects_of, named_host, named_service}
 use Rattle.setup_objects.specs.Numbering.{configuration, configuration_of_objects, dependencies_by_number}
 use Rattle.check_objects.proofs.EndLemmas.{host_ends, names_apart, service_ends}
-use Rattle.check_objects.proofs.SetupLemmas.{few_numbered, parted_from}
+use Rattle.check_objects.proofs.CycleLemmas.{acyclic_masters, acyclic_setup}
+use Rattle.check_objects.proofs.SetupLemmas.{configuration_is_setup, few_numbered, parted_from}
 use Rattle.check_objects.proofs.setup.Setup.from_parsed.Goals as goal
 
 -- ---- what was numbered is what the definitions number
@@ -25,6 +26,12 @@ same_lists ds hosts services lists h s e = e ∙ ap (λ o. dependencies_by_numbe
 
 few_parsed : (ds : ParsedSetup) (hosts : List ParsedHost) → ds.hosts ≡ map host hosts → verification ds ≡ Ok tt → length hosts ≤ 4096
 few_parsed ds hosts same e = omega (arith, (faultless ds e).bounded, ap length same, length-map hosts host)
+
+same_setup : (ds : ParsedSetup) (hosts : List Host) (services : List Service) (lists : List (List Dependency)) → hosts ≡ (configuration ds).hosts
+    → services ≡ (configuration ds).services → lists ≡ (configuration ds).dependencies
+    → configuration ds ≡ record { options = ds.options; hosts = hosts; services = services; dependencies = lists }
+same_setup ds hosts services lists h s l =
+    λ i. record { options = ds.options; hosts = sym h i; services = sym s i; dependencies = sym l i }
 
 -- ---- the answers
 
@@ -60,6 +67,30 @@ pub list_dependencies-requires-clause-of_hosts : goal.list_dependencies-requires
 list_dependencies-requires-clause-of_hosts c =
     host_ends (parsed_view c.args.parsed.now) c.requires.faultless _ c.in_ok-hosts.ensures.hosts
 
-pub without_cycles-requires-clause-dependencies : goal.without_cycles-requires-clause-dependencies
-without_cycles-requires-clause-dependencies c =
-    same_lists (parsed_view c.args.parsed.now) _ _ _ c.in_ok-hosts.ensures.hosts c.in_ok-hosts.ensures.services c.in_ok-dependencies.ensures
+pub order_without_cycles-requires-clause-dependencies : goal.order_without_cycles-requires-clause-dependencies
+order_without_cycles-requires-clause-dependencies c =
+    ap (map (λ list. list.items)) c.deref.ensures.value
+    ∙ same_lists (parsed_view c.args.parsed.now) _ _ _ c.in_ok-hosts.ensures.hosts c.in_ok-hosts.ensures.services c.in_ok-dependencies.ensures
+
+pub invariant_of-result : goal.invariant_of-result
+invariant_of-result c =
+    let ds = parsed_view c.args.parsed.now in
+    let hosts = c.in_ok-hosts.ensures.hosts in
+    let services = c.in_ok-hosts.ensures.services in
+    let lists = same_lists ds _ _ _ hosts services c.in_ok-dependencies.ensures in
+    let free = acyclic_masters ds _ _ (ap (map (λ list. list.items)) c.deref.ensures.value ∙ lists) c.in_ok-order.ensures.order in
+    record {
+      setup =
+          subst IsSetup (same_setup ds _ _ _ hosts services lists)
+          (configuration_is_setup ds c.requires.faultless free c.in_ok-order.ensures.acyclic);
+      order = rw (← c.deref.ensures.value) c.in_ok-order.ensures.order;
+    }
+
+pub returns-clause-setup : goal.returns-clause-setup
+returns-clause-setup c =
+    let ds = parsed_view c.args.parsed.now in
+    let hosts = c.in_ok-hosts.ensures.hosts in
+    let services = c.in_ok-hosts.ensures.services in
+    let lists = same_lists ds _ _ _ hosts services c.in_ok-dependencies.ensures in
+    let free = acyclic_masters ds _ _ (ap (map (λ list. list.items)) c.deref.ensures.value ∙ lists) c.in_ok-order.ensures.order in
+    acyclic_setup (configuration ds) free c.in_ok-order.ensures.acyclic ∙ ap Ok (same_setup ds _ _ _ hosts services lists)
