@@ -31,7 +31,6 @@ const PAUSES: u32 = 3;
 /// A book in a lock, for up to 1,024 callers in any threads.
 ///
 /// Each call needs a pass, turn or hold of this desk.
-#[derive(Drop)]
 pub struct Desk {
     pub(crate) passes: u32,
     pub(crate) objects: u32,
@@ -40,6 +39,17 @@ pub struct Desk {
     pub(crate) lock: TicketLock<Book>,
     ghost passes_are: { (start_of lock).numbers ≡ passes },
     ghost objects_are: { object_count (opening_of (start_of lock).book).sched.setup ≡ objects },
+}
+
+// A crate that drops a desk calls this. A derived one would be proved there again, field by field.
+impl Drop for Desk {
+    fn drop(self) {
+        let Desk {
+            passes: _,
+            objects: _,
+            lock: _,
+        } = self;
+    }
 }
 
 /// The outcome of a poll.
@@ -154,7 +164,7 @@ impl Desk {
         ensures desk { IfOk result (λ turn. IsWaitingAt self.now turn) }
         ensures caller_after_draw { IfOk result (λ turn. turn_caller turn ≡ caller_after_draw (pass_of pass)) }
     {
-        match self.lock.draw(pass.seat) {
+        match self.lock.draw(pass.into_seat()) {
             Ok(turn) => Ok(Turn { turn }),
             Err(seat) => Err(Pass { seat }),
         }
@@ -308,7 +318,7 @@ impl Desk {
         if self.objects <= object {
             return (pass, None);
         }
-        let (seat, word) = self.lock.glance(pass.seat, object);
+        let (seat, word) = self.lock.glance(pass.into_seat(), object);
         (Pass { seat }, decode(word))
     }
 
@@ -326,7 +336,7 @@ impl Desk {
             (pass_of result).seen }
     {
         Pass {
-            seat: self.lock.gather(pass.seat, other.seat),
+            seat: self.lock.gather(pass.into_seat(), other.into_seat()),
         }
     }
 
@@ -355,7 +365,7 @@ impl Desk {
             passes,
             objects,
         } = self;
-        match lock.close(pass.seat) {
+        match lock.close(pass.into_seat()) {
             Ok(book) => Ok(book),
             Err((lock, seat)) => Err((
                 Desk {

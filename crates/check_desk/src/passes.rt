@@ -15,9 +15,15 @@ use ticket_lock::Seat;
 /// recorded under the pass's number.
 ///
 /// Passes can be gathered into one when their callers have returned.
-#[derive(Drop)]
 pub struct Pass {
     pub(crate) seat: Seat<Book>,
+}
+
+// A crate that drops a pass calls this. A derived one would be proved there again, field by field.
+impl Drop for Pass {
+    fn drop(self) {
+        let Pass { seat: _ } = self;
+    }
 }
 
 /// A pass that has a ticket and waits for its turn.
@@ -43,6 +49,14 @@ pub struct Hold {
 
 impl Pass {
     ghost use Rattle.check_desk.specs.Passes.{pass_of};
+
+    /// The seat of the lock that the pass stands for.
+    pub(crate) fn into_seat(self) -> Seat<Book>
+        ensures { result ≡ self.seat }
+    {
+        let Pass { seat } = self;
+        seat
+    }
 
     /// Its own number: its calls are recorded under it, and it is one of the numbers for which the pass
     /// answers.

@@ -32,7 +32,6 @@ mod worker_calls;
 /// A scheduler over a setup. Contracts see it as a record `State`. The record has the setup, the start, and
 /// the scheduling, the standing and the last results of each object by number. It also has the number of runs
 /// handed out.
-#[derive(Drop)]
 pub struct Sched {
     start: u64,
     /// Scratch space for the search through dependencies: a mark for each object.
@@ -48,6 +47,23 @@ pub struct Sched {
     setup: Setup,
     roster: Roster,
     runs: u64,
+}
+
+// A crate that drops a scheduler calls this. A derived one would be proved there again, field by field.
+impl Drop for Sched {
+    fn drop(self) {
+        let Sched {
+            start: _,
+            marks: _,
+            results: _,
+            standings: _,
+            steady: _,
+            intervals: _,
+            setup: _,
+            roster: _,
+            runs: _,
+        } = self;
+    }
 }
 
 impl Model for Sched {
@@ -222,7 +238,18 @@ impl Sched {
     pub fn into_setup(self) -> Setup
         ensures { result ≡ self.setup }
     {
-        self.setup
+        let Sched {
+            start: _,
+            marks: _,
+            results: _,
+            standings: _,
+            steady: _,
+            intervals: _,
+            setup,
+            roster: _,
+            runs: _,
+        } = self;
+        setup
     }
 
     /// The moment at which scheduling started, in milliseconds.

@@ -26,7 +26,7 @@ pub glance-seat-requires-clause-place : goal.glance-seat-requires-clause-place
 glance-seat-requires-clause-place c =
     let desk = c.args.self.now in
     let long : words_of desk.lock ≡ objects_of desk = words_opened (start_of desk.lock).book in
-    omega (arith, there c, long)
+    omega (arith, there (goal.at.glance-seat-requires-clause-place c).Else-self-object, long)
 
 pub returns-clause-missing : goal.returns-clause-missing
 returns-clause-missing c =
