@@ -42,6 +42,7 @@ use Rattle.nagsched_protocol.specs.Streams.{streams}
 use Rattle.nagsched_run.specs.Live.{IsSpentAfterInput, IsSpentAfterSetup, IsSpentAfterLines, ConversationEnded, HasHadAtLeast, HasReadLive, LeavesText, ReadBy}
 use Rattle.nagsched_run.specs.Live.{ReadOver, AnsweringEnded, HasTakenDocument, IsContinuation, saved_at_start}
 use Rattle.nagsched_protocol.proofs.ReadLemmas.{front_tells}
+use Rattle.nagsched_protocol.proofs.WrittenLemmas.{Keeps-same}
 use Rattle.nagsched_run.proofs.LiveLemmas.{end_input, input_all, input_on, leaves_kept, live_failed}
 use Rattle.nagsched_run.proofs.LiveLemmas.{not_long, refused_stays, rest_input, rest_of, setup_is, setup_refused, written_errs, written_ifs, written_oks}
 
@@ -144,6 +145,12 @@ gone_unwritten how c true hand part e had left held holds read end kept =
 gone_unwritten how c false hand part e had left held holds read end kept =
     gone_by how c false hand [] e had left held holds (end_input had (end refl).1) (λ f. refl) kept
 
+-- an error before any line was answered
+pub unanswered : (begins : ℕ) (first : State) (hand : List ℕ) (e : LiveError) (had held : Option (List ℕ))
+    → AnsweringEnded {T = Outcome} begins first hand (streams had had held held) (Err e)
+unanswered begins first hand e had held =
+    (rest_of had, rest_input had, tt, tt, leaves_kept (drive_error_of e) held held _ (Keeps-same held))
+
 -- what is shown of the lines behind a setup from whose start on a scheduler is spoken to is what is shown of all behind it
 pub gone_opened : (moment : ℕ) (c : Configuration) (may_follow : Bool) (hand : List ℕ) (had left held holds : Option (List ℕ)) (r : Result Outcome LiveError)
     → (may_follow ≡ false → (hand ≡ []) × IsAtEnd had) → IfOk r (λ o. o ≡ outcome.Ran)
@@ -242,13 +249,13 @@ pub gone_answered : (moment : Option ℕ) (c : Configuration) (saved : Saved) (m
     → saved_at_start (hand ++ part) ≡ Ok saved → Consumes had mid part → (may_follow ≡ false → part ≡ [])
     → (may_follow ≡ false → (hand ≡ []) × IsAtEnd had) → follow ≡ has_feed (hand ++ part) → (follow ≡ false → IsAtEnd mid)
     → IfOk r (λ o. o ≡ outcome.Ran)
-    → (follow ≡ false → (r ≡ Ok outcome.Ran) × (left ≡ mid) × (holds ≡ held))
+    → (follow ≡ false → IfErr r (λ e. e ≡ live.Memory) × (left ≡ mid) × (holds ≡ held))
     → (follow ≡ true → AnsweringEnded 3 (state_after_resume_at c saved moment) (rest_after_line (hand ++ part)) (streams mid left held holds) r)
     → IsContinuation (start.Resumed moment) c may_follow hand r (streams had left held holds)
-gone_answered moment c saved may_follow false hand part had mid left held holds r s read none end feed ended ran unread lines =
+gone_answered moment c saved may_follow false hand part had mid left held holds (Ok o) s read none end feed ended ran unread lines =
     let n = unread refl in
     let text = none_text moment c saved (hand ++ part) s (sym feed) in
-    rw (n.0, n.1, n.2)
+    rw (ran, n.1, n.2)
     (record {
       coming = part;
       is_input = input_all had mid part read (ended refl);
@@ -258,6 +265,9 @@ gone_answered moment c saved may_follow false hand part had mid left held holds 
       read = subst (λ q. ReadOver (λ bytes_read. hand ++ bytes_read) (from_saved moment c (hand ++ part) q) had mid part) (sym s) read;
       fault = tt;
     })
+gone_answered moment c saved may_follow false hand part had mid left held holds (Err e) s read none end feed ended ran unread lines =
+    let n = unread refl in
+    rw (n.1, n.2) (gone_unwritten (start.Resumed moment) c may_follow hand part e had mid held held read end (Keeps-same held))
 gone_answered moment c saved may_follow true hand part had mid left held holds (Ok o) s read none end feed ended ran unread lines =
     let t = lines refl in
     let bytes = append_assoc hand part t.0 in
@@ -444,12 +454,12 @@ lines_later e first hand part had mid left held holds feed read a = λ s.
     let less = behind_less (hand ++ part) feed in
     (part ++ many.0, Consumes-then had mid left part many.0 read many.1, omega (arith, all, both, less, many.2))
 
-pub answered_later : {T : Type 0} (r : Result T LiveError) (x : T) (first : State) (hand part : List ℕ) (had mid left held holds : Option (List ℕ)) (follow : Bool)
-    → follow ≡ has_feed (hand ++ part) → Consumes had mid part → (follow ≡ false → r ≡ Ok x)
+pub answered_later : {T : Type 0} (r : Result T LiveError) (first : State) (hand part : List ℕ) (had mid left held holds : Option (List ℕ)) (follow : Bool)
+    → follow ≡ has_feed (hand ++ part) → Consumes had mid part → (follow ≡ false → IfErr r (λ e. e ≡ live.Memory))
     → IfErr r (IsSpentAfterLines 3 first (rest_after_line (hand ++ part)) (streams mid left held holds)) → IfErr r (IsSpentAfterSetup hand had left)
-answered_later (Ok y) x first hand part had mid left held holds follow feed read none h = tt
-answered_later (Err e) x first hand part had mid left held holds false feed read none h = let clash = none refl in cc
-answered_later (Err e) x first hand part had mid left held holds true feed read none h =
+answered_later (Ok y) first hand part had mid left held holds follow feed read none h = tt
+answered_later (Err e) first hand part had mid left held holds false feed read none h = memory_later e hand had left (none refl)
+answered_later (Err e) first hand part had mid left held holds true feed read none h =
     lines_later e first hand part had mid left held holds (sym feed) read h
 
 -- the loops behind a setup that was given so

@@ -78,8 +78,8 @@ fn answer<W: Write>(alloc: Global, start: Start, input: &[u8], writer: &mut W) -
     }
 }
 
-/// Carries out these commands, and writes the line of each answer. One buffer serves the lines of all
-/// replies.
+/// Carries out these commands on a scheduler that nobody needs afterwards, and writes the line of each
+/// answer.
 fn carry_out<W: Write>(
     alloc: Global,
     sched: Sched,
@@ -91,9 +91,24 @@ fn carry_out<W: Write>(
     ensures outcome { IfOk result (λ outcome. outcome ≡ Outcome.Ran) }
 {
     let mut sched = sched;
+    answer_commands(alloc, &mut sched, commands, writer)
+}
+
+/// Carries out these commands, and writes the line of each answer. One buffer serves the lines of all
+/// replies.
+fn answer_commands<W: Write>(
+    alloc: Global,
+    sched: &mut Sched,
+    commands: &[RunCommand],
+    writer: &mut W,
+) -> Ended
+    ensures wrote { IsTextWritten result (W.contents writer.old) (W.contents writer.new)
+        (text_from sched.old commands.now) }
+    ensures outcome { IfOk result (λ outcome. outcome ≡ Outcome.Ran) }
+{
     let mut line = String::new(alloc);
     for command in commands {
-        answer_command(alloc, &mut sched, *command, &mut line, writer)?;
+        answer_command(alloc, sched, *command, &mut line, writer)?;
     }
     Ok(Outcome::Ran)
 }

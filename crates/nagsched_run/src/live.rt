@@ -7,7 +7,7 @@ ghost use Rattle.nagsched_protocol.specs.Agreement.{IsExpectedResult};
 ghost use Rattle.nagsched_protocol.specs.Input.{first_line_of};
 ghost use Rattle.nagsched_protocol.specs.LiveError.{IsLineReadingError, IsReadingError, drive_error_of, drive_result_of};
 ghost use Rattle.nagsched_protocol.specs.LiveInput.{IsBoundedReading, rest_after_line, prefix_of, has_feed};
-ghost use Rattle.nagsched_protocol.specs.Script.{with_setup_refusal};
+ghost use Rattle.nagsched_protocol.specs.Script.{state_after_resume_at, with_setup_refusal};
 ghost use Rattle.nagsched_protocol.specs.Start.{CanStart};
 ghost use Rattle.nagsched_protocol.specs.LiveText.{line_answer, line_meaning, state_after_line};
 ghost use Rattle.nagsched_protocol.specs.Text.{refusal_line};
@@ -27,7 +27,7 @@ use nagsched_protocol::{
     ScriptError, Start, flush, open, read_buffered, read_saved, read_setup, resume, take_document,
     write_refusal,
 };
-use std::alloc::{AllocError, Global};
+use std::alloc::Global;
 use std::io::{Read, Write};
 
 /// Holds a conversation. It reads a setup, and a saved state if the scheduler starts from one, and
@@ -114,25 +114,130 @@ fn continue_live<R: Read, W: Write>(
     ensures spent { IfErr result
         (IsSpentAfterSetup buffered (R.remaining reader.old) (R.remaining reader.new)) }
 {
-    let mut buffered = buffered;
     match start {
         Start::Fresh(moment) => {
-            let mut talk = Conversation::new(alloc, open(alloc, setup, moment)?, buffered)?;
-            talk.answer_all(alloc, 2, may_follow, reader, writer)
+            continue_fresh(alloc, moment, setup, may_follow, buffered, reader, writer)
         }
         Start::Resumed(moment) => {
-            let (saved, follow) = read_saved_line(alloc, may_follow, &mut buffered, reader)?;
-            match saved {
-                Ok(saved) => {
-                    let sched = resume(alloc, setup, &saved, moment)?;
-                    let mut talk = Conversation::new(alloc, sched, buffered)?;
-                    talk.answer_all(alloc, 3, follow, reader, writer)
-                }
-                Err(ScriptError::Refused(why)) => as_live_result(refuse(alloc, why, writer)),
-                Err(ScriptError::Memory) => Err(LiveError::Memory),
-            }
+            continue_resumed(alloc, moment, setup, may_follow, buffered, reader, writer)
         }
     }
+}
+
+/// Continues after a setup with a new scheduler that starts at this moment.
+fn continue_fresh<R: Read, W: Write>(
+    alloc: Global,
+    moment: u64,
+    setup: Setup,
+    may_follow: bool,
+    buffered: InputBuffer,
+    reader: &mut R,
+    writer: &mut W,
+) -> Result<Outcome, LiveError>
+    requires start { CanStart (Start.Fresh moment) }
+    requires end { may_follow ≡ false → (buffered ≡ []) × IsAtEnd (R.remaining reader.old) }
+    ensures continuation { IsContinuation (Start.Fresh moment) setup may_follow buffered result
+        (streams (R.remaining reader.old) (R.remaining reader.new)
+        (W.contents writer.old) (W.contents writer.new)) }
+    ensures spent { IfErr result
+        (IsSpentAfterSetup buffered (R.remaining reader.old) (R.remaining reader.new)) }
+{
+    match open(alloc, setup, moment) {
+        Ok(sched) => answer_with(alloc, sched, buffered, 2, may_follow, reader, writer),
+        Err(_) => Err(LiveError::Memory),
+    }
+}
+
+/// Continues after a setup with a saved state: reads the line of the saved state, and continues after
+/// that line.
+fn continue_resumed<R: Read, W: Write>(
+    alloc: Global,
+    moment: Option<u64>,
+    setup: Setup,
+    may_follow: bool,
+    buffered: InputBuffer,
+    reader: &mut R,
+    writer: &mut W,
+) -> Result<Outcome, LiveError>
+    requires start { CanStart (Start.Resumed moment) }
+    requires end { may_follow ≡ false → (buffered ≡ []) × IsAtEnd (R.remaining reader.old) }
+    requires bounded { length buffered ≤ READ_BYTES }
+    ensures continuation { IsContinuation (Start.Resumed moment) setup may_follow buffered result
+        (streams (R.remaining reader.old) (R.remaining reader.new)
+        (W.contents writer.old) (W.contents writer.new)) }
+    ensures spent { IfErr result
+        (IsSpentAfterSetup buffered (R.remaining reader.old) (R.remaining reader.new)) }
+{
+    let mut buffered = buffered;
+    let (saved, follow) = read_saved_line(alloc, may_follow, &mut buffered, reader)?;
+    match saved {
+        Ok(saved) => {
+            continue_from_saved(
+                alloc, moment, setup, &saved, follow, buffered, reader, writer,
+            )
+        }
+        Err(ScriptError::Refused(why)) => as_live_result(refuse(alloc, why, writer)),
+        Err(ScriptError::Memory) => Err(LiveError::Memory),
+    }
+}
+
+/// Continues after the line of a saved state: resumes the scheduler, and answers the lines for it. If
+/// the scheduler can't be resumed because memory has run out, nothing is read or written.
+fn continue_from_saved<R: Read, W: Write>(
+    alloc: Global,
+    moment: Option<u64>,
+    setup: Setup,
+    saved: &Saved,
+    may_follow: bool,
+    buffered: InputBuffer,
+    reader: &mut R,
+    writer: &mut W,
+) -> Result<Outcome, LiveError>
+    requires { CanStart (Start.Resumed moment) }
+    ensures outcome { IfOk result (λ outcome. outcome ≡ Outcome.Ran) }
+    ensures none { may_follow ≡ false → IfErr result (λ e. e ≡ LiveError.Memory)
+        × (R.remaining reader.new ≡ R.remaining reader.old)
+        × (W.contents writer.new ≡ W.contents writer.old) }
+    ensures lines { may_follow ≡ true
+        → AnsweringEnded 3 (state_after_resume_at setup saved.now moment) buffered
+        (streams (R.remaining reader.old) (R.remaining reader.new)
+        (W.contents writer.old) (W.contents writer.new)) result }
+    ensures spent { IfErr result
+        (IsSpentAfterLines 3 (state_after_resume_at setup saved.now moment) buffered
+        (streams (R.remaining reader.old) (R.remaining reader.new)
+        (W.contents writer.old) (W.contents writer.new))) }
+{
+    match resume(alloc, setup, saved, moment) {
+        Ok(sched) => answer_with(alloc, sched, buffered, 3, may_follow, reader, writer),
+        Err(_) => Err(LiveError::Memory),
+    }
+}
+
+/// Answers the lines for this scheduler from the one with the number `begins` on, if any may follow.
+/// Otherwise nothing is read or written.
+fn answer_with<R: Read, W: Write>(
+    alloc: Global,
+    sched: Sched,
+    buffered: InputBuffer,
+    begins: usize,
+    may_follow: bool,
+    reader: &mut R,
+    writer: &mut W,
+) -> Result<Outcome, LiveError>
+    requires { begins ≤ 3 }
+    ensures outcome { IfOk result (λ outcome. outcome ≡ Outcome.Ran) }
+    ensures none { may_follow ≡ false → (result ≡ Ok Outcome.Ran)
+        × (R.remaining reader.new ≡ R.remaining reader.old)
+        × (W.contents writer.new ≡ W.contents writer.old) }
+    ensures lines { may_follow ≡ true → AnsweringEnded begins sched buffered
+        (streams (R.remaining reader.old) (R.remaining reader.new)
+        (W.contents writer.old) (W.contents writer.new)) result }
+    ensures spent { IfErr result (IsSpentAfterLines begins sched buffered
+        (streams (R.remaining reader.old) (R.remaining reader.new)
+        (W.contents writer.old) (W.contents writer.new))) }
+{
+    let mut talk = Conversation::new(alloc, sched, buffered);
+    talk.answer_all(alloc, begins, may_follow, reader, writer)
 }
 
 /// Writes the line of the refusal of a setup or of a saved state, and flushes the writer.
@@ -209,24 +314,22 @@ struct Conversation {
 }
 
 impl Conversation {
-    /// A conversation with this scheduler.
-    fn new(alloc: Global, sched: Sched, buffered: InputBuffer) -> Result<Conversation, AllocError>
-        ensures sched { IfOk result (λ talk. talk.sched ≡ sched) }
-        ensures buffered { IfOk result (λ talk. talk.buffered ≡ buffered) }
-        ensures line { IfOk result (λ talk. talk.line ≡ prefix_of LINE_PREFIX_BYTES []) }
-        ensures capacity { IfOk result (λ talk. REPLY_BYTES ≤ string_capacity talk.reply) }
+    /// A conversation with this scheduler. There is no memory for a reply yet.
+    fn new(alloc: Global, sched: Sched, buffered: InputBuffer) -> Conversation
+        ensures sched { result.sched ≡ sched }
+        ensures buffered { result.buffered ≡ buffered }
+        ensures line { result.line ≡ prefix_of LINE_PREFIX_BYTES [] }
     {
-        let reply = String::with_capacity(alloc, REPLY_BYTES)?;
-        Ok(Conversation {
+        Conversation {
             sched,
             buffered,
             line: LineBuffer::new(alloc, LINE_PREFIX_BYTES),
-            reply,
-        })
+            reply: String::new(alloc),
+        }
     }
 
-    /// Answers the lines from the one with the number `begins` on, if any may follow. Otherwise nothing
-    /// is read or written.
+    /// Answers the lines from the one with the number `begins` on, if any may follow. Gets the memory for
+    /// a reply first. If no lines may follow, nothing is read or written.
     fn answer_all<R: Read, W: Write>(
         &mut self,
         alloc: Global,
@@ -235,8 +338,7 @@ impl Conversation {
         reader: &mut R,
         writer: &mut W,
     ) -> Result<Outcome, LiveError>
-        requires buffers { (self.old.line.most ≡ LINE_PREFIX_BYTES)
-            × (REPLY_BYTES ≤ string_capacity self.old.reply) }
+        requires line { self.old.line.most ≡ LINE_PREFIX_BYTES }
         requires begins { begins ≤ 3 }
         ensures outcome { IfOk result (λ outcome. outcome ≡ Outcome.Ran) }
         ensures none { may_follow ≡ false → (result ≡ Ok Outcome.Ran)
@@ -250,6 +352,7 @@ impl Conversation {
             (W.contents writer.old) (W.contents writer.new))) }
     {
         if may_follow {
+            self.reply = String::with_capacity(alloc, REPLY_BYTES)?;
             self.answer_lines(alloc, begins, reader, writer)?;
         }
         Ok(Outcome::Ran)

@@ -5,7 +5,7 @@ use Rattle.nagsched_protocol.specs.declared.command.RunCommand.TheVariants as co
 use Rattle.nagsched_protocol.proofs.OutputLemmas.{WroteUpTo-whole, lines_next, lines_none}
 use Rattle.nagsched_protocol.proofs.TextLemmas.{answer_line_ends, text_end, text_next}
 use Rattle.nagsched_protocol.proofs.WrittenLemmas.{text_cut}
-use Rattle.nagsched_run.proofs.drive.carry_out.Goals as goal
+use Rattle.nagsched_run.proofs.drive.answer_commands.Goals as goal
 
 pub loop-command-init : goal.loop-command-init
 loop-command-init g c = lines_none _ _

@@ -1,7 +1,7 @@
 use Rattle.std.proofs.Common.{drop}
 use Rattle.nagsched_protocol.specs.Output.{WroteLinesUpTo}
 use Rattle.nagsched_protocol.specs.Text.{text_from}
-use Rattle.nagsched_run.proofs.drive.carry_out.Given as goal
+use Rattle.nagsched_run.proofs.drive.answer_commands.Given as goal
 
 abbrev pub invariant-loop-command : goal.invariant-loop-command
 invariant-loop-command g l =
