@@ -4,8 +4,9 @@ ghost use Rattle.std.specs.Prelude.{◌≡◌, [], IfOk};
 ghost use Rattle.ticket_steps.specs.CounterBooks.{counter_entries, counter_refusals};
 
 use std::alloc::{AllocError, Global};
-use ticket_steps::Entry;
+use std::process::Abort;
 use ticket_steps::counter::CounterBook;
+use ticket_steps::{Entry, Kept};
 
 /// An empty book, at the second try if the first is out of memory.
 pub(crate) fn empty_book(alloc: Global, room: usize) -> Result<CounterBook, AllocError>
@@ -17,7 +18,12 @@ pub(crate) fn empty_book(alloc: Global, room: usize) -> Result<CounterBook, Allo
     }
 }
 
-/// Whether an entry has this pass, call and reply.
-pub(crate) fn is_entry(entry: &Entry<u8, u64>, pass: u32, call: u8, reply: u64) -> bool {
-    entry.pass == pass && entry.call == call && entry.reply == reply
+/// Compares the entries of a book with the expected ones.
+pub(crate) fn assert_entries(rt: &impl Abort, book: &CounterBook, entries: &[Entry<u8, u64>]) {
+    assert_eq!(rt; book.entries(), entries);
+}
+
+/// One entry of a book.
+pub(crate) fn entry(pass: u32, call: u8, reply: u64) -> Entry<u8, u64> {
+    Entry { pass, call, reply }
 }

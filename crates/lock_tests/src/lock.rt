@@ -4,17 +4,17 @@
 //! The test of one thread also passes if any one request for memory is refused (`rt try --test --fail-alloc
 //! N`).
 
-ghost use Rattle.std.specs.Prelude.{◌<◌, ◌≤◌, IfOk};
+ghost use Rattle.std.specs.Prelude.{◌≡◌, ◌<◌, ◌≤◌, IfOk};
 ghost use Rattle.ticket_lock.specs.Tokens.{IsSeatOf, IsTurnOf};
 
-use crate::books::{empty_book, is_entry};
+use crate::books::{assert_entries, empty_book, entry};
 use std::alloc::{AllocError, Global};
 use std::process::Abort;
 use std::test::Fail;
 use std::thread::join;
 use ticket_lock::{Look, Seat, TicketLock, Turn, every_step};
+use ticket_steps::Kept;
 use ticket_steps::counter::CounterBook;
-use ticket_steps::{Kept, NoMemory};
 use turns::take_turn;
 
 mod turns;
@@ -34,7 +34,7 @@ fn two_seats(alloc: Global, room: usize) -> Result<LockOfTwo, AllocError>
     let book = empty_book(alloc, room)?;
     let (lock, seat) = match TicketLock::open(alloc, book, 2) {
         Ok(made) => made,
-        Err(book) => TicketLock::open(alloc, book, 2).map_err(|_book| AllocError)?,
+        Err(book) => TicketLock::open(alloc, book, 2).or(Err(AllocError))?,
     };
     if seat.count() < 2 {
         return Err(AllocError);
@@ -54,38 +54,113 @@ fn seat_with(
     let book = empty_book(alloc, 10)?;
     match TicketLock::open_with(alloc, book, 1, draws) {
         Ok(made) => Ok(made),
-        Err(book) => TicketLock::open_with(alloc, book, 1, draws).map_err(|_book| AllocError),
+        Err(book) => TicketLock::open_with(alloc, book, 1, draws).or(Err(AllocError)),
     }
 }
 
-/// The turn that a seat draws. A test of a seat with no draw left fails.
+/// The turn that a seat draws. A test of a seat with no draw left, or with another ticket, fails.
 fn draw(
     rt: &impl Abort,
     lock: &TicketLock<CounterBook>,
     seat: Seat<CounterBook>,
+    ticket: u64,
 ) -> Turn<CounterBook>
     requires { IsSeatOf lock.now seat }
     ensures { IsTurnOf lock.now result }
 {
     match lock.draw(seat) {
-        Ok(turn) => turn,
+        Ok(turn) => {
+            assert!(rt; turn.ticket() == ticket);
+            turn
+        }
         Err(_seat) => panic!(rt; "spent"),
     }
 }
 
-/// The seat after its turn, and the reply. A test of a turn that has to wait fails.
+/// A seat that has no draw left, after it tried to draw.
+fn spent_seat(
+    rt: &impl Abort,
+    lock: &TicketLock<CounterBook>,
+    seat: Seat<CounterBook>,
+) -> Seat<CounterBook>
+    requires { IsSeatOf lock.now seat }
+    ensures { result ≡ seat }
+{
+    match lock.draw(seat) {
+        Ok(_turn) => panic!(rt; "drew with no draw left"),
+        Err(seat) => seat,
+    }
+}
+
+/// A turn whose ticket isn't served yet, after it looked.
+fn turn_that_waits(
+    rt: &impl Abort,
+    lock: &TicketLock<CounterBook>,
+    turn: Turn<CounterBook>,
+) -> Turn<CounterBook>
+    requires { IsTurnOf lock.now turn }
+    ensures { IsTurnOf lock.now result }
+{
+    match take_turn(lock, turn, 7) {
+        Ok((_seat, _reply)) => panic!(rt; "held too early"),
+        Err(turn) => turn,
+    }
+}
+
+/// The seat after its turn. A test of a turn that has to wait, or that gets another reply, fails.
 fn seat_after_turn(
     rt: &impl Abort,
     lock: &TicketLock<CounterBook>,
     turn: Turn<CounterBook>,
     call: u8,
-) -> (Seat<CounterBook>, Result<u64, NoMemory>)
+    reply: u64,
+) -> Seat<CounterBook>
     requires { IsTurnOf lock.now turn }
-    ensures { IsSeatOf lock.now result.0 }
+    ensures { IsSeatOf lock.now result }
 {
     match take_turn(lock, turn, call) {
-        Ok(done) => done,
+        Ok((seat, replied)) => {
+            assert!(rt; replied == Ok(reply));
+            seat
+        }
         Err(_turn) => panic!(rt; "waits"),
+    }
+}
+
+/// The seat after a glance at the board's one word, which is the expected one.
+fn seat_after_glance(
+    rt: &impl Abort,
+    lock: &TicketLock<CounterBook>,
+    seat: Seat<CounterBook>,
+    word: u64,
+) -> Seat<CounterBook>
+    requires { IsSeatOf lock.now seat }
+    ensures { IsSeatOf lock.now result }
+{
+    let (seat, shown) = lock.glance(seat, 0);
+    assert!(rt; shown == word);
+    seat
+}
+
+/// Shows that a seat has this number alone, and hasn't drawn.
+fn assert_unused(rt: &impl Abort, seat: &Seat<CounterBook>, number: u32) {
+    let numbers = (seat.number(), seat.count());
+    let draws = (seat.left(), seat.calls(), seat.fresh());
+    assert!(rt; numbers == (number, 1) && draws == (4_294_967_295, 0, true));
+}
+
+/// A lock that one seat can't close, since the other is missing.
+fn open_with_one_seat(
+    rt: &impl Abort,
+    lock: TicketLock<CounterBook>,
+    seat: Seat<CounterBook>,
+) -> (TicketLock<CounterBook>, Seat<CounterBook>)
+    requires { IsSeatOf lock seat }
+    ensures { (result.0 ≡ lock) × (result.1 ≡ seat) }
+{
+    match lock.close(seat) {
+        Ok(_book) => panic!(rt; "closed with a seat missing"),
+        Err(back) => back,
     }
 }
 
@@ -99,36 +174,64 @@ fn book_of(rt: &impl Abort, lock: TicketLock<CounterBook>, seat: Seat<CounterBoo
     }
 }
 
+/// Two seats after one turn each. The second seat also looks before it is served.
+fn two_turns(
+    rt: &impl Abort,
+    lock: &TicketLock<CounterBook>,
+    first: Seat<CounterBook>,
+    second: Seat<CounterBook>,
+) -> (Seat<CounterBook>, Seat<CounterBook>)
+    requires { IsSeatOf lock.now first × IsSeatOf lock.now second }
+    ensures { IsSeatOf lock.now result.0 × IsSeatOf lock.now result.1 }
+{
+    let a = draw(rt, lock, first, 0);
+    let b = draw(rt, lock, second, 1);
+    let b = turn_that_waits(rt, lock, b);
+    let first = seat_after_turn(rt, lock, a, 5, 5);
+    let second = seat_after_turn(rt, lock, b, 7, 12);
+    (first, seat_after_glance(rt, lock, second, 12))
+}
+
 #[test]
 fn two_seats_take_turns(rt: HostRuntime) -> Result<(), Fail> {
     let (lock, first, second) = two_seats(rt.alloc(), 10)?;
-    assert!(rt; first.number() == 0 && first.count() == 1 && first.fresh() && first.calls() == 0);
-    assert!(rt; second.number() == 1 && second.count() == 1 && second.left() == 4_294_967_295);
-    let (first, zero) = lock.glance(first, 0);
-    assert!(rt; zero == 0 && first.fresh() && first.calls() == 0);
-    let a = draw(&rt, &lock, first);
-    let b = draw(&rt, &lock, second);
-    assert!(rt; a.ticket() == 0 && b.ticket() == 1);
-    let b = match take_turn(&lock, b, 7) {
-        Ok((_seat, _reply)) => panic!(rt; "held too early"),
-        Err(turn) => turn,
-    };
-    let (first, five) = seat_after_turn(&rt, &lock, a, 5);
-    let (second, twelve) = seat_after_turn(&rt, &lock, b, 7);
-    let (second, shown) = lock.glance(second, 0);
-    assert_eq!(rt; (five, twelve, shown), (Ok(5), Ok(12), 12));
-    let (lock, first) = match lock.close(first) {
-        Ok(_book) => panic!(rt; "closed with a seat missing"),
-        Err(back) => back,
-    };
+    assert_unused(&rt, &first, 0);
+    assert_unused(&rt, &second, 1);
+    let first = seat_after_glance(&rt, &lock, first, 0);
+    assert_unused(&rt, &first, 0);
+    let (first, second) = two_turns(&rt, &lock, first, second);
+    let (lock, first) = open_with_one_seat(&rt, lock, first);
     let seat = lock.gather(first, second);
     assert!(rt; seat.calls() == 2 && seat.count() == 2 && !seat.fresh());
     let book = book_of(&rt, lock, seat);
-    let entries = book.entries();
-    assert_eq!(rt; entries.len(), 2);
-    assert!(rt; is_entry(&entries[0], 0, 5, 5) && is_entry(&entries[1], 1, 7, 12));
+    let entries = [entry(0, 5, 5), entry(1, 7, 12)];
+    assert_entries(&rt, &book, &entries);
     every_step::<CounterBook>();
     Ok(())
+}
+
+/// Two seats after a turn of the first, in which the second glances at the board before and after the post.
+fn glances_at_a_post(
+    rt: &impl Abort,
+    lock: &TicketLock<CounterBook>,
+    first: Seat<CounterBook>,
+    second: Seat<CounterBook>,
+) -> (Seat<CounterBook>, Seat<CounterBook>)
+    requires { IsSeatOf lock.now first × IsSeatOf lock.now second }
+    ensures { IsSeatOf lock.now result.0 × IsSeatOf lock.now result.1 }
+{
+    let turn = draw(rt, lock, first, 0);
+    let (hold, mut book) = match lock.look(turn) {
+        Look::Held(hold, book) => (hold, book),
+        Look::Waiting(_turn) => panic!(rt; "waits"),
+    };
+    assert!(rt; !hold.posted() && hold.number() == 0 && hold.ticket() == 0);
+    let reply = book.record(hold.number(), 5);
+    let second = seat_after_glance(rt, lock, second, 0);
+    let hold = lock.post(hold, &book, 0);
+    let second = seat_after_glance(rt, lock, second, 5);
+    assert!(rt; hold.posted() && reply == Ok(5));
+    (lock.leave(hold, book), second)
 }
 
 /// A board is read without a ticket: it shows what was posted, before the holder leaves. A call of 0
@@ -136,46 +239,47 @@ fn two_seats_take_turns(rt: HostRuntime) -> Result<(), Fail> {
 #[test]
 fn a_glance_reads_what_was_posted(rt: HostRuntime) -> Result<(), Fail> {
     let (lock, first, second) = two_seats(rt.alloc(), 10)?;
-    let turn = draw(&rt, &lock, first);
-    let (hold, mut book) = match lock.look(turn) {
-        Look::Held(hold, book) => (hold, book),
-        Look::Waiting(_turn) => panic!(rt; "waits"),
-    };
-    assert!(rt; !hold.posted() && hold.number() == 0 && hold.ticket() == 0);
-    let Ok(reply) = book.record(hold.number(), 5) else {
-        panic!(rt; "no room")
-    };
-    let (second, before) = lock.glance(second, 0);
-    let hold = lock.post(hold, &book, 0);
-    let (second, after) = lock.glance(second, 0);
-    assert!(rt; hold.posted() && reply == 5 && before == 0 && after == 5);
-    let first = lock.leave(hold, book);
-    let turn = draw(&rt, &lock, second);
-    let (second, same) = seat_after_turn(&rt, &lock, turn, 0);
-    let (second, shown) = lock.glance(second, 0);
-    assert_eq!(rt; (same, shown), (Ok(5), 5));
+    let (first, second) = glances_at_a_post(&rt, &lock, first, second);
+    let turn = draw(&rt, &lock, second, 1);
+    let second = seat_after_turn(&rt, &lock, turn, 0, 5);
+    let second = seat_after_glance(&rt, &lock, second, 5);
     let seat = lock.gather(first, second);
     let book = book_of(&rt, lock, seat);
-    let entries = book.entries();
-    assert_eq!(rt; entries.len(), 2);
-    assert!(rt; is_entry(&entries[0], 0, 5, 5) && is_entry(&entries[1], 1, 0, 5));
+    let entries = [entry(0, 5, 5), entry(1, 0, 5)];
+    assert_entries(&rt, &book, &entries);
     Ok(())
+}
+
+/// Whether a book has this many entries, and the last reply is their number.
+fn has_counted(book: &CounterBook, calls: usize) -> bool {
+    let entries = book.entries();
+    entries.len() == calls && matches!(entries.last(), Some(entry) if entry.reply == calls as u64)
+}
+
+/// Closes a lock after this many calls of 1, by the seat that has all numbers.
+fn close_after_ones(
+    rt: &impl Abort,
+    lock: TicketLock<CounterBook>,
+    seat: Seat<CounterBook>,
+    calls: usize,
+)
+    requires { IsSeatOf lock seat }
+{
+    assert!(rt; seat.calls() == calls as u64);
+    let book = book_of(rt, lock, seat);
+    assert!(rt; has_counted(&book, calls));
 }
 
 /// A seat with two draws makes two calls. Then its third draw gives it back as it was.
 #[test]
 fn a_seat_draws_as_often_as_it_was_given(rt: HostRuntime) -> Result<(), Fail> {
     let (lock, seat) = seat_with(rt.alloc(), 2)?;
-    assert_eq!(rt; seat.left(), 2);
+    assert!(rt; seat.left() == 2);
     let done = add_ones(&lock, seat, 2);
     let seat = seat_back(&rt, &lock, done);
-    let seat = match lock.draw(seat) {
-        Ok(_turn) => panic!(rt; "drew with no draw left"),
-        Err(seat) => seat,
-    };
-    assert_eq!(rt; (seat.left(), seat.calls()), (0, 2));
-    let book = book_of(&rt, lock, seat);
-    assert_eq!(rt; book.entries().len(), 2);
+    let seat = spent_seat(&rt, &lock, seat);
+    assert!(rt; seat.left() == 0);
+    close_after_ones(&rt, lock, seat, 2);
     Ok(())
 }
 
@@ -249,9 +353,6 @@ fn two_threads_make_a_thousand_calls_each(rt: HostRuntime) -> Result<(), Fail> {
     let first = seat_back(&rt, &lock, first);
     let second = seat_back(&rt, &lock, second);
     let seat = lock.gather(first, second);
-    assert_eq!(rt; seat.calls(), 2000);
-    let book = book_of(&rt, lock, seat);
-    assert_eq!(rt; book.entries().len(), 2000);
-    assert_eq!(rt; book.entries()[1999].reply, 2000);
+    close_after_ones(&rt, lock, seat, 2000);
     Ok(())
 }

@@ -2,14 +2,16 @@
 //!
 //! Each test also passes if any one request for memory is refused (`rt try --test --fail-alloc N`).
 
-ghost use Rattle.std.specs.Prelude.{◌<◌, ◌≤◌};
+ghost use Rattle.std.specs.Prelude.{◌≡◌, ◌+◌, ◌^◌, ◌<◌, ◌≤◌};
+ghost use Rattle.ticket_steps.specs.CounterBooks.{counter_refusals};
 
-use crate::books::{empty_book, is_entry};
+use crate::books::{assert_entries, empty_book, entry};
 use std::alloc::{AllocError, Global};
 use std::process::Abort;
 use std::test::Fail;
+use ticket_steps::Event::{Draw, Gather, Glance, Leave, Look, Post, Split};
 use ticket_steps::counter::CounterBook;
-use ticket_steps::{Core, Event, Fault, Grants, Kept, NoMemory, Seen, every_schedule};
+use ticket_steps::{Core, Entry, Event, Fault, Grants, Kept, NoMemory, Seen, every_schedule};
 
 /// A core of this many numbers over an empty book. Out of memory hands the book back as it was, and a
 /// second try with memory succeeds.
@@ -19,7 +21,7 @@ fn core_of(alloc: Global, numbers: u32, room: usize) -> Result<Core<CounterBook>
     let book = empty_book(alloc, room)?;
     match Core::open(alloc, book, numbers) {
         Ok(core) => Ok(core),
-        Err(book) => Core::open(alloc, book, numbers).map_err(|_book| AllocError),
+        Err(book) => Core::open(alloc, book, numbers).or(Err(AllocError)),
     }
 }
 
@@ -33,106 +35,108 @@ fn core_of_one_draw(alloc: Global) -> Result<Core<CounterBook>, AllocError> {
     let book = empty_book(alloc, 1)?;
     match Core::open_with(alloc, book, 1, 1) {
         Ok(core) => Ok(core),
-        Err(book) => Core::open_with(alloc, book, 1, 1).map_err(|_book| AllocError),
+        Err(book) => Core::open_with(alloc, book, 1, 1).or(Err(AllocError)),
     }
 }
 
-const SPLIT: Event<u8> = Event::Split { seat: 0, count: 1 };
+/// The first seat gives its last number to a new seat.
+const SPLIT: Event<u8> = Split { seat: 0, count: 1 };
 
-fn draw(seat: u32) -> Event<u8> {
-    Event::Draw { seat }
+/// The first seat leaves, after its post.
+const FIRST_LEAVES: Event<u8> = Leave {
+    seat: 0,
+    call: None,
+};
+
+/// The second seat leaves, after its post.
+const SECOND_LEAVES: Event<u8> = Leave {
+    seat: 1,
+    call: None,
+};
+
+/// The first seat leaves with a call of 5.
+const FIRST_LEAVES_WITH_5: Event<u8> = Leave {
+    seat: 0,
+    call: Some(5),
+};
+
+/// The second seat leaves with a call of 0.
+const SECOND_LEAVES_WITH_0: Event<u8> = Leave {
+    seat: 1,
+    call: Some(0),
+};
+
+/// What a core answers to an event.
+type Answer = Result<Seen<u64>, Fault>;
+
+/// Makes an event on a core, and compares the answer with the expected one.
+fn step(rt: &impl Abort, core: &mut Core<CounterBook>, event: Event<u8>, answer: Answer) {
+    assert_eq!(rt; core.step(event), answer, "{event:?}");
 }
 
-fn look(seat: u32) -> Event<u8> {
-    Event::Look { seat }
-}
-
-fn post(seat: u32, call: u8) -> Event<u8> {
-    Event::Post { seat, call }
-}
-
-/// The leave of a holder that hasn't posted.
-fn leave(seat: u32, call: u8) -> Event<u8> {
-    Event::Leave {
-        seat,
-        call: Some(call),
-    }
-}
-
-/// The leave of a holder that has posted its call.
-fn leave_posted(seat: u32) -> Event<u8> {
-    Event::Leave { seat, call: None }
-}
-
-fn glance(seat: u32, place: u32) -> Event<u8> {
-    Event::Glance { seat, place }
-}
-
-fn gather(seat: u32, other: u32) -> Event<u8> {
-    Event::Gather { seat, other }
-}
-
-/// Events, each with the expected answer.
-type Rows<'a> = &'a [(Event<u8>, Result<Seen<u64>, Fault>)];
-
-/// Makes events on a core, one after another.
-fn play(rt: &impl Abort, core: &mut Core<CounterBook>, rows: Rows<'_>) {
+/// Makes events on a core, one after another, each with the expected answer.
+fn play(rt: &impl Abort, core: &mut Core<CounterBook>, rows: &[(Event<u8>, Answer)]) {
     for (event, answer) in rows {
-        assert_eq!(rt; core.step(*event), *answer, "{event:?}");
+        step(rt, core, *event, *answer);
     }
 }
 
-/// Whether the book has these entries: pass, call and reply.
-fn has_entries(book: &CounterBook, rows: &[(u32, u8, u64)]) -> bool {
-    let entries = book.entries();
-    entries.len() == rows.len()
-        && entries.iter().zip(rows).all(|(entry, (pass, call, reply))| is_entry(
-            entry, *pass, *call, *reply,
-        ))
+/// Plays on a core of two numbers, and compares the entries of its book afterwards.
+fn play_on_two(
+    rt: &impl Abort,
+    alloc: Global,
+    rows: &[(Event<u8>, Answer)],
+    entries: &[Entry<u8, u64>],
+) -> Result<(), Fail> {
+    let mut core = core_of_two(alloc)?;
+    play(rt, &mut core, rows);
+    assert_entries(rt, core.book(), entries);
+    Ok(())
+}
+
+/// Makes events on a core up to the one at this place, which doesn't fit its seat's phase.
+fn run_to_fault(rt: &impl Abort, core: &mut Core<CounterBook>, events: &[Event<u8>], place: usize) {
+    assert_eq!(rt; core.run(events), Err((place, Fault::Phase)));
 }
 
 #[test]
 fn two_seats_take_turns(rt: HostRuntime) -> Result<(), Fail> {
-    let mut core = core_of_two(rt.alloc())?;
-    let rows = [
+    let rows = &[
         (SPLIT, Ok(Seen::Split)),
-        (draw(0), Ok(Seen::Drew(0))),
-        (draw(1), Ok(Seen::Drew(1))),
-        (look(1), Ok(Seen::Waiting)),
-        (look(0), Ok(Seen::Held)),
-        (post(0, 5), Ok(Seen::Posted(Ok(5)))),
-        (leave_posted(0), Ok(Seen::Left(None))),
-        (look(1), Ok(Seen::Held)),
-        (post(1, 7), Ok(Seen::Posted(Ok(12)))),
-        (leave_posted(1), Ok(Seen::Left(None))),
-        (gather(0, 1), Ok(Seen::Gathered)),
+        (Draw { seat: 0 }, Ok(Seen::Drew(0))),
+        (Draw { seat: 1 }, Ok(Seen::Drew(1))),
+        (Look { seat: 1 }, Ok(Seen::Waiting)),
+        (Look { seat: 0 }, Ok(Seen::Held)),
+        (Post { seat: 0, call: 5 }, Ok(Seen::Posted(Ok(5)))),
+        (FIRST_LEAVES, Ok(Seen::Left(None))),
+        (Look { seat: 1 }, Ok(Seen::Held)),
+        (Post { seat: 1, call: 7 }, Ok(Seen::Posted(Ok(12)))),
+        (SECOND_LEAVES, Ok(Seen::Left(None))),
+        (Gather { seat: 0, other: 1 }, Ok(Seen::Gathered)),
     ];
-    play(&rt, &mut core, &rows);
+    play_on_two(&rt, rt.alloc(), rows, &[entry(0, 5, 5), entry(1, 7, 12)])?;
     every_schedule::<CounterBook>();
     Ok(())
 }
 
 #[test]
 fn a_seat_posts_before_it_leaves(rt: HostRuntime) -> Result<(), Fail> {
-    let mut core = core_of_two(rt.alloc())?;
-    let rows = [
+    let rows = &[
         (SPLIT, Ok(Seen::Split)),
-        (draw(0), Ok(Seen::Drew(0))),
+        (Draw { seat: 0 }, Ok(Seen::Drew(0))),
         // it waits
-        (post(0, 5), Err(Fault::Phase)),
-        (look(0), Ok(Seen::Held)),
+        (Post { seat: 0, call: 5 }, Err(Fault::Phase)),
+        (Look { seat: 0 }, Ok(Seen::Held)),
         // none was posted
-        (leave_posted(0), Err(Fault::Phase)),
-        (post(0, 5), Ok(Seen::Posted(Ok(5)))),
+        (FIRST_LEAVES, Err(Fault::Phase)),
+        (Post { seat: 0, call: 5 }, Ok(Seen::Posted(Ok(5)))),
         // one was posted
-        (post(0, 5), Err(Fault::Phase)),
-        (leave(0, 5), Err(Fault::Phase)),
-        (post(7, 5), Err(Fault::NoSeat)),
-        (leave_posted(0), Ok(Seen::Left(None))),
+        (Post { seat: 0, call: 5 }, Err(Fault::Phase)),
+        (FIRST_LEAVES_WITH_5, Err(Fault::Phase)),
+        (Post { seat: 7, call: 5 }, Err(Fault::NoSeat)),
+        (FIRST_LEAVES, Ok(Seen::Left(None))),
     ];
-    play(&rt, &mut core, &rows);
-    assert!(rt; has_entries(core.book(), &[(0, 5, 5)]));
-    Ok(())
+    play_on_two(&rt, rt.alloc(), rows, &[entry(0, 5, 5)])
 }
 
 /// A board is read without a ticket: it shows what was posted, before the seat leaves. A call of 0
@@ -140,123 +144,147 @@ fn a_seat_posts_before_it_leaves(rt: HostRuntime) -> Result<(), Fail> {
 #[test]
 fn a_glance_reads_what_was_posted(rt: HostRuntime) -> Result<(), Fail> {
     let mut core = core_of_two(rt.alloc())?;
-    let rows = [
+    let rows = &[
         (SPLIT, Ok(Seen::Split)),
-        (draw(0), Ok(Seen::Drew(0))),
-        (look(0), Ok(Seen::Held)),
-        (glance(1, 0), Ok(Seen::Glanced(0))),
+        (Draw { seat: 0 }, Ok(Seen::Drew(0))),
+        (Look { seat: 0 }, Ok(Seen::Held)),
+        (Glance { seat: 1, place: 0 }, Ok(Seen::Glanced(0))),
         // a call of 0 has no place, one of 5 has one
-        (post(0, 0), Err(Fault::Phase)),
-        (leave(0, 5), Err(Fault::Phase)),
-        (post(0, 5), Ok(Seen::Posted(Ok(5)))),
-        (glance(1, 0), Ok(Seen::Glanced(5))),
+        (Post { seat: 0, call: 0 }, Err(Fault::Phase)),
+        (FIRST_LEAVES_WITH_5, Err(Fault::Phase)),
+        (Post { seat: 0, call: 5 }, Ok(Seen::Posted(Ok(5)))),
+        (Glance { seat: 1, place: 0 }, Ok(Seen::Glanced(5))),
         // there is one word, and the holder doesn't glance
-        (glance(1, 1), Err(Fault::Phase)),
-        (glance(0, 0), Err(Fault::Phase)),
-        (leave(0, 5), Err(Fault::Phase)),
-        (leave_posted(0), Ok(Seen::Left(None))),
-        (draw(1), Ok(Seen::Drew(1))),
-        (look(1), Ok(Seen::Held)),
-        (leave(1, 0), Ok(Seen::Left(Some(Ok(5))))),
-        (glance(0, 0), Ok(Seen::Glanced(5))),
+        (Glance { seat: 1, place: 1 }, Err(Fault::Phase)),
+        (Glance { seat: 0, place: 0 }, Err(Fault::Phase)),
+        (FIRST_LEAVES_WITH_5, Err(Fault::Phase)),
+        (FIRST_LEAVES, Ok(Seen::Left(None))),
+        (Draw { seat: 1 }, Ok(Seen::Drew(1))),
+        (Look { seat: 1 }, Ok(Seen::Held)),
+        (SECOND_LEAVES_WITH_0, Ok(Seen::Left(Some(Ok(5))))),
+        (Glance { seat: 0, place: 0 }, Ok(Seen::Glanced(5))),
     ];
-    play(&rt, &mut core, &rows);
-    let book = core.book();
-    assert_eq!(rt; (book.words(), book.word(0)), (1, 5));
-    assert_eq!(rt; (book.posts(0), book.posts(7)), (None, Some(0)));
+    play(&rt, &mut core, rows);
+    assert!(rt; has_one_word(core.book(), 5));
     Ok(())
+}
+
+/// Whether the board of a book has this word alone. Then a call of 0 has no place, and one of 7 has one.
+fn has_one_word(book: &CounterBook, word: u64) -> bool {
+    book.words() == 1 && book.word(0) == word && book.posts(0) == None && book.posts(7) == Some(0)
 }
 
 /// A posted seat holds: the next ticket is served when it leaves.
 #[test]
 fn a_posted_seat_is_waited_for(rt: HostRuntime) -> Result<(), Fail> {
     let mut core = core_of_two(rt.alloc())?;
-    let events = [
+    let events = &[
         SPLIT,
-        draw(0),
-        draw(1),
-        look(0),
-        post(0, 5),
-        look(1),
-        leave_posted(0),
-        look(1),
-        post(1, 7),
-        leave_posted(1),
-        gather(0, 1),
-        draw(0),
-        look(0),
-        post(0, 1),
-        draw(0),
+        Draw { seat: 0 },
+        Draw { seat: 1 },
+        Look { seat: 0 },
+        Post { seat: 0, call: 5 },
+        Look { seat: 1 },
+        FIRST_LEAVES,
+        Look { seat: 1 },
+        Post { seat: 1, call: 7 },
+        SECOND_LEAVES,
+        Gather { seat: 0, other: 1 },
+        Draw { seat: 0 },
+        Look { seat: 0 },
+        Post { seat: 0, call: 1 },
+        Draw { seat: 0 },
     ];
-    assert_eq!(rt; core.run(&events), Err((14, Fault::Phase)));
-    assert!(rt; has_entries(core.book(), &[(0, 5, 5), (1, 7, 12), (0, 1, 13)]));
-    let rows = [
+    run_to_fault(&rt, &mut core, events, 14);
+    let entries = &[entry(0, 5, 5), entry(1, 7, 12), entry(0, 1, 13)];
+    assert_entries(&rt, core.book(), entries);
+    let rows = &[
         // it holds
-        (look(0), Err(Fault::Phase)),
-        (leave_posted(0), Ok(Seen::Left(None))),
+        (Look { seat: 0 }, Err(Fault::Phase)),
+        (FIRST_LEAVES, Ok(Seen::Left(None))),
     ];
-    play(&rt, &mut core, &rows);
+    play(&rt, &mut core, rows);
     Ok(())
 }
 
 #[test]
 fn a_fresh_core_has_faults(rt: HostRuntime) -> Result<(), Fail> {
-    let mut core = core_of_two(rt.alloc())?;
-    let rows = [
+    let rows = &[
         // before a draw
-        (look(0), Err(Fault::Phase)),
+        (Look { seat: 0 }, Err(Fault::Phase)),
         // of none, and of all
-        (Event::Split { seat: 0, count: 0 }, Err(Fault::Phase)),
-        (Event::Split { seat: 0, count: 2 }, Err(Fault::Phase)),
+        (Split { seat: 0, count: 0 }, Err(Fault::Phase)),
+        (Split { seat: 0, count: 2 }, Err(Fault::Phase)),
         // into itself
-        (gather(0, 0), Err(Fault::Phase)),
-        (look(1), Err(Fault::NoSeat)),
+        (Gather { seat: 0, other: 0 }, Err(Fault::Phase)),
+        (Look { seat: 1 }, Err(Fault::NoSeat)),
         (SPLIT, Ok(Seen::Split)),
-        (look(1), Err(Fault::Phase)),
+        (Look { seat: 1 }, Err(Fault::Phase)),
     ];
-    play(&rt, &mut core, &rows);
-    Ok(())
+    play_on_two(&rt, rt.alloc(), rows, &[])
 }
 
 #[test]
 fn a_run_stops_at_the_first_fault(rt: HostRuntime) -> Result<(), Fail> {
     let mut core = core_of_two(rt.alloc())?;
-    let events = [
+    let events = &[
         SPLIT,
-        draw(0),
-        draw(1),
-        look(1),
-        look(0),
-        post(0, 5),
-        leave_posted(0),
-        look(1),
-        post(1, 7),
-        leave_posted(1),
-        gather(0, 1),
-        look(0),
+        Draw { seat: 0 },
+        Draw { seat: 1 },
+        Look { seat: 1 },
+        Look { seat: 0 },
+        Post { seat: 0, call: 5 },
+        FIRST_LEAVES,
+        Look { seat: 1 },
+        Post { seat: 1, call: 7 },
+        SECOND_LEAVES,
+        Gather { seat: 0, other: 1 },
+        Look { seat: 0 },
     ];
-    assert_eq!(rt; core.run(&events), Err((11, Fault::Phase)));
-    assert!(rt; has_entries(core.book(), &[(0, 5, 5), (1, 7, 12)]));
+    run_to_fault(&rt, &mut core, events, 11);
+    let entries = &[entry(0, 5, 5), entry(1, 7, 12)];
+    assert_entries(&rt, core.book(), entries);
     Ok(())
 }
 
 #[test]
 fn a_seat_without_a_draw_left_is_spent(rt: HostRuntime) -> Result<(), Fail> {
     let mut core = core_of_one_draw(rt.alloc())?;
-    let rows = [
-        (draw(0), Ok(Seen::Drew(0))),
+    let rows = &[
+        (Draw { seat: 0 }, Ok(Seen::Drew(0))),
         // it waits
-        (draw(0), Err(Fault::Phase)),
-        (look(0), Ok(Seen::Held)),
-        (post(0, 5), Ok(Seen::Posted(Ok(5)))),
-        (leave_posted(0), Ok(Seen::Left(None))),
-        (draw(0), Err(Fault::Spent)),
+        (Draw { seat: 0 }, Err(Fault::Phase)),
+        (Look { seat: 0 }, Ok(Seen::Held)),
+        (Post { seat: 0, call: 5 }, Ok(Seen::Posted(Ok(5)))),
+        (FIRST_LEAVES, Ok(Seen::Left(None))),
+        (Draw { seat: 0 }, Err(Fault::Spent)),
         // it has no ticket
-        (look(0), Err(Fault::Phase)),
+        (Look { seat: 0 }, Err(Fault::Phase)),
     ];
-    play(&rt, &mut core, &rows);
-    assert!(rt; has_entries(core.book(), &[(0, 5, 5)]));
+    play(&rt, &mut core, rows);
+    let entries = &[entry(0, 5, 5)];
+    assert_entries(&rt, core.book(), entries);
     Ok(())
+}
+
+/// Makes a call of 2, and returns whether its outcome is right. If the book has the memory, the reply is the
+/// sum of all calls of 2. If not, the book has used up its room of four entries, and counts the call.
+fn records_or_refuses(book: &mut CounterBook) -> bool
+    requires { counter_refusals book.old < 2 ^ 60 }
+{
+    let kept = book.entries().len();
+    let refused = book.refused();
+    let outcome = book.record(3, 2);
+    let kept_now = book.entries().len();
+    let refused_now = book.refused();
+    match outcome {
+        Ok(reply) => {
+            reply == 2u64.wrapping_mul(kept_now as u64)
+                && kept_now == kept + 1
+                && refused_now == refused
+        }
+        Err(NoMemory) => 4 <= kept && kept_now == kept && refused_now == refused.wrapping_add(1),
+    }
 }
 
 /// A book with room for four calls gets 200. A call without memory is counted and changes nothing else.
@@ -264,81 +292,81 @@ fn a_seat_without_a_draw_left_is_spent(rt: HostRuntime) -> Result<(), Fail> {
 #[test]
 fn a_book_counts_what_it_refuses(rt: HostRuntime) -> Result<(), Fail> {
     let mut book = empty_book(rt.alloc(), 4)?;
-    let mut sum = 0u64;
     for made in 0..200u64 {
-        let kept = book.entries().len();
-        let refused = book.refused();
-        assert!(rt; refused <= made);
-        match book.record(3, 2) {
-            Ok(reply) => {
-                sum = sum.wrapping_add(2);
-                assert!(rt; reply == sum && book.entries().len() == kept + 1);
-                assert_eq!(rt; book.refused(), refused);
-            }
-            Err(NoMemory) => {
-                assert!(rt; 4 <= kept && book.entries().len() == kept);
-                assert_eq!(rt; book.refused(), refused + 1);
-            }
-        }
+        assert!(rt; book.refused() <= made && records_or_refuses(&mut book));
     }
-    assert_eq!(rt;
-        book.entries().len() as u64,
-        200u64.wrapping_sub(book.refused())
-    );
-    assert_eq!(rt; book.room(), 4);
+    let kept = book.entries().len() as u64;
+    assert!(rt; kept == 200u64.wrapping_sub(book.refused()) && book.room() == 4);
     Ok(())
+}
+
+/// How many seats there can be.
+const SEATS: u32 = 1024;
+
+/// Splits off as many seats as there can be, and lets each draw. The last one has to wait.
+fn draw_all(rt: &impl Abort, core: &mut Core<CounterBook>) {
+    for _seat in 1..SEATS {
+        step(rt, core, SPLIT, Ok(Seen::Split));
+    }
+    // one number is left
+    step(rt, core, SPLIT, Err(Fault::Phase));
+    for seat in 0..SEATS {
+        step(rt, core, Draw { seat }, Ok(Seen::Drew(seat as u64)));
+    }
+    step(rt, core, Look { seat: 1023 }, Ok(Seen::Waiting));
+}
+
+/// Lets the seats take their turns, in the order of their draws, and gathers them.
+fn serve_all(rt: &impl Abort, core: &mut Core<CounterBook>) {
+    for seat in 0..SEATS {
+        step(rt, core, Look { seat }, Ok(Seen::Held));
+        let sum = seat as u64 + 1;
+        step(rt, core, Post { seat, call: 1 }, Ok(Seen::Posted(Ok(sum))));
+        step(rt, core, Leave { seat, call: None }, Ok(Seen::Left(None)));
+    }
+    for other in 1..SEATS {
+        step(rt, core, Gather { seat: 0, other }, Ok(Seen::Gathered));
+    }
 }
 
 /// As many seats as there can be, each with one turn, in the order of their draws.
 #[test]
 fn a_core_of_1024_seats(rt: HostRuntime) -> Result<(), Fail> {
-    let mut core = core_of(rt.alloc(), 1024, 1024)?;
-    for _seat in 1..1024 {
-        assert_eq!(rt; core.step(SPLIT), Ok(Seen::Split));
-    }
-    assert_eq!(rt; core.step(SPLIT), Err(Fault::Phase), "one number is left");
-    for seat in 0..1024 {
-        assert_eq!(rt; core.step(draw(seat)), Ok(Seen::Drew(seat as u64)));
-    }
-    assert_eq!(rt; core.step(look(1023)), Ok(Seen::Waiting));
-    for seat in 0..1024 {
-        let rows = [
-            (look(seat), Ok(Seen::Held)),
-            (post(seat, 1), Ok(Seen::Posted(Ok(seat as u64 + 1)))),
-            (leave_posted(seat), Ok(Seen::Left(None))),
-        ];
-        play(&rt, &mut core, &rows);
-    }
-    for seat in 1..1024 {
-        assert_eq!(rt; core.step(gather(0, seat)), Ok(Seen::Gathered));
-    }
+    let mut core = core_of(rt.alloc(), SEATS, 1024)?;
+    draw_all(&rt, &mut core);
+    serve_all(&rt, &mut core);
     Ok(())
 }
 
-/// The four grant words, in their order.
-fn words_of(grants: &Grants) -> (u64, u64, u64, u64) {
-    (
+/// Compares the four grant words, in their order, with the expected ones.
+fn assert_words(rt: &impl Abort, grants: &Grants, words: [u64; 4]) {
+    let found = [
         grants.word(0),
         grants.word(1),
         grants.word(2),
         grants.word(3),
-    )
+    ];
+    assert_eq!(rt; found, words);
+}
+
+/// Leaves with the ticket that is served, and compares the grant words after it.
+fn leave(rt: &impl Abort, grants: &mut Grants, ticket: u64, words: [u64; 4])
+    requires served { ticket ≡ grants.old }
+    requires small { ticket < 2 ^ 60 }
+    ensures { grants.new ≡ ticket + 1 }
+{
+    grants.leave(ticket);
+    assert_words(rt, grants, words);
 }
 
 #[test]
-fn a_leave_writes_one_grant_word(rt: HostRuntime) -> Result<(), Fail> {
+fn a_leave_writes_one_grant_word(rt: HostRuntime) {
     let mut grants = Grants::open();
-    assert_eq!(rt; words_of(&grants), (0, 0, 0, 0));
-    grants.leave(0);
-    assert_eq!(rt; words_of(&grants), (0, 1, 0, 0));
-    grants.leave(1);
-    assert_eq!(rt; words_of(&grants), (0, 1, 2, 0));
-    grants.leave(2);
-    assert_eq!(rt; words_of(&grants), (0, 1, 2, 3));
-    grants.leave(3);
-    assert_eq!(rt; words_of(&grants), (4, 1, 2, 3));
-    grants.leave(4);
-    assert_eq!(rt; words_of(&grants), (4, 5, 2, 3));
+    assert_words(&rt, &grants, [0, 0, 0, 0]);
+    leave(&rt, &mut grants, 0, [0, 1, 0, 0]);
+    leave(&rt, &mut grants, 1, [0, 1, 2, 0]);
+    leave(&rt, &mut grants, 2, [0, 1, 2, 3]);
+    leave(&rt, &mut grants, 3, [4, 1, 2, 3]);
+    leave(&rt, &mut grants, 4, [4, 5, 2, 3]);
     assert!(rt; grants.serves(5) && !grants.serves(9));
-    Ok(())
 }
