@@ -15,8 +15,8 @@ TOP = pathlib.Path(__file__).resolve().parent.parent
 # The names of a proof's parts follow the path of its function.
 PARTS = "Answers|AnswersTried|Carried|Code|Given|Goals|Invariants|Kinds|Layout|Lts|Met|Named|Proof|Reads|Statement|Symbol|TheLink|Tie"
 FUNCTION = re.compile(rf"-proofs\.(.+?)\.(?:{PARTS})\b")
-# A longer pause is another check.
-PAUSE = 120
+# A longer pause, in seconds, is another check.
+PAUSE = 900
 
 
 def main():
