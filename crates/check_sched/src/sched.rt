@@ -52,17 +52,7 @@ pub struct Sched {
 // A crate that drops a scheduler calls this. A derived one would be proved there again, field by field.
 impl Drop for Sched {
     fn drop(self) {
-        let Sched {
-            start: _,
-            marks: _,
-            results: _,
-            standings: _,
-            steady: _,
-            intervals: _,
-            setup: _,
-            roster: _,
-            runs: _,
-        } = self;
+        let _setup = self.into_setup();
     }
 }
 

@@ -19,12 +19,20 @@ use turns::take_turn;
 
 mod turns;
 
+/// A lock over a book of counts.
+type Lock = TicketLock<CounterBook>;
+
+/// A seat of such a lock.
+type LockSeat = Seat<CounterBook>;
+
+/// Two seats of such a lock.
+type TwoSeats = (LockSeat, LockSeat);
+
+/// A turn of such a seat.
+type LockTurn = Turn<CounterBook>;
+
 /// A lock and two of its seats.
-type LockOfTwo = (
-    TicketLock<CounterBook>,
-    Seat<CounterBook>,
-    Seat<CounterBook>,
-);
+type LockOfTwo = (Lock, LockSeat, LockSeat);
 
 /// A lock of two numbers over an empty book, and a seat for each of them. Out of memory hands the book
 /// back as it was, and a second try with memory succeeds.
@@ -44,10 +52,7 @@ fn two_seats(alloc: Global, room: usize) -> Result<LockOfTwo, AllocError>
 }
 
 /// A lock of one number that brings this many draws, over an empty book, and its seat.
-fn seat_with(
-    alloc: Global,
-    draws: u32,
-) -> Result<(TicketLock<CounterBook>, Seat<CounterBook>), AllocError>
+fn seat_with(alloc: Global, draws: u32) -> Result<(Lock, LockSeat), AllocError>
     requires { 0 < draws }
     ensures { IfOk result (λ made. IsSeatOf made.0 made.1) }
 {
@@ -59,12 +64,7 @@ fn seat_with(
 }
 
 /// The turn that a seat draws. A test of a seat with no draw left, or with another ticket, fails.
-fn draw(
-    rt: &impl Abort,
-    lock: &TicketLock<CounterBook>,
-    seat: Seat<CounterBook>,
-    ticket: u64,
-) -> Turn<CounterBook>
+fn draw(rt: &impl Abort, lock: &Lock, seat: LockSeat, ticket: u64) -> LockTurn
     requires { IsSeatOf lock.now seat }
     ensures { IsTurnOf lock.now result }
 {
@@ -78,11 +78,7 @@ fn draw(
 }
 
 /// A seat that has no draw left, after it tried to draw.
-fn spent_seat(
-    rt: &impl Abort,
-    lock: &TicketLock<CounterBook>,
-    seat: Seat<CounterBook>,
-) -> Seat<CounterBook>
+fn spent_seat(rt: &impl Abort, lock: &Lock, seat: LockSeat) -> LockSeat
     requires { IsSeatOf lock.now seat }
     ensures { result ≡ seat }
 {
@@ -93,11 +89,7 @@ fn spent_seat(
 }
 
 /// A turn whose ticket isn't served yet, after it looked.
-fn turn_that_waits(
-    rt: &impl Abort,
-    lock: &TicketLock<CounterBook>,
-    turn: Turn<CounterBook>,
-) -> Turn<CounterBook>
+fn turn_that_waits(rt: &impl Abort, lock: &Lock, turn: LockTurn) -> LockTurn
     requires { IsTurnOf lock.now turn }
     ensures { IsTurnOf lock.now result }
 {
@@ -108,13 +100,7 @@ fn turn_that_waits(
 }
 
 /// The seat after its turn. A test of a turn that has to wait, or that gets another reply, fails.
-fn seat_after_turn(
-    rt: &impl Abort,
-    lock: &TicketLock<CounterBook>,
-    turn: Turn<CounterBook>,
-    call: u8,
-    reply: u64,
-) -> Seat<CounterBook>
+fn seat_after_turn(rt: &impl Abort, lock: &Lock, turn: LockTurn, call: u8, reply: u64) -> LockSeat
     requires { IsTurnOf lock.now turn }
     ensures { IsSeatOf lock.now result }
 {
@@ -128,12 +114,7 @@ fn seat_after_turn(
 }
 
 /// The seat after a glance at the board's one word, which is the expected one.
-fn seat_after_glance(
-    rt: &impl Abort,
-    lock: &TicketLock<CounterBook>,
-    seat: Seat<CounterBook>,
-    word: u64,
-) -> Seat<CounterBook>
+fn seat_after_glance(rt: &impl Abort, lock: &Lock, seat: LockSeat, word: u64) -> LockSeat
     requires { IsSeatOf lock.now seat }
     ensures { IsSeatOf lock.now result }
 {
@@ -143,18 +124,14 @@ fn seat_after_glance(
 }
 
 /// Shows that a seat has this number alone, and hasn't drawn.
-fn assert_unused(rt: &impl Abort, seat: &Seat<CounterBook>, number: u32) {
+fn assert_unused(rt: &impl Abort, seat: &LockSeat, number: u32) {
     let numbers = (seat.number(), seat.count());
     let draws = (seat.left(), seat.calls(), seat.fresh());
     assert!(rt; numbers == (number, 1) && draws == (4_294_967_295, 0, true));
 }
 
 /// A lock that one seat can't close, since the other is missing.
-fn open_with_one_seat(
-    rt: &impl Abort,
-    lock: TicketLock<CounterBook>,
-    seat: Seat<CounterBook>,
-) -> (TicketLock<CounterBook>, Seat<CounterBook>)
+fn open_with_one_seat(rt: &impl Abort, lock: Lock, seat: LockSeat) -> (Lock, LockSeat)
     requires { IsSeatOf lock seat }
     ensures { (result.0 ≡ lock) × (result.1 ≡ seat) }
 {
@@ -165,7 +142,7 @@ fn open_with_one_seat(
 }
 
 /// The book of a lock that is closed. A test in which a seat is missing fails.
-fn book_of(rt: &impl Abort, lock: TicketLock<CounterBook>, seat: Seat<CounterBook>) -> CounterBook
+fn book_of(rt: &impl Abort, lock: Lock, seat: LockSeat) -> CounterBook
     requires { IsSeatOf lock seat }
 {
     match lock.close(seat) {
@@ -175,12 +152,7 @@ fn book_of(rt: &impl Abort, lock: TicketLock<CounterBook>, seat: Seat<CounterBoo
 }
 
 /// Two seats after one turn each. The second seat also looks before it is served.
-fn two_turns(
-    rt: &impl Abort,
-    lock: &TicketLock<CounterBook>,
-    first: Seat<CounterBook>,
-    second: Seat<CounterBook>,
-) -> (Seat<CounterBook>, Seat<CounterBook>)
+fn two_turns(rt: &impl Abort, lock: &Lock, first: LockSeat, second: LockSeat) -> TwoSeats
     requires { IsSeatOf lock.now first × IsSeatOf lock.now second }
     ensures { IsSeatOf lock.now result.0 × IsSeatOf lock.now result.1 }
 {
@@ -211,12 +183,7 @@ fn two_seats_take_turns(rt: HostRuntime) -> Result<(), Fail> {
 }
 
 /// Two seats after a turn of the first, in which the second glances at the board before and after the post.
-fn glances_at_a_post(
-    rt: &impl Abort,
-    lock: &TicketLock<CounterBook>,
-    first: Seat<CounterBook>,
-    second: Seat<CounterBook>,
-) -> (Seat<CounterBook>, Seat<CounterBook>)
+fn glances_at_a_post(rt: &impl Abort, lock: &Lock, first: LockSeat, second: LockSeat) -> TwoSeats
     requires { IsSeatOf lock.now first × IsSeatOf lock.now second }
     ensures { IsSeatOf lock.now result.0 × IsSeatOf lock.now result.1 }
 {
@@ -257,12 +224,7 @@ fn has_counted(book: &CounterBook, calls: usize) -> bool {
 }
 
 /// Closes a lock after this many calls of 1, by the seat that has all numbers.
-fn close_after_ones(
-    rt: &impl Abort,
-    lock: TicketLock<CounterBook>,
-    seat: Seat<CounterBook>,
-    calls: usize,
-)
+fn close_after_ones(rt: &impl Abort, lock: Lock, seat: LockSeat, calls: usize)
     requires { IsSeatOf lock seat }
 {
     assert!(rt; seat.calls() == calls as u64);
@@ -287,11 +249,7 @@ fn a_seat_draws_as_often_as_it_was_given(rt: HostRuntime) -> Result<(), Fail> {
 const LOOKS: u64 = 1_000_000_000;
 
 /// Makes this many calls of 1. The turn comes back if it isn't served in time.
-fn add_ones(
-    lock: &TicketLock<CounterBook>,
-    mut seat: Seat<CounterBook>,
-    calls: u32,
-) -> Result<Seat<CounterBook>, Option<Turn<CounterBook>>>
+fn add_ones(lock: &Lock, mut seat: LockSeat, calls: u32) -> Result<LockSeat, Option<LockTurn>>
     requires { IsSeatOf lock.now seat }
     ensures { IfOk result (λ seat. IsSeatOf lock.now seat) }
 {
@@ -305,10 +263,7 @@ fn add_ones(
 }
 
 /// One call of 1, which looks until its ticket is served.
-fn wait_and_add(
-    lock: &TicketLock<CounterBook>,
-    mut turn: Turn<CounterBook>,
-) -> Result<Seat<CounterBook>, Option<Turn<CounterBook>>>
+fn wait_and_add(lock: &Lock, mut turn: LockTurn) -> Result<LockSeat, Option<LockTurn>>
     requires { IsTurnOf lock.now turn }
     ensures { IfOk result (λ seat. IsSeatOf lock.now seat) }
 {
@@ -322,11 +277,7 @@ fn wait_and_add(
 }
 
 /// The result of a thread, or the end of the test.
-fn seat_back(
-    rt: &impl Abort,
-    lock: &TicketLock<CounterBook>,
-    done: Result<Seat<CounterBook>, Option<Turn<CounterBook>>>,
-) -> Seat<CounterBook>
+fn seat_back(rt: &impl Abort, lock: &Lock, done: Result<LockSeat, Option<LockTurn>>) -> LockSeat
     requires { IfOk done (λ seat. IsSeatOf lock.now seat) }
     ensures { IsSeatOf lock.now result }
 {
@@ -341,11 +292,11 @@ fn two_threads_make_a_thousand_calls_each(rt: HostRuntime) -> Result<(), Fail> {
     let (lock, first, second) = two_seats(rt.alloc(), 2000)?;
     let (first, second) = join(
         &rt,
-        || -> Result<Seat<CounterBook>, Option<Turn<CounterBook>>>
+        || -> Result<LockSeat, Option<LockTurn>>
             requires { IsSeatOf lock first }
             ensures { IfOk result (λ seat. IsSeatOf lock seat) }
         { add_ones(&lock, first, 1000) },
-        || -> Result<Seat<CounterBook>, Option<Turn<CounterBook>>>
+        || -> Result<LockSeat, Option<LockTurn>>
             requires { IsSeatOf lock second }
             ensures { IfOk result (λ seat. IsSeatOf lock seat) }
         { add_ones(&lock, second, 1000) },

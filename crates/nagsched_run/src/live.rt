@@ -116,10 +116,10 @@ fn continue_live<R: Read, W: Write>(
 {
     match start {
         Start::Fresh(moment) => {
-            continue_fresh(alloc, moment, setup, may_follow, buffered, reader, writer)
+            continue_fresh(alloc, setup, moment, may_follow, buffered, reader, writer)
         }
         Start::Resumed(moment) => {
-            continue_resumed(alloc, moment, setup, may_follow, buffered, reader, writer)
+            continue_resumed(alloc, setup, moment, may_follow, buffered, reader, writer)
         }
     }
 }
@@ -127,8 +127,8 @@ fn continue_live<R: Read, W: Write>(
 /// Continues after a setup with a new scheduler that starts at this moment.
 fn continue_fresh<R: Read, W: Write>(
     alloc: Global,
-    moment: u64,
     setup: Setup,
+    moment: u64,
     may_follow: bool,
     buffered: InputBuffer,
     reader: &mut R,
@@ -152,28 +152,28 @@ fn continue_fresh<R: Read, W: Write>(
 /// that line.
 fn continue_resumed<R: Read, W: Write>(
     alloc: Global,
-    moment: Option<u64>,
     setup: Setup,
+    moment: Option<u64>,
     may_follow: bool,
     buffered: InputBuffer,
     reader: &mut R,
     writer: &mut W,
 ) -> Result<Outcome, LiveError>
-    requires start { CanStart (Start.Resumed moment) }
     requires end { may_follow ≡ false → (buffered ≡ []) × IsAtEnd (R.remaining reader.old) }
     requires bounded { length buffered ≤ READ_BYTES }
+    requires start { CanStart (Start.Resumed moment) }
+    ensures spent { IfErr result
+        (IsSpentAfterSetup buffered (R.remaining reader.old) (R.remaining reader.new)) }
     ensures continuation { IsContinuation (Start.Resumed moment) setup may_follow buffered result
         (streams (R.remaining reader.old) (R.remaining reader.new)
         (W.contents writer.old) (W.contents writer.new)) }
-    ensures spent { IfErr result
-        (IsSpentAfterSetup buffered (R.remaining reader.old) (R.remaining reader.new)) }
 {
     let mut buffered = buffered;
     let (saved, follow) = read_saved_line(alloc, may_follow, &mut buffered, reader)?;
     match saved {
         Ok(saved) => {
             continue_from_saved(
-                alloc, moment, setup, &saved, follow, buffered, reader, writer,
+                alloc, setup, moment, &saved, follow, buffered, reader, writer,
             )
         }
         Err(ScriptError::Refused(why)) => as_live_result(refuse(alloc, why, writer)),
@@ -185,8 +185,8 @@ fn continue_resumed<R: Read, W: Write>(
 /// the scheduler can't be resumed because memory has run out, nothing is read or written.
 fn continue_from_saved<R: Read, W: Write>(
     alloc: Global,
-    moment: Option<u64>,
     setup: Setup,
+    moment: Option<u64>,
     saved: &Saved,
     may_follow: bool,
     buffered: InputBuffer,
