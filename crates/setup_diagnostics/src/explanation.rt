@@ -1,6 +1,6 @@
 //! The explanation of a refused document: the place of its fault, and the reason.
 
-ghost use Rattle.std.specs.Prelude.{◌≡◌, ◌++◌, IfOk, OnOk, false, option_map, string_bytes};
+ghost use Rattle.std.specs.Prelude.{◌≡◌, ◌++◌, IfOk, OnOk, [], false, option_map, string_bytes};
 ghost use Rattle.serde_json.specs.View.{view};
 ghost use Rattle.setup_model.specs.Fault.{view_of};
 ghost use Rattle.setup_diagnostics.specs.Explanation.{stop_reason_words, too_long_text, tree_or_null, json_position_text, IsExplanation, IsNotJsonText};
@@ -45,28 +45,31 @@ fn explanation(alloc: Global, tree: &Value, fault: &Fault) -> Result<Line, Alloc
     ensures position { IfOk result (λ line. IsNotJsonText fault.now line) }
 {
     let mut line = Line::new(alloc);
-    match fault {
-        Fault::TooLong => push_too_long(&mut line)?,
-        Fault::NotJson(position) => push_json_position(&mut line, *position)?,
-        Fault::Shape(place, shape) => push_shape(alloc, &mut line, tree, *place, *shape)?,
-        Fault::TooMany(count, number) => push_count(&mut line, *count, *number)?,
-        Fault::BadName(place, name) => push_bad_name(&mut line, tree, *place, *name)?,
-        Fault::Duplicate(place, earlier) => push_duplicate(&mut line, tree, *place, *earlier)?,
-        Fault::UnknownParent(host, parent) => {
-            push_unknown_parent(&mut line, tree, *host, *parent)?;
-        }
-        Fault::UnknownHost(service) => push_unknown_host(&mut line, tree, *service)?,
-        Fault::UnknownEnd(place, end) => push_unknown_end(&mut line, tree, *place, *end)?,
-        Fault::Range(place, range) => push_range(&mut line, tree, *place, *range)?,
-        Fault::DependencyCycle(part, cycle) => {
-            push_dependency_cycle(&mut line, tree, *part, cycle)?;
-        }
-        Fault::ParentCycle(cycle) => push_parent_cycle(&mut line, tree, cycle)?,
-        Fault::Memory => {
-            line.push_words("memory ran out; that says nothing of the document")?;
-        }
-    }
+    push_explanation(alloc, &mut line, tree, fault)?;
     Ok(line)
+}
+
+/// Explains a fault on an empty line.
+fn push_explanation(alloc: Global, line: &mut Line, tree: &Value, fault: &Fault) -> Pushed
+    requires { line.old ≡ [] }
+    ensures text { OnOk result (IsExplanation (view tree.now) (view_of fault.now) line.new) }
+    ensures position { OnOk result (IsNotJsonText fault.now line.new) }
+{
+    match fault {
+        Fault::TooLong => push_too_long(line),
+        Fault::NotJson(position) => push_json_position(line, *position),
+        Fault::Shape(place, shape) => push_shape(alloc, line, tree, *place, *shape),
+        Fault::TooMany(count, number) => push_count(line, *count, *number),
+        Fault::BadName(place, name) => push_bad_name(line, tree, *place, *name),
+        Fault::Duplicate(place, earlier) => push_duplicate(line, tree, *place, *earlier),
+        Fault::UnknownParent(host, parent) => push_unknown_parent(line, tree, *host, *parent),
+        Fault::UnknownHost(service) => push_unknown_host(line, tree, *service),
+        Fault::UnknownEnd(place, end) => push_unknown_end(line, tree, *place, *end),
+        Fault::Range(place, range) => push_range(line, tree, *place, *range),
+        Fault::DependencyCycle(part, cycle) => push_dependency_cycle(line, tree, *part, cycle),
+        Fault::ParentCycle(cycle) => push_parent_cycle(line, tree, cycle),
+        Fault::Memory => line.push_words("memory ran out; that says nothing of the document"),
+    }
 }
 
 /// Appends the most bytes that a document can have.
