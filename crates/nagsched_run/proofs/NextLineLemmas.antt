@@ -1,14 +1,13 @@
 -- Lines of a conversation that are taken in parts.
-use Rattle.std.proofs.Common.{◌≡◌, ℕ, ◌+◌, ◌<◌, ◌≤◌, ◌⊎◌, inl, inr, length, Bool, false, List, [], ◌++◌, Option, None, Some, sym, ◌∙◌, ap}
-use Rattle.std.proofs.Common.{subst, append_assoc, append-nil, arith, refl, true, zero, suc}
+use Rattle.std.proofs.Common.{◌≡◌, ℕ, ◌+◌, ◌<◌, ◌⊎◌, inl, inr, length, List, [], ◌++◌, Option, None, Some, ◌∙◌}
+use Rattle.std.proofs.Common.{arith, refl, true, zero, suc}
 use Rattle.std.specs.Prelude.{Result, Ok, Err, IfErr}
 use Rattle.std.specs.Io.KnownBytes.{Consumes, Keeps}
-use Rattle.nagsched_protocol.specs.Input.{first_line_of}
 use Rattle.nagsched_protocol.specs.declared.live_error.LiveError.{LiveError}
 use Rattle.nagsched_protocol.specs.declared.live_error.LiveError.TheVariants as errors
 use Rattle.nagsched_protocol.specs.declared.drive_error.DriveError.{DriveError}
 use Rattle.nagsched_protocol.specs.LiveError.{IsLineReadingError, IsInputError, IsWriteResult}
-use Rattle.nagsched_protocol.specs.LiveInput.{LinePrefix, TookLine, rest_after_line, prefix_of, has_feed}
+use Rattle.nagsched_protocol.specs.LiveInput.{LinePrefix, prefix_of, has_feed}
 use Rattle.nagsched_protocol.proofs.LiveInputLemmas.{Begun, Taking, never_asked, takes_first, takes_more}
 use Rattle.nagsched_protocol.proofs.WrittenLemmas.{Keeps-same}
 

@@ -45,12 +45,12 @@ fn explanation(alloc: Global, tree: &Value, fault: &Fault) -> Result<Line, Alloc
     ensures position { IfOk result (λ line. IsNotJsonText fault.now line) }
 {
     let mut line = Line::new(alloc);
-    push_explanation(alloc, &mut line, tree, fault)?;
+    push_fault(alloc, &mut line, tree, fault)?;
     Ok(line)
 }
 
 /// Explains a fault on an empty line.
-fn push_explanation(alloc: Global, line: &mut Line, tree: &Value, fault: &Fault) -> Pushed
+fn push_fault(alloc: Global, line: &mut Line, tree: &Value, fault: &Fault) -> Pushed
     requires { line.old ≡ [] }
     ensures text { OnOk result (IsExplanation (view tree.now) (view_of fault.now) line.new) }
     ensures position { OnOk result (IsNotJsonText fault.now line.new) }

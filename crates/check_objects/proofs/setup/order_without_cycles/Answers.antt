@@ -1,11 +1,5 @@
-use Rattle.std.proofs.Common.{◌≡◌, ◌≤◌, List, sym, ap, ◌∙◌, length, map, true, false, Ok, ℕ, refl}
-use Rattle.setup_order.specs.Cycles.{are_within, has_cycle}
-use Rattle.setup_model.specs.declared.dependency.Dependency.{Dependency}
-use Rattle.setup_objects.specs.Configuration.{masters_of, masters_in}
-use Rattle.setup_model.specs.ParsedSetup.{ParsedSetup}
 use Rattle.setup_model.specs.ParsedViews.{parsed_view}
 use Rattle.setup_objects.specs.Numbering.{configuration}
-use Rattle.setup_verification.specs.Verification.{verification}
 use Rattle.check_objects.proofs.CycleLemmas.{acyclic_masters, parents_refuse}
 use Rattle.check_objects.proofs.SetupLemmas.{has_lists, few_lists, masters_within}
 use Rattle.check_objects.proofs.setup.order_without_cycles.Goals as goal
