@@ -51,7 +51,8 @@ def checksum(crate):
     files = [file for part in ("src", "specs", "proofs") for file in folder.glob(f"{part}/**/*") if file.suffix in (".rt", ".antt")]
     for library in crate.below():
         below = TOP / "crates" / library.name
-        files += [*below.glob("specs/**/*.antt"), *below.glob(f"out/rlib/{library.name}.rlib/interface/lang/src/**/*.rt")]
+        # The signatures in interface/ have the names of their clauses alone.
+        files += [*below.glob("specs/**/*.antt"), *below.glob(f"out/rlib/{library.name}.rlib/lang/src/**/*.rt")]
     total = hashlib.sha256()
     for file in sorted([*files, *edits_of(crate)]):
         text = file.read_bytes() if file.suffix == ".edit" else COMMENT.sub(b"", file.read_bytes())
