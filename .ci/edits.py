@@ -47,12 +47,13 @@ def edits_of(crate):
 
 def checksum(crate):
     """The checksum of everything that the outcome of a crate's edits depends on, except the kit."""
-    folder = TOP / "crates" / crate.name
-    files = [file for part in ("src", "specs", "proofs") for file in folder.glob(f"{part}/**/*") if file.suffix in (".rt", ".antt")]
+    files = [file for part in ("src", "specs", "proofs") for file in TOP.glob(f"crates/{crate.name}/{part}/**/*") if file.suffix in (".rt", ".antt")]
     for library in crate.below():
-        below = TOP / "crates" / library.name
-        # The signatures in interface/ have the names of their clauses alone.
-        files += [*below.glob("specs/**/*.antt"), *below.glob(f"out/rlib/{library.name}.rlib/lang/src/**/*.rt")]
+        # Those in interface/ have the names of their clauses alone.
+        signatures = [*TOP.glob(f"crates/{library.name}/out/rlib/{library.name}.rlib/lang/src/**/*.rt")]
+        if not signatures:
+            sys.exit(f"edits: {library.name} isn't built, or its signatures are in another place")
+        files += [*TOP.glob(f"crates/{library.name}/specs/**/*.antt"), *signatures]
     total = hashlib.sha256()
     for file in sorted([*files, *edits_of(crate)]):
         text = file.read_bytes() if file.suffix == ".edit" else COMMENT.sub(b"", file.read_bytes())
@@ -107,8 +108,7 @@ def main(arguments):
             failed += sum(not refused for refused, _ in results)
             if is_by_hand and all(refused for refused, _ in results):
                 pathlib.Path(crate.folder, "edits", "TRIED").write_text(checksum(crate))
-    passed = sum(len(edits_of(crate)) for crate in crates) - failed
-    print(f"edits: {passed} passed, {failed} failed")
+    print(f"edits: {sum(len(edits_of(crate)) for crate in crates) - failed} passed, {failed} failed")
     return 1 if failed else 0
 
 
