@@ -66,7 +66,7 @@ def process_work(number):
             return None
         crate, here = words[words.index("--crate-name") + 1], pathlib.Path(os.readlink(folder / "cwd"))
         if EDIT_FOLDER.search(str(here)):
-            return crate, edit_in(crate, here)
+            return crate, "(several at once)" if any(word.startswith("--only") for word in words) else edit_in(crate, here)
     except OSError:
         return None
     return crate, "tests" if "--test" in words else "proofs"
