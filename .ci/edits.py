@@ -5,11 +5,10 @@
     tools/edits [NAME ..]          manually: tries those of these crates, or of all, and writes TRIED
 
 An edit is a file as in must-fail/, which `rt ci` tries at each run. A function is proved from its own body and the contracts of those that it calls. So one
-check tries edits of several functions, and refuses an edit if it doesn't prove a goal of the function itself. The kit tries each of the other edits alone.
-
-The outcome depends on the sources of the crate, on its edits, and on what it sees of the libraries below: their signatures with their clauses, and their
-definitions. TRIED has a checksum of these without their lines of comment, written when every edit of the crate was last refused. It doesn't cover the kit:
-after a change of the kit, run tools/edits. With --proved the libraries are those that `rt ci` has just left in the tree. The last line counts the edits.
+check tries edits of several functions, and refuses an edit if it doesn't prove a goal of the function itself. The kit tries each of the other edits alone. It
+is `rt ci` that proves the crate itself. The outcome depends on the sources of the crate, on its edits, and on the signatures, clauses and definitions of the
+libraries below. TRIED has a checksum of these without lines of comment, written when all edits were last refused. It doesn't cover the kit: when the kit
+changes, run tools/edits. With --proved the libraries are those that `rt ci` just left in the tree. The last line counts the edits.
 """
 import hashlib
 import os
@@ -72,13 +71,15 @@ def unproved_goal(crate, function, said):
 
 def refused_together(crate):
     """For each edit that a check of several refuses, a line. An edit that a check doesn't judge is in the next one too, until a check refuses no edit."""
-    source, lines, refused = READER.Source(crate.folder), {}, True
+    source, lines = READER.Source(crate.folder), {}
     source.read("src/main.rt" if crate.is_program else "src/lib.rt")
     functions = {edit: path for edit in edits_of(crate) if (path := function_of(source, RT.read_edit(str(edit), crate.folder)[0] or {}))}
-    while refused and (batch := {path: edit for edit, path in functions.items() if edit not in lines}):
+    while batch := {path: edit for edit, path in functions.items() if edit not in lines}:
         texts, _ = RT.edited("\n".join(edit.read_text() for edit in batch.values()), crate.folder)
         said = RT.checked(crate, texts or {}, [*FLAGS, *(f"--only={path}" for path in batch)], None).stdout
         refused = {edit: f"{edit.name}: refused: {goal[:160]}" for path, edit in batch.items() if (goal := unproved_goal(crate, path, said))}
+        if not refused:
+            break
         lines |= refused
     return lines
 
