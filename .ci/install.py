@@ -4,15 +4,18 @@
     .ci/install.py PROGRAM
 
 The program answers, and the monitor reads a site. The manual pages are shown without a warning if `mandoc` or `groff` is there. The completions can be
-read. The program's manual page has every word of its help.
+read. The program's manual page has every word of its help, and section 3 has a page for every function of the C header. What isn't built is named:
+without the C library all else is installed, without the program or the runner nothing is.
 """
 import json
+import os
 import pathlib
 import re
-import shutil
 import subprocess
 import sys
 import tempfile
+
+import needs
 
 TOP = pathlib.Path(__file__).resolve().parent.parent
 SETUP = {"hosts": [{"name": "gateway", "max_check_attempts": 3}]}
@@ -25,8 +28,11 @@ def command_output(*words, **how):
 
 
 def warnings_of(page):
-    """The complaints of each program that shows manual pages."""
-    return "".join(command_output(*words, page)[0] for name, words in SHOWN.items() if shutil.which(name))
+    """The complaints of each program that shows manual pages, or the page that this one leads to, if it isn't there."""
+    text = page.read_text()
+    if text.startswith(".so "):
+        return "" if (page.parent.parent / text.split()[1]).is_file() else text
+    return "".join(command_output(*words, page)[0] for name, words in SHOWN.items() if needs.path_of(name))
 
 
 def help_words(program):
@@ -50,7 +56,10 @@ def check_installed(program, prefix, work):
     yield "the runner", ran, ('{"job":1,"code":0,"end":"exited","output":"fine\\u000a"}\n', 0)
     yield "the worker", command_output(prefix / "bin/nagsched-gearman-worker", "--help")[1], 0
     yield "from Nagios", command_output(prefix / "bin/nagsched-from-nagios", "--help")[1], 0
-    yield "the manual pages", sorted(manual), ["nagsched-from-nagios.1", "nagsched-monitor.1", "nagsched.1", "nagsched.5"]
+    yield "the manual pages", [name for name in sorted(manual) if not name.endswith(".3")], ["nagsched-from-nagios.1", "nagsched-monitor.1", "nagsched.1", "nagsched.5"]
+    functions = re.findall(r"\b(nagsched_\w+)\(", re.sub(r"/\*.*?\*/", "", (TOP / "include/nagsched.h").read_text(), flags=re.DOTALL))
+    wanted = sorted(f"{name}.3" for name in {"nagsched", *functions}) if (prefix / "include/nagsched.h").is_file() else []
+    yield "the manual pages of section 3", sorted(name for name in manual if name.endswith(".3")), wanted
     for name, page in sorted(manual.items()):
         yield f"warnings of {name}", warnings_of(page), ""
         yield f"lines of {name}, at most 400", len(page.read_text().splitlines()) <= 400, True
@@ -61,32 +70,45 @@ def check_installed(program, prefix, work):
     yield "the completion for bash", command_output("bash", "-n", prefix / "share/bash-completion/completions/nagsched"), ("", 0)
     unit = prefix / "lib/systemd/system/nagsched-monitor@.service"
     yield "the unit", f"ExecStart={prefix}/bin/nagsched-monitor" in unit.read_text(), True
-    if shutil.which("systemd-analyze"):
+    if needs.is_here("install", "systemd-analyze"):
         site = unit.with_name("nagsched-monitor@office.service")
         site.write_text(re.sub("^(User|Group|Documentation)=.*\n", "", unit.read_text(), flags=re.MULTILINE))
         yield "what systemd says of the unit", command_output("systemd-analyze", "verify", site), ("", 0)
         yield "its exposure", command_output("systemd-analyze", "security", "--offline=true", "--threshold=40", unit)[1], 0
-    if shutil.which("systemd-sysusers"):
+    if needs.is_here("install", "systemd-sysusers"):
         made = command_output("systemd-sysusers", f"--root={work}", "--dry-run", prefix / "lib/sysusers.d/nagsched-monitor.conf")[0]
         yield "the user", "Creating user 'nagsched'" in made, True
 
 
+def built_parts(work):
+    """Installs where the C library isn't built, and where nothing is: a checkout without crates and monitor."""
+    told, status = command_output("bash", TOP / "tools/install.sh", work / "without", env=os.environ | {"NAGSCHED_BUILT": str(work / "nowhere")})
+    kinds = [sorted(place.relative_to(work / "without").as_posix() for place in (work / "without").glob(pattern)) for pattern in ("bin/nagsched", "lib/libnagsched*", "share/man/man3")]
+    yield "without a library", (status, "the library isn't built: tools/build_c.sh" in told, kinds), (0, True, [["bin/nagsched"], [], []])
+    (work / "bare").mkdir()
+    for name in ("tools", "VERSION"):
+        (work / "bare" / name).symlink_to(TOP / name)
+    told, status = command_output("bash", work / "bare/tools/install.sh", work / "nothing")
+    named = [words in told for words in ("nagsched isn't built: tools/test.sh", "nagsched-runner isn't built: monitor/build_runner.sh")]
+    yield "without anything", (status, named, (work / "nothing").exists()), (1, [True, True], False)
+
+
 def main():
+    needs.require("install", "cc")
     passed, wrong = 0, 0
     with tempfile.TemporaryDirectory() as folder:
         work = pathlib.Path(folder)
         command_output(TOP / "monitor/build_runner.sh")
-        told, status = command_output("bash", TOP / "tools/install.sh", "--without-library", work / "prefix")
+        told, status = command_output("bash", TOP / "tools/install.sh", work / "prefix")
         rows = [("installing", (told, status), ("", 0))] if status else check_installed(sys.argv[1], work / "prefix", work)
-        for what, came, wanted in rows:
+        for what, came, wanted in [*rows, *built_parts(work)]:
             if came == wanted:
                 passed += 1
             else:
                 wrong += 1
                 print(f"install: {what}: wanted {wanted!r}, came {came!r}")
     for name in SHOWN:
-        if not shutil.which(name):
-            print(f"install: passed over what {name} says of the manual pages, which isn't here")
+        needs.is_here("install", name)
     print(f"install: {passed} passed, {wrong} failed")
     return 1 if wrong or not passed else 0
 

@@ -4,7 +4,7 @@
 # With --proved it uses the libraries that `rt ci` has just proved and left in this tree; otherwise `rt lib` proves them once more.
 # PREFIX gets include/nagsched.h, lib/libnagsched.a, lib/libnagsched.so and lib/pkgconfig/nagsched.pc. Both libraries show
 # only the names that the header declares, and need only the C library.
-# Needs rt, cc and the binutils: ld, ar, objcopy.
+# Needs rt, python3, cc and the binutils: ld, ar, objcopy.
 set -eu -o pipefail
 top=$(cd "$(dirname "$0")/.." && pwd)
 header=$top/include/nagsched.h
@@ -38,7 +38,19 @@ over_proved() {
 }
 
 if [ "$proved" ]; then build=over_proved; else build="rt lib"; fi
-(cd "$top/crates/nagsched_c" && $build > "$work/build.log" 2>&1) || { cat "$work/build.log"; exit 1; }
+# Prints a line when the first function of another crate is proved. A crate that was proved before has none.
+show_crates() {
+    local line crate=
+    while IFS= read -r line; do
+        if [[ $line =~ ^[a-z]+\ ([a-z_0-9]+)::.*:\ proved && ${BASH_REMATCH[1]} != "$crate" ]]; then
+            crate=${BASH_REMATCH[1]}
+            echo "build_c, $((SECONDS / 60)) min: $crate is being proved"
+        fi
+    done
+}
+
+echo "build_c: proving nagsched_c and the crates below that aren't proved yet"
+(cd "$top/crates/nagsched_c" && $build 2>&1 | tee "$work/build.log" | show_crates) || { cat "$work/build.log"; exit 1; }
 
 version=$(sed -n 's/^#define NAGSCHED_VERSION \([0-9]*\)u$/\1/p' "$header")
 sed -n 's/^uint32_t \(nagsched_[a-z_]*\)(.*/\1/p' "$header" > "$work/names"
@@ -63,6 +75,8 @@ cc -shared -Wl,-soname,"libnagsched.so.$version" -Wl,--version-script="$work/nam
 ln -sf "libnagsched.so.$version" "$prefix/lib/libnagsched.so"
 cat > "$prefix/lib/pkgconfig/nagsched.pc" <<END
 prefix=$prefix
+commit=$(python3 "$top/tools/build_file.py" commit)
+kit=$(rt version)
 includedir=\${prefix}/include
 libdir=\${prefix}/lib
 
@@ -72,3 +86,4 @@ Version: $(cat "$top/VERSION")
 Libs: -L\${libdir} -lnagsched
 Cflags: -I\${includedir}
 END
+echo "build_c: the library is in $prefix, after $((SECONDS / 60)) minutes"

@@ -1,32 +1,31 @@
 #!/usr/bin/env bash
 # Installs the built files: the program, the C library, the Python module, the monitor, manual pages, the unit of systemd and its user, completions.
 #   tools/install.sh [PREFIX]     /usr/local if no folder is named; DESTDIR is put before it
-# It builds and proves nothing. A missing file is named, with the command that builds it, and then nothing is installed.
-# --without-library leaves the C library and the Python module out.
+# It builds and proves nothing. What isn't built is named, with the command that builds it. Without the program or the runner nothing is installed;
+# without the C library all but the library, its manual pages and the Python module is.
+# NAGSCHED_BUILT is the folder of the C library, if it isn't out/c.
 set -eu -o pipefail
 top=$(cd "$(dirname "$0")/.." && pwd)
-library=yes
-if [ "${1:-}" = --without-library ]; then
-    library=
-    shift
-fi
 prefix=${1:-/usr/local}
 case $prefix in /*) ;; *) prefix=$PWD/$prefix ;; esac
 root=${DESTDIR:-}$prefix
 program=$top/crates/nagsched/out/nagsched
 runner=$top/monitor/out/nagsched-runner
 built=${NAGSCHED_BUILT:-$top/out/c}
+export PYTHONDONTWRITEBYTECODE=1
 
-missing=
-[ -x "$program" ] || { echo "install: nagsched isn't built: (cd crates/nagsched && rt run < ../../examples/office.txt)" >&2; missing=yes; }
+missing='' library=yes
+[ -x "$program" ] || { echo "install: nagsched isn't built: tools/test.sh proves and builds it, tools/try.sh compiles it without proofs" >&2; missing=yes; }
 [ -x "$runner" ] || { echo "install: nagsched-runner isn't built: monitor/build_runner.sh" >&2; missing=yes; }
-[ -z "$library" ] || [ -e "$built/lib/libnagsched.so" ] || { echo "install: the C library isn't built: tools/build_c.sh" >&2; missing=yes; }
-[ -z "$missing" ] || exit 1
+[ -e "$built/lib/pkgconfig/nagsched.pc" ] || { echo "install: without the C library and the Python module, since the library isn't built: tools/build_c.sh" >&2; library=''; }
+[ -z "$missing" ] || { echo "install: nothing is installed" >&2; exit 1; }
 
 # Copies a file to a place below the root: MODE FILE PLACE.
 place() { install -D -m "$1" "$2" "$root/$3"; }
 
 place 755 "$program" bin/nagsched
+mkdir -p "$root/share/nagsched"
+python3 "$top/tools/build_file.py" copy "$program" "$root/bin/nagsched" "$root/share/nagsched/nagsched.build"
 for module in "$top"/monitor/nagsched_monitor/*.py "$top"/monitor/nagsched_monitor/*/*.py; do
     place 644 "$module" "lib/nagsched/${module#"$top"/monitor/}"
 done
@@ -50,6 +49,7 @@ sed "s#/usr/local/bin#$prefix/bin#g" "$top/monitor/nagsched-monitor@.service" > 
 place 644 "$unit" lib/systemd/system/nagsched-monitor@.service
 place 644 "$top/monitor/nagsched-monitor.sysusers" lib/sysusers.d/nagsched-monitor.conf
 python3 "$top/tools/manual.py" "$manual"
+[ -n "$library" ] || rm -f "$manual"/*.3
 for page in "$manual"/*; do
     place 644 "$page" "share/man/man${page##*.}/$(basename "$page")"
 done
@@ -74,6 +74,7 @@ done
 # The first programs on the pages about C and Python.
 place 644 "$top/examples/first.c" share/doc/nagsched/examples/first.c
 place 755 "$top/examples/first.py" share/doc/nagsched/examples/first.py
+echo "install: $(python3 "$top/tools/build_file.py" show "$program"), in $root"
 [ -n "$library" ] || exit 0
 place 644 "$built/include/nagsched.h" include/nagsched.h
 place 644 "$built/lib/libnagsched.a" lib/libnagsched.a

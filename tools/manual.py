@@ -1,19 +1,24 @@
 #!/usr/bin/env python3
-"""Writes the manual pages: nagsched(1), nagsched(5), nagsched-monitor(1) and nagsched-from-nagios(1).
+"""Writes the manual pages: nagsched(1), nagsched(5), nagsched-monitor(1), nagsched-from-nagios(1), and those of section 3.
 
     tools/manual.py DIRECTORY
 
-Each is made from sections of the pages in docs/, under the usual headings of manual pages, so that nothing is written twice.
+Each is made from sections of the pages in docs/, under the usual headings of manual pages, so that nothing is written twice. Those of section 3 are
+made from the comments of the C header.
 """
 import pathlib
 import re
 import sys
 import textwrap
-from typing import Dict, Iterator, List
+from typing import Dict, Iterator, List, Tuple
+
+import manual_c
 
 TOP = pathlib.Path(__file__).resolve().parent.parent
 DATE = "2026-11-28"
 WIDTH = 110
+VERSION = (TOP / "VERSION").read_text(encoding="utf-8").strip()
+HEADER = (TOP / "include/nagsched.h").read_text(encoding="utf-8")
 SUMMARY = {
     ("nagsched", 1): "decide which host or service is checked next, and what each result means",
     ("nagsched", 5): "setup, saved states and refusals of nagsched",
@@ -65,7 +70,7 @@ PARTS = {
     },
 }
 SEE = {
-    ("nagsched", 1): "nagsched(5), nagsched-monitor(1), nagsched-from-nagios(1)",
+    ("nagsched", 1): "nagsched(5), nagsched(3), nagsched-monitor(1), nagsched-from-nagios(1)",
     ("nagsched", 5): "nagsched(1), nagsched-monitor(1)",
     ("nagsched-monitor", 1): "nagsched(1), nagsched(5), nagsched-from-nagios(1), systemd(1)",
     ("nagsched-from-nagios", 1): "nagsched-monitor(1), nagsched(1), nagsched(5)",
@@ -210,11 +215,25 @@ def tidy_lines(lines):
     return kept
 
 
-def page_of(name: str, number: int, version: str) -> Iterator[str]:
-    yield f'.TH {name.upper()} {number} "{DATE}" "nagsched {version}" "nagsched"'
+def head_of(name: str, number: int, names: List[str], summary: str) -> Iterator[str]:
+    """The title of a manual page, and the line of its names."""
+    yield f'.TH {name.upper()} {number} "{DATE}" "nagsched {VERSION}" "nagsched"'
     yield ".ad l"
     yield ".SH NAME"
-    yield f"{roff_text(name)} \\- {roff_text(SUMMARY[name, number])}"
+    yield f"{roff_text(', '.join(names))} \\- {roff_text(summary)}"
+
+
+def see_also(others: List[str], last: str) -> Iterator[str]:
+    """The last section: other manual pages, and a sentence."""
+    yield ".SH SEE ALSO"
+    yield ".PP"
+    yield ", ".join(f"\\fB{roff_text(other.split('(')[0])}\\fR({other.split('(')[1]}" for other in others)
+    yield from [".PP", last]
+
+
+def page_of(name: str, number: int) -> Iterator[str]:
+    """A page made from sections of pages."""
+    yield from head_of(name, number, [name], SUMMARY[name, number])
     for heading, parts in PARTS[name, number].items():
         yield f".SH {heading.upper()}"
         if isinstance(parts, str):
@@ -224,17 +243,48 @@ def page_of(name: str, number: int, version: str) -> Iterator[str]:
             if title and len(parts) > 1 or title.lower() not in (heading.lower(), "exit statuses", "examples", ""):
                 yield f".SS {roff_inline(title)}"
             yield from body(sections_of(TOP / f"docs/{page}.md")[title])
-    yield ".SH SEE ALSO"
-    yield ".PP"
-    yield ", ".join(f"\\fB{roff_text(other.split('(')[0])}\\fR({other.split('(')[1]}" for other in SEE[name, number].split(", "))
-    yield ".PP"
-    yield "Pages with more, and examples: share/doc/nagsched. The C library is described in nagsched.h."
+    yield from see_also(SEE[name, number].split(", "), "Pages with more, and examples: share/doc/nagsched.")
+
+
+def code_block(lines: List[str]) -> Iterator[str]:
+    """Lines of code, as they are."""
+    yield from [".PP", ".nf", *(roff_line(roff_text(line)) for line in lines), ".fi"]
+
+
+def page_of_header() -> Iterator[str]:
+    """nagsched(3): the first comment of the header, and the types."""
+    first, _ = next(iter(manual_c.COMMENT.findall(HEADER)))
+    yield from head_of("nagsched", 3, ["nagsched"], "the scheduler of active checks, for C")
+    yield from [".SH SYNOPSIS", *code_block(["#include <nagsched.h>", "", "cc program.c $(pkg-config --cflags --libs nagsched) -lpthread"])]
+    yield ".SH DESCRIPTION"
+    yield from body(list(manual_c.page_lines(manual_c.lines_of(first))))
+    yield from [".SH TYPES", *code_block(manual_c.types_of(HEADER))]
+    yield from see_also([f"{group.names[0]}(3)" for group in manual_c.groups(HEADER)], "Pages with more, and examples: share/doc/nagsched.")
+
+
+def page_of_functions(group: manual_c.Functions) -> Iterator[str]:
+    """The page of the functions that one comment of the header describes."""
+    yield from head_of(group.names[0], 3, group.names, manual_c.summary_of(group.comment))
+    yield from [".SH SYNOPSIS", *code_block(["#include <nagsched.h>", "", *group.prototypes])]
+    yield ".SH DESCRIPTION"
+    yield from body(list(manual_c.page_lines(group.comment)))
+    yield from see_also(["nagsched(3)"], "That page explains handles, statuses, and which calls may run at the same time.")
+
+
+def pages_of_c() -> Iterator[Tuple[str, Iterator[str]]]:
+    """The pages of section 3 by their names. A name that shares a page leads to it."""
+    yield "nagsched.3", page_of_header()
+    for group in manual_c.groups(HEADER):
+        first, *others = group.names
+        yield f"{first}.3", page_of_functions(group)
+        for name in others:
+            yield f"{name}.3", iter([f".so man3/{first}.3"])
 
 
 def pages() -> Dict[str, str]:
     """The text of each manual page by the name of its file."""
-    version = (TOP / "VERSION").read_text(encoding="utf-8").strip()
-    return {f"{name}.{number}": "\n".join(tidy_lines(list(page_of(name, number, version)))) + "\n" for name, number in PARTS}
+    made = [*((f"{name}.{number}", page_of(name, number)) for name, number in PARTS), *pages_of_c()]
+    return {name: "\n".join(tidy_lines(list(lines))) + "\n" for name, lines in made}
 
 
 def main(folder: pathlib.Path) -> None:

@@ -7,7 +7,8 @@ set -eu -o pipefail
 top=$(cd "$(dirname "$0")/.." && pwd)
 mkdir -p "${1:-$top/out/packages}"
 packages=$(cd "${1:-$top/out/packages}" && pwd)
-version=$(cat "$top/VERSION")
+# A version such as 1.0.0-dev comes before 1.0.0, which Debian writes with a tilde.
+version=$(tr - '~' < "$top/VERSION")
 maintainer="Luksmeiro <nagsched@luksmeiro.example>"
 surface=$(sed -n 's/^#define NAGSCHED_VERSION \([0-9]*\)u$/\1/p' "$top/include/nagsched.h")
 work=$(mktemp -d)
@@ -15,6 +16,7 @@ trap 'rm -rf "$work"' EXIT
 DESTDIR=$work/all "$top/tools/install.sh" /usr
 all=$work/all/usr
 strip --strip-unneeded "$all/bin/nagsched" "$all/lib/libnagsched.so.$surface" "$all/lib/nagsched/nagsched-runner"
+python3 "$top/tools/build_file.py" copy "$top/crates/nagsched/out/nagsched" "$all/bin/nagsched" "$all/share/nagsched/nagsched.build"
 glibc=$(objdump -T "$all/bin/nagsched" "$all/lib/libnagsched.so" | grep -o 'GLIBC_[0-9.]*' | sort -V | tail -n 1 | cut -d_ -f2)
 
 # Scripts that make the monitor's user, and inform systemd about the unit, when the monitor's package is installed.
