@@ -131,7 +131,7 @@ class Library:
                 function.argtypes, function.restype = arguments, ctypes.c_uint32
                 setattr(self, name, function)
         except (OSError, AttributeError) as why:
-            raise ImportError(f"nagsched: no library: {why}") from why
+            raise ImportError(f"nagsched: {path} can't be loaded: set NAGSCHED_LIBRARY to libnagsched.so, which tools/build_c.sh builds ({why})") from None
         version = self.version()
         if version != VERSION:
             raise ImportError(f"nagsched: {path} has version {version} of the surface; this package is for {VERSION}")
