@@ -1,5 +1,5 @@
 #!/usr/bin/env python3
-"""Builds the C library, and compares it with its header, with the built program and with the programs that embed it.
+"""Builds the C library in its place, out/c, and compares it with its header, with the built program and with the programs that embed it.
 
     .ci/c_library.py [PROGRAM [--proved]]     crates/nagsched/out/nagsched if no program is named; needs cc, c++ and the binutils
 
@@ -21,6 +21,7 @@ import tempfile
 from concurrent.futures import ThreadPoolExecutor
 
 import anchors
+import needs
 from program import EXAMPLES, SECONDS, TOP, Harness
 from cases import runs
 
@@ -68,10 +69,11 @@ class Library:
     """The library as tools/build_c.sh installs it, and programs over it."""
 
     def __init__(self, harness, folder):
-        self.harness, self.folder, self.prefix = harness, folder, folder / "prefix"
-        built = subprocess.run([TOP / "tools" / "build_c.sh", *PROVED, self.prefix], stdout=subprocess.PIPE, stderr=subprocess.STDOUT)
-        harness.compare("tools/build_c.sh", (0, b""), (built.returncode, built.stdout))
+        self.harness, self.folder, self.prefix = harness, folder, TOP / "out" / "c"
+        built = subprocess.run([TOP / "tools" / "build_c.sh", *PROVED], stdout=subprocess.PIPE, stderr=subprocess.STDOUT, text=True)
+        harness.compare("tools/build_c.sh", 0, built.returncode)
         if built.returncode != 0:
+            print(built.stdout)
             harness.end()
         self.archive, self.shared = self.prefix / "lib" / "libnagsched.a", self.prefix / "lib" / "libnagsched.so"
 
@@ -358,6 +360,7 @@ def check_installation(harness, library):
 
 
 def main():
+    needs.require("the C library", "cc", "c++", "ld", "ar", "objcopy", "nm", "pkg-config")
     harness = Harness("the C library")
     with tempfile.TemporaryDirectory() as folder:
         library = Library(harness, pathlib.Path(folder))

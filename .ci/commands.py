@@ -11,7 +11,7 @@ import sys
 import tempfile
 
 TOP = pathlib.Path(__file__).resolve().parent.parent
-SCRIPT = r"(?:(?:tools|bench|tests|\.ci|examples)/\w+\.(?:py|sh)|conformance/check|conformance/nagios/(?:build|judge|teeth)\.(?:py|sh)|\.ci/run|monitor/nagsched-(?:monitor|gearman-worker)|monitor/build_runner\.sh)"
+SCRIPT = r"(?:(?:tools|bench|tests|\.ci|examples)/\w+\.(?:py|sh)|conformance/check|conformance/nagios/(?:build|judge|teeth)\.(?:py|sh)|monitor/nagsched-(?:monitor|gearman-worker)|monitor/build_runner\.sh)"
 BEGINS = rf"(?:nagsched|crates/nagsched/out/nagsched|nagios4|bash|cc|\(cd|{SCRIPT})"
 LINE = re.compile(rf"^(?: {{4}}|\$ )?({BEGINS}(?: .*)?)$", re.M)
 SPAN = re.compile(rf"`({BEGINS} [^`\n]*|{SCRIPT})`")
@@ -47,8 +47,8 @@ IN_THE_GATE = {
     "nagsched live --start NOW": ".ci/live.py",
     "nagsched check --resume": ".ci/resume.py",
     "nagsched check --line": ".ci/session.py",
-    "conformance/check": ".ci/run",
-    "conformance/check PROGRAM": ".ci/run",
+    "conformance/check": "tools/test.sh",
+    "conformance/check PROGRAM": "tools/test.sh",
     "cc -IPREFIX/include program.c PREFIX/lib/libnagsched.a -lpthread": ".ci/c_library.py",
     "cc program.c $(pkg-config --cflags --libs PREFIX/lib/pkgconfig/nagsched.pc) -lpthread": ".ci/c_library.py",
     "tools/build_c.sh": ".ci/c_library.py",
@@ -76,7 +76,9 @@ NAGIOS = "needs Nagios"
 MANUAL = {
     "(cd crates/nagsched && rt try < ../../examples/office.txt)": "compiles again what the gate has built",
     "(cd crates/nagsched && rt run < ../../examples/office.txt)": "proves again what the gate has proved",
-    "bash .ci/run": "is the gate",
+    "tools/test.sh": "is the gate",
+    "tools/test.sh --quick": "is a part of the gate",
+    "tools/try.sh": "compiles again what the gate has built",
     "tools/package.sh": "needs dpkg-deb and the C library",
     "nagios4 -vp /etc/nagios4/nagios.cfg": NAGIOS,
     "nagios4 -s /etc/nagios4/nagios.cfg": NAGIOS,
@@ -94,7 +96,7 @@ def is_in_the_gate(command):
     """Whether the gate runs it: a script of the gate, or a command that such a script runs."""
     part_of = IN_THE_GATE.get(command, SCRIPTS.get(command.split()[0], command))
     part = re.fullmatch(r"\.ci/(\w+)\.py", part_of)
-    return part_of == ".ci/run" or part is not None and re.search(rf"\b{part[1]}\b", (TOP / ".ci/run").read_text(encoding="utf-8")) is not None
+    return part_of == "tools/test.sh" or part is not None and re.search(rf"\b{part[1]}\b", (TOP / "tools/test.sh").read_text(encoding="utf-8")) is not None
 
 
 def unknown_options(command):

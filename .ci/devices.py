@@ -19,6 +19,8 @@ import tempfile
 from concurrent.futures import ThreadPoolExecutor
 from typing import Iterator, NamedTuple
 
+import needs
+
 HERE = pathlib.Path(__file__).resolve().parent
 sys.path.append(str(HERE.parent / "conformance"))
 from cases import cases  # noqa: E402
@@ -232,6 +234,7 @@ def trials() -> Iterator[Trial]:
 
 def main() -> int:
     """Makes all runs, and counts the outcomes."""
+    needs.require("devices", "cc")
     program = pathlib.Path(sys.argv[1]).resolve()
     with tempfile.TemporaryDirectory() as folder, ThreadPoolExecutor(os.cpu_count()) as threads:
         shim = Shim(str(program), folder)

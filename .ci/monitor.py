@@ -10,11 +10,12 @@ import json
 import os
 import pathlib
 import re
-import shutil
 import subprocess
 import sys
 import tempfile
 from concurrent.futures import ThreadPoolExecutor
+
+import needs
 
 TOP = pathlib.Path(__file__).resolve().parent.parent
 SETUP = {
@@ -57,8 +58,7 @@ def site_output(program):
 
 def mypy_report():
     """mypy's report about the monitor, from_nagios.py, the Python module and its loop; nothing if mypy isn't installed."""
-    if not shutil.which("mypy"):
-        print("monitor: passed over what mypy says of the types, which isn't here")
+    if not needs.is_here("monitor", "mypy"):
         return ""
     checks = [(["nagsched_monitor", "tests"], TOP / "monitor", ""), (["from_nagios.py"], TOP / "tools", ""), (["bindings/python/nagsched", "examples/loop.py"], TOP, "bindings/python")]
     told = ""
@@ -90,6 +90,7 @@ def run_tests(module):
 
 
 def main():
+    needs.require("monitor", "cc")
     program = str(pathlib.Path(sys.argv[1]).resolve())
     os.environ["NAGSCHED"] = program
     subprocess.run([TOP / "monitor/build_runner.sh"], check=True)

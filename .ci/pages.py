@@ -10,7 +10,6 @@ gate that runs it, or with the reason why none does.
 import ast
 import pathlib
 import re
-import shutil
 import subprocess
 import sys
 import textwrap
@@ -18,6 +17,7 @@ import textwrap
 import anchors
 import commands
 import generated
+import needs
 import style
 
 TOP = pathlib.Path(__file__).resolve().parent.parent
@@ -153,9 +153,11 @@ def main():
         compare(f"{anchors.name_of(page)}: generated text (run .ci/generated.py)", generated.page_with_generated_text(text), text)
     compare("the pages list the commands", 1, sum("<!-- commands -->" in anchors.text_of(page) for page in anchors.PAGES))
     compare_code()
-    if shutil.which("rt"):
-        kit = subprocess.run(["rt", "version"], stdout=subprocess.PIPE, text=True).stdout.strip()
-        compare("the kit's version on README", True, f"`{kit}`" in anchors.text_of(TOP / "README.md"))
+    kit = needs.kit_version()
+    if kit is None:
+        print("pages: passed over the kit's version on README: rt isn't on the path")
+    else:
+        compare("the kit's version on README", kit, needs.wanted_kit())
     compare("the form of the pages", [], list(style.all_faults()))
     commands.check(PROGRAM, anchors.PAGES, compare)
     for argument in ("--crates", "check_queue"):

@@ -16,6 +16,7 @@ import subprocess
 import tempfile
 from concurrent.futures import ThreadPoolExecutor
 
+import needs
 from program import EXAMPLES, TOP, Harness, input_lines
 
 HERE = pathlib.Path(__file__).resolve().parent
@@ -125,6 +126,7 @@ def sweep(harness, refuser, several, name, arguments, given, ample):
 
 
 def main():
+    needs.require("refusals", "cc")
     harness = Harness("refusals")
     with tempfile.TemporaryDirectory() as folder, ThreadPoolExecutor(os.cpu_count()) as threads:
         refuser = Refuser(harness, folder)

@@ -1,7 +1,7 @@
 #!/usr/bin/env python3
 """Measures the gate's time: the processor minutes of each crate's proofs, of its tests and of each must-fail edit.
 
-    bench/times.py [COMMAND..]     runs `bash .ci/run` if no command is named
+    bench/times.py [COMMAND..]     runs `tools/test.sh` if no command is named
 
 It writes the table to bench/results/gate.md, also if it is stopped by a signal. Run it manually, in a fresh clone; it is no part of the gate.
 It looks at the command's processes twice a second, and adds up what each check used, with everything that the check started. The rest, which no
@@ -132,7 +132,7 @@ def report(minutes, whole, by_clock):
 
 
 def main():
-    command = sys.argv[1:] or ["bash", ".ci/run"]
+    command = sys.argv[1:] or ["tools/test.sh"]
     began = time.monotonic()
     with subprocess.Popen(command, start_new_session=True) as running:
         times = Times(running.pid)
