@@ -5,8 +5,9 @@
 
 The program answers, and the monitor reads a site. The manual pages are shown without a warning if `mandoc` or `groff` is there. The completions can be
 read. The program's manual page has every word of its help, and section 3 has a page for every function of the C header. What isn't built is named:
-without the C library all else is installed, without the program or the runner nothing is.
+without the C library all else is installed, without the program or the runner nothing is. pip installs the Python package.
 """
+import hashlib
 import json
 import os
 import pathlib
@@ -80,6 +81,34 @@ def check_installed(program, prefix, work):
         yield "the user", "Creating user 'nagsched'" in made, True
 
 
+def record_rows(program, prefix, work):
+    """The record of how the program was built counts for the program alone, and is installed with it."""
+    copy, installed = work / "copy", prefix / "share/nagsched/nagsched.build"
+    copy.write_bytes(pathlib.Path(program).read_bytes())
+    record = f"version: {(TOP / 'VERSION').read_text().strip()}\n"
+    command_output(sys.executable, TOP / "tools/build_file.py", "write", copy, "unproved")
+    line = command_output(sys.executable, TOP / "tools/build_file.py", "show", copy)[0]
+    yield "the record", (line.startswith("copy ") and line.endswith(", not proved\n"), copy.with_suffix(".build").read_text().startswith(record)), (True, True)
+    copy.write_bytes(copy.read_bytes() + b"\n")
+    other = command_output(sys.executable, TOP / "tools/build_file.py", "show", copy)[0]
+    yield "the record of another program", other, "copy: no record says how it was built\n"
+    checksum = hashlib.sha256((prefix / "bin/nagsched").read_bytes()).hexdigest()
+    yield "the installed record", not installed.is_file() or f"sha256: {checksum}\n" in installed.read_text(), True
+
+
+def pip_rows(work):
+    """pip installs the Python package without a network. Its import without the library says what to do."""
+    if not needs.is_here("install", "pip"):
+        return
+    told, status = command_output("pip", "install", "--no-index", "--no-cache-dir", "--disable-pip-version-check", "--target", work / "packages", TOP / "bindings/python")
+    yield "pip", (status, status and told), (0, 0)
+    files = {file.name for file in (TOP / "bindings/python/nagsched").iterdir() if file.is_file()}
+    yield "the package's files", files - {file.name for file in (work / "packages/nagsched").glob("*")}, set()
+    env = os.environ | {"PYTHONPATH": str(work / "packages"), "NAGSCHED_LIBRARY": "/nowhere/libnagsched.so"}
+    last = command_output(sys.executable, "-c", "import nagsched", env=env)[0].splitlines()[-1]
+    yield "an import without the library", [words in last for words in ("/nowhere/libnagsched.so", "set NAGSCHED_LIBRARY", "tools/build_c.sh")], [True] * 3
+
+
 def built_parts(work):
     """Installs where the C library isn't built, and where nothing is: a checkout without crates and monitor."""
     told, status = command_output("bash", TOP / "tools/install.sh", work / "without", env=os.environ | {"NAGSCHED_BUILT": str(work / "nowhere")})
@@ -100,8 +129,10 @@ def main():
         work = pathlib.Path(folder)
         command_output(TOP / "monitor/build_runner.sh")
         told, status = command_output("bash", TOP / "tools/install.sh", work / "prefix")
-        rows = [("installing", (told, status), ("", 0))] if status else check_installed(sys.argv[1], work / "prefix", work)
-        for what, came, wanted in [*rows, *built_parts(work)]:
+        rows = [("installing", (told, status), ("", 0)), *built_parts(work), *pip_rows(work)]
+        if status == 0:
+            rows[0:1] = [*check_installed(sys.argv[1], work / "prefix", work), *record_rows(sys.argv[1], work / "prefix", work)]
+        for what, came, wanted in rows:
             if came == wanted:
                 passed += 1
             else:
