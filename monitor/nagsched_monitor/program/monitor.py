@@ -18,6 +18,7 @@ from ..site.site import Site, read_site
 from ..store.store import Store, drop_changes_before
 from . import addresses
 from ..run.processes import HelperProcess
+from .build_record import build_line
 from .loop import Loop
 from .poller import FilePoller
 from .site_reader import read_apart
@@ -104,6 +105,7 @@ class Monitor:
         self._install_signal_handlers()
         site = self.scheduling.site
         self.log(f"begins: {len(site.objects)} objects, {len(site.setups)} parts")
+        self.log(build_line(self._program))
         for obj in self.engine.objects.values():
             if obj.standing is not None and obj.standing.is_problem():
                 self.log(f"at the start {obj.name} is {obj.standing.state} {obj.standing.kind} {obj.standing.attempt}")
