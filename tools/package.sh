@@ -2,9 +2,14 @@
 # Makes Debian packages from the built files: nagsched, libnagsched2, libnagsched-dev, python3-nagsched, nagsched-monitor. The number
 # is the version of the library's interface.
 #   tools/package.sh [DIRECTORY]     out/packages if no folder is named
-# It builds and proves nothing: tools/install.sh installs the built files, and prints which command to run if one is missing. Needs dpkg-deb.
+# It builds and proves nothing: tools/install.sh installs the built files, and prints which command to run if one is missing. Without the C library
+# only nagsched and nagsched-monitor are made. Needs dpkg-deb and the binutils.
 set -eu -o pipefail
 top=$(cd "$(dirname "$0")/.." && pwd)
+export PYTHONDONTWRITEBYTECODE=1
+for program in dpkg-deb strip objdump; do
+    command -v "$program" > /dev/null || { echo "package: $program is missing: apt-get install dpkg binutils" >&2; exit 1; }
+done
 mkdir -p "${1:-$top/out/packages}"
 packages=$(cd "${1:-$top/out/packages}" && pwd)
 # A version such as 1.0.0-dev comes before 1.0.0, which Debian writes with a tilde.
@@ -15,9 +20,12 @@ work=$(mktemp -d)
 trap 'rm -rf "$work"' EXIT
 DESTDIR=$work/all "$top/tools/install.sh" /usr
 all=$work/all/usr
-strip --strip-unneeded "$all/bin/nagsched" "$all/lib/libnagsched.so.$surface" "$all/lib/nagsched/nagsched-runner"
+built=$(python3 "$top/tools/build_file.py" show "$top/crates/nagsched/out/nagsched")
+shared=()
+[ ! -e "$all/lib/libnagsched.so.$surface" ] || shared=("$all/lib/libnagsched.so.$surface")
+strip --strip-unneeded "$all/bin/nagsched" "$all/lib/nagsched/nagsched-runner" "${shared[@]}"
 python3 "$top/tools/build_file.py" copy "$top/crates/nagsched/out/nagsched" "$all/bin/nagsched" "$all/share/nagsched/nagsched.build"
-glibc=$(objdump -T "$all/bin/nagsched" "$all/lib/libnagsched.so" | grep -o 'GLIBC_[0-9.]*' | sort -V | tail -n 1 | cut -d_ -f2)
+glibc=$(objdump -T "$all/bin/nagsched" "${shared[@]}" | grep -o 'GLIBC_[0-9.]*' | sort -V | tail -n 1 | cut -d_ -f2)
 
 # Scripts that make the monitor's user, and inform systemd about the unit, when the monitor's package is installed.
 scripts_of_the_service() {
@@ -51,6 +59,14 @@ END
     chmod 755 "$1/postinst" "$1/prerm" "$1/postrm"
 }
 
+# What a package says of its proofs. The C library is built only if it is proved; the program has a record.
+claim_of() {
+    case $1,$built in
+        lib*|python*|*", proved") echo "Its code is proved." ;;
+        *) echo "No record says that this build is proved." ;;
+    esac
+}
+
 # Makes a package: NAME ARCHITECTURE SECTION DEPENDS SUMMARY FILE.. Each file is moved out of the whole.
 package() {
     local name=$1 architecture=$2 section=$3 depends=$4 summary=$5 file folder=$work/$1
@@ -63,7 +79,7 @@ package() {
     cp "$top/CHANGELOG.md" "$folder/usr/share/doc/$name/"
     printf 'nagsched (%s) unstable; urgency=medium\n\n  * CHANGELOG.md beside this file has what changed.\n\n -- %s  %s\n' "$version" "$maintainer" \
         "$(date -u -R -r "$top/CHANGELOG.md")" | gzip -9n > "$folder/usr/share/doc/$name/changelog.gz"
-    find "$folder/usr/share/man" -name '*.[15]' -exec gzip -9n {} + 2> /dev/null || true
+    find "$folder/usr/share/man" -name '*.[135]' -exec gzip -9n {} + 2> /dev/null || true
     cat > "$folder/DEBIAN/control" <<END
 Package: $name
 Version: $version
@@ -75,7 +91,8 @@ Depends: $depends
 Installed-Size: $(du -sk --apparent-size "$folder/usr" | cut -f1)
 Description: $summary
  nagsched decides which host or service check is due, and what each result
- means, by the rules of Nagios Core 4. Its code is proved.
+ means, by the rules of Nagios Core 4.
+ $(claim_of "$name")
 END
     if [ "$name" = nagsched-monitor ]; then
         scripts_of_the_service "$folder/DEBIAN"
@@ -89,11 +106,13 @@ END
     echo "$packages/${name}_${version}_${architecture}.deb"
 }
 
-package "libnagsched$surface" amd64 libs "libc6 (>= $glibc)" "scheduler of active checks, the library" "lib/libnagsched.so.$surface"
-package libnagsched-dev amd64 libdevel "libnagsched$surface (= $version)" "scheduler of active checks, for programs in C" \
-    lib/libnagsched.so lib/libnagsched.a include/nagsched.h lib/pkgconfig/nagsched.pc
-package python3-nagsched all python "python3 (>= 3.9), libnagsched$surface (= $version)" "scheduler of active checks, for Python" \
-    lib/python3/dist-packages/nagsched
+if [ "${#shared[@]}" -gt 0 ]; then
+    package "libnagsched$surface" amd64 libs "libc6 (>= $glibc)" "scheduler of active checks, the library" "lib/libnagsched.so.$surface"
+    package libnagsched-dev amd64 libdevel "libnagsched$surface (= $version)" "scheduler of active checks, for programs in C" \
+        lib/libnagsched.so lib/libnagsched.a include/nagsched.h lib/pkgconfig/nagsched.pc share/man/man3
+    package python3-nagsched all python "python3 (>= 3.9), libnagsched$surface (= $version)" "scheduler of active checks, for Python" \
+        lib/python3/dist-packages/nagsched
+fi
 package nagsched-monitor amd64 net "python3 (>= 3.9), nagsched (= $version), systemd | systemd-standalone-sysusers" "monitor of a site's hosts and services" \
     bin/nagsched-monitor bin/nagsched-runner bin/nagsched-gearman-worker bin/nagsched-from-nagios lib/nagsched lib/systemd lib/sysusers.d share/man/man1/nagsched-monitor.1 share/man/man1/nagsched-from-nagios.1 \
     share/bash-completion/completions/nagsched-monitor share/doc/nagsched/{monitor,tutorial,alerting,scaling,from-nagios,before-you-switch}.md
