@@ -4,7 +4,7 @@
     .ci/missing.py [PROGRAM]
 
 tools/try.sh and tools/test.sh stop at once, and name Debian's package. A part of the gate that needs a C compiler fails with a line that names it. An
-optional program is listed with what is passed over without it.
+optional program is listed with what is passed over without it. With all programs tools/try.sh plays its example.
 """
 import contextlib
 import os
@@ -96,12 +96,23 @@ def optional_rows(folder: pathlib.Path) -> Iterator[Row]:
     yield "the list without all", (status, [name for name in names if needs.lacks(name) not in output]), (0, [])
 
 
+def try_rows() -> Iterator[Row]:
+    """tools/try.sh, on the program that is in its place."""
+    if needs.kit_fault():
+        print(f"missing: passed over tools/try.sh, which needs {needs.kit_fault()}")
+        return
+    ran = subprocess.run([TOP / "tools/try.sh"], stdin=subprocess.DEVNULL, stdout=subprocess.PIPE, stderr=subprocess.STDOUT, text=True, timeout=LIMIT, check=False)
+    is_unproved = ", not proved\n" in ran.stdout
+    said = [words in ran.stdout for words in ("this is examples/office.out, to the byte", "This program isn't proved")]
+    yield "tools/try.sh", (ran.returncode, said), (0, [True, is_unproved])
+
+
 def main(program: str) -> int:
     passed, wrong = 0, 0
     with tempfile.TemporaryDirectory() as name:
         folder = pathlib.Path(name)
         link_programs(folder)
-        for what, came, wanted in (*needed_rows(folder), *compiler_rows(folder, program), *optional_rows(folder)):
+        for what, came, wanted in (*needed_rows(folder), *compiler_rows(folder, program), *optional_rows(folder), *try_rows()):
             if came == wanted:
                 passed += 1
             else:

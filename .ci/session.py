@@ -135,7 +135,7 @@ def helps(harness):
 def versions(harness):
     """The version is that of the repository's file, has status 0 and reads nothing. If help is asked for before it, help is written."""
     version = (TOP / "VERSION").read_text(encoding="utf-8").removesuffix("\n")
-    harness.compare("the file VERSION is three numbers", True, bool(re.fullmatch(r"\d+\.\d+\.\d+", version)))
+    harness.compare("the file VERSION is three numbers, with -dev before a release", True, bool(re.fullmatch(r"\d+\.\d+\.\d+(-dev)?", version)))
     for arguments in VERSIONS:
         harness.compare(arguments, (f"nagsched {version}\n".encode(), 0), run_without_input(harness, arguments))
     for arguments in NO_VERSIONS:
