@@ -79,19 +79,19 @@ report() {
 # Passes the output of `rt ci` on, and tells after each crate, and in each minute without a line, which crates are left.
 with_progress() {
     local line='' begun='' name left
-    left=$(sed -n 's/^\([a-z_]*\).*:.*/\1/p' crates.txt | tr '\n' ' ')
-    tell "$(wc -w <<< "$left") crates to prove"
+    left=" $(sed -n 's/^\([a-z_]*\).*:.*/\1/p' crates.txt | tr '\n' ' ')"
+    tell "crates to prove: $(wc -w <<< "$left")"
     while true; do
         if IFS= read -r -t 60 line; then
             line=$begun$line begun=''
             echo "$line"
             if [[ $line =~ ^rt:\ ([a-z_]+)\ (proved|is\ kept) ]]; then
-                name=${BASH_REMATCH[1]} left=" $left" left=${left/ $name / }
-                tell "$name is proved, $(wc -w <<< "$left") crates are left"
+                name=${BASH_REMATCH[1]} left=${left/ $name / }
+                tell "$name is proved, crates left: $(wc -w <<< "$left")"
             fi
         elif [[ $? -gt 128 ]]; then
             begun+=$line
-            tell "rt ci still runs; crates left: ${left:-none, its must-fail edits and tests are}"
+            tell "rt ci still runs; crates left: $(wc -w <<< "$left")$left"
         else
             break
         fi
@@ -99,9 +99,12 @@ with_progress() {
     echo "$begun"
 }
 
-# Waits until `rt ci` has proved a crate and built its program, or has ended.
+# Whether `rt ci` has proved a crate, and built its program or library.
+is_proved() { grep -qsE "^rt: $1 (proved|is kept)" "$work/ci"; }
+
+# Waits until `rt ci` has proved a crate, or has ended.
 await_program() {
-    until [[ -e $work/ci.status ]] || grep -qsE "^rt: $1 (proved|is kept)" "$work/ci"; do
+    until [[ -e $work/ci.status ]] || is_proved "$1"; do
         sleep 1
     done
 }
@@ -112,7 +115,7 @@ run_gate() {
     local proofs=$!
     await_program nagsched
     await_program nagsched_loop
-    [[ ! -x $program ]] || python3 tools/build_file.py write "$program" proved
+    ! is_proved nagsched || python3 tools/build_file.py write "$program" proved
     lane monitor &
     lane "${short[@]}" generations &
     # The installation has the library too, so it waits for it.
@@ -146,13 +149,18 @@ run_quick() {
 say_what_is_next() {
     echo "Built: $(python3 tools/build_file.py show "$program"), and monitor/out/nagsched-runner"
     [[ $kind = quick ]] || echo "Built: the C library, in out/c"
-    echo "Next: tools/install.sh [PREFIX] installs what is built; README.md has a trial beside Nagios, and one of live."
+    echo "Next: tools/install.sh [PREFIX] installs what is built; README.md shows a trial beside Nagios, and nagsched live."
 }
 
-if [[ $kind = test ]]; then run_gate; else run_quick; fi
-# The processor time of all parts, user and system.
-times > "$work/times"
-echo "processor time $(tail -n 1 "$work/times"), $((SECONDS / 60)) minutes by the clock"
-[[ $failed -gt 0 ]] || say_what_is_next
-echo "$passed passed, $failed failed"
-[[ $failed -eq 0 ]]
+main() {
+    if [[ $kind = test ]]; then run_gate; else run_quick; fi
+    # The processor time of all parts, user and system.
+    times > "$work/times"
+    echo "processor time $(tail -n 1 "$work/times"), $((SECONDS / 60)) minutes by the clock"
+    [[ $failed -gt 0 ]] || say_what_is_next
+    echo "$passed passed, $failed failed"
+    [[ $failed -eq 0 ]]
+}
+
+# On one line, since bash reads on in this file, which may have been changed meanwhile.
+main; exit
