@@ -60,7 +60,12 @@ def mypy_report():
     """mypy's report about the monitor, other scripts, the Python module and its loop; nothing if mypy isn't installed."""
     if not needs.is_here("monitor", "mypy"):
         return ""
-    checks = [(["nagsched_monitor", "tests"], TOP / "monitor", ""), (["from_nagios.py", "unproved.py", "manual_c.py"], TOP / "tools", ""), ([".ci/needs.py", ".ci/missing.py", "bindings/python/backend.py"], TOP, ""), (["bindings/python/nagsched", "examples/loop.py"], TOP, "bindings/python")]
+    checks = [
+        (["nagsched_monitor", "tests"], TOP / "monitor", ""),
+        (["from_nagios.py", "unproved.py", "manual_c.py"], TOP / "tools", ""),
+        ([".ci/needs.py", ".ci/missing.py", "bindings/python/backend.py"], TOP, ""),
+        (["bindings/python/nagsched", "examples/loop.py"], TOP, "bindings/python"),
+    ]
     told = ""
     with tempfile.TemporaryDirectory() as cache:
         for files, folder, path in checks:

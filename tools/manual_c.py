@@ -10,7 +10,7 @@ from typing import Dict, Iterator, List, NamedTuple
 
 # A comment, and what follows it up to the next comment at the beginning of a line, or an empty line before a line of the preprocessor.
 COMMENT = re.compile(r"^/\* ?(.*?)\*/\n(.*?)(?=^/\*|^#|\Z)", re.M | re.S)
-FUNCTION = re.compile(r"^(?:static inline )?\w[\w ]*[ *](nagsched_\w+)\([^;{]*?\)(?= ?[;{])", re.M)
+FUNCTION = re.compile(r"^(?:static inline )?\w[\w ]*[ *]+(nagsched_\w+)\([^;{]*?\)(?= ?[;{])", re.M)
 # A line of a list in a comment: a term and, after two spaces or more, its text; or a hyphen and its text.
 TERM = re.compile(r"^( {4,})(\S.*?) {2,}(\S.*)$")
 HYPHEN = re.compile(r"^ {2,}- (.*)$")
