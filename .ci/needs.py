@@ -48,8 +48,8 @@ PROGRAMS = {
     "promtool": Program("prometheus", "", "the rules and figures for Prometheus"),
     "amtool": Program("prometheus-alertmanager", "", "the settings for Alertmanager"),
     "pip": Program("python3-pip", "", "the installation of the Python package by pip"),
-    "valgrind": Program("valgrind", "", "tests/memcheck.sh, which isn't a part of the gate"),
-    "dpkg-deb": Program("dpkg", "", "tools/package.sh, which isn't a part of the gate"),
+    "valgrind": Program("valgrind", "", "tests/memcheck.sh (not a part of the gate)"),
+    "dpkg-deb": Program("dpkg", "", "tools/package.sh (not a part of the gate)"),
 }
 PARTS_FOR = {"try": "tools/try.sh", "quick": "tools/test.sh --quick", "test": "tools/test.sh"}
 
@@ -127,7 +127,7 @@ def optional_lines(script: str) -> List[str]:
     if script == "quick":
         # What needs proofs is passed over as a whole.
         rest = {program: it for program, it in rest.items() if not it.needed_by}
-    return [f"  {lacks(program)}: without it no test of {it.use}" for program, it in rest.items() if not path_of(program)]
+    return [f"  {lacks(program)}: {it.use}" for program, it in rest.items() if not path_of(program)]
 
 
 def main(script: str) -> int:
@@ -141,7 +141,7 @@ def main(script: str) -> int:
         return 1
     lines = optional_lines(script) if script != "try" else []
     if lines:
-        print("\n".join(["Optional programs that are missing:", *lines]), flush=True)
+        print("\n".join(["Optional programs that are missing, and what is passed over without them:", *lines]), flush=True)
     return 0
 
 

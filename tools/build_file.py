@@ -6,7 +6,7 @@
     tools/build_file.py commit                               prints the commit of the crates
     tools/build_file.py copy PROGRAM COPY FILE               writes the record of a program, as FILE, for its installed or stripped copy
 
-The file has the version, the commit, the kit, whether the program is proved, and the program's checksum. A record with another checksum is of another
+The file has the version, the commit, the kit, whether the program is proved, and the checksums of its sources and of the program. A record with another checksum is of another
 program, and counts as none. It is a note for people: whoever can write the program can write the file too.
 """
 import hashlib
@@ -18,8 +18,6 @@ from typing import Dict, List
 TOP = pathlib.Path(__file__).resolve().parent.parent
 PROOFS = {"proved": "proved", "unproved": "not proved"}
 LIMIT = 60
-# What a program is made from.
-SOURCES = ("crates", "crates.txt")
 
 
 def output_of(*words: str) -> str:
@@ -35,16 +33,17 @@ def checksum(program: pathlib.Path) -> str:
     return hashlib.sha256(program.read_bytes()).hexdigest()
 
 
-def clean_commit() -> str:
-    """The last commit that changed the crates, or nothing if they were changed after it."""
-    changed = output_of("git", "status", "--porcelain", "--", *SOURCES)
-    return "" if changed else output_of("git", "log", "-1", "--format=%h", "--abbrev=12", "--", *SOURCES)
+def sources() -> str:
+    """The checksum of all that a program is compiled from, without its proofs."""
+    files = [TOP / "crates.txt", *sorted(TOP.glob("crates/*/src/**/*.rt"))]
+    return hashlib.sha256(b"\0".join(file.read_bytes() for file in files)).hexdigest()
 
 
 def commit() -> str:
-    """The commit of the sources, and whether they were changed after it."""
-    name = output_of("git", "rev-parse", "--short=12", "HEAD")
-    return clean_commit() or (f"{name} with changes" if name else "unknown")
+    """The last commit that changed the crates, and whether they were changed after it."""
+    name = output_of("git", "log", "-1", "--format=%h", "--abbrev=12", "--", "crates", "crates.txt")
+    changed = output_of("git", "status", "--porcelain", "--", "crates", "crates.txt")
+    return f"{name} with changes" if name and changed else name or "unknown"
 
 
 def file_of(program: pathlib.Path) -> pathlib.Path:
@@ -58,6 +57,7 @@ def record(program: pathlib.Path, proofs: str) -> Dict[str, str]:
         "commit": commit(),
         "kit": output_of("rt", "version") or "unknown",
         "proofs": PROOFS[proofs],
+        "sources": sources(),
         "sha256": checksum(program),
     }
 

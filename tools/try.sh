@@ -1,7 +1,7 @@
 #!/usr/bin/env bash
 # Compiles the program without proofs, and plays examples/office.txt on it. Needs only the kit, and takes some minutes.
 #   tools/try.sh
-# A program that is already in its place is played, if it is proved or of this commit.
+# A program that is already in its place is played, if it is proved or of these sources.
 set -eu -o pipefail
 top=$(cd "$(dirname "$0")/.." && pwd)
 cd "$top"
