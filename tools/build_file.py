@@ -6,8 +6,8 @@
     tools/build_file.py commit                               prints the commit of the crates
     tools/build_file.py copy PROGRAM COPY FILE               writes the record of a program, as FILE, for its installed or stripped copy
 
-The file has the version, the commit, the kit, whether the program is proved, and the checksums of its sources and of the program. A record with another checksum is of another
-program, and counts as none. It is a note for people: whoever can write the program can write the file too.
+The file has the version, the commit, the kit, whether the program is proved, and the checksums of its sources and of the program. A record with another
+checksum is of another program, and counts as none. It is a note for people: whoever can write the program can write the file too.
 """
 import hashlib
 import pathlib
