@@ -63,7 +63,7 @@ def mypy_report():
     checks = [
         (["nagsched_monitor", "tests"], TOP / "monitor", ""),
         (["from_nagios.py", "unproved.py", "manual_c.py"], TOP / "tools", ""),
-        ([".ci/needs.py", ".ci/missing.py", "bindings/python/backend.py"], TOP, ""),
+        ([".ci/needs.py", ".ci/missing.py", ".ci/gate.py", "bindings/python/backend.py"], TOP, ""),
         (["bindings/python/nagsched", "examples/loop.py"], TOP, "bindings/python"),
     ]
     told = ""

@@ -1,0 +1,109 @@
+#!/usr/bin/env python3
+"""Runs tools/test.sh with a kit that proves nothing and parts that test nothing, and tests what the script does with their outcomes.
+
+    .ci/gate.py
+
+The last line adds up the counts, and the status is 0 only if nothing failed. The progress names each crate. Only a program that `rt ci` has proved is
+recorded as proved. A part that ends without counts is a failure.
+"""
+import os
+import pathlib
+import re
+import shutil
+import subprocess
+import sys
+import tempfile
+from typing import Iterator, Tuple
+
+TOP = pathlib.Path(__file__).resolve().parent.parent
+LIMIT = 120
+COPIED = ("VERSION", "crates.txt", "tools/test.sh", "tools/build_file.py", "tools/unproved.py")
+PART = "print('{name}: 2 passed, 0 failed')\n"
+# A kit: what rt ci says of each crate, and how it ends.
+KIT = """#!/bin/sh
+[ "$1" = ci ] || { echo a kit; exit; }
+for crate in $(sed -n 's/^\\([a-z_]*\\).*:.*/\\1/p' crates.txt); do
+    echo "== $crate"
+    if [ "$crate" = nagsched ]; then {program}; else echo "rt: $crate is kept: an earlier run"; fi
+done
+{end}
+"""
+PROVED = KIT.replace("{program}", "mkdir -p crates/nagsched/out; cp /bin/true crates/nagsched/out/nagsched; echo 'rt: nagsched proved'").replace("{end}", "echo '40 passed, 0 failed'")
+NOT_PROVED = KIT.replace("{program}", "echo 'rt: nagsched NOT PROVED'").replace("{end}", "echo '39 passed, 1 failed'; exit 1")
+# What is compared, what came, and what was wanted.
+Row = Tuple[str, object, object]
+
+
+def parts() -> list[str]:
+    """The scripts that tools/test.sh runs as parts."""
+    short = re.findall(r"^short=\((.*)\)$", (TOP / "tools/test.sh").read_text(encoding="utf-8"), re.M)
+    return [*" ".join(short).split(), "names", "edits", "generations", "install", "monitor", "c_library"]
+
+
+def make_tree(folder: pathlib.Path, kit: str) -> None:
+    """A repository whose parts test nothing, and a kit."""
+    for name in COPIED:
+        (folder / name).parent.mkdir(parents=True, exist_ok=True)
+        shutil.copy(TOP / name, folder / name)
+    (folder / ".ci").mkdir()
+    # Nothing is missing.
+    (folder / ".ci/needs.py").touch()
+    for name in parts():
+        (folder / f".ci/{name}.py").write_text(PART.format(name=name), encoding="utf-8")
+    (folder / "conformance").mkdir()
+    (folder / "conformance/check").write_text(PART.format(name="conformance"), encoding="utf-8")
+    (folder / "kit").mkdir()
+    (folder / "kit/rt").write_text(kit, encoding="utf-8")
+    (folder / "kit/rt").chmod(0o755)
+
+
+def run_gate(folder: pathlib.Path, *words: str) -> Tuple[int, str]:
+    """The status and the output of tools/test.sh there."""
+    env = os.environ | {"PATH": f"{folder}/kit{os.pathsep}{os.environ['PATH']}"}
+    ran = subprocess.run(["bash", folder / "tools/test.sh", *words], env=env, stdin=subprocess.DEVNULL, stdout=subprocess.PIPE, stderr=subprocess.STDOUT, text=True,
+                         timeout=LIMIT, check=False)
+    return ran.returncode, ran.stdout
+
+
+def record_of(folder: pathlib.Path) -> str:
+    file = folder / "crates/nagsched/out/nagsched.build"
+    return file.read_text(encoding="utf-8") if file.is_file() else ""
+
+
+def rows(work: pathlib.Path) -> Iterator[Row]:
+    """What the script does with each outcome."""
+    good, bad = work / "good", work / "bad"
+    make_tree(good, PROVED)
+    count = 2 * (len(parts()) + 1)
+    status, output = run_gate(good)
+    yield "the gate", (status, output.splitlines()[-1]), (0, f"{40 + count} passed, 0 failed")
+    crates = len(re.findall(r"^\w", (TOP / "crates.txt").read_text(encoding="utf-8"), re.M))
+    yield "its progress", re.findall(r"crates left: (\d+)$", output, re.M), [str(left) for left in reversed(range(crates))]
+    yield "its record", "proofs: proved\n" in record_of(good), True
+    (good / ".ci/damage.py").write_text("raise SystemExit(3)\n", encoding="utf-8")
+    status, output = run_gate(good)
+    yield "a part that ends without counts", (status, output.splitlines()[-1]), (1, f"{40 + count - 2} passed, 1 failed")
+    status, output = run_gate(good, "--quick")
+    yield "the quick form", (status, "Not run, since they need proofs" in output, output.splitlines()[-1]), (1, True, f"{count - 8} passed, 1 failed")
+    make_tree(bad, NOT_PROVED)
+    (bad / "crates/nagsched/out").mkdir(parents=True)
+    shutil.copy("/bin/true", bad / "crates/nagsched/out/nagsched")
+    status, output = run_gate(bad)
+    yield "proofs that fail", (status, output.splitlines()[-1], record_of(bad)), (1, f"{39 + count} passed, 1 failed", "")
+
+
+def main() -> int:
+    passed, wrong = 0, 0
+    with tempfile.TemporaryDirectory() as folder:
+        for what, came, wanted in rows(pathlib.Path(folder)):
+            if came == wanted:
+                passed += 1
+            else:
+                wrong += 1
+                print(f"gate: {what}: wanted {wanted!r}, came {came!r}")
+    print(f"gate: {passed} passed, {wrong} failed")
+    return 1 if wrong or not passed else 0
+
+
+if __name__ == "__main__":
+    sys.exit(main())
