@@ -4,7 +4,8 @@
     .ci/monitor.py PROGRAM
 
 The tests of monitor/ run over the built program: simulated days, and processes that are killed, queried and reloaded. A site is made from Nagios's own
-files, and the monitor accepts it. The loop prints the change of a small site. mypy finds no fault in the types, if it is installed.
+files, and the monitor accepts it. The loop prints the change of a small site. Packages import only those below them. mypy finds no fault in the types,
+if it is installed.
 """
 import json
 import os
@@ -74,6 +75,15 @@ def mypy_report():
     return told
 
 
+def upward_imports():
+    """The imports of the monitor's packages that go up. Its first page lists the packages, and each may import only those below it."""
+    package = TOP / "monitor/nagsched_monitor"
+    order = re.findall(r"^    (\w+)  ", (package / "__init__.py").read_text(), re.MULTILINE)
+    files = [file for file in package.glob("*/*.py") if file.stem != "__init__"]
+    imports = [(file, name) for file in files for name in re.findall(r"^ *from \.\.(\w+)", file.read_text(), re.MULTILINE)]
+    return [f"{file.relative_to(package)} imports {name}" for file, name in imports if order.index(name) <= order.index(file.parent.name)]
+
+
 def run_tests(module):
     """The number of a module's tests that passed, and of those that failed, whose output is printed. Skipped tests are named, and count as neither."""
     words = [sys.executable, "-m", "unittest", "-v", f"tests.{module}"]
@@ -112,6 +122,7 @@ def main():
     for what, wanted, came in (
         ("the loop", ["gateway;web page is CRITICAL SOFT 1"], [line for line in loop_output(program) if "SOFT 1" in line]),
         ("types", "", mypy_report()),
+        ("packages", [], upward_imports()),
         ("a site of Nagios's files", (0, "15 objects, 1 parts\n", ""), site_output(program)),
     ):
         if came == wanted:

@@ -6,12 +6,12 @@ import signal
 from typing import Any, Callable, Dict, List, Mapping, Optional, Sequence, Set, Tuple
 
 from nagsched_monitor.core.checks import TOLERANCE
-from nagsched_monitor.core.run_table import Owner
+from nagsched_monitor.core.requests import Request
 from nagsched_monitor.faults import ConversationEnded, NotStored
-from nagsched_monitor.inputs.requests import Request
-from nagsched_monitor.run.jobs import Job
+from nagsched_monitor.model.jobs import Job
+from nagsched_monitor.model.protocol import Standing
+from nagsched_monitor.model.run_table import Owner
 from nagsched_monitor.scheduler.live_process import Conversation
-from nagsched_monitor.scheduler.protocol import Standing
 from nagsched_monitor.site.site import read_site
 from nagsched_monitor.store.rows import Cell
 from nagsched_monitor.store.store import Store, Write, delete
@@ -97,7 +97,7 @@ class FaultRun:
             start(job)
 
         setattr(monitor.runners, "start", once)
-        monitor.loop.after.append(self._take_documents)
+        monitor.after.append(self._take_documents)
         monitor.lines = self.lines
         return monitor
 

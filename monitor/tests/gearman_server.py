@@ -4,9 +4,9 @@ import socket
 from dataclasses import dataclass, field
 from typing import Any, Dict, List, Optional, Tuple
 
-from nagsched_monitor.program.poller import write_ready
 from nagsched_monitor.run.gearman import HEADER, REQUEST, RESPONSE, Code
 from nagsched_monitor.run.gearman_signing import JOB, RESULT, Signer
+from nagsched_monitor.system.poller import write_ready
 
 
 def response(code: int, *parts: bytes) -> bytes:

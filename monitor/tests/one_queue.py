@@ -4,9 +4,9 @@ import unittest
 from typing import Any, Dict, List
 from unittest import mock
 
-from nagsched_monitor.program.poller import FilePoller
 from nagsched_monitor.run.gearman import Server
 from nagsched_monitor.run.gearman_queue import Queue
+from nagsched_monitor.system.poller import FilePoller
 
 from .gearman_server import ServedJob, StandInServer
 

@@ -2,7 +2,7 @@
 from dataclasses import dataclass, field
 from typing import Any, Dict, List, Mapping, Optional, Sequence, Tuple
 
-from nagsched_monitor.scheduler.protocol import Standing
+from nagsched_monitor.model.protocol import Standing
 
 STATES = ("OK", "WARNING", "CRITICAL", "UNKNOWN")
 WELL = ("OK", "UP")

@@ -6,11 +6,11 @@ import unittest
 from typing import Any, Callable, Dict, List
 from unittest import mock
 
-from nagsched_monitor.program.poller import FilePoller
 from nagsched_monitor.run.gearman import Code, Server
 from nagsched_monitor.run.gearman_signing import JOB, RESULT, Refusal, Signer
 from nagsched_monitor.run.gearman_worker import Worker
 from nagsched_monitor.run.pool import RunnerPool
+from nagsched_monitor.system.poller import FilePoller
 
 from .gearman_server import FarEnd
 from .waiting import becomes_true

@@ -5,8 +5,8 @@ import sys
 from typing import Any, Dict, Iterable, List, Optional, Sequence, Tuple
 from unittest import mock
 
-from nagsched_monitor.core.mirroring import Mirrors, PlannedCall
-from nagsched_monitor.scheduler.protocol import Answer, Call, Report, Standing, Status
+from nagsched_monitor.model.protocol import Answer, Call, Report, Standing, Status
+from nagsched_monitor.scheduler.mirroring import Mirrors, PlannedCall
 from nagsched_monitor.scheduler.scheduling import ObjectAnswer
 from nagsched_monitor.site.site import read_site
 from nagsched_monitor.store.rows import StoredChange

@@ -6,7 +6,7 @@ import sys
 from typing import Any, Dict, List, Optional
 
 from nagsched_monitor.faults import MonitorFault
-from nagsched_monitor.inputs import control
+from nagsched_monitor.inputs import client
 
 from .simulated import PROGRAM, SiteTest
 from .waiting import LONG, becomes_true
@@ -35,7 +35,7 @@ class ProcessTest(SiteTest):
 
     def is_answering(self) -> bool:
         try:
-            return bool(control.send_request(self.folder, b'{"do":"signs"}'))
+            return bool(client.send_request(self.folder, b'{"do":"signs"}'))
         except MonitorFault:
             return False
 

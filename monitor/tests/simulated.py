@@ -9,11 +9,10 @@ from dataclasses import dataclass, field
 from typing import Any, Callable, Dict, List, Mapping, Optional, Set, Tuple
 
 from nagsched_monitor.core.engine import Engine
-from nagsched_monitor.core.run_table import Owner
-from nagsched_monitor.inputs.requests import Request
+from nagsched_monitor.core.requests import Request
+from nagsched_monitor.model.jobs import Event, Job, JobFinished, JobLost
+from nagsched_monitor.model.run_table import Owner
 from nagsched_monitor.program.loop import Loop
-from nagsched_monitor.program.poller import FilePoller
-from nagsched_monitor.run.jobs import Event, Job, JobFinished, JobLost
 from nagsched_monitor.run.runners import RunnerPools
 from nagsched_monitor.scheduler.live_process import Conversation
 from nagsched_monitor.scheduler.schedulers import ConversationFactory
@@ -21,6 +20,7 @@ from nagsched_monitor.scheduler.scheduling import Scheduling
 from nagsched_monitor.site.site import Site, read_site
 from nagsched_monitor.store.rows import StoredChange, StoredResult
 from nagsched_monitor.store.store import Store, insert
+from nagsched_monitor.system.poller import FilePoller
 
 PROGRAM = os.environ.get("NAGSCHED", "nagsched")
 # 2026-11-27 08:00:00, in UTC.
@@ -126,10 +126,12 @@ class SimulatedMonitor:
             self.close()
             raise
         self.runners = SimulatedRunners(self.clock, plugin)
-        self.engine = Engine(self.scheduling, self.runners, self.store, self.clock, self.log)
-        self.engine.requests.log = self.log
-        self.loop = Loop(self.engine, SimulatedPoller(self.clock, self.runners), self.clock, self.log)
-        self.loop.after = [self.take_changes]
+        self.engine = Engine(self.scheduling, self.runners, self.store, self.clock, self.log,
+                             lambda request: request.reply({"done": "reload"}), lambda: self.loop.stop())
+        # Actions of its loop after each turn, and every second.
+        self.after: List[Callable[[], Optional[int]]] = [self.take_changes]
+        self.chores: List[Callable[[], None]] = []
+        self.loop = Loop(self.engine, SimulatedPoller(self.clock, self.runners), self.clock, self.log, [], self.after, self.chores)
 
     def log(self, line: str) -> None:
         self.lines.append(line)
@@ -138,8 +140,9 @@ class SimulatedMonitor:
     def site(self) -> Site:
         return self.scheduling.site
 
-    def take_changes(self) -> None:
+    def take_changes(self) -> Optional[int]:
         self.changes += [(self.clock.now, change) for change in self.scheduling.pop_changes()]
+        return None
 
     def run(self, seconds: float) -> None:
         """Continues for this time, with a turn when something is due or has come."""

@@ -10,9 +10,10 @@ from typing import List, Optional
 from unittest import mock
 
 from nagsched_monitor.faults import NotStored
+from nagsched_monitor.model.protocol import Standing
 from nagsched_monitor.outputs import changes
-from nagsched_monitor.outputs.changes import MOST_AGE, PAUSE, Notifier, change_document, change_line, is_change, is_important
-from nagsched_monitor.scheduler.protocol import Standing
+from nagsched_monitor.outputs.changes import MOST_AGE, PAUSE, Notifier, change_line
+from nagsched_monitor.scheduler.changes import change_document, is_change, is_important
 from nagsched_monitor.store.rows import StoredChange
 from nagsched_monitor.store.store import Store, store_change
 

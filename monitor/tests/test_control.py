@@ -6,11 +6,11 @@ import threading
 from typing import List
 from unittest import mock
 
-from nagsched_monitor.inputs import control
+from nagsched_monitor.inputs import client, control
 
+from nagsched_monitor.core.requests import Request
 from nagsched_monitor.faults import MonitorFault
-from nagsched_monitor.inputs.requests import Request
-from nagsched_monitor.program.poller import FilePoller
+from nagsched_monitor.system.poller import FilePoller
 
 from .simulated import SiteTest
 from .waiting import becomes_true
@@ -37,7 +37,7 @@ class Socket(SiteTest):
     def asking(self) -> socket.socket:
         connection = socket.socket(socket.AF_UNIX, socket.SOCK_STREAM)
         self.addCleanup(connection.close)
-        connection.connect(control.short_path(self.folder / control.NAME))
+        connection.connect(client.short_path(self.folder / client.NAME))
         return connection
 
     def turn(self, made: control.ControlSocket) -> bool:
@@ -50,9 +50,9 @@ class Socket(SiteTest):
 
     def test_lines_there_and_back(self) -> None:
         made = self.serving()
-        self.assertEqual((self.folder / control.NAME).stat().st_mode & 0o777, 0o600)
+        self.assertEqual((self.folder / client.NAME).stat().st_mode & 0o777, 0o600)
         answers: List[bytes] = []
-        asking = threading.Thread(target=lambda: answers.extend([control.send_request(self.folder, b"one"), control.send_request(self.folder, b"two")]))
+        asking = threading.Thread(target=lambda: answers.extend([client.send_request(self.folder, b"one"), client.send_request(self.folder, b"two")]))
         asking.start()
         self.assertTrue(becomes_true(lambda: self.turn(made) or not asking.is_alive()))
         self.assertEqual(answers, [self.answer("one"), self.answer("two")])
@@ -104,7 +104,7 @@ class Socket(SiteTest):
         """It comes whole. A client that leaves more than the limit unread is dropped with its next answer."""
         made = self.serving(3 * control.UNREAD_BYTES)
         answers: List[bytes] = []
-        asking = threading.Thread(target=lambda: answers.append(control.send_request(self.folder, b"one")))
+        asking = threading.Thread(target=lambda: answers.append(client.send_request(self.folder, b"one")))
         asking.start()
         self.assertTrue(becomes_true(lambda: self.turn(made) or not asking.is_alive()))
         self.assertEqual(answers, [self.answer("one", 3 * control.UNREAD_BYTES)])
@@ -164,4 +164,4 @@ class Socket(SiteTest):
 
     def test_no_monitor(self) -> None:
         with self.assertRaisesRegex(MonitorFault, "no monitor runs on"):
-            control.send_request(self.folder, b"{}")
+            client.send_request(self.folder, b"{}")

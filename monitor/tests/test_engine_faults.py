@@ -3,7 +3,7 @@ from typing import Any, List, Sequence, Set
 from unittest import mock
 
 from nagsched_monitor.faults import ConversationEnded, NotStored
-from nagsched_monitor.run.jobs import Job, JobFinished, JobLost, StuckJobEnded
+from nagsched_monitor.model.jobs import Job, JobFinished, JobLost, StuckJobEnded
 from nagsched_monitor.scheduler.live_process import Conversation
 from nagsched_monitor.site.site import read_site
 

@@ -4,8 +4,8 @@ import unittest
 from functools import partial
 from typing import List, Optional
 
-from nagsched_monitor.program.poller import FilePoller
 from nagsched_monitor.run.gearman import HEADER, LONGEST_PACKET, REQUEST, RESPONSE, Code, Packet, Server, connect
+from nagsched_monitor.system.poller import FilePoller
 
 from .gearman_server import response
 from .waiting import becomes_true

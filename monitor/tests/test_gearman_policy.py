@@ -5,9 +5,9 @@ import random
 import time
 from typing import Any, Callable, Dict, List, Optional
 
+from nagsched_monitor.model.jobs import Event, Job, JobFinished
 from nagsched_monitor.run.gearman_signing import JOB, RESULT, SKEW, JobPolicy, Refusal, Signer
 from nagsched_monitor.run.gearman_worker import LOG_REFUSALS_EVERY
-from nagsched_monitor.run.jobs import Event, Job, JobFinished
 
 from .one_worker import WorkerTest
 

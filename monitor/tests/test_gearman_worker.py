@@ -10,11 +10,11 @@ from unittest import mock
 
 from nagsched_monitor.run import gearman_worker
 
+from nagsched_monitor.model.jobs import JobFinished
 from nagsched_monitor.run.gearman import ECHO_EVERY, RETRY, Code
 from nagsched_monitor.run.gearman_queue import read_result
 from nagsched_monitor.run.gearman_signing import RESULT
 from nagsched_monitor.run.gearman_worker import GRACE
-from nagsched_monitor.run.jobs import JobFinished
 from nagsched_monitor.run.pool import RunnerPool
 
 from .one_worker import WorkerTest

@@ -4,9 +4,9 @@ import unittest
 from typing import Any, List
 from unittest import mock
 
-from nagsched_monitor.inputs.requests import Request
-from nagsched_monitor.program.log import MOST_LINES, Log
+from nagsched_monitor.core.requests import Request
 from nagsched_monitor.program.loop import BROKEN
+from nagsched_monitor.system.log import MOST_LINES, Log
 
 from .simulated import SiteTest, fine, host
 from .waiting import becomes_true
@@ -62,7 +62,7 @@ class Faults(SiteTest):
         self.write_site([host("web")], [])
         monitor = self.monitor(fine)
         done: List[int] = []
-        monitor.loop.chores = [lambda: done.append(monitor.clock.now)]
+        monitor.chores.append(lambda: done.append(monitor.clock.now))
         monitor.work(30)
         self.assertTrue(25 <= len(done) <= 31, len(done))
 

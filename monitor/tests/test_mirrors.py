@@ -5,7 +5,7 @@ from typing import Any, Dict, List, Tuple
 from unittest import mock
 
 from nagsched_monitor.faults import NotStored
-from nagsched_monitor.scheduler.protocol import Reschedule
+from nagsched_monitor.model.protocol import Reschedule
 
 from .parted import PartedSiteTest, depends, host, mirror, service, setup
 from .simulated import BEGIN, Plugin, SimulatedMonitor, fine

@@ -6,7 +6,7 @@ import sqlite3
 import time
 from typing import Any, Dict
 
-from nagsched_monitor.scheduler.protocol import Standing, Status
+from nagsched_monitor.model.protocol import Standing, Status
 from nagsched_monitor.scheduler.scheduling import Scheduling
 from nagsched_monitor.site.site import read_site
 from nagsched_monitor.store.store import Store

@@ -11,8 +11,8 @@ from typing import Any, List, Tuple
 from unittest import mock
 
 from nagsched_monitor.faults import MonitorFault
-from nagsched_monitor.run.processes import LONGEST_PAUSE, HelperProcess
-from nagsched_monitor.program.addresses import is_loopback, parse_address, test_url
+from nagsched_monitor.system.addresses import is_loopback, parse_address, test_url
+from nagsched_monitor.system.processes import LONGEST_PAUSE, HelperProcess
 
 from .simulated import PROGRAM, SiteTest
 from .waiting import becomes_true

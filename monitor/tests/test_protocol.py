@@ -2,7 +2,7 @@
 import unittest
 from typing import List
 
-from nagsched_monitor.scheduler.protocol import Abandon, Call, Enable, Report, Reschedule, Status, Take, call_line, read_call
+from nagsched_monitor.model.protocol import Abandon, Call, Enable, Report, Reschedule, Status, Take, call_line, read_call
 
 
 class Calls(unittest.TestCase):

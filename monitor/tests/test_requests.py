@@ -3,12 +3,9 @@ import json
 from typing import Any, Dict, List, Mapping
 from unittest import mock
 
-
-from nagsched_monitor.core import passive
-
+from nagsched_monitor.core import passive, requests
+from nagsched_monitor.core.requests import Request
 from nagsched_monitor.faults import NotStored
-from nagsched_monitor.inputs import requests
-from nagsched_monitor.inputs.requests import Request
 
 from .simulated import SimulatedMonitor, SiteTest, fine
 
@@ -164,11 +161,9 @@ class Words(SiteTest):
         self.assertEqual(self.monitored.store.last_call, before)
 
     def test_others(self) -> None:
-        words = self.monitored.engine.requests
-        words.stop, words.reload = lambda: self.asked.append("stop"), lambda request: request.reply({"done": "reload"})
         self.assertEqual(self.ask(do="reload"), {"done": "reload"})
         self.assertEqual(self.ask(do="stop"), {"done": "stop"})
-        self.assertEqual(self.asked, ["stop"])
+        self.assertEqual(self.monitored.loop.status, 0)
         self.assertGreater(len(self.monitored.store.calls_since(0, 0)), 0)
         self.assertEqual(self.ask(do="save"), {"done": "save"})
         self.assertEqual(self.monitored.store.calls_since(0, 0), [])

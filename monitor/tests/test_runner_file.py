@@ -6,11 +6,11 @@ import unittest
 from typing import Any, Dict, List, Tuple
 
 from nagsched_monitor.faults import SiteFault
-from nagsched_monitor.program.poller import FilePoller
-from nagsched_monitor.run.jobs import Job, JobFinished, JobLost
+from nagsched_monitor.model.jobs import Job, JobFinished, JobLost
 from nagsched_monitor.run.runners import RunnerPools
 from nagsched_monitor.site.runner_file import Remote, read_runners
 from nagsched_monitor.site.site import read_site
+from nagsched_monitor.system.poller import FilePoller
 
 from .simulated import PROGRAM, SiteTest
 

@@ -10,9 +10,9 @@ import unittest
 from typing import Any, List
 from unittest import mock
 
-from nagsched_monitor.program.poller import FilePoller
-from nagsched_monitor.run.jobs import Job, JobFinished, JobLost, StuckJobEnded
+from nagsched_monitor.model.jobs import Job, JobFinished, JobLost, StuckJobEnded
 from nagsched_monitor.run.runners import RunnerPools
+from nagsched_monitor.system.poller import FilePoller
 
 from .waiting import LONG, becomes_true
 

@@ -4,7 +4,7 @@ import subprocess
 from unittest import mock
 
 from nagsched_monitor.faults import SiteFault
-from nagsched_monitor.site.command_lines import Command
+from nagsched_monitor.model.definitions import Command
 from nagsched_monitor.site.site import read_site
 
 from .simulated import PROGRAM, SiteTest

@@ -5,10 +5,10 @@ import unittest
 from typing import List, Tuple
 from unittest import mock
 
-from nagsched_monitor.core.clock import SystemClock
-from nagsched_monitor.core.object_state import ENOUGH, LONGEST_SHARING, DueQueue
+from nagsched_monitor.model.clock import SystemClock
+from nagsched_monitor.model.object_state import ENOUGH, LONGEST_SHARING, DueQueue
 from nagsched_monitor.program.loop import BETWEEN_TURNS, Loop, next_turn_time
-from nagsched_monitor.program.poller import FilePoller
+from nagsched_monitor.system.poller import FilePoller
 
 INTERVAL = 10_000
 
@@ -87,7 +87,7 @@ class Waiting(unittest.TestCase):
         self.poller = FilePoller()
         self.poller.watch(self.there, lambda: self.read.append(os.read(self.there, 10)))
         self.clock = SystemClock()
-        self.loop = Loop(mock.Mock(), self.poller, self.clock, lambda line: None)
+        self.loop = Loop(mock.Mock(), self.poller, self.clock, lambda line: None, [], [], [])
 
     def test_what_came_since_the_last_turn_has_a_turn_at_once(self) -> None:
         os.write(self.back, b"x")

@@ -3,7 +3,7 @@ import unittest
 from typing import Tuple
 
 from nagsched_monitor.core.plugin_runs import verdict
-from nagsched_monitor.run.jobs import Job, JobFinished
+from nagsched_monitor.model.jobs import Job, JobFinished
 
 WARNING, CRITICAL, UNKNOWN = 1, 2, 3
 

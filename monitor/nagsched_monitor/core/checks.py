@@ -3,11 +3,11 @@ import collections
 from functools import partial
 from typing import Callable, Dict, List, Mapping, Optional, Sequence, Tuple
 
-from ..scheduler.protocol import Enable, Reschedule, Standing, Take
+from ..model.clock import Clock
+from ..model.definitions import ObjectDefinition
+from ..model.object_state import HOST_FIRST, RESULT_FIRST, ObjectState
+from ..model.protocol import Enable, Reschedule, Standing, Take
 from ..scheduler.scheduling import Scheduling
-from ..site.site import ObjectDefinition
-from .clock import Clock
-from .object_state import HOST_FIRST, RESULT_FIRST, ObjectState
 from .passive import PassiveResults
 from .plan import Plan
 

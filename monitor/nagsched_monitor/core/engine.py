@@ -5,23 +5,23 @@ simulate a day in seconds.
 """
 import collections
 from functools import partial
-from typing import Callable, Deque, List, Optional, Sequence
+from typing import Any, Callable, Deque, Dict, List, Optional, Sequence
 
 from ..faults import ConversationEnded, NotStored
-from ..inputs.requests import Request, Requests
+from ..model.clock import Clock
+from ..model.object_state import ObjectState
+from ..model.protocol import Abandon, Call, Freed, Refused, Report, Reschedule, Standing, Taken, call_line
+from ..model.run_table import Owner
 from ..run.runners import RunnerPools
-from ..scheduler.protocol import Abandon, Call, Freed, Refused, Report, Reschedule, Standing, Taken, call_line
 from ..scheduler.scheduling import ObjectAnswer, Scheduling
 from ..site.site import Site
 from ..store.counters import Counters
 from ..store.store import Store, store_figures
 from .checks import Checks
-from .clock import Clock
-from .object_state import ObjectState
 from .passive import PassiveResults
 from .plan import Plan
 from .plugin_runs import MARGIN, PluginRuns
-from .run_table import Owner
+from .requests import Actions, Request, Requests
 
 # The longest time between two turns that isn't a pause, in milliseconds.
 PAUSE = 10_000
@@ -37,7 +37,8 @@ SAVE_AGAIN = 10_000
 
 
 class Engine:
-    def __init__(self, scheduling: Scheduling, runners: RunnerPools, store: Store, clock: Clock, log: Callable[[str], None]) -> None:
+    def __init__(self, scheduling: Scheduling, runners: RunnerPools, store: Store, clock: Clock, log: Callable[[str], None],
+                 reload: Callable[[Request], None], stop: Callable[[], None]) -> None:
         self.scheduling, self.store, self.runners, self._clock, self._log = scheduling, store, runners, clock, log
         self.objects = scheduling.states.objects
         self._now = clock.moment()
@@ -46,7 +47,7 @@ class Engine:
         self.passive = PassiveResults(store, scheduling, log)
         self.checks = Checks(scheduling, self.passive, store.switches(), clock, log)
         self.plugins = PluginRuns(scheduling, runners, clock, log, self.counters)
-        self.requests = Requests(self, clock)
+        self.requests = Requests(scheduling, store, self.checks, self.passive, clock, log, Actions(self.signs, self.save, reload, stop))
         # Requests that wait for a turn, and those that are stored and not answered yet.
         self._requests: List[Request] = []
         self._stored_requests: List[Request] = []
@@ -186,6 +187,19 @@ class Engine:
     def time_since_turn(self) -> int:
         """The milliseconds since the beginning of the last turn that stored everything it had to."""
         return self._clock.moment() - (self._now if self._last_turn is None else self._last_turn)
+
+    def signs(self) -> Dict[str, Any]:
+        """The signs of life, for those who ask."""
+        wall = self._clock.wall()
+        try:
+            changes, first = self.store.waiting_changes()
+        except NotStored:
+            changes, first = 0, None
+        return {
+            "turn": wall - self.time_since_turn() / 1000, "is_stuck": self.is_stuck, "passive_waiting": self.passive.count, "changes_waiting": changes,
+            "oldest_change": 0.0 if first is None else max(0.0, wall - first), "runners": self.runners.process_counts(),
+            "out": len(self.scheduling.states.running.plugins()), "made": self.counters.result_count, "latest_start": self.counters.latest_start,
+        }
 
     def _schedule_save(self) -> None:
         """Has the next part saved at a later time, or after enough calls from now on."""

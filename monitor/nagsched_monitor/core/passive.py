@@ -4,14 +4,14 @@ from functools import partial
 from typing import Callable, Deque, Dict, Iterator
 
 from ..faults import NotStored
-from ..scheduler.protocol import Report, Take
+from ..model.object_state import RESULT_FIRST, ObjectState
+from ..model.protocol import Report, Take
+from ..model.run_table import Owner
+from ..scheduler.mirroring import forced_take
 from ..scheduler.scheduling import Scheduling
 from ..store.rows import StoredResult
 from ..store.store import Store, delete
-from .mirroring import forced_take
-from .object_state import RESULT_FIRST, ObjectState
 from .plan import Plan
-from .run_table import Owner
 
 # The greatest number of results that may wait.
 MOST_WAITING = 10_000

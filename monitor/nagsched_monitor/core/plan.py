@@ -2,8 +2,8 @@
 from dataclasses import dataclass, field
 from typing import Callable, List, Set
 
+from ..scheduler.mirroring import PlannedCall
 from ..store.store import Write
-from .mirroring import PlannedCall
 
 
 @dataclass

@@ -3,18 +3,18 @@ import collections
 from functools import partial
 from typing import Callable, Counter, Dict, List, Tuple, Union
 
-from ..run.jobs import Event, Job, JobFinished, JobLost, StuckJobEnded
+from ..model.clock import Clock
+from ..model.definitions import Command
+from ..model.jobs import Event, Job, JobFinished, JobLost, StuckJobEnded
+from ..model.object_state import FIRST_TIME, ObjectState
+from ..model.protocol import GREATEST_CODE, Abandon, Report, Reschedule
+from ..model.run_table import Owner, Run
+from ..model.text import plain_text
 from ..run.runners import RunnerPools
-from ..scheduler.protocol import GREATEST_CODE, Abandon, Report, Reschedule
+from ..scheduler.mirroring import PlannedCall
 from ..scheduler.scheduling import Scheduling
-from ..site.command_lines import Command
 from ..store.counters import Counters
-from .clock import Clock
-from .mirroring import PlannedCall
-from .object_state import FIRST_TIME, ObjectState
 from .plan import Plan
-from .run_table import Owner, Run
-from .text import plain_text
 
 # How often a check whose runner ended is made again, and its result if it is lost once more.
 MOST_LOST = 2

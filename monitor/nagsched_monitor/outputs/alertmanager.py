@@ -12,9 +12,9 @@ import time
 import urllib.request
 from typing import Any, Dict, FrozenSet, List, Mapping, Optional, Tuple
 
-from ..core.text import first_line
-from ..run.processes import is_ended
+from ..model.text import first_line
 from ..site.groups_file import Groups, GroupsFile, labels_of
+from ..system.processes import is_ended
 from .status_query import PROBLEMS, SiteStatus, StatusUnavailable, read_site_status
 
 # In seconds: the time between two posts of all alerts, the end of an alert after its post, the time between two looks at the database, and the limit for

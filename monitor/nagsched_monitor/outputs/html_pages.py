@@ -7,8 +7,8 @@ import html
 import urllib.parse
 from typing import Collection, List, Mapping, Optional, Sequence, Tuple
 
-from ..core.clock import LAST_TIME
-from ..core.text import CONTROLS, first_line
+from ..model.clock import LAST_TIME
+from ..model.text import CONTROLS, first_line
 from ..site.groups_file import Groups
 from ..store.rows import StoredChange, StoredStanding
 from .status_query import DAY, ObjectStatus, SiteStatus

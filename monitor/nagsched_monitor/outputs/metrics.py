@@ -6,7 +6,7 @@ import pathlib
 from typing import Any, Dict, List, Mapping, Sequence, Tuple, Union
 
 from ..faults import MonitorFault
-from ..inputs import control
+from ..inputs.client import send_request
 from ..site.groups_file import Groups, labels_of
 from ..store.counters import BOUNDS, BUCKETS, RESULTS
 from .nagios_blocks import HOST_STATES, SERVICE_STATES
@@ -51,7 +51,7 @@ def latency(figures: Mapping[str, float]) -> List[Sample]:
 def read_signs(folder: pathlib.Path) -> Signs:
     """The monitor's own signs of life; nothing if it gives no answer."""
     try:
-        return dict(json.loads(control.send_request(folder, b'{"do":"signs"}', PATIENCE) or b"{}"))
+        return dict(json.loads(send_request(folder, b'{"do":"signs"}', PATIENCE) or b"{}"))
     except (MonitorFault, ValueError):
         return {}
 

@@ -14,10 +14,10 @@ import time
 from typing import Dict, List, Optional, Sequence, Tuple
 
 from ..faults import MonitorFault, RequestFault
-from ..inputs import control
+from ..inputs.client import send_requests
 from ..inputs.nagios_pipe import Pipe, Request, requests_of
-from ..run.processes import is_ended
 from ..store.rows import StoredStanding
+from ..system.processes import is_ended
 from .nagios_blocks import Document, Program, Settings, settings_of, status_file
 from .status_query import MEMBERS, StatusUnavailable, open_database, read_standings
 
@@ -133,7 +133,7 @@ class NagiosFiles:
         while self._waiting:
             some = self._waiting[:AT_ONCE]
             try:
-                answers = control.send_requests(self._site, [json.dumps(request, ensure_ascii=False).encode(errors="replace") for _, request in some])
+                answers = send_requests(self._site, [json.dumps(request, ensure_ascii=False).encode(errors="replace") for _, request in some])
             except MonitorFault:
                 return  # it begins, ends or reads its site; the request is sent again
             again = []

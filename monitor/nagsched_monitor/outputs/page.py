@@ -22,10 +22,10 @@ from http import HTTPStatus
 from typing import Any, Dict, Optional, Sequence, Tuple
 
 from ..faults import MonitorFault, SiteFault
-from ..program.addresses import parse_address
-from ..run.processes import is_ended
 from ..site.groups_file import GroupsFile
 from ..site.site import read_options
+from ..system.addresses import parse_address
+from ..system.processes import is_ended
 from . import html_pages, metrics
 from .status_query import StatusUnavailable, read_object, read_site_status
 

@@ -5,8 +5,8 @@ Its arguments are the site's folder and the file.
 import pathlib
 import sys
 
-from ..run.processes import is_ended
 from ..site.groups_file import GroupsFile
+from ..system.processes import is_ended
 from .metrics import metrics, read_signs
 from .nagios_files import replace_file
 from .status_query import StatusUnavailable, read_site_status

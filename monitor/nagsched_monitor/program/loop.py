@@ -3,12 +3,12 @@
 A turn costs far more than one more check in it, so events that come close together share one.
 """
 import traceback
-from typing import Callable, List, Optional
+from typing import Callable, Optional, Sequence
 
-from ..core.clock import Clock
 from ..core.engine import Engine
-from ..core.object_state import LONGEST_SHARING
-from .poller import FilePoller
+from ..model.clock import Clock
+from ..model.object_state import LONGEST_SHARING
+from ..system.poller import FilePoller
 
 # All times are in milliseconds. The least time from one turn to the next, and how far off a due check may be so that results wait for its turn.
 BETWEEN_TURNS, LONGEST_UNREPORTED = 50, 250
@@ -17,17 +17,17 @@ CHORES_EVERY = 1_000
 AFTER_FAULT = 1_000
 MOST_FAULTS = 3
 BROKEN = 70
+# An action before or after each turn: it returns how long the next turn may wait, or None. The others are carried out every second.
+Action = Callable[[], Optional[int]]
 
 
 class Loop:
     """Turns, and the actions around them."""
 
-    def __init__(self, engine: Engine, poller: FilePoller, clock: Clock, log: Callable[[str], None]) -> None:
+    def __init__(self, engine: Engine, poller: FilePoller, clock: Clock, log: Callable[[str], None], before: Sequence[Action], after: Sequence[Action],
+                 chores: Sequence[Callable[[], None]]) -> None:
         self._engine, self._poller, self._clock, self._log = engine, poller, clock, log
-        # Actions before each turn, after it, and every second. Those before and after a turn return how long the next one may wait, or None.
-        self.before: List[Callable[[], Optional[int]]] = []
-        self.after: List[Callable[[], Optional[int]]] = []
-        self.chores: List[Callable[[], None]] = []
+        self._before, self._after, self._chores = before, after, chores
         # The exit status of the process, when the loop has to end.
         self.status: Optional[int] = None
         self._chores_at = 0
@@ -55,13 +55,13 @@ class Loop:
             self.wait(begun, wanted, self._engine.scheduling.states.due.shared_time())
 
     def _turn(self, begun: int) -> int:
-        waits = [each() for each in self.before]
+        waits = [each() for each in self._before]
         self._engine.requests.begin_turn()
         wanted = self._engine.turn()
-        waits += [each() for each in self.after]
+        waits += [each() for each in self._after]
         if begun >= self._chores_at:
             self._chores_at = begun + CHORES_EVERY
-            for chore in self.chores:
+            for chore in self._chores:
                 chore()
         return 0 if 0 in waits else min([wanted, *(self._clock.moment() + wait for wait in waits if wait is not None)])
 

@@ -10,14 +10,14 @@ import sqlite3
 import sys
 from typing import Any, Dict, List, Optional
 
-from ..core.text import first_line
 from ..faults import MonitorFault, NotStored
-from ..inputs import control
+from ..inputs.client import send_request
+from ..model.text import first_line
 from ..outputs.status_query import StatusUnavailable, read_site_status
 from ..site.site import read_site
 from ..store.rows import StoredStanding
-from . import addresses
-from .log import Log
+from ..system import addresses
+from ..system.log import Log
 from .monitor import Monitor
 from .site_reader import LIMIT as READING_LIMIT
 
@@ -113,12 +113,12 @@ def print_status(arguments: argparse.Namespace) -> int:
     return int(silent is not None)
 
 
-def send_request(arguments: argparse.Namespace) -> int:
+def ask_monitor(arguments: argparse.Namespace) -> int:
     """Sends a request to the running monitor, and prints its answer."""
     given = {member: getattr(arguments, member, None) for member in ("name", "at", "force", "code", "output")}
     request = {"do": arguments.command, **{member: value for member, value in given.items() if value is not None}}
     patience = RELOAD_PATIENCE if arguments.command == "reload" else PATIENCE
-    answer = json.loads(control.send_request(arguments.folder, json.dumps(request).encode(), patience) or b'{"error": "the monitor ended"}')
+    answer = json.loads(send_request(arguments.folder, json.dumps(request).encode(), patience) or b'{"error": "the monitor ended"}')
     if "error" in answer:
         raise MonitorFault(answer["error"])
     print(answer_text(answer))
@@ -136,7 +136,7 @@ def main(given: Optional[List[str]] = None) -> int:
     with contextlib.closing(Log()) as log:
         try:
             if arguments.command is not None:
-                return {"test": test_site, "status": print_status}.get(arguments.command, send_request)(arguments)
+                return {"test": test_site, "status": print_status}.get(arguments.command, ask_monitor)(arguments)
             if arguments.page is not None:
                 addresses.parse_address(arguments.page)
             for url in arguments.alertmanager:

@@ -5,22 +5,22 @@ import signal
 import time
 from typing import Any, Callable, Dict, Generator, List, Optional, Sequence
 
-from ..core.clock import Clock, SystemClock
 from ..core.engine import Engine
+from ..core.requests import Request
 from ..faults import ConversationEnded, MonitorFault, NotStored
 from ..inputs import control
-from ..inputs.requests import Request
+from ..model.clock import Clock, SystemClock
 from ..outputs.changes import Notifier, change_line
 from ..outputs.sd_notify import ServiceManager
 from ..run.runners import RunnerPools, raise_file_limit
 from ..scheduler.scheduling import Scheduling
 from ..site.site import Site, read_site
 from ..store.store import Store, drop_changes_before
-from . import addresses
-from ..run.processes import HelperProcess
+from ..system import addresses
+from ..system.poller import FilePoller
+from ..system.processes import HelperProcess
 from .build_record import build_line
 from .loop import Loop
-from .poller import FilePoller
 from .site_reader import read_apart
 
 DAY = 86_400
@@ -48,19 +48,16 @@ class Monitor:
         self.scheduling = self._open_scheduling(site)
         self.runners = RunnerPools(len(os.sched_getaffinity(0)), self.log, self._poller)
         self.runners.set_remotes(site.runners)
-        self.engine = Engine(self.scheduling, self.runners, self.store, self.clock, self.log)
-        self.control = control.ControlSocket(self._folder, self.engine.add_request, self._poller)
         # The current reload, and the requests since it began: the files may have changed for them.
         self._reload: Optional[Generator[bool, None, None]] = None
         self._reload_requests: List[Request] = []
-        self.loop = Loop(self.engine, self._poller, self.clock, self.log)
+        self.engine = Engine(self.scheduling, self.runners, self.store, self.clock, self.log, self._ask_for_reload, self._stop)
+        self.control = control.ControlSocket(self._folder, self.engine.add_request, self._poller)
         self._helpers = self._make_helpers(arguments)
         self._dropped_at = self.clock.wall()
-        requests = self.engine.requests
-        requests.log, requests.stop, requests.reload = self.log, self.loop.stop, lambda request: self._reload_requests.append(request)
-        self.loop.before = [self.control.work]
-        self.loop.after = [self._log_changes, self._continue_reload, self.control.work]
-        self.loop.chores = [self._drop_old_changes, self._service_manager.notify_alive, *(process.work for process in self._helpers)]
+        after = [self._log_changes, self._continue_reload, self.control.work]
+        chores = [self._drop_old_changes, self._service_manager.notify_alive, *(process.work for process in self._helpers)]
+        self.loop = Loop(self.engine, self._poller, self.clock, self.log, [self.control.work], after, chores)
 
     def _make_helpers(self, arguments: argparse.Namespace) -> List[HelperProcess]:
         """The processes next to the monitor that its options ask for."""
@@ -112,6 +109,12 @@ class Monitor:
         self._service_manager.notify_ready(f"{len(site.objects)} objects")
         return self.loop.run()
 
+    def _stop(self) -> None:
+        self.loop.stop()
+
+    def _ask_for_reload(self, request: Request) -> None:
+        self._reload_requests.append(request)
+
     def _log_changes(self) -> Optional[int]:
         """Logs the changes of the turn, and has the command run for them."""
         for change in self.scheduling.pop_changes():
@@ -125,8 +128,8 @@ class Monitor:
         signal.set_wakeup_fd(back, warn_on_full_buffer=False)
         self._poller.watch(there, lambda: os.read(there, 4_096))
         for number in (signal.SIGINT, signal.SIGTERM):
-            signal.signal(number, lambda *_: self.loop.stop())
-        signal.signal(signal.SIGHUP, lambda *_: self._reload_requests.append(Request(b"", lambda answer: None)))
+            signal.signal(number, lambda *_: self._stop())
+        signal.signal(signal.SIGHUP, lambda *_: self._ask_for_reload(Request(b"", lambda answer: None)))
 
     def _drop_old_changes(self) -> None:
         """Drops old changes, each hour but the first. A clock that jumped by more than a day drops nothing."""

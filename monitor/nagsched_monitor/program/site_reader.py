@@ -11,8 +11,8 @@ import time
 from typing import Generator, Union
 
 from ..faults import MonitorFault
-from ..run.processes import module_command
 from ..site.site import Site, read_site
+from ..system.processes import module_command
 
 # The limit for reading a site, in seconds.
 LIMIT = 300.0

@@ -6,7 +6,7 @@ import struct
 import time
 from typing import Callable, Iterator, List, Optional, Tuple
 
-from ..program.poller import FilePoller, write_ready
+from ..system.poller import FilePoller, write_ready
 
 # In bytes: the most that is read at once, and the longest packet. A longer one ends the connection.
 READ_BYTES, LONGEST_PACKET = 262_144, 4_194_304

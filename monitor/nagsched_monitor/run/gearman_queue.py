@@ -15,12 +15,12 @@ from functools import partial
 from typing import Any, Callable, Deque, Dict, Tuple
 
 from ..faults import MonitorFault
-from ..program.addresses import parse_address
-from ..program.log import Log
-from ..program.poller import FilePoller, write_ready
+from ..model.jobs import Job, event_members, read_event
+from ..system.addresses import parse_address
+from ..system.log import Log
+from ..system.poller import FilePoller, write_ready
 from .gearman import BUSY, IDLE, READ_BYTES, Code, Server, connect
 from .gearman_signing import JOB, RESULT, Signer, read_signer
-from .jobs import Job, event_members, read_event
 
 # In seconds: the delay of a result after its limit, and a job's longest wait for a worker.
 GRACE, WAIT = 15.0, 30.0

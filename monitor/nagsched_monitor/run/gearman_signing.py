@@ -11,7 +11,7 @@ import time
 from typing import Any, Callable, Dict, Optional, Sequence
 
 from ..faults import MonitorFault
-from .jobs import Job
+from ..model.jobs import Job
 
 # The purpose of a message: a result can't be used as a job.
 JOB, RESULT = b"nagsched job\0", b"nagsched result\0"

@@ -10,14 +10,14 @@ from functools import partial
 from typing import Any, Callable, Dict, List, NamedTuple, Optional, Sequence
 
 from ..faults import MonitorFault
-from ..program.addresses import parse_address
-from ..program.log import Log
-from ..program.poller import FilePoller
+from ..model.jobs import Job, StuckJobEnded, event_members
+from ..system.addresses import parse_address
+from ..system.log import Log
+from ..system.poller import FilePoller
+from ..system.processes import runner_command
 from .gearman import BUSY, IDLE, Code, Server, connect
 from .gearman_signing import JOB, RESULT, JobPolicy, Refusal, Signer, read_signer
-from .jobs import Job, StuckJobEnded, event_members
 from .pool import RunnerPool
-from .processes import runner_command
 from .runners import raise_file_limit
 
 # In seconds: the delay after its limit at which a result is late, and the time that running plugins have to end when the worker stops.

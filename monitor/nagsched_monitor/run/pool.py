@@ -6,10 +6,10 @@ from dataclasses import dataclass, field
 from functools import partial
 from typing import Callable, Deque, Dict, List, Optional, Sequence, Tuple, Union
 
-from ..core.text import plain_text
-from ..program.poller import FilePoller, write_ready
-from .jobs import Event, Job, JobFinished, JobLost, StuckJobEnded, job_members, read_event, read_line
-from .processes import end_process
+from ..model.jobs import Event, Job, JobFinished, JobLost, StuckJobEnded, job_members, read_event, read_line
+from ..model.text import plain_text
+from ..system.poller import FilePoller, write_ready
+from ..system.processes import end_process
 
 READ_BYTES = 65_536
 # The longest line of a runner, in bytes. A longer line ends its runner.

@@ -5,11 +5,11 @@ import time
 from functools import partial
 from typing import Callable, Dict, List, Mapping, Set
 
-from ..program.poller import FilePoller
+from ..model.jobs import Event, Job, JobLost
 from ..site.runner_file import LOCAL, Remote
-from .jobs import Event, Job, JobLost
+from ..system.poller import FilePoller
+from ..system.processes import end_process, runner_command
 from .pool import RunnerPool
-from .processes import end_process, runner_command
 
 
 def raise_file_limit() -> int:

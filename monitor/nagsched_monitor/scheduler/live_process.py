@@ -6,7 +6,7 @@ import time
 from typing import List, Optional, Sequence
 
 from ..faults import ConversationEnded
-from ..run.processes import end_process
+from ..system.processes import end_process
 
 READ_BYTES = 65_536
 # How long a scheduler may be silent while an answer is due, in seconds: for the first, which follows the setup and the saved state, and for any other.

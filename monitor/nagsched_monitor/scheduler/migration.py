@@ -4,8 +4,8 @@ import subprocess
 from typing import AbstractSet, Any, Dict, List, Mapping, Tuple
 
 from ..faults import MonitorFault
+from ..model.protocol import ENCODER
 from ..site.site import Site
-from .protocol import ENCODER
 
 Member = Dict[str, Any]
 # The limit for the program's test of a state, in seconds.

@@ -6,12 +6,12 @@ same runs. A call after which a scheduler ends twice, if it is the only one that
 import collections
 from typing import Callable, Deque, List, Optional, Sequence, Tuple, TypeVar
 
-from ..core.clock import Clock
 from ..faults import ConversationEnded, NotStored
+from ..model.clock import Clock
+from ..model.protocol import Answer, Call, Refused, call_line, read_answer
 from ..store.rows import Generation, StoredCall
 from ..store.store import Store, insert
 from .live_process import AT_ONCE, Conversation
-from .protocol import Answer, Call, Refused, call_line, read_answer
 
 # How often a scheduler is restarted in one exchange, and the pause before the next exchange does so, in milliseconds.
 TRIES = 3

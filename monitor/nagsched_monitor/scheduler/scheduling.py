@@ -2,20 +2,20 @@
 import json
 from typing import AbstractSet, Callable, Dict, List, Mapping, NamedTuple, Optional, Sequence
 
-from ..core.clock import Clock
-from ..core.mirroring import Mirrors, PlannedCall
-from ..core.object_state import FIRST_TIME, ObjectState, ObjectStates
-from ..core.run_table import ObjectKey
 from ..faults import ConversationEnded, NotStored
-from ..outputs import changes
+from ..model.clock import Clock
+from ..model.object_state import FIRST_TIME, ObjectState, ObjectStates
+from ..model.protocol import Answer, Call, Report, Standing, Status, call_line, object_name, read_call
+from ..model.run_table import ObjectKey
 from ..site.json_files import members_by_name
 from ..site.site import Site
 from ..store.rows import Generation, StoredCall, StoredChange
 from ..store.status_table import StandingTable
 from ..store.store import Store, Write, begin_generations, save_generation, store_calls, store_change
 from . import migration
+from .changes import change_document, is_change, is_important
 from .live_process import Conversation
-from .protocol import Answer, Call, Report, Standing, Status, call_line, object_name, read_call
+from .mirroring import Mirrors, PlannedCall
 from .schedulers import ConversationFactory, PartScheduler
 
 
@@ -222,10 +222,10 @@ class Scheduling:
         return ObjectAnswer(call, answer, obj, before)
 
     def _note_change(self, number: int, obj: ObjectState, before: Optional[Standing], answer: Standing) -> None:
-        if number in self._stored_changes or not changes.is_change(before, answer):
+        if number in self._stored_changes or not is_change(before, answer):
             return
         change = StoredChange(number, self._clock.wall(), obj.name, answer.state, answer.kind, answer.attempt, answer.flapping, obj.output)
-        document = changes.change_document(change, before) if self._has_command and changes.is_important(before, answer) else None
+        document = change_document(change, before) if self._has_command and is_important(before, answer) else None
         self._pending_writes.append(store_change(change, document))
         self._new_changes.append(change)
 

@@ -5,10 +5,10 @@ import re
 import shlex
 import shutil
 import subprocess
-from dataclasses import dataclass
-from typing import Container, Dict, List, Sequence
+from typing import Container, Dict, List
 
 from ..faults import SiteFault
+from ..model.definitions import Command
 from .json_files import read_by_name, read_seconds, require
 
 # A line without quotes, escapes and shell characters.
@@ -17,15 +17,6 @@ PLAIN = re.compile(r"[\w ./:,=%@+!#*?$~^{}\[\]-]*", re.ASCII)
 HALF = re.compile("[\ud800-\udfff]")
 # The limit for a shell's test of a line, in seconds.
 LIMIT = 30.0
-
-
-@dataclass(frozen=True)
-class Command:
-    """A command line, split unless a shell runs it."""
-
-    arguments: Sequence[str]
-    # The limit of the plugin, in seconds.
-    limit: float
 
 
 def read_commands(folder: pathlib.Path, objects: Container[str], runner_of: Container[str]) -> Dict[str, Command]:

@@ -7,7 +7,7 @@ import pathlib
 import re
 from typing import Any, Dict, Iterable, List, Mapping, NamedTuple, Tuple
 
-from ..run.processes import find_program
+from ..system.processes import find_program
 from .groups_file import Groups
 from .json_files import members_of, read_object, read_seconds, read_whole, require
 

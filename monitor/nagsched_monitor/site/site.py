@@ -17,7 +17,8 @@ from dataclasses import dataclass, replace
 from typing import AbstractSet, Any, Container, Dict, List, Mapping, Optional, Sequence, Tuple
 
 from ..faults import SiteFault
-from .command_lines import Command, read_commands
+from ..model.definitions import ObjectDefinition
+from .command_lines import read_commands
 from .groups_file import read_groups
 from .json_files import (
     MOST_FRESH, MOST_SECONDS, lock_for_reading, members_by_name, members_of, read_by_name, read_object, read_seconds, read_whole, require,
@@ -31,30 +32,6 @@ LIMIT = 300.0
 CODES_BY_LETTER = {"w": 1, "c": 2, "u": 3}
 # The options that are whole numbers, with their limits.
 NUMBERS = {"slots": (1, 10_000), "cached_host_check_horizon": (0, MOST_SECONDS), "keep_days": (0, 36_500)}
-
-
-@dataclass(frozen=True)
-class ObjectDefinition:
-    """A host or a service, as the site has it."""
-
-    name: str
-    part: int
-    # The host of a service; None for a host.
-    host: Optional[str]
-    parents: Sequence[str]
-    check_interval: int
-    # Whether the setup has it enabled.
-    enabled: bool
-    command: Optional[Command] = None
-    period: Optional[str] = None
-    passive_only: bool = False
-    # Milliseconds within which a result has to come; None without a limit.
-    freshness: Optional[int] = None
-    # The runner elsewhere that makes its checks; None if they are made here.
-    runner: Optional[str] = None
-
-    def is_host(self) -> bool:
-        return self.host is None
 
 
 @dataclass(frozen=True)

@@ -21,7 +21,7 @@ import bisect
 import collections
 from typing import DefaultDict, Deque, Dict, Mapping, Tuple
 
-from ..core.clock import Clock
+from ..model.clock import Clock
 
 # How often figures are written, and the time over which a rate is taken, in milliseconds.
 EVERY = 5_000

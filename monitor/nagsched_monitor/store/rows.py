@@ -1,9 +1,8 @@
 """The rows of a site's database: its tables, the content of a row, and its checksum."""
 import hashlib
-from dataclasses import dataclass
 from typing import AbstractSet, Dict, NamedTuple, Optional, Sequence, Union
 
-from ..scheduler.protocol import Call
+from ..model.protocol import Call
 
 Cell = Union[int, float, str, bytes, None]
 
@@ -113,27 +112,6 @@ class StoredStanding(NamedTuple):
     def is_due(self, now: float) -> bool:
         """Whether its time has come and it isn't checked yet."""
         return bool(self.is_on) and self.out_since is None and self.next_check is not None and self.next_check <= now
-
-
-@dataclass
-class StateHistory:
-    """How long an object has been in its state, in seconds since 1970 of the wall clock; None if that isn't known."""
-
-    # The state that it has had since then, and the hard one.
-    state: Optional[str] = None
-    since: Optional[float] = None
-    hard_state: Optional[str] = None
-    hard_since: Optional[float] = None
-    last_check: Optional[float] = None
-    # How many seconds its last check took, and how late the last one began.
-    took: Optional[float] = None
-    late: Optional[float] = None
-
-    def note(self, state: str, kind: str, time: float) -> None:
-        if state != self.state:
-            self.state, self.since = state, time
-        if kind == "HARD" and state != self.hard_state:
-            self.hard_state, self.hard_since = state, time
 
 
 def checksum_of(table: str, number: int, cells: Sequence[Cell]) -> str:

@@ -6,11 +6,11 @@ mostly comes before that. After a second an object is written without other call
 import itertools
 from typing import Dict, List, Mapping, Optional, Tuple
 
-from ..core.clock import Clock
-from ..core.object_state import FIRST_TIME, ObjectState
-from ..core.run_table import Run
-from ..scheduler.protocol import Answer, Call, Report, Standing, Taken
-from .rows import StateHistory, StoredStanding
+from ..model.clock import Clock
+from ..model.object_state import FIRST_TIME, ObjectState, StateHistory
+from ..model.protocol import Answer, Call, Report, Standing, Taken
+from ..model.run_table import Run
+from .rows import StoredStanding
 from .store import Store, Write, delete, store_standings
 
 # In milliseconds: how long a marked object waits for more answers, and the time after which it is written without other calls.

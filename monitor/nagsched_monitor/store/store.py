@@ -24,10 +24,11 @@ import sqlite3
 from typing import Any, Callable, Dict, Iterable, List, Mapping, Optional, Sequence, Set, Tuple
 
 from ..faults import MonitorFault, NotStored
-from ..scheduler.protocol import GREATEST
+from ..model.object_state import StateHistory
+from ..model.protocol import GREATEST
 from .rows import (
-    FOR_PEOPLE, INDEXES, INSERTS, TABLES, VERSION, Cell, Generation, StateHistory, StoredCall, StoredChange, StoredResult, StoredStanding,
-    checksum_of, row_number,
+    FOR_PEOPLE, INDEXES, INSERTS, TABLES, VERSION, Cell, Generation, StoredCall, StoredChange, StoredResult, StoredStanding, checksum_of,
+    row_number,
 )
 
 # A write that is carried out together with others, or not at all.

@@ -3,7 +3,7 @@ import functools
 import json
 from typing import Any, Dict, NamedTuple, Optional, Sequence, Tuple, Union
 
-from ..core.text import plain_text
+from .text import plain_text
 
 ENDS = ("exited", "signal", "limit", "failed")
 

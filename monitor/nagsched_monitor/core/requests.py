@@ -14,21 +14,20 @@ import json
 import traceback
 from dataclasses import dataclass
 from functools import partial
-from typing import TYPE_CHECKING, Any, Callable, Dict, List, Mapping, Optional, Sequence, Set, Tuple
+from typing import Any, Callable, Dict, List, Mapping, NamedTuple, Optional, Sequence, Set, Tuple
 
-from ..core.clock import LAST_TIME, Clock
-from ..core.object_state import FIRST_TIME, ObjectState
-from ..core.mirroring import PlannedCall
-from ..core.passive import MOST_WAITING
-from ..core.plan import Plan
-from ..core.text import MOST_OUTPUT_BYTES, plain_text
 from ..faults import AskAgain, ConversationEnded, MonitorFault, NotStored, RequestFault
-from ..scheduler.protocol import Enable, Reschedule
+from ..model.clock import LAST_TIME, Clock
+from ..model.object_state import FIRST_TIME, ObjectState
+from ..model.protocol import Enable, Reschedule
+from ..model.text import MOST_OUTPUT_BYTES, plain_text
+from ..scheduler.mirroring import PlannedCall
+from ..scheduler.scheduling import Scheduling
 from ..store.rows import StoredResult
-from ..store.store import MOST_REQUESTS, delete, insert, store_request
-
-if TYPE_CHECKING:
-    from ..core.engine import Engine
+from ..store.store import MOST_REQUESTS, Store, delete, insert, store_request
+from .checks import Checks
+from .passive import MOST_WAITING, PassiveResults
+from .plan import Plan
 
 LONGEST_NUMBER = 128
 Members = Mapping[str, Any]
@@ -44,16 +43,23 @@ class Request:
     answer: Optional[Dict[str, Any]] = None
 
 
+class Actions(NamedTuple):
+    """Actions of the monitor that requests ask for."""
+
+    signs: Callable[[], Dict[str, Any]]
+    save: Callable[[], None]
+    reload: Callable[[Request], None]  # it answers the request later
+    stop: Callable[[], None]
+
+
 class Requests:
     """Plans the work of requests, and answers them when it is done."""
 
-    def __init__(self, engine: "Engine", clock: Clock) -> None:
-        self.engine, self._clock = engine, clock
-        # Actions of the loop; the action for a reload gets the request, and answers it later.
-        self.reload: Callable[[Request], None] = lambda request: None
-        self.stop: Callable[[], None] = lambda: None
-        self.log: Callable[[str], None] = lambda line: None
-        self._numbers = engine.store.requests()
+    def __init__(self, scheduling: Scheduling, store: Store, checks: Checks, passive: PassiveResults, clock: Clock, log: Callable[[str], None],
+                 actions: Actions) -> None:
+        self._scheduling, self._store, self._checks, self._passive, self._clock = scheduling, store, checks, passive, clock
+        self._log, self._actions = log, actions
+        self._numbers = store.requests()
         self._planned: Set[str] = set()
         self._results = 0
         # The planner of each word, and the other members that its request may have.
@@ -64,7 +70,7 @@ class Requests:
             "disable": (partial(self._plan_switch, on=False), ("name",)),
             "default": (partial(self._plan_switch, on=None), ("name",)),
             "result": (self._plan_result, ("name", "code", "output")),
-            "reload": (lambda _, request: Plan(then=[partial(self.reload, request)]), ()),
+            "reload": (lambda _, request: Plan(then=[partial(self._actions.reload, request)]), ()),
             "save": (lambda _, request: Plan(last=[partial(self._save_now, request)]), ()),
             "stop": (self._plan_stop, ()),
         }
@@ -86,7 +92,7 @@ class Requests:
             request.answer = {"error": str(fault), **({"again": True} if isinstance(fault, AskAgain) else {})}
         except Exception as error:  # any exception: one request doesn't hold up the others
             for line in traceback.format_exc().rstrip().split("\n"):
-                self.log(f"fault: {line}")
+                self._log(f"fault: {line}")
             request.answer = {"error": f"the monitor has a fault: {type(error).__name__}: {error}"}
         if number is not None and request.answer is not None and (step.calls or step.writes):
             answer = json.dumps(request.answer, ensure_ascii=False)
@@ -145,26 +151,17 @@ class Requests:
         name = members.get("name")
         if not isinstance(name, str):
             raise RequestFault("name is the full name of an object")
-        obj = self.engine.objects.get(name)
+        obj = self._scheduling.states.objects.get(name)
         if obj is None:
             raise RequestFault(f"there is no object {name!r}")
-        if is_called and not self.engine.scheduling.is_open(obj.definition.part):
+        if is_called and not self._scheduling.is_open(obj.definition.part):
             raise AskAgain("the scheduler of this object is being started again")
         return obj
 
     # ---- the words
 
     def _plan_signs(self, members: Members, request: Request) -> Plan:
-        engine, wall = self.engine, self._clock.wall()
-        try:
-            changes, first = engine.store.waiting_changes()
-        except NotStored:
-            changes, first = 0, None
-        request.answer = {
-            "turn": wall - engine.time_since_turn() / 1000, "is_stuck": engine.is_stuck, "passive_waiting": engine.passive.count, "changes_waiting": changes,
-            "oldest_change": 0.0 if first is None else max(0.0, wall - first), "runners": engine.runners.process_counts(),
-            "out": len(engine.scheduling.states.running.plugins()), "made": engine.counters.result_count, "latest_start": engine.counters.latest_start,
-        }
+        request.answer = self._actions.signs()
         return Plan()
 
     def _plan_reschedule(self, members: Members, request: Request) -> Plan:
@@ -182,18 +179,18 @@ class Requests:
         wall_time = round(wall + (time - now) / 1000, 3)
         request.answer = {"done": "reschedule", "name": obj.name, "at": wall_time, "on": obj.on or forced}
         calls: List[PlannedCall] = [(obj.definition.part, Reschedule(obj.name, time, forced), None)]
-        log = partial(self.log, f"asked: reschedule {obj.name} at {wall_time:.0f}{' forced' * forced}")
+        log = partial(self._log, f"asked: reschedule {obj.name} at {wall_time:.0f}{' forced' * forced}")
         return Plan(calls, then=[partial(setattr, obj, "operator_check", (time, forced)), log], at_once={obj.name} if time <= now else set())
 
     def _plan_switch(self, members: Members, request: Request, on: Optional[bool]) -> Plan:
-        obj, checks = self._find_object(members), self.engine.checks
+        obj, checks = self._find_object(members), self._checks
         if on and obj.definition.command is None:
             raise RequestFault(f"{obj.name} has no command")
         word, wanted = members["do"], checks.is_to_be_enabled(obj.definition, obj.definition.enabled if on is None else on)
         request.answer = {"done": word, "name": obj.name, "on": wanted}
         calls: List[PlannedCall] = [(obj.definition.part, Enable(obj.name, wanted), None)] if obj.on != wanted else []
         write = delete("switches", "name = ?", obj.name) if on is None else insert("switches", None, obj.name, int(on))
-        return Plan(calls, [write], [partial(checks.apply_switch, obj, on), partial(self.log, f"asked: {word} {obj.name}")])
+        return Plan(calls, [write], [partial(checks.apply_switch, obj, on), partial(self._log, f"asked: {word} {obj.name}")])
 
     def _plan_result(self, members: Members, request: Request) -> Plan:
         obj = self._find_object(members, is_called=False)
@@ -202,22 +199,22 @@ class Requests:
             raise RequestFault(f"no code from 0 to 3: {code!r}")
         if not isinstance(output, str):
             raise RequestFault("output is a text")
-        if self.engine.passive.count + self._results >= MOST_WAITING:
+        if self._passive.count + self._results >= MOST_WAITING:
             raise AskAgain(f"{MOST_WAITING} results wait to be reported")
         self._results += 1
-        result = StoredResult(self.engine.store.last_result + self._results, obj.name, code, plain_text(output, MOST_OUTPUT_BYTES))
+        result = StoredResult(self._store.last_result + self._results, obj.name, code, plain_text(output, MOST_OUTPUT_BYTES))
         request.answer = {"done": "result", "name": obj.name}
-        note = partial(setattr, self.engine.store, "last_result", result.id)
-        log = partial(self.log, f"asked: result {obj.name} {code}")
-        return Plan(writes=[insert("passive", *result)], then=[note, partial(self.engine.passive.add, result), log])
+        note = partial(setattr, self._store, "last_result", result.id)
+        log = partial(self._log, f"asked: result {obj.name} {code}")
+        return Plan(writes=[insert("passive", *result)], then=[note, partial(self._passive.add, result), log])
 
     def _save_now(self, request: Request) -> None:
         try:
-            self.engine.save()
+            self._actions.save()
             request.answer = {"done": "save"}
         except (NotStored, ConversationEnded, MonitorFault) as fault:
             request.answer = {"error": str(fault), "again": True}
 
     def _plan_stop(self, members: Members, request: Request) -> Plan:
         request.answer = {"done": "stop"}
-        return Plan(then=[self.stop, partial(self.log, "asked: stop")])
+        return Plan(then=[self._actions.stop, partial(self._log, "asked: stop")])

@@ -5,7 +5,7 @@ import queue
 import threading
 from typing import Optional
 
-from ..core.text import plain_text
+from ..model.text import plain_text
 
 # The greatest number of lines that wait; further lines are dropped, and counted. The longest line, in bytes.
 MOST_LINES = 10_000

@@ -4,9 +4,8 @@ import zlib
 from dataclasses import dataclass, field, replace
 from typing import Any, Dict, Iterable, List, Mapping, Optional, Set, Tuple
 
-from ..scheduler.protocol import Abandon, Answer, Call, Done, Enable, Freed, PutOff, Report, Reschedule, Standing, Taken
-from ..site.site import ObjectDefinition
-from ..store.rows import StateHistory
+from .definitions import ObjectDefinition
+from .protocol import Abandon, Answer, Call, Done, Enable, Freed, PutOff, Report, Reschedule, Standing, Taken
 from .run_table import ObjectKey, Run, RunTable
 
 # The times of checks that are asked for at once, in their order: a mirror, the object of a passive result, a host that has to be checked now. All are before
@@ -14,6 +13,27 @@ from .run_table import ObjectKey, Run, RunTable
 MIRROR_FIRST, RESULT_FIRST, HOST_FIRST = 0, 1, 2
 # Any time from this one on is a time by the clock.
 FIRST_TIME = 3
+
+
+@dataclass
+class StateHistory:
+    """How long an object has been in its state, in seconds since 1970 of the wall clock; None if that isn't known."""
+
+    # The state that it has had since then, and the hard one.
+    state: Optional[str] = None
+    since: Optional[float] = None
+    hard_state: Optional[str] = None
+    hard_since: Optional[float] = None
+    last_check: Optional[float] = None
+    # How many seconds its last check took, and how late the last one began.
+    took: Optional[float] = None
+    late: Optional[float] = None
+
+    def note(self, state: str, kind: str, time: float) -> None:
+        if state != self.state:
+            self.state, self.since = state, time
+        if kind == "HARD" and state != self.hard_state:
+            self.hard_state, self.hard_since = state, time
 
 
 @dataclass

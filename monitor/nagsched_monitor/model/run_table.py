@@ -3,7 +3,7 @@ import enum
 from dataclasses import dataclass
 from typing import Dict, List, Optional, Tuple
 
-from ..run.jobs import Job
+from .jobs import Job
 
 # A part and the full name of an object in it.
 ObjectKey = Tuple[int, str]

@@ -5,9 +5,9 @@ those of its mirrors are calls of one turn, which are stored together.
 """
 from typing import AbstractSet, Any, List, Mapping, Optional, Sequence, Set, Tuple
 
-from ..scheduler.protocol import Answer, Call, Report, Reschedule, Take, Taken, object_name
-from .object_state import MIRROR_FIRST
-from .run_table import ObjectKey, Owner, Run, RunTable
+from ..model.object_state import MIRROR_FIRST
+from ..model.protocol import Answer, Call, Report, Reschedule, Take, Taken, object_name
+from ..model.run_table import ObjectKey, Owner, Run, RunTable
 
 # A call, its part, and the output of the plugin that it reports.
 PlannedCall = Tuple[int, Call, Optional[str]]

@@ -1,0 +1,1 @@
+"""The machine: files that don't block, the log, processes, addresses."""
