@@ -150,7 +150,7 @@ class FaultRun:
     def _take_documents(self) -> Optional[int]:
         """The command for changes accepts all waiting changes."""
         with contextlib.suppress(NotStored):
-            for number, document in self.monitor.store.outbox():
+            for number, document, _ in self.monitor.store.outbox():
                 self.taken.add(document)
                 self.monitor.store.write(delete("outbox", "id <= ?", number))
         return None

@@ -22,6 +22,8 @@ from nagsched_monitor.store.rows import StoredChange, StoredResult
 from nagsched_monitor.store.store import Store, insert
 from nagsched_monitor.system.poller import FilePoller
 
+from .invariants import Invariants
+
 PROGRAM = os.environ.get("NAGSCHED", "nagsched")
 # 2026-11-27 08:00:00, in UTC.
 BEGIN = 1_795_766_400_000
@@ -50,6 +52,8 @@ class SimulatedRunners(RunnerPools):
     clock: SimulatedClock
     plugin: Plugin
     started: List[Tuple[int, Job]] = field(default_factory=list)
+    # The last event of each object.
+    ends: Dict[str, Event] = field(default_factory=dict)
     _ends: List[Tuple[int, int, Event]] = field(default_factory=list)
 
     def start(self, job: Job) -> None:
@@ -64,6 +68,7 @@ class SimulatedRunners(RunnerPools):
         events: List[Event] = []
         while self._ends and self._ends[0][0] <= self.clock.now:
             events.append(heapq.heappop(self._ends)[2])
+            self.ends[events[-1].job.name] = events[-1]
         return events
 
     def first(self) -> Optional[int]:
@@ -129,7 +134,8 @@ class SimulatedMonitor:
         self.engine = Engine(self.scheduling, self.runners, self.store, self.clock, self.log,
                              lambda request: request.reply({"done": "reload"}), lambda: self.loop.stop())
         # Actions of its loop after each turn, and every second.
-        self.after: List[Callable[[], Optional[int]]] = [self.take_changes]
+        self.invariants = Invariants(self.engine, self.runners)
+        self.after: List[Callable[[], Optional[int]]] = [self.take_changes, self.look]
         self.chores: List[Callable[[], None]] = []
         self.loop = Loop(self.engine, SimulatedPoller(self.clock, self.runners), self.clock, self.log, [], self.after, self.chores)
 
@@ -144,6 +150,13 @@ class SimulatedMonitor:
         self.changes += [(self.clock.now, change) for change in self.scheduling.pop_changes()]
         return None
 
+    def look(self) -> Optional[int]:
+        self.invariants.look()
+        return None
+
+    def assert_invariants(self) -> None:
+        assert not self.invariants.broken, self.invariants.broken[:5]
+
     def run(self, seconds: float) -> None:
         """Continues for this time, with a turn when something is due or has come."""
         end = self.clock.now + round(seconds * 1000)
@@ -151,6 +164,8 @@ class SimulatedMonitor:
             self.engine.requests.begin_turn()
             wanted = self.engine.turn()
             self.take_changes()
+            self.look()
+            self.assert_invariants()
             ends = self.runners.first()
             wanted = wanted if ends is None else min(wanted, ends)
             self.clock.now = min(end, max(wanted, self.clock.now + self.between))
@@ -160,6 +175,7 @@ class SimulatedMonitor:
         end = self.clock.now + round(seconds * 1000)
         while self.clock.now < end and self.loop.status is None:
             self.loop.run_turn()
+            self.assert_invariants()
 
     def kill_schedulers(self) -> None:
         for part in self.scheduling.parts.values():

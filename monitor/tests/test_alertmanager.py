@@ -13,7 +13,7 @@ from typing import Any, Dict, List, Tuple
 from unittest import mock
 
 from nagsched_monitor.outputs import alertmanager
-from nagsched_monitor.outputs.alertmanager import FLAPPING, HEARTBEAT, PROBLEM, AlertPoster
+from nagsched_monitor.outputs.alertmanager import EVERY, FLAPPING, HEARTBEAT, NOT_CHECKED, PROBLEM, AlertPoster, read_timestamp
 
 from .shown_site import fill_database, standing
 from .simulated import SiteTest
@@ -26,15 +26,24 @@ class Posting(SiteTest):
         super().setUp()
         self.posted: List[List[Dict[str, Any]]] = []
         self.is_refusing = False
+        # The alerts that fire there, by their labels, and the name of a host whose alerts are refused.
+        self.firing: Dict[str, Dict[str, Any]] = {}
+        self.refused = ""
         test = self
 
         class Taking(http.server.BaseHTTPRequestHandler):
             def do_POST(self) -> None:
                 alerts = json.loads(self.rfile.read(int(self.headers["Content-Length"])))
-                if not test.is_refusing:
-                    test.posted.append(alerts)
-                self.send_response(500 if test.is_refusing or self.path != "/api/v2/alerts" else 200)
+                is_bad = any(it["labels"].get("host") == test.refused or it["startsAt"] > it["endsAt"] for it in alerts)
+                if not test.is_refusing and not is_bad:
+                    test.take(alerts)
+                self.send_response(500 if test.is_refusing or self.path != "/api/v2/alerts" else 400 if is_bad else 200)
                 self.end_headers()
+
+            def do_GET(self) -> None:
+                self.send_response(200)
+                self.end_headers()
+                self.wfile.write(json.dumps([it for it in test.firing.values() if it["labels"]["alertname"] != HEARTBEAT]).encode())
 
             def log_message(self, *_: Any) -> None:
                 pass
@@ -44,9 +53,19 @@ class Posting(SiteTest):
         self.addCleanup(server.server_close)
         self.addCleanup(server.shutdown)
         self.url = f"http://127.0.0.1:{server.server_port}/"
-        self.alerts = AlertPoster(self.url, self.folder, 30, 300)
-        self.said = mock.patch("builtins.print").start()
+        self.lines: List[str] = []
+        self.alerts = AlertPoster(self.url, self.folder, log=self.lines.append)
         self.addCleanup(mock.patch.stopall)
+
+    def take(self, alerts: List[Dict[str, Any]]) -> None:
+        """Takes alerts as Alertmanager does."""
+        self.posted.append(alerts)
+        for it in alerts:
+            key = json.dumps(it["labels"], sort_keys=True)
+            if datetime.datetime.fromisoformat(it["endsAt"]).timestamp() > time.time():
+                self.firing[key] = it
+            else:
+                self.firing.pop(key, None)
 
     def look(self) -> List[Tuple[str, str, str, bool]]:
         """The alerts that are posted now: name, host and service of each, and whether it is firing."""
@@ -70,21 +89,23 @@ class Posting(SiteTest):
             (FLAPPING, "web", "load", True), (PROBLEM, "db", "", True), (PROBLEM, "db", "disk", True), (PROBLEM, "far", "", True),
             (PROBLEM, "soft", "http", True),
             (PROBLEM, "web", "http", True)])
-        found = {(it["labels"]["alertname"], it["labels"].get("host"), it["labels"].get("service")): it for it in self.posted[0]}
+        found = {(it["labels"]["alertname"], it["labels"].get("host"), it["labels"].get("service")): it for posted in self.posted for it in posted}
+        self.assertEqual([it["labels"]["alertname"] for it in self.posted[0]], [HEARTBEAT])
         site = self.folder.name
         self.assertEqual(found[PROBLEM, "web", "http"]["labels"], {
-            "alertname": PROBLEM, "site": site, "host": "web", "service": "http", "severity": "warning", "host_state": "UP", "host_groups": ",linux,dmz,",
+            "alertname": PROBLEM, "site": site, "host": "web", "service": "http", "severity": "warning", "host_groups": ",linux,dmz,",
             "contact_groups": ",ops,"})
-        self.assertEqual(found[PROBLEM, "db", None]["labels"], {"alertname": PROBLEM, "site": site, "host": "db", "severity": "critical", "host_state": "DOWN"})
-        self.assertEqual([found[(PROBLEM, *name)]["labels"]["host_state"] for name in (("db", "disk"), ("soft", "http"), ("far", None))],
+        self.assertEqual(found[PROBLEM, "db", None]["labels"], {"alertname": PROBLEM, "site": site, "host": "db", "severity": "critical"})
+        self.assertEqual([found[(PROBLEM, *name)]["annotations"]["host_state"] for name in (("db", "disk"), ("soft", "http"), ("far", None))],
                          ["DOWN", "UP", "UNREACHABLE"])
         self.assertEqual([found[(PROBLEM, *name)]["labels"]["severity"] for name in (("far", None), ("soft", "http"))], ["unreachable", "unknown"])
-        self.assertEqual(found[PROBLEM, "db", None]["annotations"], {"state": "DOWN", "summary": "db is DOWN: no answer", "output": "no answer\nat all"})
+        self.assertEqual(found[PROBLEM, "db", None]["annotations"],
+                         {"state": "DOWN", "host_state": "DOWN", "summary": "db is DOWN: no answer", "output": "no answer\nat all"})
         self.assertEqual(found[FLAPPING, "web", "load"]["annotations"]["summary"], "web load is flapping: fine")
         started = datetime.datetime.fromisoformat(found[PROBLEM, "db", None]["startsAt"]).timestamp()
         ends = datetime.datetime.fromisoformat(found[PROBLEM, "db", None]["endsAt"]).timestamp()
         self.assertAlmostEqual(started, now - 60, delta=0.01)
-        self.assertAlmostEqual(ends, time.time() + 300, delta=60)
+        self.assertAlmostEqual(ends, time.time() + alertmanager.ENDS, delta=60)
         self.assertEqual(found[HEARTBEAT, None, None]["labels"], {"alertname": HEARTBEAT, "site": site, "severity": "none"})
         # Alertmanager takes the end for the beginning of an alert without one.
         latest = max(datetime.datetime.fromisoformat(it["startsAt"]).timestamp() for it in found.values())
@@ -100,7 +121,7 @@ class Posting(SiteTest):
         fill_database(self.folder, [standing("web"), standing("web;http", "OK")])
         self.assertEqual(self.look(), [(PROBLEM, "web", "http", False)])
         self.assertEqual(self.look(), [])
-        self.alerts = AlertPoster(self.url, self.folder, 0, 300)
+        mock.patch.object(alertmanager, "EVERY", 0).start()
         fill_database(self.folder, [standing("web", "DOWN")])
         self.assertEqual([self.look(), self.look()], [[(PROBLEM, "web", "", True)]] * 2)
 
@@ -111,30 +132,69 @@ class Posting(SiteTest):
         self.is_refusing = True
         fill_database(self.folder, [standing("web")])
         self.assertEqual([self.look(), self.look()], [[], []])
-        self.assertEqual(self.said.call_count, 1)
+        self.assertEqual(len(self.lines), 1)
         self.is_refusing = False
         self.assertEqual([self.look(), self.look()], [[(PROBLEM, "web", "", False)], []])
-        self.assertEqual(self.said.call_count, 2)
+        self.assertEqual(len(self.lines), 2)
 
     def test_a_database_that_cant_be_read(self) -> None:
         (self.folder / "monitor.db").write_text("this is no database" * 100)
         self.assertEqual([self.look(), self.look()], [[], []])
-        self.assertEqual(self.said.call_count, 1)
+        self.assertEqual(len(self.lines), 1)
 
     def test_a_monitor_that_writes_nothing(self) -> None:
         """Its problems stay as they were; its heartbeat ends."""
         fill_database(self.folder, [standing("web", "DOWN")])
         self.look()
         fill_database(self.folder, [standing("web", "DOWN")], {"written_at": time.time() - 60})
+        self.posted.clear()
+        self.alerts._next_post = 0.0
         self.assertEqual(self.look(), [(PROBLEM, "web", "", True)])
-        ended = [it for it in self.posted[-1] if it["labels"]["alertname"] == HEARTBEAT]
-        self.assertLessEqual(datetime.datetime.fromisoformat(ended[0]["endsAt"]).timestamp(), time.time())
+        self.assertEqual([len(alerts) for alerts in self.posted], [1])
+
+    def test_results_that_are_missing(self) -> None:
+        """One alert for all of them; the heartbeat stops when they are more than half."""
+        for overdue, wanted in ((0, [HEARTBEAT]), (3, [HEARTBEAT, NOT_CHECKED]), (6, [NOT_CHECKED])):
+            self.posted.clear()
+            fill_database(self.folder, [standing("web")], {"overdue": overdue, "promised": 10})
+            self.alerts._next_post = 0.0
+            self.alerts.post_due()
+            self.assertEqual([it["labels"]["alertname"] for alerts in self.posted for it in alerts], wanted)
+        (alert,) = self.posted[0]
+        self.assertEqual((alert["labels"]["severity"], alert["annotations"]["summary"].split(" have")[0]), ("critical", f"6 of 10 objects of {self.folder.name}"))
+
+    def test_what_another_process_posted(self) -> None:
+        """An alert that fires at Alertmanager and doesn't stand is ended, also one that seems to begin later than now."""
+        labels = {"alertname": PROBLEM, "site": self.folder.name, "host": "web", "severity": "critical"}
+        self.firing["x"] = {"labels": labels, "annotations": {}, "startsAt": "2999-01-01T00:00:00.5Z", "endsAt": "2999-01-02T00:00:00Z"}
+        fill_database(self.folder, [standing("web")])
+        self.assertEqual(self.look(), [(PROBLEM, "web", "", False)])
+
+    def test_a_refused_alert(self) -> None:
+        """It holds back itself alone, and is logged; one that begins later than now isn't refused."""
+        self.refused = "h3"
+        fill_database(self.folder, [standing(f"h{number}", "DOWN", hard_since=time.time() + 3600) for number in range(10)])
+        self.assertEqual([host for _, host, _, _ in self.look()], [f"h{number}" for number in range(10) if number != 3])
+        self.assertEqual([("refused" in line, "h3" in line) for line in self.lines], [(True, True)])
+
+    def test_links(self) -> None:
+        self.alerts = AlertPoster(self.url, self.folder, "http://monitor.example.org/", self.lines.append)
+        fill_database(self.folder, [standing("web"), standing("web;load 5", "WARNING", is_on=False)])
+        self.look()
+        self.assertEqual(self.posted[-1][0]["generatorURL"], "http://monitor.example.org/object?name=web%3Bload%205")
+        self.assertEqual(self.posted[-1][0]["annotations"]["checks"], "off")
+
+    def test_times(self) -> None:
+        for text, wanted in (("2026-11-27T08:00:00Z", 0.0), ("2026-11-27T08:00:00.25Z", 0.25), ("2026-11-27T09:00:00.123456789+01:00", 0.123456789)):
+            self.assertAlmostEqual(read_timestamp(text) - 1_795_766_400, wanted, places=5)
+        with self.assertRaises(ValueError):
+            read_timestamp("now")
 
     def test_many(self) -> None:
         """They are posted in several requests."""
         fill_database(self.folder, [standing(f"h{number:04}", "DOWN") for number in range(alertmanager.AT_ONCE + 5)])
         self.assertEqual(len(self.look()), alertmanager.AT_ONCE + 5)
-        self.assertEqual([len(alerts) for alerts in self.posted], [alertmanager.AT_ONCE, 6])
+        self.assertEqual([len(alerts) for alerts in self.posted], [1, alertmanager.AT_ONCE, 5])
 
 
 class Examples(unittest.TestCase):
@@ -157,10 +217,11 @@ class Examples(unittest.TestCase):
         """With promtool: each rule's alert after some minutes of these figures, and no alert while all is well."""
         if shutil.which("promtool") is None:
             self.skipTest("promtool isn't here")
-        well = {"up": "1+0x60", "last_turn_timestamp_seconds": "0+60x60", "stuck": "0+0x60", "passive_waiting": "0+0x60", "oldest_change_seconds": "0+0x60",
+        well = {"up": "1+0x60", "last_turn_timestamp_seconds": "0+60x60", "stuck": "0+0x60", "overdue": "0+0x60", "passive_waiting": "0+0x60", "oldest_change_seconds": "0+0x60",
                 "runners_stuck": "0+0x60", "runners": "4+0x60", "runners_wanted": "4+0x60", "faults_total": "0+0x60", "state": "0+0x60"}
         for figure, values, alert in (
             ("up", "0+0x60", "NagschedNoAnswer"), ("last_turn_timestamp_seconds", "0+0x60", "NagschedStandsStill"), ("stuck", "1+0x60", "NagschedStuck"),
+            ("overdue", "3+0x60", "NagschedNotChecked"),
             ("passive_waiting", "2000+0x60", "NagschedPassiveResultsWait"), ("oldest_change_seconds", "700+0x60", "NagschedChangesWait"),
             ("runners_stuck", "1+0x60", "NagschedRunnersStuck"), ("runners", "3+0x60", "NagschedRunnersMissing"), ("faults_total", "0+1x60", "NagschedFaults"),
             ("state", "2+0x60", "NagschedProblem"),

@@ -127,10 +127,25 @@ class Socket(SiteTest):
         with mock.patch.object(control, "MOST_CLIENTS", 1):
             first, second = self.asking(), self.asking()
             self.await_clients(made, 1)
-            second.settimeout(30)
-            self.assertTrue(becomes_true(lambda: self.turn(made) or second.recv(1) == b""))
-        first.sendall(b"one\n")
-        self.assertTrue(becomes_true(lambda: self.turn(made) or self.heard == [b"one"]))
+            second.sendall(b"two\n")
+            for _ in range(5):
+                self.turn(made)
+            self.assertEqual(self.heard, [])
+            first.sendall(b"one\n")
+            self.assertTrue(becomes_true(lambda: self.turn(made) or self.heard == [b"one", b"two"]))
+
+    def test_many_at_once(self) -> None:
+        """All connections of a burst are accepted together; a client that finds too many before it tries again."""
+        made = self.serving()
+        clients = [self.asking() for _ in range(100)]
+        self.turn(made)
+        self.assertEqual(len(made._clients), 100)
+        for each in clients:
+            each.close()
+        again = self.asking()
+        with mock.patch.object(socket.socket, "connect", side_effect=[BlockingIOError(11, "again"), BlockingIOError(11, "again"), None]) as tried:
+            client.connect(again, "x", 30)
+        self.assertEqual(tried.call_count, 3)
 
     def test_one_that_says_nothing_is_forgotten(self) -> None:
         made = self.serving()

@@ -6,7 +6,7 @@ from unittest import mock
 
 from nagsched_monitor.core.requests import Request
 from nagsched_monitor.program.loop import BROKEN
-from nagsched_monitor.system.log import MOST_LINES, Log
+from nagsched_monitor.system.log import MOST_LINES, Log, RepeatedLines
 
 from .simulated import SiteTest, fine, host
 from .waiting import becomes_true
@@ -89,6 +89,16 @@ class Lines(unittest.TestCase):
         self.assertEqual(lines[0], "line 0 with a plugin's [2K words and more")
         (missing,) = [int(line.split()[0]) for line in lines if "are missing here" in line]
         self.assertGreaterEqual(missing, MOST_LINES // 2)
+
+    def test_lines_with_one_cause(self) -> None:
+        """The first is logged, and once a minute the number of the others."""
+        now, lines = [0.0], [""]
+        repeated = RepeatedLines(lines.append, lambda: now[0])
+        for now[0] in (0.0, 1.0, 59.0, 61.0, 62.0, 130.0, 200.0, 300.0):
+            if now[0] < 100:
+                repeated.add(f"h{now[0]:g}", "no room")
+            repeated.flush()
+        self.assertEqual(lines[1:], ["h0: no room", "3 times more in 61 seconds: no room", "1 times more in 69 seconds: no room"])
 
     def test_its_last_lines_are_written(self) -> None:
         there, back = os.pipe()

@@ -6,8 +6,7 @@ import time
 from typing import Dict, List, Tuple
 from unittest import mock
 
-from nagsched_monitor.inputs import control
-from nagsched_monitor.outputs import textfile
+from nagsched_monitor.outputs import metrics, textfile
 from nagsched_monitor.outputs.metrics import family, label_value
 from nagsched_monitor.store.counters import BOUNDS, RESULTS
 
@@ -85,7 +84,7 @@ class Metrics(PageTest):
         families = self.families()
         self.assertEqual({name: kind for name, kind in families.kinds.items() if kind != "gauge"}, {
             "nagsched_checks_total": "counter", "nagsched_calls_total": "counter", "nagsched_saves_total": "counter",
-            "nagsched_check_latency_seconds": "histogram", "nagsched_faults_total": "counter",
+            "nagsched_check_latency_seconds": "histogram", "nagsched_faults_total": "counter", "nagsched_changes_aside_total": "counter",
         })
         self.assertEqual((families.of("nagsched_due"), families.of("nagsched_out")), (1, 1))
         self.assertEqual([families.of("nagsched_checks_total", result=result) for result in RESULTS], [7, 0, 0, 0, 0, 0, 0, 1, 0, 0])
@@ -127,18 +126,19 @@ class Metrics(PageTest):
     def test_signs_of_life(self) -> None:
         """While the monitor gives no answer, only the facts in the database."""
         now = time.time()
-        fill_database(self.folder, [], {"written_at": now - 100, "faults": 2.0})
+        fill_database(self.folder, [], {"written_at": now - 100, "faults": 2.0, "overdue": 4.0, "overdue_by": 1.5})
         self.serve()
         families = self.families()
         self.assertEqual((families.of("nagsched_up"), families.of("nagsched_last_turn_timestamp_seconds")), (0, now - 100))
-        self.assertEqual(families.of("nagsched_faults_total"), 2)
+        self.assertEqual([families.of(f"nagsched_{name}") for name in ("faults_total", "overdue", "overdue_seconds")], [2, 4, 1.5])
         self.assertFalse([name for name, _ in families.samples if "stuck" in name or "waiting" in name])
         runners = {"local": {"running": 3, "wanted": 4, "stuck": 1, "waiting": 0}}
-        signs = {"turn": now - 7, "is_stuck": True, "passive_waiting": 5, "changes_waiting": 6, "oldest_change": 7.5, "runners": runners}
-        with mock.patch.object(control, "send_request", return_value=json.dumps(signs).encode()):
+        signs = {"turn": now - 7, "is_stuck": True, "passive_waiting": 5, "changes_waiting": 6, "oldest_change": 7.5, "runners": runners,
+                 "overdue": 5, "overdue_by": 2.5}
+        with mock.patch.object(metrics, "send_request", return_value=json.dumps(signs).encode()):
             families = self.families()
-        self.assertEqual([families.of(f"nagsched_{name}") for name in ("up", "stuck", "passive_waiting", "changes_waiting", "oldest_change_seconds")],
-                         [1, 1, 5, 6, 7.5])
+        self.assertEqual([families.of(f"nagsched_{name}") for name in ("up", "stuck", "passive_waiting", "changes_waiting", "oldest_change_seconds", "overdue",
+                                                                   "overdue_seconds")], [1, 1, 5, 6, 7.5, 5, 2.5])
         self.assertEqual(families.of("nagsched_last_turn_timestamp_seconds"), now - 7)
         self.assertEqual([families.of(f"nagsched_{name}", runner="local") for name in ("runners", "runners_wanted", "runners_stuck", "runner_waiting")],
                          [3, 4, 1, 0])
@@ -148,7 +148,7 @@ class Metrics(PageTest):
         fill_database(self.folder, [])
         self.serve()
         families = self.families()
-        self.assertEqual(len(families.kinds), 22)
+        self.assertEqual(len(families.kinds), 25)
         self.assertEqual([name for name, _ in families.samples if "since_save" in name], [])
 
 
@@ -172,7 +172,7 @@ class Textfile(SiteTest):
             (self.folder / "monitor.db").write_text("this is no database")
             return len(seen) == 3
 
-        with mock.patch.object(textfile, "is_ended", is_ended), mock.patch("builtins.print") as said:
-            with mock.patch.object(sys, "argv", ["textfile", str(self.folder), str(file)]):
-                self.assertEqual(textfile.main(), 0)
-        self.assertEqual((seen, file.exists(), said.call_count), ([[]] * 3, False, 1))
+        with mock.patch.object(textfile, "ParentMonitor") as made, mock.patch.object(sys, "argv", ["textfile", str(self.folder), str(file)]):
+            made().is_ended = is_ended
+            self.assertEqual(textfile.main(), 0)
+            self.assertEqual((seen, file.exists(), made().log.call_count), ([[]] * 3, False, 1))

@@ -5,6 +5,7 @@ import signal
 import subprocess
 import time
 from typing import Callable, Counter, Dict, List, Mapping, Tuple
+from unittest import mock
 
 from nagsched_monitor.inputs.nagios_pipe import NAME
 from nagsched_monitor.outputs.nagios_blocks import HOST_STATES, SERVICE_STATES, Program, Settings, status_file
@@ -123,7 +124,7 @@ class Outage(SiteTest):
             return 200, 1 if name == "h1;load" and seconds // 20 % 2 else 0, f"{name} is fine|load={seconds % 7}"
 
         monitor = self.monitor(plugin)
-        files = NagiosFiles(self.folder, self.folder / "nagios", True)
+        files = NagiosFiles(self.folder, self.folder / "nagios", True, mock.Mock())
         monitor.ask(do="disable", name="h2;load")
         states, compared = set(), 0
         for _ in range(80):
@@ -224,7 +225,7 @@ class Process(ProcessTest):
         self.write("commands.json", {name: {"line": f"echo 'of {name}|a=1'; exit {code}", "shell": True}
                                      for name, code in (("h00", 0), ("h01", 2), ("h00;http", 1), ("h00;ssh", 2))})
         self.start_monitor()
-        files = NagiosFiles(self.folder, self.nagios, False)
+        files = NagiosFiles(self.folder, self.nagios, False, mock.Mock())
 
         def same() -> bool:
             files.write()

@@ -121,9 +121,16 @@ class Fifo(SiteTest):
             self.assertEqual([int(line.split(b";")[1]) for line in lines if line.startswith(begin)], list(range(200)))
 
     def test_something_else_is_there(self) -> None:
-        (self.folder / NAME).write_text("a file\n")
+        (self.folder / NAME).mkdir()
         with self.assertRaisesRegex(MonitorFault, "no pipe"):
             Pipe(self.folder)
         with self.assertRaises(MonitorFault):
             Pipe(self.folder / "gone")
-        self.assertEqual((self.folder / NAME).read_text(), "a file\n")
+
+    def test_a_file_is_there(self) -> None:
+        """A writer made it while there was no pipe: its lines are taken over, and a pipe takes its place."""
+        (self.folder / NAME).write_text("[1] ONE\n[2] TWO")
+        pipe = Pipe(self.folder)
+        self.addCleanup(pipe.close)
+        self.assertEqual(pipe.taken_over, [b"[1] ONE", b"[2] TWO"])
+        self.assertEqual(([path.name for path in self.folder.iterdir()], (self.folder / NAME).is_fifo()), ([NAME], True))

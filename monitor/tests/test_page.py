@@ -4,7 +4,7 @@ import json
 import pathlib
 import time
 import urllib.parse
-from typing import Counter, Dict, List, Optional, Tuple
+from typing import Any, Counter, Dict, List, Optional, Tuple
 from unittest import mock
 
 from nagsched_monitor.outputs import html_pages, page
@@ -118,6 +118,22 @@ class Page(PageTest):
         self.assertIn("Out: 1", reader.texts)
         self.assertIn("Nothing is wrong.", reader.texts)
 
+    def test_when_nothing_is_wrong(self) -> None:
+        """It says so only while most objects are known and none is overdue, whose number stands above everything else."""
+        new = [standing(f"new{number}", "PENDING", None) for number in range(2)]
+        rows: List[Tuple[List[Dict[str, Any]], Dict[str, float], List[str]]] = [
+            ([standing("a")], {}, ["Nothing is wrong."]), ([standing("a"), *new], {}, ["No problem is known; 2 of 3 objects were never checked."]),
+            ([standing("a")], {"overdue": 3, "promised": 4, "overdue_by": 90}, [
+                "3 of 4 objects have no result in time; the latest is overdue by 1 min.", "No problem is known, and results are missing."]),
+            ([standing("a")], {"written_at": time.time() - 60}, ["No problem is known, and results are missing."]),
+        ]
+        for objects, figures, wanted in rows:
+            fill_database(self.folder, objects, {"overdue": 0, "promised": 4, **figures})
+            self.serve()
+            texts = self.read().texts
+            found = [text for text in texts if text.endswith(("in time", "1 min.", "missing.", "checked.", "wrong."))]
+            self.assertEqual(found, wanted)
+
     def test_names_and_words_are_escaped(self) -> None:
         """No text of a site becomes a tag or an attribute, on any page; forbidden characters are replaced."""
         name = "h;" + EVIL
@@ -227,7 +243,7 @@ class Data(PageTest):
         status, headers, text = self.request("/status.json")
         came = json.loads(text)
         self.assertEqual((status, headers["content-type"], headers["content-length"]), (200, "application/json", str(len(text.encode()))))
-        self.assertEqual(came["objects"], [{**it, "phase": None} for it in objects])
+        self.assertEqual(came["objects"], [{**it, "phase": None, "known": None} for it in objects])
         self.assertEqual((came["wrong"], came["out"], came["due"], came["is_silent"]), (["h;a"], 1, 1, False))
         self.assertEqual((came["checks_a_second"], came["latest_start"], came["calls"], came["saved_at"]), (2.5, 0.75, 8, None))
 

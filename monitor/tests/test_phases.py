@@ -3,7 +3,7 @@ import collections
 from typing import List, Tuple
 
 from nagsched_monitor.core.checks import next_in_phase, time_back_in_phase
-from nagsched_monitor.model.object_state import phase_after_change
+from nagsched_monitor.model.object_state import phase_of
 from nagsched_monitor.site.site import read_site
 
 from .simulated import BEGIN, PROGRAM, SimulatedMonitor, SiteTest, fine, host, service
@@ -91,13 +91,12 @@ class Phases(SiteTest):
             self.assertEqual(time_back_in_phase(0, 10_000, next_check, 12_000), wanted, next_check)
         self.assertEqual((time_back_in_phase(None, 10_000, 15_000, 0), time_back_in_phase(0, 0, 15_000, 0)), (None, None))
 
-    def test_a_longer_interval_is_filled_evenly(self) -> None:
-        """1,000 objects of a minute become objects of ten minutes: the number of checks is about the same in each minute."""
-        moved = [phase_after_change(60 * number, f"h{number}", 60_000, 600_000) for number in range(1_000)]
-        counts = collections.Counter(phase // 60_000 for phase in moved)
-        self.assertEqual(len(counts), 10)
-        self.assertTrue(70 <= min(counts.values()) and max(counts.values()) <= 130, counts)
-        self.assertEqual((phase_after_change(5, "web", 600_000, 60_000), phase_after_change(5, "web", 0, 60_000)), (5, 5))
+    def test_another_interval_is_filled_evenly(self) -> None:
+        """Whole multiple of the old one or not: the number of checks is about the same in each of its tenths."""
+        for interval in (45_000, 60_000, 80_000, 90_000, 600_000):
+            counts = collections.Counter(10 * phase_of(f"h{number}", interval) // interval for number in range(1_000))
+            self.assertEqual(len(counts), 10)
+            self.assertTrue(70 <= min(counts.values()) and max(counts.values()) <= 130, counts)
 
     def test_a_reload_keeps_an_object_in_phase(self) -> None:
         self.write_site([host("web")], [service("web", "http", check_interval=120)], {"service_inter_check_delay_method": 7_000})

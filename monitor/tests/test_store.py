@@ -1,16 +1,17 @@
 """The database: changed rows are found, and a failed write changes nothing."""
+import contextlib
 import sqlite3
 from typing import List
 
 from nagsched_monitor.faults import MonitorFault, NotStored
-from nagsched_monitor.store.rows import FOR_PEOPLE, TABLES, VERSION, Generation, StoredChange, StoredStanding, checksum_of
+from nagsched_monitor.store.rows import LOSSES, TABLES, VERSION, Generation, StoredChange, StoredStanding, checksum_of
 from nagsched_monitor.store.store import (
     Store, begin_generations, delete, drop_changes_before, insert, store_calls, store_change, store_figures, store_request, store_standings,
 )
 
 from .simulated import SiteTest
 
-STANDING = StoredStanding("web", "DOWN", "HARD", 3, False, 990.5, 1000.5, 1000.25, 1060.0, True, None, 0.5, 0.0, "no answer", 60_000)
+STANDING = StoredStanding("web", "DOWN", "HARD", 3, False, 990.5, 1000.5, 1000.25, 1060.0, True, None, 0.5, 0.0, "no answer", 60_000, 61_000)
 CHANGE = StoredChange(2, 1000.5, "web", "DOWN", "HARD", 3, False, "no answer")
 
 
@@ -24,7 +25,9 @@ class Database(SiteTest):
             store_calls([(0, '["take",8]', None), (0, '["report","web",1,2]', "no answer")]),
             insert("switches", None, "web", 0),
             insert("passive", None, "web", 1, "slow"),
-            store_change(CHANGE, '{"name":"web"}'),
+            store_change(CHANGE, '{"name":"web"}', 8),
+            insert("settings", None, "on_change", "cat"),
+            insert("not_taken", None, "{}"),
             store_standings([STANDING]),
             store_figures({"saves": 3.0}),
             store_request("a-1", "{}"),
@@ -41,7 +44,7 @@ class Database(SiteTest):
         self.assertEqual((store.generations()[0].saved, store.last_call, store.changes_after(0), store.last_moment()), (b'{"format":1}', 2, {2}, 8))
         self.assertEqual(store.requests(), {"a-1": "{}"})
         self.assertEqual(store.generations()[0].mirrors, {"gateway"})
-        self.assertEqual((store.outbox(), store.figures()), ([(1, '{"name":"web"}')], {"saves": 3.0}))
+        self.assertEqual((store.outbox(), store.figures()), ([(1, '{"name":"web"}', 8)], {"saves": 3.0}))
         self.assertEqual(store.standings(), [STANDING])
         store.write(store_figures({"moment": 9.0}))
         self.assertEqual(store.last_moment(), 9)
@@ -57,7 +60,7 @@ class Database(SiteTest):
         Store(self.folder).close()
 
     def test_a_changed_byte_in_each_table(self) -> None:
-        """A damaged row that checks depend on is refused; one that only people read is set aside with a line."""
+        """A damaged row that schedulers continue from is refused; any other is set aside with a line that says what its loss means."""
         self.filled().close()
         for table, members in TABLES.items():
             for member in ["checksum", *(each.split()[0] for each in members.split(", "))]:
@@ -75,12 +78,12 @@ class Database(SiteTest):
 
     def assert_found(self, table: str) -> None:
         lines: List[str] = []
-        if table not in FOR_PEOPLE:
-            with self.assertRaisesRegex(MonitorFault, rf"row \d+ of {table} "):
+        if table not in LOSSES:
+            with self.assertRaisesRegex(MonitorFault, rf"row \d+ of {table} .*drop-calls"):
                 Store(self.folder)
             return
         Store(self.folder, lines.append).close()
-        self.assertRegex(lines[0], rf"row \d+ of {table} was changed since it was written")
+        self.assertRegex(lines[0], rf"row \d+ of {table} was changed since it was written.*{LOSSES[table]}")
 
     def test_a_changed_byte_in_the_history(self) -> None:
         """It is found when it is read: it counts for nothing, and stays for inspection."""
@@ -100,15 +103,19 @@ class Database(SiteTest):
         with sqlite3.connect(self.folder / "monitor.db") as database:
             row = database.execute("SELECT * FROM standings").fetchone()
             database.execute("DROP TABLE standings")
-            members = TABLES["standings"].replace(", phase INTEGER", "")
+            members = TABLES["standings"].replace(", phase INTEGER, known INTEGER", "")
             database.execute(f"CREATE TABLE standings (id INTEGER PRIMARY KEY, {members}, checksum TEXT)")
-            cells = row[1:-2]
-            database.execute(f"INSERT INTO standings VALUES ({','.join('?' * len(row[:-1]))})", (row[0], *cells, checksum_of("standings", row[0], cells)))
-            for table in ("requests", "aside", "damaged"):
+            cells = row[1:-3]
+            database.execute(f"INSERT INTO standings VALUES ({','.join('?' * len(row[:-2]))})", (row[0], *cells, checksum_of("standings", row[0], cells)))
+            database.execute("DROP TABLE outbox")
+            database.execute("CREATE TABLE outbox (id INTEGER PRIMARY KEY, document TEXT, checksum TEXT)")
+            database.execute("INSERT INTO outbox VALUES (1, '{}', ?)", (checksum_of("outbox", 1, ["{}"]),))
+            for table in ("requests", "aside", "damaged", "settings", "not_taken"):
                 database.execute(f"DROP TABLE {table}")
             database.execute("PRAGMA user_version = 0")
         store = Store(self.folder)
-        self.assertEqual(store.standings(), [STANDING._replace(phase=None)])
+        self.assertEqual(store.standings(), [STANDING._replace(phase=None, known=None)])
+        self.assertEqual(store.outbox(), [(1, "{}", None)])
         self.assertEqual(store.requests(), {})
         store.close()
         with sqlite3.connect(self.folder / "monitor.db") as database:
@@ -169,6 +176,49 @@ class Database(SiteTest):
         with self.assertRaises(NotStored):
             store.write(store_calls([(0, '["take",9]', None)]), failing)
         self.assertEqual((store.last_call, [call.id for call in store.calls_since(0, 0)]), (2, [2]))
+
+    def test_a_write_that_raises_something_else(self) -> None:
+        """It is rolled back too, and the next write is carried out."""
+        store = self.filled()
+        with self.assertRaises(UnicodeEncodeError):
+            store.write(store_calls([(0, '["take",9]', None)]), store_request("\ud800", "{}"))
+        store.write(store_request("b", "{}"))
+        self.assertEqual((store.last_call, store.requests()), (2, {"a-1": "{}", "b": "{}"}))
+
+    def test_calls_that_are_dropped(self) -> None:
+        """A damaged database continues from its last saved states: numbers go on, and a part whose state is damaged begins from scratch."""
+        for damage, parts in (("UPDATE calls SET line = 'x' WHERE id = 3", 2), ("UPDATE generations SET saved = 'x' WHERE part = 1", 1),
+                              ("DELETE FROM calls WHERE id = 4", 2), ("UPDATE mirrors SET names = 'x'", 1)):
+            with self.subTest(damage):
+                store = self.filled()
+                store.write(begin_generations([Generation(part, b"{}", 7, b'{"format":1}', 0, frozenset({"gateway"} if part else {})) for part in (0, 1)]),
+                            store_calls([(0, '["take",8]', None)] * 3))
+                store.close()
+                with contextlib.closing(sqlite3.connect(self.folder / "monitor.db")) as database:
+                    database.execute(damage)
+                    database.commit()
+                with self.assertRaisesRegex(MonitorFault, "drop-calls"):
+                    Store(self.folder)
+                lines: List[str] = []
+                Store(self.folder, lines.append, is_calls_dropped=True).close()
+                self.assertIn("calls since the last saved states are dropped", lines[-1])
+                store = Store(self.folder)
+                self.assertEqual((len(store.generations()), store.calls_since(0, 0), store.last_call > 0), (parts, [], True))
+                store.close()
+                for path in self.folder.glob("monitor.db*"):
+                    path.unlink()
+
+    def test_a_file_that_is_gone_or_another(self) -> None:
+        """Nothing is written until it is back."""
+        store, path, away = self.filled(), self.folder / "monitor.db", self.folder / "away"
+        path.rename(away)
+        with self.assertRaisesRegex(NotStored, "moved or deleted"):
+            store.write(store_figures({"calls": 7.0}))
+        path.write_bytes(b"")
+        with self.assertRaisesRegex(NotStored, "replaced"):
+            store.write(store_figures({"calls": 7.0}))
+        away.replace(path)
+        store.write(store_figures({"calls": 7.0}))
 
     def test_a_saved_state_lets_go_of_the_calls_before(self) -> None:
         store = self.filled()

@@ -40,9 +40,9 @@ class Checks:
     def is_to_be_enabled(self, definition: ObjectDefinition, switch: Optional[bool] = None) -> bool:
         """Whether the active checks of an object have to be on: both the operator's switch and its period have to allow them."""
         on = self._operator_switches.get(definition.name, definition.enabled) if switch is None else switch
-        return on and not definition.passive_only and self._is_in_period(definition)
+        return on and not definition.passive_only and self.is_in_period(definition)
 
-    def _is_in_period(self, definition: ObjectDefinition) -> bool:
+    def is_in_period(self, definition: ObjectDefinition) -> bool:
         return definition.period is None or self._periods.get(definition.period, True)
 
     def recheck_periods(self) -> None:
@@ -94,7 +94,7 @@ class Checks:
         """Asks for a check of each object that had no result within its freshness, which runs its command."""
         for name in self._scheduling.site.with_freshness:
             obj = self._objects[name]
-            if obj.is_stale(now) and name not in self._passive and self._scheduling.is_open(obj.definition.part) and self._is_in_period(obj.definition):
+            if obj.is_stale(now) and name not in self._passive and self._scheduling.is_open(obj.definition.part) and self.is_in_period(obj.definition):
                 self._log(f"{name}: no result for {(obj.definition.freshness or 0) / 1000:g} seconds; its command is run")
                 self.plan_check(obj, now, True)
 

@@ -10,14 +10,15 @@ from typing import Any, Callable, Deque, Dict, List, Optional, Sequence
 from ..faults import ConversationEnded, NotStored
 from ..model.clock import Clock
 from ..model.object_state import ObjectState
-from ..model.protocol import Abandon, Call, Freed, Refused, Report, Reschedule, Standing, Taken, call_line
+from ..model.protocol import Abandon, Call, Freed, PutOff, Refused, Report, Reschedule, Standing, Taken, call_line
 from ..model.run_table import Owner
 from ..run.runners import RunnerPools
 from ..scheduler.scheduling import ObjectAnswer, Scheduling
 from ..site.site import Site
 from ..store.counters import Counters
 from ..store.store import Store, store_figures
-from .checks import Checks
+from .ages import Ages
+from .checks import WINDOW, Checks
 from .passive import PassiveResults
 from .plan import Plan
 from .plugin_runs import MARGIN, PluginRuns
@@ -46,6 +47,7 @@ class Engine:
         self.counters = Counters(figures, clock)
         self.passive = PassiveResults(store, scheduling, log)
         self.checks = Checks(scheduling, self.passive, store.switches(), clock, log)
+        self.ages = Ages(self.objects, self.checks, clock, log)
         self.plugins = PluginRuns(scheduling, runners, clock, log, self.counters)
         self.requests = Requests(scheduling, store, self.checks, self.passive, clock, log, Actions(self.signs, self.save, reload, stop))
         # Requests that wait for a turn, and those that are stored and not answered yet.
@@ -53,26 +55,34 @@ class Engine:
         self._stored_requests: List[Request] = []
         # Answers that aren't applied yet: a fault in the middle leaves the rest to the next turn.
         self._answers: Deque[ObjectAnswer] = collections.deque()
+        # The moments of the last turn that stored everything, and of the last one.
         self._last_turn: Optional[int] = None
+        self._last_try: Optional[int] = None
         self._schedule_save()
         self.is_stuck = False
         # A result of each object is awaited since its last one, without the time in which no monitor ran. If it had none, since its part began.
-        until = min(clock.wall(), figures.get("written_at", 0.0))
+        until, away = min(clock.wall(), figures.get("written_at", 0.0)), self._now - round(figures.get("moment", self._now))
         for obj in self.objects.values():
             start, last = scheduling.parts[obj.definition.part].generation.start, obj.history.last_check
             obj.awaited_since = start if last is None else self._now - round(max(0.0, until - last) * 1000)
+            obj.known_at = obj.known_at + away if obj.known_at else obj.awaited_since
 
     # ---- a turn
 
     def turn(self) -> int:
         """Does all the work that is due now, and returns the moment for which the next turn is wanted."""
         now = self._now = self._clock.moment()
+        self._log_pause(now)
         self.plugins.collect_events(now)
         plan = self._make_plan(now)
         try:
             self.scheduling.store_calls(plan.calls, plan.writes)
         except NotStored as error:
             return self._retry_later(error, now)
+        except Exception as error:  # any exception: the requests may be its cause, and aren't stored again
+            self.requests.refuse(self._requests, f"the monitor has a fault: {type(error).__name__}: {error}", False)
+            self._requests = []
+            raise
         if self.is_stuck:
             self._log("the database takes writes again")
         self.is_stuck = False
@@ -91,6 +101,12 @@ class Engine:
         self._last_turn = now
         self._save_when_due()
         return self._next_turn(now)
+
+    def _log_pause(self, now: int) -> None:
+        """Logs that no turn came for a while: the monitor or its machine stood still."""
+        if self._last_try is not None and now - self._last_try > PAUSE:
+            self._log(f"stood still for {(now - self._last_try) / 1000:.0f} seconds: overdue checks are spread over {WINDOW / 1000:g} seconds")
+        self._last_try = now
 
     def _retry_later(self, error: NotStored, now: int) -> int:
         """Nothing could be stored, and nothing has changed: the client may send the request again."""
@@ -125,7 +141,7 @@ class Engine:
         self.passive.plan_takes(plan, now)
         self.checks.plan_takes(plan, now)
         if self.counters.are_due(now):
-            figures = self.counters.changed_figures(self.store.last_call)
+            figures = self.counters.changed_figures(self.store.last_call, self.ages.figures())
             plan.writes.append(store_figures(figures))
             plan.then.append(partial(self.counters.set_written, figures))
         return plan
@@ -153,11 +169,13 @@ class Engine:
             return
         elif isinstance(answer, Taken):
             self._apply_take(obj)
+        elif isinstance(answer, PutOff):
+            obj.known_at = self._now  # its setup holds back the check
         elif isinstance(call, Abandon) and isinstance(answer, Freed):
             self.counters.count_result("given_up")
         elif isinstance(call, Report) and isinstance(answer, Standing):
             self.counters.count_result(answer.state)
-            obj.last_result = self._now
+            obj.last_result = obj.known_at = self._now
             self.checks.apply_result(obj, before, answer, self._now)
 
     def _apply_refusal(self, call: Call, answer: Refused, obj: Optional[ObjectState]) -> None:
@@ -190,14 +208,15 @@ class Engine:
 
     def signs(self) -> Dict[str, Any]:
         """The signs of life, for those who ask."""
-        wall = self._clock.wall()
+        wall, overdue = self._clock.wall(), self.ages.overdue()
         try:
             changes, first = self.store.waiting_changes()
         except NotStored:
             changes, first = 0, None
         return {
             "turn": wall - self.time_since_turn() / 1000, "is_stuck": self.is_stuck, "passive_waiting": self.passive.count, "changes_waiting": changes,
-            "oldest_change": 0.0 if first is None else max(0.0, wall - first), "runners": self.runners.process_counts(),
+            "oldest_change": 0.0 if first is None else max(0, self._clock.moment() - first) / 1000, "runners": self.runners.process_counts(),
+            "overdue": overdue.number, "promised": overdue.promised, "overdue_by": overdue.by / 1000, "most_overdue": overdue.name,
             "out": len(self.scheduling.states.running.plugins()), "made": self.counters.result_count, "latest_start": self.counters.latest_start,
         }
 
@@ -207,9 +226,10 @@ class Engine:
 
     def _save_when_due(self) -> None:
         """Saves one part at a time, so that checks don't wait for all."""
-        if self._now >= self._save_at or self.store.last_call - self._saved_call >= SAVE_CALLS:
+        part = self.scheduling.pop_long_replay()
+        if part is not None or self._now >= self._save_at or self.store.last_call - self._saved_call >= SAVE_CALLS:
             try:
-                self.save([self.scheduling.longest_unsaved()])
+                self.save([self.scheduling.longest_unsaved() if part is None else part])
             except (NotStored, ConversationEnded) as fault:
                 self._log(f"the state isn't saved: {fault}")
                 self._save_at, self._saved_call = self._now + SAVE_AGAIN, self.store.last_call
@@ -224,7 +244,7 @@ class Engine:
     def close(self) -> None:
         """Saves the state and the figures."""
         self.save()
-        self.store.write(store_figures(self.counters.changed_figures(self.store.last_call)))
+        self.store.write(store_figures(self.counters.changed_figures(self.store.last_call, self.ages.figures())))
 
     def reload(self, site: Site) -> List[str]:
         """Takes over another site; running checks continue. If it is refused, nothing has changed. Returns the changes of objects that stay."""

@@ -14,6 +14,7 @@ from ..run.runners import RunnerPools
 from ..scheduler.mirroring import PlannedCall
 from ..scheduler.scheduling import Scheduling
 from ..store.counters import Counters
+from ..system.log import RepeatedLines
 from .plan import Plan
 
 # How often a check whose runner ended is made again, and its result if it is lost once more.
@@ -31,6 +32,7 @@ class PluginRuns:
     def __init__(self, scheduling: Scheduling, runners: RunnerPools, clock: Clock, log: Callable[[str], None], counters: Counters) -> None:
         self._scheduling, self._runners, self._clock, self._log, self._counters = scheduling, runners, clock, log, counters
         self._events: List[Event] = []
+        self._delayed = RepeatedLines(log, lambda: clock.moment() / 1000)
         # Plugins that were killed and haven't ended, by the names of their objects.
         self._stuck: Dict[str, Job] = {}
         # How often in a row the check of an object was lost, and couldn't be run here.
@@ -64,6 +66,7 @@ class PluginRuns:
     def collect_events(self, now: int) -> None:
         """Takes in the events of runners, and looks over all runs every second."""
         self._events.extend(self._runners.events())
+        self._delayed.flush()
         if now - self._last_sweep >= SWEEP:
             self._last_sweep = now
             self._end_overdue(now)
@@ -124,7 +127,7 @@ class PluginRuns:
             return self._scheduling.mirrors.report_calls(part, Report(name, run.number, code), words, now)
         if self._is_delayed(event):
             again = min(LONGEST_RETRY, RETRY << min(self._delays[name], 16))
-            self._log(f"{name}: its plugin can't be run now, and is tried again in {again / 1000:g} seconds: {event.why}")
+            self._delayed.add(name, f"its plugin can't be run now, and is tried again after 1 to {LONGEST_RETRY / 1000:g} seconds: {event.why}")
             return [(part, Abandon(name, run.number, now), None), (part, Reschedule(name, now + again, run.forced), None)]
         if self._losses[name] == MOST_LOST:
             return self._scheduling.mirrors.report_calls(part, Report(name, run.number, UNKNOWN), f"{event.why} {MOST_LOST + 1} times", now)

@@ -5,6 +5,7 @@
     {"do":"enable","name":N}    {"do":"disable","name":N} an operator's switch
     {"do":"default","name":N}                             the setup's switch counts again
     {"do":"result","name":N,"code":0,"output":"..."}      a passive result
+    {"do":"notify-test"}                                  a marked change for the command for changes
     {"do":"reload"}   {"do":"save"}   {"do":"stop"}
 
 An answer with `error` is a refusal that changed nothing; with `"again":true` the same request may be obeyed later. A request may have a `number`, a text: the
@@ -21,10 +22,11 @@ from ..model.clock import LAST_TIME, Clock
 from ..model.object_state import FIRST_TIME, ObjectState
 from ..model.protocol import Enable, Reschedule
 from ..model.text import MOST_OUTPUT_BYTES, plain_text
+from ..scheduler.changes import test_document
 from ..scheduler.mirroring import PlannedCall
 from ..scheduler.scheduling import Scheduling
 from ..store.rows import StoredResult
-from ..store.store import MOST_REQUESTS, Store, delete, insert, store_request
+from ..store.store import MOST_REQUESTS, Store, delete, insert, store_document, store_request
 from .checks import Checks
 from .passive import MOST_WAITING, PassiveResults
 from .plan import Plan
@@ -70,6 +72,7 @@ class Requests:
             "disable": (partial(self._plan_switch, on=False), ("name",)),
             "default": (partial(self._plan_switch, on=None), ("name",)),
             "result": (self._plan_result, ("name", "code", "output")),
+            "notify-test": (self._plan_notify_test, ()),
             "reload": (lambda _, request: Plan(then=[partial(self._actions.reload, request)]), ()),
             "save": (lambda _, request: Plan(last=[partial(self._save_now, request)]), ()),
             "stop": (self._plan_stop, ()),
@@ -105,6 +108,8 @@ class Requests:
         """The earlier answer to a number that was already obeyed."""
         if not isinstance(number, str) or not 0 < len(number) <= LONGEST_NUMBER:
             raise RequestFault(f"number is a text of 1 to {LONGEST_NUMBER} characters")
+        if number != plain_text(number, 4 * LONGEST_NUMBER):
+            raise RequestFault("number has half a character or a control character")
         if number in self._planned:
             raise AskAgain("a request with this number is being obeyed")
         answer: Optional[Dict[str, Any]] = json.loads(self._numbers.get(number, "null"))
@@ -121,11 +126,11 @@ class Requests:
             if request.answer is not None:
                 request.reply(request.answer)
 
-    def refuse(self, asked: Sequence[Request], why: str) -> None:
+    def refuse(self, asked: Sequence[Request], why: str, is_later: bool = True) -> None:
         """Nothing of a turn was stored."""
         for request in asked:
             if request.answer is None or "done" in request.answer:
-                request.answer = {"error": why, "again": True}
+                request.answer = {"error": why, **({"again": True} if is_later else {})}
         self.answer(asked)
 
     # ---- reading a request
@@ -205,8 +210,15 @@ class Requests:
         result = StoredResult(self._store.last_result + self._results, obj.name, code, plain_text(output, MOST_OUTPUT_BYTES))
         request.answer = {"done": "result", "name": obj.name}
         note = partial(setattr, self._store, "last_result", result.id)
-        log = partial(self._log, f"asked: result {obj.name} {code}")
-        return Plan(writes=[insert("passive", *result)], then=[note, partial(self._passive.add, result), log])
+        log = [partial(self._log, f"asked: result {obj.name} {code}")] if self._scheduling.site.options.log_passive else []
+        return Plan(writes=[insert("passive", *result)], then=[note, partial(self._passive.add, result), *log])
+
+    def _plan_notify_test(self, members: Members, request: Request) -> Plan:
+        if not self._scheduling.has_command:
+            raise RequestFault("no command for changes is given: start the monitor with --on-change")
+        request.answer = {"done": "notify-test"}
+        document = test_document(self._clock.wall(), self._clock.moment())
+        return Plan(writes=[store_document(document, self._clock.moment())], then=[partial(self._log, "asked: notify-test")])
 
     def _save_now(self, request: Request) -> None:
         try:

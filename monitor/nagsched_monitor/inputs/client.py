@@ -2,11 +2,14 @@
 import os
 import pathlib
 import socket
+import time
 from typing import List, Sequence
 
 from ..faults import MonitorFault
 
 NAME = "monitor.socket"
+# The pause before the next try to connect, in seconds.
+RETRY = 0.02
 
 
 def short_path(path: pathlib.Path) -> str:
@@ -19,13 +22,25 @@ def send_request(folder: pathlib.Path, request: bytes, seconds: float = 30) -> b
     return b"".join(send_requests(folder, [request], seconds))
 
 
+def connect(connection: socket.socket, path: str, seconds: float) -> None:
+    """Connects to a monitor. While too many clients wait for it, the connection is tried again."""
+    connection.settimeout(seconds)
+    end = time.monotonic() + seconds
+    while True:
+        try:
+            return connection.connect(path)
+        except BlockingIOError:
+            if time.monotonic() >= end:
+                raise
+            time.sleep(RETRY)
+
+
 def send_requests(folder: pathlib.Path, requests: Sequence[bytes], seconds: float = 30) -> List[bytes]:
     """The answers to requests that are made together. If the monitor ends meanwhile, only those that came before, whose requests were obeyed."""
     answers: List[bytes] = []
     try:
         with socket.socket(socket.AF_UNIX, socket.SOCK_STREAM) as connection, connection.makefile("rb") as lines:
-            connection.settimeout(seconds)
-            connection.connect(short_path(folder / NAME))
+            connect(connection, short_path(folder / NAME), seconds)
             connection.sendall(b"".join(request + b"\n" for request in requests))
             while len(answers) < len(requests) and (line := lines.readline()).endswith(b"\n"):
                 answers.append(line)

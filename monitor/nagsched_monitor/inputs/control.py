@@ -35,10 +35,15 @@ class Client:
     connection: socket.socket
     unread: bytes = b""
     unsent: bytearray = field(default_factory=bytearray)
-    # The requests without an answer, the time of its last line, and whether it sends no more.
+    # The requests without an answer, the time of its last line, whether it has sent something, and whether it sends no more.
     unanswered: int = 0
     last_line_at: float = field(default_factory=time.monotonic)
+    has_sent: bool = False
     has_ended: bool = False
+
+    def is_idle(self) -> bool:
+        """Whether it has sent something before, and waits for nothing."""
+        return self.has_sent and not self.unanswered and not self.unsent and not self.unread
 
 
 class ControlSocket:
@@ -54,23 +59,27 @@ class ControlSocket:
             self._path.chmod(0o600)  # nobody can connect before it listens
         except OSError as error:
             raise MonitorFault(f"{self._path}: {error.strerror or error}") from None
-        self._socket.listen(16)
+        self._socket.listen(socket.SOMAXCONN)
         self._socket.setblocking(False)
         self._clients: List[Client] = []
         poller.watch(self._socket.fileno(), self._accept)
 
     def _accept(self) -> None:
-        try:
-            connection, _ = self._socket.accept()
-        except OSError:
-            return  # there is no room for another file, or the client has gone: tried again if a client still waits
-        if len(self._clients) >= MOST_CLIENTS:
-            connection.close()
-            return
-        connection.setblocking(False)
-        client = Client(connection)
-        self._clients.append(client)
-        self._poller.watch(connection.fileno(), partial(self._read, client))
+        """Accepts all clients that wait, as long as there is room. One that has been idle the longest makes room for another."""
+        while True:
+            idle = [client for client in self._clients if client.is_idle()]
+            if len(self._clients) >= MOST_CLIENTS and not idle:
+                return
+            try:
+                connection, _ = self._socket.accept()
+            except OSError:
+                return  # none waits, or there is no room for another file: tried again if a client still waits
+            if len(self._clients) >= MOST_CLIENTS:
+                self._drop_client(min(idle, key=lambda client: client.last_line_at))
+            connection.setblocking(False)
+            client = Client(connection)
+            self._clients.append(client)
+            self._poller.watch(connection.fileno(), partial(self._read, client))
 
     def _read(self, client: Client) -> None:
         if b"\n" in client.unread:
@@ -81,7 +90,7 @@ class ControlSocket:
             return
         except OSError:
             data = b""  # the client has gone
-        client.last_line_at = time.monotonic()
+        client.last_line_at, client.has_sent = time.monotonic(), True
         client.unread += data
         if not data:
             self._stop_reading(client)
@@ -117,7 +126,7 @@ class ControlSocket:
         client.unanswered -= 1
         if len(client.unsent) > UNREAD_BYTES:
             self._drop_client(client)
-        client.unsent += json.dumps(answer, ensure_ascii=False).encode() + b"\n"
+        client.unsent += json.dumps(answer, ensure_ascii=False).encode(errors="replace") + b"\n"
 
     def _send(self, client: Client) -> None:
         """Sends as much as its reader accepts now."""

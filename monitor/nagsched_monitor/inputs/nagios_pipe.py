@@ -45,10 +45,16 @@ class Pipe:
     """The pipe in a folder. The caller waits for its file to be readable, and then calls `read`."""
 
     def __init__(self, folder: pathlib.Path) -> None:
-        """Makes the pipe, or takes an existing one."""
+        """Makes the pipe, or takes an existing one. A file, which a writer made while there was no pipe, is replaced, and its lines are taken over."""
         self._path = folder / NAME
+        self.taken_over: List[bytes] = []
         try:
-            if not self._path.exists():
+            if self._path.is_file():
+                old = self._path.replace(self._path.with_suffix(".old"))
+                os.mkfifo(self._path, MODE)
+                self.taken_over = old.read_bytes().splitlines()
+                old.unlink()
+            elif not self._path.exists():
                 os.mkfifo(self._path, MODE)
             if not self._path.is_fifo():
                 raise MonitorFault(f"{self._path} is no pipe: move it away")

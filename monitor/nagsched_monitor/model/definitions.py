@@ -24,6 +24,8 @@ class ObjectDefinition:
     check_interval: int
     # Whether the setup has it enabled.
     enabled: bool
+    # The interval while a problem is soft.
+    retry_interval: int = 0
     command: Optional[Command] = None
     period: Optional[str] = None
     passive_only: bool = False

@@ -55,6 +55,7 @@ class ObjectState:
     last_result: Optional[int] = None
     output: str = ""
     awaited_since: int = 0  # the moment since which a result is awaited, if none came while this monitor runs
+    known_at: int = 0  # the moment of its last result, or since which one is promised
     history: StateHistory = field(default_factory=StateHistory)
     name: str = field(init=False)
     key: ObjectKey = field(init=False)
@@ -146,7 +147,7 @@ class ObjectStates:
         before, self.due = dict(self.objects), DueQueue()
         self.objects.clear()
         for name, definition in objects.items():
-            earlier = before.pop(name, None) or ObjectState(definition, self.running, definition.enabled, awaited_since=now)
+            earlier = before.pop(name, None) or ObjectState(definition, self.running, definition.enabled, awaited_since=now, known_at=now)
             self.objects[name] = obj = self._state_in_new_site(earlier, definition, now)
             self.due.set_time(name, obj.due_time())
         for obj in before.values():
@@ -159,7 +160,7 @@ class ObjectStates:
         since = now if earlier.definition.freshness is None and earlier.last_result is None else earlier.awaited_since
         phase = earlier.phase
         if phase is not None and earlier.definition.check_interval != definition.check_interval:
-            phase = phase_after_change(phase, earlier.name, earlier.definition.check_interval, definition.check_interval)
+            phase = phase_of(earlier.name, definition.check_interval)
         return replace(earlier, definition=definition, on=on, awaited_since=since, phase=phase)
 
     def end_run(self, obj: ObjectState) -> None:
@@ -207,6 +208,6 @@ class ObjectStates:
         self.due.set_time(obj.name, obj.due_time())
 
 
-def phase_after_change(phase: int, name: str, before: int, interval: int) -> int:
-    """The phase of an object whose interval changes: objects fill a longer interval evenly, by their names."""
-    return phase + before * (zlib.crc32(name.encode()) % max(1, interval // before)) if before > 0 else phase
+def phase_of(name: str, interval: int) -> int:
+    """The phase of an object whose interval has changed: by its name, so that objects fill any interval evenly."""
+    return zlib.crc32(name.encode()) % max(1, interval)

@@ -1,28 +1,33 @@
 """Hard problems and flapping objects of a site as alerts of Prometheus's Alertmanager: a process next to the monitor.
 
-Its arguments are the address of Alertmanager and the site's folder. All alerts are posted every 30 seconds, and at once when one begins, changes or ends.
-Each post sets the alert's end a few minutes ahead. So this process stores nothing, and nothing is lost if it, the monitor or Alertmanager is away for a while.
+Its arguments are the address of Alertmanager, the site's folder, and the address of the page if there is one. All alerts are posted every 30 seconds, and at
+once when one begins, changes or ends. Alertmanager is then asked for the site's alerts, and those that don't stand are ended. So this process stores nothing.
+Alerts end by themselves only hours after the last post: the heartbeat alone shows that the monitor is gone.
 """
 import datetime
 import http.client
 import json
 import pathlib
+import re
 import sys
 import time
+import urllib.error
+import urllib.parse
 import urllib.request
-from typing import Any, Dict, FrozenSet, List, Mapping, Optional, Tuple
+from typing import Any, Callable, Dict, FrozenSet, Iterable, List, Mapping, Optional, Sequence, Tuple
 
 from ..model.text import first_line
 from ..site.groups_file import Groups, GroupsFile, labels_of
-from ..system.processes import is_ended
+from ..store.rows import StoredStanding
+from ..system.processes import ParentMonitor
 from .status_query import PROBLEMS, SiteStatus, StatusUnavailable, read_site_status
 
-# In seconds: the time between two posts of all alerts, the end of an alert after its post, the time between two looks at the database, and the limit for
-# Alertmanager's answer.
-EVERY, ENDS, LOOK_EVERY, PATIENCE = 30.0, 300.0, 1.0, 10.0
+# In seconds: the time between two posts of all alerts, the end of an alert and of the heartbeat after their last post, the time between two looks at the
+# database, and the limit for Alertmanager's answer.
+EVERY, ENDS, HEARTBEAT_ENDS, LOOK_EVERY, PATIENCE = 30.0, 21_600.0, 300.0, 1.0, 10.0
 # The greatest number of alerts in one request.
 AT_ONCE = 1_000
-PROBLEM, FLAPPING, HEARTBEAT = "NagschedProblem", "NagschedFlapping", "NagschedHeartbeat"
+PROBLEM, FLAPPING, NOT_CHECKED, HEARTBEAT = "NagschedProblem", "NagschedFlapping", "NagschedNotChecked", "NagschedHeartbeat"
 SEVERITIES = {"WARNING": "warning", "CRITICAL": "critical", "DOWN": "critical", "UNREACHABLE": "unreachable", "UNKNOWN": "unknown"}
 
 # The labels of an alert, which identify it.
@@ -30,25 +35,44 @@ Labels = FrozenSet[Tuple[str, str]]
 Alert = Dict[str, Any]
 
 
-def alerts_of(status: SiteStatus, site: str, groups: Mapping[str, Groups]) -> Dict[Labels, Alert]:
-    """All current alerts: one for each hard problem, one for each flapping object, and a heartbeat while the monitor works.
+def alerts_of(status: SiteStatus, site: str, groups: Mapping[str, Groups], page: str = "") -> Dict[Labels, Alert]:
+    """All current alerts except the heartbeat: one for each hard problem and each flapping object, and one if results are missing.
 
     If the beginning isn't known, it is now; Alertmanager keeps the earliest that it was told.
     """
     hosts = {it.name: str(it.state) for it in status.objects if it.is_host() and it.is_hard_problem()}
     alerts: List[Alert] = []
     for it in status.objects:
-        labels = {"site": site, **labels_of(it.name, groups), "host_state": hosts.get(it.host(), "UP")}
+        labels, notes = {"site": site, **labels_of(it.name, groups)}, annotations_of(it, hosts.get(it.host(), "UP"))
+        link = f"{page}object?name={urllib.parse.quote(it.name, safe='')}" if page else ""
         found = [(FLAPPING, "warning", "is flapping", status.now)] if it.flapping else []
         if it.is_hard_problem():
             found.append((PROBLEM, SEVERITIES.get(str(it.state), "unknown"), f"is {it.state}", it.problem_since() or status.now))
         for name, severity, verb, since in found:
-            notes = {"state": str(it.state), "summary": f"{it.name.replace(';', ' ')} {verb}: {first_line(it.words)}", "output": it.words}
-            alerts.append({"labels": {**labels, "alertname": name, "severity": severity}, "annotations": notes, "startsAt": timestamp(since)})
-    if status.silent_seconds() is None:
-        labels = {"alertname": HEARTBEAT, "site": site, "severity": "none"}
-        alerts.append({"labels": labels, "annotations": {"summary": f"the monitor of {site} is at work"}, "startsAt": timestamp(status.now)})
-    return {frozenset(alert["labels"].items()): alert for alert in alerts}
+            summary = f"{it.name.replace(';', ' ')} {verb}: {first_line(it.words)}"
+            alerts.append(alert({**labels, "alertname": name, "severity": severity}, {"summary": summary, **notes}, min(since, status.now), link))
+    overdue, promised = status.overdue()
+    if overdue and status.silent_seconds() is None:
+        summary = f"{overdue} of {promised} objects of {site} have no result in time: what is known of them is old"
+        alerts.append(alert({"alertname": NOT_CHECKED, "site": site, "severity": "critical"}, {"summary": summary}, status.now, page))
+    return {frozenset(each["labels"].items()): each for each in alerts}
+
+
+def annotations_of(it: StoredStanding, host_state: str) -> Dict[str, str]:
+    """The facts of an alert that may change while its problem lasts."""
+    return {"state": str(it.state), "host_state": host_state, "output": it.words, **({} if it.is_on else {"checks": "off"})}
+
+
+def heartbeat_of(status: SiteStatus, site: str) -> Optional[Alert]:
+    """The sign that the monitor works and hears: none if it has written nothing, or more than half of the objects have no result in time."""
+    if status.silent_seconds() is not None or status.is_deaf():
+        return None
+    labels = {"alertname": HEARTBEAT, "site": site, "severity": "none"}
+    return alert(labels, {"summary": f"the monitor of {site} is at work"}, status.now, "")
+
+
+def alert(labels: Dict[str, str], annotations: Dict[str, str], since: float, link: str) -> Alert:
+    return {"labels": labels, "annotations": annotations, "startsAt": timestamp(since), **({"generatorURL": link} if link else {})}
 
 
 def timestamp(moment: float) -> str:
@@ -58,11 +82,11 @@ def timestamp(moment: float) -> str:
 class AlertPoster:
     """The alerts of one site at one Alertmanager."""
 
-    def __init__(self, url: str, folder: pathlib.Path, every: float = EVERY, ends: float = ENDS) -> None:
-        self._url, self._folder, self._every, self._ends = f"{url.rstrip('/')}/api/v2/alerts", folder, every, ends
+    def __init__(self, url: str, folder: pathlib.Path, page: str = "", log: Callable[[str], None] = print) -> None:
+        self._url, self._folder, self._page, self._log = f"{url.rstrip('/')}/api/v2/alerts", folder, page, log
         self._site, self._groups = folder.resolve().name, GroupsFile(folder)
-        # The alerts that Alertmanager has accepted as firing, and when all are posted again.
-        self._posted: Dict[Labels, Alert] = {}
+        # The alerts that were posted last, and when all are posted again.
+        self._posted: Optional[Sequence[Labels]] = None
         self._next_post = 0.0
         self._trouble: Optional[str] = None
 
@@ -70,30 +94,62 @@ class AlertPoster:
         """Posts the alerts that are due."""
         try:
             status = read_site_status(self._folder, PROBLEMS)
-            alerts = alerts_of(status, self._site, self._groups.read())
-            if time.monotonic() >= self._next_post or alerts.keys() != self._posted.keys():
-                self._post(alerts, status.now)
+            alerts = alerts_of(status, self._site, self._groups.read(), self._page)
+            if time.monotonic() >= self._next_post or list(alerts) != self._posted:
+                self._post_all(status, alerts)
             trouble = None
-        except (StatusUnavailable, OSError, http.client.HTTPException) as error:  # tried again with the next look
+        except (StatusUnavailable, OSError, http.client.HTTPException, ValueError) as error:  # tried again with the next look
             trouble = str(error) or type(error).__name__
         if trouble != self._trouble:
-            said = "alerts are taken again" if trouble is None else f"alerts aren't taken, and are posted again each second: {trouble}"
-            print(f"alertmanager: {said}", flush=True)
+            self._log("alerts are taken again" if trouble is None else f"alerts aren't taken, and are posted again each second: {trouble}")
         self._trouble = trouble
 
-    def _post(self, alerts: Mapping[Labels, Alert], now: float) -> None:
-        """Posts the current alerts, and ends the others. If Alertmanager doesn't take them, all are posted again."""
-        all_of = [{**alert, "endsAt": timestamp(now)} for labels, alert in self._posted.items() if labels not in alerts]
-        all_of += [{**alert, "endsAt": timestamp(now + self._ends)} for alert in alerts.values()]
+    def _post_all(self, status: SiteStatus, alerts: Mapping[Labels, Alert]) -> None:
+        """Posts the heartbeat first, then the current alerts, and ends those of the site that don't stand."""
+        heartbeat = heartbeat_of(status, self._site)
+        if heartbeat is not None:
+            self._post([{**heartbeat, "endsAt": timestamp(status.now + HEARTBEAT_ENDS)}])
+        ends = timestamp(status.now)
+        ended = [{**each, "startsAt": min(each["startsAt"], ends), "endsAt": ends} for each in self._firing() if frozenset(each["labels"].items()) not in alerts]
+        all_of = ended + [{**each, "endsAt": timestamp(status.now + ENDS)} for each in alerts.values()]
         for first in range(0, len(all_of), AT_ONCE):
-            body = json.dumps(all_of[first : first + AT_ONCE], ensure_ascii=False).encode(errors="replace")
+            self._post(all_of[first : first + AT_ONCE])
+        self._posted, self._next_post = list(alerts), time.monotonic() + EVERY
+
+    def _firing(self) -> Iterable[Alert]:
+        """The alerts of the site that Alertmanager has, except the heartbeat, which ends by itself."""
+        query = urllib.parse.urlencode([("filter", f"site={json.dumps(self._site)}"), ("filter", f'alertname=~"{PROBLEM}|{FLAPPING}|{NOT_CHECKED}"')])
+        with urllib.request.urlopen(f"{self._url}?{query}", timeout=PATIENCE) as answer:
+            return [alert(each["labels"], each["annotations"], read_timestamp(each["startsAt"]), "") for each in json.load(answer)]
+
+    def _post(self, alerts: Sequence[Alert]) -> None:
+        """Posts alerts. A request that is refused is halved, so that a refused alert holds back itself alone."""
+        body = json.dumps(alerts, ensure_ascii=False).encode(errors="replace")
+        try:
             urllib.request.urlopen(urllib.request.Request(self._url, body, {"Content-Type": "application/json"}), timeout=PATIENCE).close()
-        self._posted, self._next_post = dict(alerts), time.monotonic() + self._every
+        except urllib.error.HTTPError as error:
+            if error.code != http.HTTPStatus.BAD_REQUEST:
+                raise
+            if len(alerts) == 1:
+                self._log(f"an alert is refused: {alerts[0]['labels']}: {first_line(error.read(500).decode(errors='replace'))}")
+                return
+            self._post(alerts[: len(alerts) // 2])
+            self._post(alerts[len(alerts) // 2 :])
+
+
+def read_timestamp(text: str) -> float:
+    """A time as Alertmanager writes it: with any number of digits of a second, and Z or a difference."""
+    found = re.fullmatch(r"([0-9T:-]{19})(?:\.([0-9]+))?(Z|[+-][0-9:]{5})", text)
+    if found is None:
+        raise ValueError(f"Alertmanager answered with no time: {text!r}")
+    zone = "+00:00" if found[3] == "Z" else found[3]
+    return datetime.datetime.fromisoformat(f"{found[1]}{zone}").timestamp() + float(f"0.{found[2] or 0}")
 
 
 def main() -> int:
-    url, folder = sys.argv[1:]
-    poster = AlertPoster(url, pathlib.Path(folder))
-    while not is_ended(LOOK_EVERY):
+    url, folder, page = sys.argv[1:]
+    monitor = ParentMonitor()
+    poster = AlertPoster(url, pathlib.Path(folder), page, lambda line: monitor.log(f"alertmanager: {line}"))
+    while not monitor.is_ended(LOOK_EVERY):
         poster.post_due()
     return 0

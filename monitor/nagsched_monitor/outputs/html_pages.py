@@ -171,6 +171,9 @@ def figures_of(status: SiteStatus) -> str:
     """The number of objects in each state, and the monitor's delay. A line before them says so if they are old, since the monitor isn't working."""
     silent = status.silent_seconds()
     since = f"for {duration(silent or 0)}" if "written_at" in status.figures else "yet"
+    overdue, promised = status.overdue()
+    words = f"{overdue} of {promised} objects have no result in time; the latest is overdue by {duration(status.figures.get('overdue_by', 0.0))}."
+    not_checked = f'<p class="silent">{words}</p>' if overdue else ""
     silence = "" if silent is None else f'<p class="silent">The monitor has written nothing {since}: what is shown is how things stood then.</p>'
     counts = collections.Counter(str(it.state) for it in status.objects)
     order = [*CLASSES, *sorted(set(counts) - set(CLASSES))]
@@ -182,7 +185,15 @@ def figures_of(status: SiteStatus) -> str:
         ("out", str(len(status.running_checks()))),
         ("due", str(status.due_count())),
     ]
-    return f"{silence}\n{tiles(states)}{tiles(keeps_up)}"
+    return f"{silence}{not_checked}\n{tiles(states)}{tiles(keeps_up)}"
+
+
+def calm_words(status: SiteStatus) -> str:
+    """The sentence in place of problems, if there are none: most objects have to be known, and none overdue."""
+    pending = sum(it.state in (None, "PENDING") for it in status.objects)
+    if status.overdue()[0] or status.silent_seconds() is not None:
+        return "No problem is known, and results are missing."
+    return f"No problem is known; {pending} of {len(status.objects)} objects were never checked." if 2 * pending > len(status.objects) else "Nothing is wrong."
 
 
 def groups_of(objects: Sequence[StoredStanding], group_names: Mapping[str, Collection[str]]) -> str:
@@ -207,7 +218,7 @@ def site_page(status: SiteStatus, groups: Mapping[str, Groups], group: str, site
         f"<p>Group {html_text(group)}</p>" if group else "",
         figures_of(status),
         f"<h2>Wrong now: {len(wrong)}</h2>",
-        table([object_row(it, times, it.problem_since()) for it in wrong], "Nothing is wrong."),
+        table([object_row(it, times, it.problem_since()) for it in wrong], calm_words(status)),
         f"<h2>Out: {len(out)}</h2><p>{running}</p>" if out else "",
         f"<h2>Hosts: {len(hosts)}</h2>",
         table(hosts, "No hosts."),

@@ -62,13 +62,18 @@ def signs_of_life(status: SiteStatus, signs: Signs) -> List[Family]:
         return [("", {"runner": name}, float(its[what])) for name, its in signs.get("runners", {}).items()]
 
     last_turn = signs.get("turn", status.figures.get("written_at"))
+    overdue, late = (signs.get(name, status.figures.get(name)) for name in ("overdue", "overdue_by"))
     return [
         ("nagsched_up", "gauge", "1 if the monitor answers, 0 if it doesn't.", bool(signs)),
         ("nagsched_last_turn_timestamp_seconds", "gauge", "When the last turn of the monitor's loop began that could be stored.", last_turn),
         ("nagsched_stuck", "gauge", "1 while nothing can be stored, so that no check is made.", signs.get("is_stuck")),
+        ("nagsched_overdue", "gauge", "Objects without a result within two intervals, the plugin's limit and a minute.", overdue),
+        ("nagsched_overdue_seconds", "gauge", "How long the object is overdue that is overdue the longest.", late),
         ("nagsched_passive_waiting", "gauge", "Passive results that wait to be reported.", signs.get("passive_waiting")),
         ("nagsched_changes_waiting", "gauge", "Changes that the command for changes hasn't taken.", signs.get("changes_waiting")),
         ("nagsched_oldest_change_seconds", "gauge", "How long the oldest of these has waited.", signs.get("oldest_change")),
+        ("nagsched_changes_aside_total", "counter", "Changes that the command for changes refused again and again.",
+         status.figures.get("changes_aside", 0)),
         ("nagsched_runners", "gauge", "Runner processes that run.", of_runners("running")),
         ("nagsched_runners_wanted", "gauge", "Runner processes that there should be.", of_runners("wanted")),
         ("nagsched_runners_stuck", "gauge", "Runner processes that stand still: a result is later than its limit allows.", of_runners("stuck")),
@@ -113,6 +118,7 @@ def status_document(status: SiteStatus, groups: Mapping[str, Groups], site: str)
         "is_silent": status.silent_seconds() is not None,
         **{name: status.figures.get(name) for name in lately},
         "due": status.due_count(),
+        "overdue": status.overdue()[0],
         "out": len(status.running_checks()),
         "wrong": [it.name for it in status.problems()],
         "objects": [{**it._asdict(), **groups.get(it.name, {})} for it in status.objects],

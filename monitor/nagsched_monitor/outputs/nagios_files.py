@@ -17,7 +17,7 @@ from ..faults import MonitorFault, RequestFault
 from ..inputs.client import send_requests
 from ..inputs.nagios_pipe import Pipe, Request, requests_of
 from ..store.rows import StoredStanding
-from ..system.processes import is_ended
+from ..system.processes import ParentMonitor
 from .nagios_blocks import Document, Program, Settings, settings_of, status_file
 from .status_query import MEMBERS, StatusUnavailable, open_database, read_standings
 
@@ -30,15 +30,11 @@ MODE = 0o644
 FILES = ("commands.json", "periods.json", "passive.json")
 
 
-def log(line: str) -> None:
-    print(f"nagios files: {line}", flush=True)
-
-
 class NagiosFiles:
     """The files of one site, while this process updates them."""
 
-    def __init__(self, site: pathlib.Path, folder: pathlib.Path, notifies: bool) -> None:
-        self._site, self._folder = site, folder
+    def __init__(self, site: pathlib.Path, folder: pathlib.Path, notifies: bool, monitor: ParentMonitor) -> None:
+        self._site, self._folder, self._monitor = site, folder, monitor
         folder.mkdir(parents=True, exist_ok=True)
         self._program = Program(os.getppid(), int(time.time()), notifies)
         self._settings: Dict[str, Settings] = {}
@@ -57,7 +53,9 @@ class NagiosFiles:
 
     def run(self) -> None:
         """Works until its standard input ends."""
-        next_write = 0.0
+        self.write()
+        self.read_commands(self._pipe.taken_over)
+        next_write = time.monotonic() + EVERY
         while True:
             if time.monotonic() >= next_write:
                 next_write = time.monotonic() + EVERY
@@ -66,14 +64,17 @@ class NagiosFiles:
             files = [sys.stdin.fileno(), *([] if self._waiting else [self._pipe.file])]
             left = max(0.0, next_write - time.monotonic())
             ready, _, _ = select.select(files, [], [], min(PAUSE, left) if self._waiting else left)
-            if is_ended(0):
+            if self._monitor.is_ended(0):
                 break
             if self._pipe.file in ready:
                 self.read_commands(self._pipe.read())
             self.send_requests()
         for name, _ in self._waiting:
-            log(f"{name}: the monitor ended before it")
+            self._log(f"{name}: the monitor ended before it")
         self._pipe.close()
+
+    def _log(self, line: str) -> None:
+        self._monitor.log(f"nagios files: {line}")
 
     # ---- the status file
 
@@ -91,7 +92,7 @@ class NagiosFiles:
         except (OSError, StatusUnavailable, ValueError) as error:
             fault = f"status.dat isn't written: {error}"
             if fault != self._fault:
-                log(fault)
+                self._log(fault)
             self._fault = fault
 
     def _read_settings(self, database: sqlite3.Connection) -> None:
@@ -106,7 +107,7 @@ class NagiosFiles:
             self._settings = settings_of(parts, *documents)
             self._documents = documents
         except (ValueError, AttributeError) as error:
-            log(f"the files of the site are half read: {error}")  # they are being edited, and weren't reloaded
+            self._log(f"the files of the site are half read: {error}")  # they are being edited, and weren't reloaded
             self._settings = settings_of(parts, *self._documents)
 
     def _read_changes(self, database: sqlite3.Connection) -> None:
@@ -126,7 +127,7 @@ class NagiosFiles:
                 name, requests = requests_of(line, self._services)
                 self._waiting.extend((name, {**request, "number": next(self._numbers)}) for request in requests)
             except RequestFault as fault:
-                log(str(fault))
+                self._log(str(fault))
 
     def send_requests(self) -> None:
         """Has the monitor obey the waiting requests. Requests that it doesn't answer, or can't obey now, are sent again."""
@@ -141,7 +142,7 @@ class NagiosFiles:
                 if answer.get("again", False):
                     again.append((name, request))
                 elif "error" in answer:
-                    log(f"{name}: {request.get('name', '')}: {answer['error']}")
+                    self._log(f"{name}: {request.get('name', '')}: {answer['error']}")
             self._waiting[: len(answers)] = again
             if again or len(answers) < len(some):
                 return
@@ -167,10 +168,10 @@ def replace_file(path: pathlib.Path, data: bytes) -> None:
 
 
 def main() -> int:
-    site, folder, *others = sys.argv[1:]
+    monitor, (site, folder, *others) = ParentMonitor(), sys.argv[1:]
     try:
-        NagiosFiles(pathlib.Path(site), pathlib.Path(folder), "notifies" in others).run()
+        NagiosFiles(pathlib.Path(site), pathlib.Path(folder), "notifies" in others, monitor).run()
     except (MonitorFault, OSError) as fault:
-        log(str(fault))
+        monitor.log(f"nagios files: {fault}")
         return 1
     return 0

@@ -16,16 +16,17 @@ import pathlib
 import socket
 import socketserver
 import sys
+import threading
 import time
 import urllib.parse
 from http import HTTPStatus
-from typing import Any, Dict, Optional, Sequence, Tuple
+from typing import Any, Callable, Dict, Optional, Sequence, Tuple
 
 from ..faults import MonitorFault, SiteFault
 from ..site.groups_file import GroupsFile
 from ..site.site import read_options
 from ..system.addresses import parse_address
-from ..system.processes import is_ended
+from ..system.processes import ParentMonitor
 from . import html_pages, metrics
 from .status_query import StatusUnavailable, read_object, read_site_status
 
@@ -33,6 +34,8 @@ from .status_query import StatusUnavailable, read_object, read_site_status
 PATIENCE = 5
 LONGEST_REQUEST = 60
 MOST_CLIENTS = 64
+# The documents that are made at once: each takes a processor for up to a second in a large site.
+AT_ONCE = 2
 HTML, JSON, METRICS, PLAIN = "text/html; charset=utf-8", "application/json", "text/plain; version=0.0.4; charset=utf-8", "text/plain; charset=utf-8"
 
 
@@ -97,9 +100,14 @@ class SiteFolder:
     def __init__(self, folder: pathlib.Path) -> None:
         self._folder, self._name, self._groups = folder, folder.resolve().name, GroupsFile(folder)
         self._zone: Optional[datetime.tzinfo] = None
+        self._free = threading.BoundedSemaphore(AT_ONCE)
 
     def document(self, path: str, query: str) -> Optional[Tuple[str, str]]:
         """The kind and the text of the resource at a path; None if there is nothing. Raises `StatusUnavailable` if the database can't be read."""
+        with self._free:
+            return self._document(path, query)
+
+    def _document(self, path: str, query: str) -> Optional[Tuple[str, str]]:
         groups = self._groups.read()
         with contextlib.suppress(SiteFault):  # while the file is faulty, the zone stays
             self._zone = read_options(self._folder).zone
@@ -126,9 +134,9 @@ class Server(socketserver.ThreadingTCPServer):
     # The longest wait for a client before the next look at late ones and at the monitor, in seconds.
     timeout = 0.5
 
-    def __init__(self, place: Tuple[str, int], site: SiteFolder, names: Sequence[str] = ()) -> None:
+    def __init__(self, place: Tuple[str, int], site: SiteFolder, names: Sequence[str] = (), log: Callable[[str], None] = print) -> None:
         self.address_family = socket.AF_INET6 if ":" in place[0] else socket.AF_INET
-        self.site, self.names = site, [name.lower() for name in names]
+        self.site, self.names, self._log = site, [name.lower() for name in names], log
         # When each open connection began. Only the server's own thread adds some, and each thread removes its own.
         self._started_at: Dict[Any, float] = {}
         super().__init__(place, Handler)
@@ -158,17 +166,17 @@ class Server(socketserver.ThreadingTCPServer):
         """A failed request is a line of the log, unless its client has gone or sends nothing."""
         fault = sys.exc_info()[1]
         if not isinstance(fault, OSError):
-            print(f"the page: {type(fault).__name__}: {fault}", file=sys.stderr, flush=True)
+            self._log(f"the page: {type(fault).__name__}: {fault}")
 
 
 def main() -> int:
-    place, folder, *names = sys.argv[1:]
+    monitor, (place, folder, *names) = ParentMonitor(), sys.argv[1:]
     try:
-        server = Server(parse_address(place), SiteFolder(pathlib.Path(folder)), names)
+        server = Server(parse_address(place), SiteFolder(pathlib.Path(folder)), names, monitor.log)
     except (MonitorFault, OSError) as fault:
         sys.exit(f"the page on {place}: {fault}")
-    print(f"the page is at {server.url()}", flush=True)
-    while not is_ended(0):
+    monitor.log(f"the page is at {server.url()}")
+    while not monitor.is_ended(0):
         server.handle_request()
         server.service_actions()
     server.server_close()

@@ -3,7 +3,7 @@ import pathlib
 import sqlite3
 import time
 from contextlib import closing, contextmanager
-from typing import Iterator, List, Mapping, NamedTuple, Optional, Sequence
+from typing import Iterator, List, Mapping, NamedTuple, Optional, Sequence, Tuple
 
 from ..store.rows import StoredChange, StoredStanding
 
@@ -43,6 +43,15 @@ class SiteStatus(NamedTuple):
 
     def due_count(self) -> int:
         return sum(it.is_due(self.now) for it in self.objects)
+
+    def overdue(self) -> Tuple[int, int]:
+        """The number of objects without a result in time, and of those that are promised one."""
+        return int(self.figures.get("overdue", 0)), int(self.figures.get("promised", 0))
+
+    def is_deaf(self) -> bool:
+        """Whether more than half of the objects have no result in time: what is shown says little then."""
+        overdue, promised = self.overdue()
+        return 2 * overdue > promised
 
     def silent_seconds(self) -> Optional[float]:
         """The seconds for which the monitor has written nothing, if it counts as silent; None while it is at work."""

@@ -6,7 +6,7 @@ import pathlib
 import sys
 
 from ..site.groups_file import GroupsFile
-from ..system.processes import is_ended
+from ..system.processes import ParentMonitor
 from .metrics import metrics, read_signs
 from .nagios_files import replace_file
 from .status_query import StatusUnavailable, read_site_status
@@ -16,7 +16,7 @@ EVERY = 15.0
 
 
 def main() -> int:
-    folder, file = map(pathlib.Path, sys.argv[1:])
+    monitor, (folder, file) = ParentMonitor(), map(pathlib.Path, sys.argv[1:])
     groups, site, trouble = GroupsFile(folder), folder.resolve().name, ""
     while True:
         try:
@@ -24,8 +24,8 @@ def main() -> int:
             trouble = ""
         except (StatusUnavailable, OSError) as fault:
             if not trouble:
-                print(f"textfile: {file} isn't written: {fault}", flush=True)
+                monitor.log(f"textfile: {file} isn't written: {fault}")
             trouble = str(fault)
-        if is_ended(EVERY):
+        if monitor.is_ended(EVERY):
             file.unlink(missing_ok=True)
             return 0

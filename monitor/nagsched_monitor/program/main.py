@@ -16,6 +16,7 @@ from ..model.text import first_line
 from ..outputs.status_query import StatusUnavailable, read_site_status
 from ..site.site import read_site
 from ..store.rows import StoredStanding
+from ..store.store import Store
 from ..system import addresses
 from ..system.log import Log
 from .monitor import Monitor
@@ -59,12 +60,13 @@ def parse_arguments(given: Optional[List[str]]) -> argparse.Namespace:
     parser.add_argument("--alertmanager", action="append", default=[], metavar="URL", help="post standing problems to this Alertmanager; several may be named")
     parser.add_argument("--on-change", metavar="COMMAND", help="run this for hard changes, with a line of JSON for each on its standard input")
     parser.add_argument("--page", metavar="ADDRESS:PORT", help="show a page for browsers there, and figures for Prometheus")
+    parser.add_argument("--page-url", metavar="URL", help="where people reach the page, for links in alerts; http://ADDRESS:PORT/ without it")
     parser.add_argument("--page-name", action="append", default=[], metavar="NAME",
                         help="a name by which browsers reach the page, besides addresses and localhost")
     parser.add_argument("--textfile", metavar="FILE", type=pathlib.Path, help="keep the figures in this file, for node_exporter's textfile collector")
     parser.add_argument("--nagios-files", metavar="DIRECTORY", type=pathlib.Path, help="keep Nagios's status.dat and its pipe nagios.cmd there")
     commands = parser.add_subparsers(dest="command", metavar="COMMAND", prog="nagsched-monitor DIR",
-                                  help="without a command it runs the monitor; test and status need no running monitor, the others ask it")
+                                  help="without a command it runs the monitor; test, status and drop-calls need no running monitor, the others ask it")
     status = commands.add_parser("status", help="prints the states of objects")
     status.add_argument("pattern", nargs="?", default="*", help="names of objects, with * and ? as in a shell; all without it")
     status.add_argument("--long", action="store_true", help="with the time of each next check")
@@ -78,7 +80,11 @@ def parse_arguments(given: Optional[List[str]]) -> argparse.Namespace:
     result.add_argument("name", help=OBJECT)
     result.add_argument("code", type=parse_code, help="0 to 3, or OK, WARNING, CRITICAL or UNKNOWN; UP or DOWN of a host")
     result.add_argument("output", nargs="?", default="", help="what the plugin printed")
-    for word, what in (("test", "reads the site and tests it"), ("reload", "reads the site again"), ("save", "saves the state"), ("stop", "ends the monitor")):
+    for word, what in (
+        ("notify-test", "gives the command for changes a marked change"), ("test", "reads the site and tests it"), ("reload", "reads the site again"),
+        ("save", "saves the state"), ("stop", "ends the monitor"),
+        ("drop-calls", "drops the calls since the last saved state from a damaged database, while no monitor runs"),
+    ):
         commands.add_parser(word, help=what)
     return parser.parse_args(given)
 
@@ -131,16 +137,17 @@ def test_site(arguments: argparse.Namespace) -> int:
     return 0
 
 
+def drop_calls(arguments: argparse.Namespace) -> int:
+    Store(arguments.folder, print, is_calls_dropped=True).close()
+    return 0
+
+
 def main(given: Optional[List[str]] = None) -> int:
     arguments = parse_arguments(given)
     with contextlib.closing(Log()) as log:
         try:
             if arguments.command is not None:
-                return {"test": test_site, "status": print_status}.get(arguments.command, ask_monitor)(arguments)
-            if arguments.page is not None:
-                addresses.parse_address(arguments.page)
-            for url in arguments.alertmanager:
-                addresses.test_url(url)
+                return {"test": test_site, "status": print_status, "drop-calls": drop_calls}.get(arguments.command, ask_monitor)(arguments)
             monitor = Monitor(arguments, log)
         except (MonitorFault, StatusUnavailable, NotStored, OSError, sqlite3.Error) as fault:
             sys.exit(f"nagsched-monitor: {fault}")  # which is printed after the lines of the log

@@ -3,6 +3,7 @@ import argparse
 import os
 import signal
 import time
+from dataclasses import replace
 from typing import Any, Callable, Dict, Generator, List, Optional, Sequence
 
 from ..core.engine import Engine
@@ -10,11 +11,11 @@ from ..core.requests import Request
 from ..faults import ConversationEnded, MonitorFault, NotStored
 from ..inputs import control
 from ..model.clock import Clock, SystemClock
-from ..outputs.changes import Notifier, change_line
+from ..outputs.changes import Notifier, change_line, test_command
 from ..outputs.sd_notify import ServiceManager
 from ..run.runners import RunnerPools, raise_file_limit
 from ..scheduler.scheduling import Scheduling
-from ..site.site import Site, read_site
+from ..site.site import LISTS, TEXTS, Options, Site, read_site
 from ..store.store import Store, drop_changes_before
 from ..system import addresses
 from ..system.poller import FilePoller
@@ -37,40 +38,45 @@ class Monitor:
 
     def __init__(self, arguments: argparse.Namespace, log: Callable[[str], None]) -> None:
         self._folder, self._program, self.log = arguments.folder, arguments.program, log
+        # The current reload, and the requests since it began: the files may have changed for them. SIGHUP may come before the site was read.
+        self._reload: Optional[Generator[bool, None, None]] = None
+        self._reload_requests: List[Request] = []
+        signal.signal(signal.SIGHUP, lambda *_: self._ask_for_reload(Request(b"", lambda answer: None)))
         self._service_manager = ServiceManager()
         self._file_limit = raise_file_limit()
         self._poller = FilePoller()
         site = read_site(self._folder, self._program)
         self._test_slots(site)
+        self._outputs = outputs_of(arguments, site.options)
         self.store = Store(self._folder, self.log)
         self.clock: Clock = SystemClock(self.store.last_moment())
-        self._notifier = Notifier(arguments.on_change, self.store, self.log)
+        if self._outputs.on_change is not None:
+            test_command(self._outputs.on_change)
         self.scheduling = self._open_scheduling(site)
         self.runners = RunnerPools(len(os.sched_getaffinity(0)), self.log, self._poller)
         self.runners.set_remotes(site.runners)
-        # The current reload, and the requests since it began: the files may have changed for them.
-        self._reload: Optional[Generator[bool, None, None]] = None
-        self._reload_requests: List[Request] = []
         self.engine = Engine(self.scheduling, self.runners, self.store, self.clock, self.log, self._ask_for_reload, self._stop)
+        self._notifier = Notifier(self._outputs.on_change, self.store, self.log, self.clock, self.engine.counters.count_change_aside)
+        self._notifier.tell_new_command(self.engine.objects.values())
         self.control = control.ControlSocket(self._folder, self.engine.add_request, self._poller)
-        self._helpers = self._make_helpers(arguments)
+        self._helpers = self._make_helpers(self._outputs)
         self._dropped_at = self.clock.wall()
         after = [self._log_changes, self._continue_reload, self.control.work]
         chores = [self._drop_old_changes, self._service_manager.notify_alive, *(process.work for process in self._helpers)]
         self.loop = Loop(self.engine, self._poller, self.clock, self.log, [self.control.work], after, chores)
 
-    def _make_helpers(self, arguments: argparse.Namespace) -> List[HelperProcess]:
+    def _make_helpers(self, outputs: Options) -> List[HelperProcess]:
         """The processes next to the monitor that its options ask for."""
-        folder, asked = str(arguments.folder), []
-        if arguments.nagios_files is not None:
-            asked.append(["outputs.nagios_files", folder, str(arguments.nagios_files), *(["notifies"] if arguments.on_change is not None else [])])
-        if arguments.page is not None:
-            if not addresses.is_loopback(arguments.page):
-                self.log(f"the page on {arguments.page} is shown to everybody who reaches this address")
-            asked.append(["outputs.page", arguments.page, folder, *arguments.page_name])
-        if arguments.textfile is not None:
-            asked.append(["outputs.textfile", folder, str(arguments.textfile)])
-        asked += [["outputs.alertmanager", url, folder] for url in arguments.alertmanager]
+        folder, asked, link = str(self._folder), [], outputs.page_url or (f"http://{outputs.page}/" if outputs.page else "")
+        if outputs.nagios_files is not None:
+            asked.append(["outputs.nagios_files", folder, outputs.nagios_files, *(["notifies"] if outputs.on_change is not None else [])])
+        if outputs.page is not None:
+            if not addresses.is_loopback(outputs.page):
+                self.log(f"the page on {outputs.page} is shown to everybody who reaches this address")
+            asked.append(["outputs.page", outputs.page, folder, *outputs.page_name])
+        if outputs.textfile is not None:
+            asked.append(["outputs.textfile", folder, outputs.textfile])
+        asked += [["outputs.alertmanager", url, folder, link] for url in outputs.alertmanager]
         return [HelperProcess(module, given, self.log) for module, *given in asked]
 
     def _open_scheduling(self, site: Site) -> Scheduling:
@@ -78,7 +84,7 @@ class Monitor:
         why = ""
         for tried in range(START_TRIES):
             time.sleep(START_PAUSE if tried else 0)
-            scheduling = Scheduling(self._program, site, self.store, self.clock, self.log, self._notifier.command is not None)
+            scheduling = Scheduling(self._program, site, self.store, self.clock, self.log, self._outputs.on_change is not None)
             try:
                 scheduling.open()
                 return scheduling
@@ -129,7 +135,6 @@ class Monitor:
         self._poller.watch(there, lambda: os.read(there, 4_096))
         for number in (signal.SIGINT, signal.SIGTERM):
             signal.signal(number, lambda *_: self._stop())
-        signal.signal(signal.SIGHUP, lambda *_: self._ask_for_reload(Request(b"", lambda answer: None)))
 
     def _drop_old_changes(self) -> None:
         """Drops old changes, each hour but the first. A clock that jumped by more than a day drops nothing."""
@@ -194,3 +199,16 @@ class Monitor:
         self.log("ends")
         self.scheduling.close()
         self.store.close()
+
+
+def outputs_of(arguments: argparse.Namespace, options: Options) -> Options:
+    """The options of the site, in which those of the command line count first. Raises `MonitorFault` if an address is none."""
+    given = {name: value for name in (*TEXTS, *LISTS) if (value := getattr(arguments, name))}
+    outputs = replace(options, **{name: value if isinstance(value, list) else str(value) for name, value in given.items()})
+    if outputs.page is not None:
+        addresses.parse_address(outputs.page)
+    for url in outputs.alertmanager:
+        addresses.test_url(url)
+    if outputs.page_url is not None and not outputs.page_url.endswith("/"):
+        outputs = replace(outputs, page_url=f"{outputs.page_url}/")
+    return outputs

@@ -8,6 +8,7 @@ from typing import Callable, Deque, Dict, List, Optional, Sequence, Tuple, Union
 
 from ..model.jobs import Event, Job, JobFinished, JobLost, StuckJobEnded, job_members, read_event, read_line
 from ..model.text import plain_text
+from ..system.log import RepeatedLines
 from ..system.poller import FilePoller, write_ready
 from ..system.processes import end_process
 
@@ -44,6 +45,7 @@ class RunnerPool:
                  poller: FilePoller, clock: Callable[[], float]) -> None:
         self._name, self._arguments, self._count, self._slots, self._wait = name, arguments, count, slots, wait
         self._log, self._poller, self._clock = log, poller, clock
+        self._lost = RepeatedLines(log, clock)
         self._title = "a runner" if slots is None else f"the runner {name}"
         self._events: List[Event] = []
         self._number = 0
@@ -81,6 +83,7 @@ class RunnerPool:
     def flush(self) -> None:
         """Passes on the jobs for which there is room, with one write for each process."""
         self._start_missing()
+        self._lost.flush()
         now, together = self._clock(), TOGETHER if self._slots is None else 1
         while self._waiting and self.processes:
             process = min(self.processes, key=lambda each: len(each.jobs))
@@ -101,7 +104,7 @@ class RunnerPool:
 
     def _add_event(self, event: Union[JobFinished, JobLost]) -> None:
         if isinstance(event, JobLost) and not event.is_local:
-            self._log(f"{event.job.name}: run {event.job.run} is given up: {event.why}")
+            self._lost.add(event.job.name, f"its check is given up: {event.why}")
         self._events.append(event)
 
     # ---- results

@@ -43,6 +43,8 @@ class PartScheduler:
         self._sent: List[str] = []
         # The last of the calls that were sent when the scheduler ended: up to this one each is sent alone. How often it ended after which call alone.
         self._alone_until = self._suspect = self._end_count = 0
+        # The number of calls that were made again when it was started last.
+        self.replayed = 0
 
     def begin(self) -> None:
         """Sends pending calls, if the scheduler runs and may get several of them together."""
@@ -88,6 +90,7 @@ class PartScheduler:
         """The scheduler. If it doesn't run, it is started, and makes the answered calls again."""
         if self.conversation is None:
             calls = self._store.calls_since(self.generation.part, self.generation.last_call, self.last_answered)
+            self.replayed = len(calls)
             self.conversation, self._sent = self._start(self.generation), []
             self.conversation.ask_lines([each.line for each in calls])
         return self.conversation

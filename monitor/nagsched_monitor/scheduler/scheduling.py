@@ -18,6 +18,9 @@ from .live_process import Conversation
 from .mirroring import Mirrors, PlannedCall
 from .schedulers import ConversationFactory, PartScheduler
 
+# The number of calls made again after which a part is saved at once.
+LONG_REPLAY = 5_000
+
 
 class ObjectAnswer(NamedTuple):
     """An answer with the object that it is about, and the standing that the object had before."""
@@ -31,7 +34,7 @@ class ObjectAnswer(NamedTuple):
 class Scheduling:
     def __init__(self, program: str, site: Site, store: Store, clock: Clock, log: Callable[[str], None], notified: bool,
                  converse: ConversationFactory = Conversation) -> None:
-        self._program, self._store, self._clock, self._log, self._has_command, self._converse = program, store, clock, log, notified, converse
+        self._program, self._store, self._clock, self._log, self.has_command, self._converse = program, store, clock, log, notified, converse
         self.site = site
         self.states = ObjectStates()
         self.mirrors = Mirrors({}, self.states.running)
@@ -79,6 +82,7 @@ class Scheduling:
     def _resume(self) -> None:
         for number, part in self.parts.items():
             part.pending.extend(self._store.calls_since(number, part.last_answered))
+            part.replayed = len(part.pending)
             if part.generation.saved is not None:
                 self._read_state(number, part.generation.saved)
                 # The states of objects are known before calls are made again: a result with the same state isn't a change.
@@ -225,8 +229,8 @@ class Scheduling:
         if number in self._stored_changes or not is_change(before, answer):
             return
         change = StoredChange(number, self._clock.wall(), obj.name, answer.state, answer.kind, answer.attempt, answer.flapping, obj.output)
-        document = change_document(change, before) if self._has_command and is_important(before, answer) else None
-        self._pending_writes.append(store_change(change, document))
+        document = change_document(change, before) if self.has_command and is_important(before, answer) else None
+        self._pending_writes.append(store_change(change, document, self._clock.moment()))
         self._new_changes.append(change)
 
     def pop_changes(self) -> List[StoredChange]:
@@ -250,6 +254,14 @@ class Scheduling:
         others = [each.generation.last_call for each in self.parts.values() if each is not part]
         self._write(save_generation(generation, min(others, default=generation.last_call)))
         part.generation = generation
+
+    def pop_long_replay(self) -> Optional[int]:
+        """A part that made many calls again and can be saved, so that the next start doesn't make them again. Each such start is returned once."""
+        for number, part in self.parts.items():
+            if part.replayed >= LONG_REPLAY and self.is_open(number):
+                part.replayed = 0
+                return number
+        return None
 
     def longest_unsaved(self) -> int:
         """The part whose saved state is the oldest, among those that can be saved now if there are any."""

@@ -1,10 +1,12 @@
 """The command lines of a site: each can be split, and has a program that exists, unless a runner elsewhere runs it."""
 import functools
+import os
 import pathlib
 import re
 import shlex
 import shutil
 import subprocess
+from concurrent.futures import ThreadPoolExecutor
 from typing import Container, Dict, List
 
 from ..faults import SiteFault
@@ -22,6 +24,8 @@ LIMIT = 30.0
 def read_commands(folder: pathlib.Path, objects: Container[str], runner_of: Container[str]) -> Dict[str, Command]:
     """The command of each object. Each line can be split, and has a program that exists, unless a runner elsewhere runs it."""
     commands = {}
+    # The place of each line that a shell runs; equal lines are tested once.
+    places: Dict[str, str] = {}
     which = functools.lru_cache(maxsize=None)(shutil.which)  # many lines have the same program
     for name, place, members in read_by_name(folder, "commands.json", ("line", "shell", "limit"), objects, required=True):
         line, shell = members.get("line"), members.get("shell", False)
@@ -30,9 +34,13 @@ def read_commands(folder: pathlib.Path, objects: Container[str], runner_of: Cont
         require("\0" not in line, f"{place}: its line has a zero byte")
         require(not HALF.search(line), f"{place}: its line has half a character")
         limit = read_seconds(members.get("limit", 60), f"{place}: limit")
-        arguments = shell_arguments(line, place) if shell else plain_arguments(line, place)
+        arguments = ["/bin/sh", "-c", line] if shell else plain_arguments(line, place)
+        if shell:
+            places.setdefault(line, place)
         require(name in runner_of or which(arguments[0]), f"{place}: there is no program {arguments[0]}")
         commands[name] = Command(arguments, limit)
+    with ThreadPoolExecutor(os.cpu_count()) as several:  # each line takes a process
+        list(several.map(test_shell_line, places, places.values()))
     return commands
 
 
@@ -55,11 +63,10 @@ def shell_characters(line: str) -> List[str]:
     return [word for word in lexer if word and not word.strip(lexer.punctuation_chars)]
 
 
-def shell_arguments(line: str, place: str) -> List[str]:
-    """The arguments that have a shell run a line that it can read."""
+def test_shell_line(line: str, place: str) -> None:
+    """Raises a `SiteFault` if a shell can't read a line."""
     try:
         read = subprocess.run(["/bin/sh", "-n", "-c", line], stdin=subprocess.DEVNULL, stderr=subprocess.PIPE, check=False, timeout=LIMIT)
     except (OSError, subprocess.TimeoutExpired) as error:
         raise SiteFault(f"{place}: its line can't be tested: {error}") from None
     require(read.returncode == 0, f"{place}: {read.stderr.decode(errors='replace').strip()}")
-    return ["/bin/sh", "-c", line]

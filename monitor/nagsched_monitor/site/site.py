@@ -31,6 +31,8 @@ from .runner_file import Remote, read_runners
 LIMIT = 300.0
 CODES_BY_LETTER = {"w": 1, "c": 2, "u": 3}
 # The options that are whole numbers, with their limits.
+# The options that are texts, and lists of texts: those of the command line.
+TEXTS, LISTS = ("on_change", "page", "page_url", "textfile", "nagios_files"), ("alertmanager", "page_name")
 NUMBERS = {"slots": (1, 10_000), "cached_host_check_horizon": (0, MOST_SECONDS), "keep_days": (0, 36_500)}
 
 
@@ -42,6 +44,16 @@ class Options:
     keep_days: int = 90
     # The machine's zone if it is None.
     zone: Optional[zoneinfo.ZoneInfo] = None
+    # Whether the log has a line for each passive result.
+    log_passive: bool = True
+    # The options of the command line that can stand here too.
+    alertmanager: Sequence[str] = ()
+    on_change: Optional[str] = None
+    page: Optional[str] = None
+    page_url: Optional[str] = None
+    page_name: Sequence[str] = ()
+    textfile: Optional[str] = None
+    nagios_files: Optional[str] = None
 
 
 @dataclass(frozen=True)
@@ -125,8 +137,9 @@ def originals_of(documents: Mapping[str, Mapping[str, Any]], mirrors: Mapping[in
             if name in mirrors.get(part, ()):
                 continue
             require(name not in objects, f"{stem}.json: {name} is in another part already, and mirrors.json doesn't name it")
-            interval = it.get("check_interval", 5) * unit
-            objects[name] = ObjectDefinition(name, part, it.get("host"), tuple(it.get("parents", ())), interval, it.get("enabled", True))
+            interval, retry = it.get("check_interval", 5) * unit, it.get("retry_interval", 1) * unit
+            parents = tuple(it.get("parents", ()))
+            objects[name] = ObjectDefinition(name, part, it.get("host"), parents, interval, it.get("enabled", True), retry)
     return objects
 
 
@@ -171,9 +184,15 @@ def read_passive(folder: pathlib.Path, objects: Container[str]) -> Dict[str, Tup
 
 
 def read_options(folder: pathlib.Path) -> Options:
-    members = read_object(folder, "monitor.json", (*NUMBERS, "service_check_timeout_state", "zone"))
+    members = read_object(folder, "monitor.json", (*NUMBERS, *TEXTS, *LISTS, "service_check_timeout_state", "zone", "log_passive"))
     for name, (least, most) in NUMBERS.items():
         read_whole(members.get(name, 1), f"monitor.json: {name}", least, most)
+    for name in TEXTS:
+        require(isinstance(members.get(name, "x"), str), f"monitor.json: {name}: it has to be a text")
+    for name in LISTS:
+        names = members.get(name, [])
+        require(isinstance(names, list) and all(isinstance(each, str) for each in names), f"monitor.json: {name}: it has to be a list of texts")
+    require(isinstance(members.get("log_passive", True), bool), "monitor.json: log_passive is true or false")
     letter, zone = members.pop("service_check_timeout_state", "c"), members.pop("zone", None)
     is_known = isinstance(letter, str) and letter in CODES_BY_LETTER
     require(is_known, f"monitor.json: service_check_timeout_state is w, c or u, and no {letter!r}")

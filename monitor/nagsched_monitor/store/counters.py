@@ -6,6 +6,7 @@ The names of the stored figures, and their meanings:
     checks.given_up       checks that were abandoned, since their runner ended
     checks.not_started    checks that this machine couldn't start: it had no files, processes or memory for them
     faults                turns that ended with a fault of the monitor's own
+    changes_aside         changes that the command for changes refused again and again
     checks.refused        results that came too late
     late.BOUND            checks that began at most this many seconds late, and more than the bound before; `late.more` those later than all bounds
     late.sum              the seconds by which all of these were late, together
@@ -16,6 +17,8 @@ The names of the stored figures, and their meanings:
     checks_a_second       results per second, over the last minute or since this monitor began
     latest_start          the most seconds by which a check was late, since this monitor began
     latest_start_lately   the same of the last minute
+    overdue, promised     objects without a result in time, and objects that are promised one
+    overdue_by            the seconds by which the one is overdue that is overdue the longest
 """
 import bisect
 import collections
@@ -30,7 +33,7 @@ MINUTE = 60_000
 BOUNDS = (0.05, 0.1, 0.25, 0.5, 1.0, 2.5, 5.0, 10.0, 30.0, 60.0)
 BUCKETS = tuple(f"late.{bound:g}" for bound in BOUNDS) + ("late.more",)
 RESULTS = ("OK", "WARNING", "CRITICAL", "UNKNOWN", "UP", "DOWN", "UNREACHABLE", "given_up", "refused", "not_started")
-RESTORED = tuple(f"checks.{result}" for result in RESULTS) + BUCKETS + ("late.sum", "saves", "saved_at", "faults")
+RESTORED = tuple(f"checks.{result}" for result in RESULTS) + BUCKETS + ("late.sum", "saves", "saved_at", "faults", "changes_aside")
 
 
 class Counters:
@@ -55,6 +58,9 @@ class Counters:
     def count_fault(self) -> None:
         self._values["faults"] += 1
 
+    def count_change_aside(self) -> None:
+        self._values["changes_aside"] += 1
+
     def count_start(self, late: int) -> None:
         """A check began late, by a number of milliseconds."""
         seconds = max(0, late) / 1000
@@ -69,8 +75,8 @@ class Counters:
     def are_due(self, now: int) -> bool:
         return now - self._written_at >= EVERY
 
-    def changed_figures(self, calls: int) -> Dict[str, float]:
-        """The figures that have changed since they were written last. `calls` is the number of calls so far."""
+    def changed_figures(self, calls: int, others: Mapping[str, float]) -> Dict[str, float]:
+        """The figures that have changed since they were written last, with some others. `calls` is the number of calls so far."""
         now = self._clock.moment()
         self._moments.append((now, self.result_count, self._latest_lately))
         self._latest_lately = 0
@@ -80,7 +86,7 @@ class Counters:
         rate = round((self.result_count - count) * 1000 / (now - first), 3) if now > first else 0.0
         lately = max(latest for _, _, latest in self._moments)
         of_this_run = {"calls": calls, "begun_at": self._started_at, "written_at": self._clock.wall(), "checks_a_second": rate, "moment": now}
-        values = {**self._values, **of_this_run, "latest_start": self.latest_start / 1000, "latest_start_lately": lately / 1000}
+        values = {**self._values, **of_this_run, **others, "latest_start": self.latest_start / 1000, "latest_start_lately": lately / 1000}
         return {name: value for name, value in values.items() if self._written.get(name) != value}
 
     def set_written(self, figures: Mapping[str, float]) -> None:

@@ -13,19 +13,33 @@ TABLES: Dict[str, str] = {
     "switches": "name TEXT UNIQUE, is_on INTEGER",
     "passive": "name TEXT, code INTEGER, words TEXT",
     "changes": "time REAL, name TEXT, state TEXT, kind TEXT, attempt INTEGER, flapping INTEGER, words TEXT",
-    "outbox": "document TEXT",
+    "outbox": "document TEXT, moment INTEGER",
+    "not_taken": "document TEXT",
     "figures": "name TEXT UNIQUE, value REAL",
     "standings": "name TEXT UNIQUE, state TEXT, kind TEXT, attempt INTEGER, flapping INTEGER, since REAL, hard_since REAL, last_check REAL, "
-    "next_check REAL, is_on INTEGER, out_since REAL, took REAL, late REAL, words TEXT, phase INTEGER",
+    "next_check REAL, is_on INTEGER, out_since REAL, took REAL, late REAL, words TEXT, phase INTEGER, known INTEGER",
     "requests": "number TEXT UNIQUE, answer TEXT",
+    "settings": "name TEXT UNIQUE, value TEXT",
     "aside": "part INTEGER, line TEXT",
     "damaged": "source TEXT, was TEXT",
 }
 INDEXES = ("changes_by_name ON changes (name, id)", "changes_by_time ON changes (time)")
-# Tables that only people read: a damaged row of them is set aside, and the monitor continues.
-FOR_PEOPLE = ("changes", "figures", "standings")
-# The version of these tables; the first one had no phases.
-VERSION = 2
+# What the loss of a row means. A damaged row of these tables is set aside, and the monitor continues; one of the others stops a start.
+LOSSES: Dict[str, str] = {
+    "switches": "the switch of the setup counts for its object",
+    "passive": "a passive result isn't reported",
+    "changes": "the history lacks it",
+    "outbox": "the command for changes isn't told of a change",
+    "not_taken": "a change that the command for changes didn't take is gone",
+    "figures": "a figure begins again",
+    "standings": "since when an object is in its state isn't known",
+    "requests": "a numbered request may be carried out twice",
+    "settings": "the command for changes is told again what is wrong",
+    "aside": "the scheduler may end after a call again, which is then set aside again",
+}
+# The version of these tables. Those that have grown since a version got the last member.
+VERSION = 3
+GROWN = ((2, "standings"), (3, "standings"), (3, "outbox"))
 INSERTS: Dict[str, str] = {
     table: f"INSERT OR REPLACE INTO {table} VALUES ({','.join('?' * (len(members.split(',')) + 2))})" for table, members in TABLES.items()
 }
@@ -92,6 +106,7 @@ class StoredStanding(NamedTuple):
     late: Optional[float]
     words: str
     phase: Optional[int] = None  # a moment of its own phase
+    known: Optional[int] = None  # the moment of its last result, or since which one is promised
 
     def is_host(self) -> bool:
         return ";" not in self.name

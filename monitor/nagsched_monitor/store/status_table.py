@@ -32,7 +32,7 @@ class StandingTable:
         for row in self._store.standings():
             if row.name in objects:
                 obj = objects[row.name]
-                obj.output, obj.phase, obj.history = row.words, row.phase, history_of(row)
+                obj.output, obj.phase, obj.history, obj.known_at = row.words, row.phase, history_of(row), row.known or 0
 
     def settle(self, objects: Mapping[str, ObjectState]) -> None:
         """Has all objects whose states are known written. If the table had another state, the stored changes show when the new one began."""
@@ -108,5 +108,5 @@ def row_of(obj: ObjectState, wall: float, ahead: float) -> StoredStanding:
     next_check = None if obj.next is None else wall if obj.next < FIRST_TIME else obj.next / 1000 - ahead
     return StoredStanding(
         obj.name, state, kind, attempt, flapping, past.since, past.hard_since, past.last_check, next_check, obj.on,
-        None if obj.run is None else obj.run.began_at, past.took, past.late, obj.output, obj.phase,
+        None if obj.run is None else obj.run.began_at, past.took, past.late, obj.output, obj.phase, obj.known_at,
     )

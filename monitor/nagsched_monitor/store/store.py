@@ -6,12 +6,14 @@
     switches      whether an operator has an object's checks on
     passive       results that came through the socket and weren't reported yet
     changes       changes of state, by the number of the call that made them
-    outbox        changes that the command for changes hasn't accepted yet
+    outbox        changes that the command for changes hasn't taken yet, with the moment of each
+    not_taken     changes that it refused again and again
     standings     the standing of each object, a second old at most
     figures       the monitor's own figures, a name and a number each
     requests      the answers to the last thousand requests that had numbers
+    settings      the command for changes that was told what is wrong
     aside         calls after which a scheduler ends, which aren't made again
-    damaged       rows of changes, standings and figures that were changed since they were written
+    damaged       rows of other tables that were changed since they were written
 
 Each row has a checksum over its table and its members, which shows whether the row was changed since.
 """
@@ -27,7 +29,7 @@ from ..faults import MonitorFault, NotStored
 from ..model.object_state import StateHistory
 from ..model.protocol import GREATEST
 from .rows import (
-    FOR_PEOPLE, INDEXES, INSERTS, TABLES, VERSION, Cell, Generation, StoredCall, StoredChange, StoredResult, StoredStanding, checksum_of,
+    GROWN, INDEXES, INSERTS, LOSSES, TABLES, VERSION, Cell, Generation, StoredCall, StoredChange, StoredResult, StoredStanding, checksum_of,
     row_number,
 )
 
@@ -35,30 +37,39 @@ from .rows import (
 Write = Callable[["Store"], object]
 # The number of stored answers to numbered requests.
 MOST_REQUESTS = 1_000
+# The size to which SQLite's log is cut after a long reader, in bytes.
+LARGEST_LOG = 67_108_864
+# The advice after damage to what schedulers continue from.
+CONTINUE = "continue from the last saved state with: nagsched-monitor {} drop-calls"
 
 
 class Store:
-    """The database of one monitor. A second monitor of the same site is refused."""
+    """The database of one monitor. A second monitor on the same file is refused. With `is_calls_dropped` it continues from the last saved states."""
 
-    def __init__(self, folder: pathlib.Path, log: Callable[[str], None] = lambda line: None) -> None:
+    def __init__(self, folder: pathlib.Path, log: Callable[[str], None] = lambda line: None, is_calls_dropped: bool = False) -> None:
         self.path, self._log = folder / "monitor.db", log
+        self.last_call = 0
         with contextlib.ExitStack() as opened:
-            opened.callback(os.close, lock_site(folder))
+            # The file is for its owner only. It stays open until the database is closed: SQLite's locks end when any descriptor of the file is closed.
+            self._file = os.open(self.path, os.O_RDWR | os.O_CREAT | os.O_CLOEXEC, 0o600)
+            opened.callback(os.close, self._file)
+            lock_file(self._file, folder)
             try:
                 self._open_database(opened)
+                if is_calls_dropped:
+                    self._drop_calls()
                 self._verify()
-                self.last_call = max(self.greatest("calls"), self.greatest("generations", "last_call"))
+                self.last_call = max(self.greatest("calls"), self.greatest("generations", "last_call"), self.greatest("changes"))
                 self.last_result = self.greatest("passive")
             except sqlite3.Error as error:
                 raise MonitorFault(f"{self.path}: {error}") from None
             self._opened = opened.pop_all()
 
     def _open_database(self, opened: contextlib.ExitStack) -> None:
-        """Opens the database, which is for its owner only, and has a table for everything."""
-        os.close(os.open(self.path, os.O_RDWR | os.O_CREAT | os.O_CLOEXEC, 0o600))
+        """Opens the database, which has a table for everything."""
         self._database = database = sqlite3.connect(self.path, isolation_level=None, timeout=5)
         opened.callback(database.close)
-        for setting in ("journal_mode=WAL", "synchronous=FULL", "wal_autocheckpoint=1000"):
+        for setting in ("journal_mode=WAL", "synchronous=FULL", "wal_autocheckpoint=1000", f"journal_size_limit={LARGEST_LOG}"):
             database.execute(f"PRAGMA {setting}")
         database.execute("BEGIN IMMEDIATE")
         self._migrate(database)
@@ -69,20 +80,42 @@ class Store:
         database.execute("COMMIT")
 
     def _migrate(self, database: sqlite3.Connection) -> None:
-        """Takes over a database of the version before: its standings had no phases."""
+        """Takes over a database of a version before: some rows had fewer members."""
         (version,) = database.execute("PRAGMA user_version").fetchone()
         if version > VERSION:
             raise MonitorFault(f"{self.path}: it has version {version}, and this monitor reads versions up to {VERSION}")
-        if version == VERSION:
-            return
-        rows = []
-        if database.execute("SELECT 1 FROM sqlite_master WHERE name = 'standings'").fetchone():
-            rows = [row for row in database.execute("SELECT * FROM standings") if row[-1] == checksum_of("standings", row[0], row[1:-1])]
-            database.execute("DROP TABLE standings")
-        database.execute(f"CREATE TABLE standings (id INTEGER PRIMARY KEY, {TABLES['standings']}, checksum TEXT)")
-        for number, *cells, _ in rows:
-            database.execute(INSERTS["standings"], (number, *cells, None, checksum_of("standings", number, [*cells, None])))
+        for table in sorted({table for since, table in GROWN if version < since}):
+            new = [None] * sum(version < since and table == each for since, each in GROWN)
+            rows = []
+            if database.execute("SELECT 1 FROM sqlite_master WHERE name = ?", (table,)).fetchone():
+                rows = [row for row in database.execute(f"SELECT * FROM {table}") if row[-1] == checksum_of(table, row[0], row[1:-1])]
+                database.execute(f"DROP TABLE {table}")
+            database.execute(f"CREATE TABLE {table} (id INTEGER PRIMARY KEY, {TABLES[table]}, checksum TEXT)")
+            for number, *cells, _ in rows:
+                database.execute(INSERTS[table], (number, *cells, *new, checksum_of(table, number, [*cells, *new])))
         database.execute(f"PRAGMA user_version = {VERSION}")
+
+    def _drop_calls(self) -> None:
+        """Drops the calls since the last saved states, and damaged states: these parts begin from scratch."""
+        (count,) = self._database.execute("SELECT count(*) FROM calls").fetchone()
+        for table in ("generations", "mirrors"):
+            for number, *cells, checksum in self._database.execute(f"SELECT * FROM {table}").fetchall():
+                if checksum != checksum_of(table, int(str(number)), cells):
+                    self._log(f"row {number!r} of {table} was changed since it was written: its part begins from scratch")
+                    self.write(delete("generations", "part = ?", cells[0]), delete("mirrors", "part = ?", cells[0]), delete(table, "id = ?", number))
+        self.write(delete("calls", "TRUE"), delete("aside", "TRUE"))
+        self._log(f"{count} calls since the last saved states are dropped")
+
+    def test_file(self) -> None:
+        """Raises `NotStored` if the file that is open isn't the one at its path any more."""
+        try:
+            here, there = os.fstat(self._file), os.stat(self.path)
+            is_same = (here.st_dev, here.st_ino) == (there.st_dev, there.st_ino)
+            why = "it was replaced while the monitor runs: put the old file back, or restart the monitor to continue with the new one"
+        except OSError:
+            is_same, why = False, "it was moved or deleted while the monitor runs: put it back, or restart the monitor to begin without it"
+        if not is_same:
+            raise NotStored(f"{self.path}: {why}")
 
     def close(self) -> None:
         self._opened.close()
@@ -96,7 +129,8 @@ class Store:
                 self._sound_rows(table, self._database.execute(f"SELECT * FROM {table} ORDER BY id").fetchall())
         first, last, count = self._database.execute("SELECT min(id), max(id), count(*) FROM calls").fetchone()
         if count and last - first + 1 != count:
-            raise MonitorFault(f"{self.path}: {last - first + 1 - count} rows of calls are missing")
+            missing = f"{last - first + 1 - count} rows of calls are missing"
+            raise MonitorFault(f"{self.path}: {missing}: restore the file, or {CONTINUE.format(self.path.parent)}")
 
     def _sound_rows(self, table: str, rows: Sequence[Sequence[Cell]]) -> List[Sequence[Cell]]:
         """Those of these rows that are as they were written, without their checksums. Other rows are a fault, or are set aside if only people read them."""
@@ -106,9 +140,10 @@ class Store:
             if checksum == checksum_of(table, int(str(number)), cells):
                 sound.append(row[:-1])
                 continue
-            if table not in FOR_PEOPLE:
-                raise MonitorFault(f"{self.path}: row {number!r} of {table} was changed since it was written")
-            self._log(f"row {number!r} of {table} was changed since it was written: it is in the table damaged now")
+            changed = f"row {number!r} of {table} was changed since it was written"
+            if table not in LOSSES:
+                raise MonitorFault(f"{self.path}: {changed}: restore the file, or {CONTINUE.format(self.path.parent)}")
+            self._log(f"{changed}: it is in the table damaged now, and {LOSSES[table]}")
             with contextlib.suppress(sqlite3.Error):
                 insert("damaged", None, table, ascii(row))(self)
                 delete(table, "id = ?", number)(self)
@@ -150,14 +185,18 @@ class Store:
     def requests(self) -> Dict[str, str]:
         return dict(self._read("SELECT number, answer FROM requests ORDER BY id"))
 
-    def outbox(self) -> List[Tuple[int, str]]:
-        """The documents that the command for changes hasn't accepted, the oldest first."""
-        return self._read("SELECT id, document FROM outbox ORDER BY id")
+    def outbox(self) -> List[Tuple[int, str, Optional[int]]]:
+        """The documents that the command for changes hasn't taken, the oldest first, with their moments."""
+        return self._read("SELECT id, document, moment FROM outbox ORDER BY id")
 
-    def waiting_changes(self) -> Tuple[int, Optional[float]]:
-        """The number of documents that the command for changes hasn't accepted, and the time of the first."""
-        ((count, first),) = self._read("SELECT count(*), (SELECT document FROM outbox ORDER BY id LIMIT 1) FROM outbox")
-        return count, None if first is None else float(json.loads(first)["time"])
+    def setting(self, name: str) -> Optional[str]:
+        found = self._read("SELECT value FROM settings WHERE name = ?", name)
+        return str(found[0][0]) if found else None
+
+    def waiting_changes(self) -> Tuple[int, Optional[int]]:
+        """The number of documents that the command for changes hasn't taken, and the moment of the first."""
+        ((count, first),) = self._read("SELECT count(*), min(moment) FROM outbox")
+        return count, first
 
     def changes_after(self, number: int) -> Set[int]:
         """The numbers of the stored changes after the call with this number."""
@@ -181,30 +220,30 @@ class Store:
     def write(self, *writes: Write) -> None:
         """Writes all of these or nothing, and syncs the file. Raises `NotStored` if the disk is full or the file can't be written."""
         last_call = self.last_call
+        self.test_file()
         try:
             self._database.execute("BEGIN IMMEDIATE")
             for write in writes:
                 write(self)
             self._database.execute("COMMIT")
-        except sqlite3.Error as error:
+        except BaseException as error:
             self.last_call = last_call
             with contextlib.suppress(sqlite3.Error):  # there may be no transaction any more
                 self._database.execute("ROLLBACK")
-            raise NotStored(f"{self.path}: {error}") from None
+            if isinstance(error, sqlite3.Error):
+                raise NotStored(f"{self.path}: {error}") from None
+            raise
 
     def insert_all(self, table: str, rows: Sequence[Tuple[int, Sequence[Cell]]]) -> None:
         self._database.executemany(INSERTS[table], [(number, *cells, checksum_of(table, number, cells)) for number, cells in rows])
 
 
-def lock_site(folder: pathlib.Path) -> int:
-    """The lock of a site, which one monitor holds."""
-    lock = os.open(folder / "monitor.lock", os.O_RDWR | os.O_CREAT | os.O_CLOEXEC, 0o600)
+def lock_file(file: int, folder: pathlib.Path) -> None:
+    """Locks the database itself, which one monitor has."""
     try:
-        fcntl.flock(lock, fcntl.LOCK_EX | fcntl.LOCK_NB)
+        fcntl.flock(file, fcntl.LOCK_EX | fcntl.LOCK_NB)
     except BlockingIOError:
-        os.close(lock)
         raise MonitorFault(f"another monitor runs on {folder}") from None
-    return lock
 
 
 # ---- writes
@@ -252,10 +291,15 @@ def save_generation(generation: Generation, oldest: int) -> Write:
     return all_of(*saved, *(delete(table, "id <= ?", oldest) for table in ("calls", "aside")))
 
 
-def store_change(stored: StoredChange, document: Optional[str]) -> Write:
+def store_document(document: str, moment: int) -> Write:
+    """A document for the command for changes."""
+    return insert("outbox", None, document, moment)
+
+
+def store_change(stored: StoredChange, document: Optional[str] = None, moment: int = 0) -> Write:
     """A change of state, and the document for the command for changes, if the command is run for it."""
     change = insert("changes", *stored[:6], int(stored.flapping), stored.words)
-    return change if document is None else all_of(change, insert("outbox", None, document))
+    return change if document is None else all_of(change, store_document(document, moment))
 
 
 def drop_changes_before(time: float) -> Write:

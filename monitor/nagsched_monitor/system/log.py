@@ -3,13 +3,15 @@ import contextlib
 import os
 import queue
 import threading
-from typing import Optional
+from typing import Callable, Dict, Optional, Tuple
 
 from ..model.text import plain_text
 
 # The greatest number of lines that wait; further lines are dropped, and counted. The longest line, in bytes.
 MOST_LINES = 10_000
 LONGEST = 16_384
+# The time between two lines about one cause, in seconds.
+MINUTE = 60.0
 
 
 class Log:
@@ -45,3 +47,28 @@ class Log:
         with contextlib.suppress(queue.Full):
             self._lines.put(None, timeout=seconds)
             self._thread.join(seconds)
+
+
+class RepeatedLines:
+    """Lines about many objects that have one cause: the first is logged at once, and then once a minute how many others there were."""
+
+    def __init__(self, log: Callable[[str], None], clock: Callable[[], float]) -> None:
+        self._log, self._clock = log, clock
+        # For each cause: when it was logged last, and the number of lines since then.
+        self._causes: Dict[str, Tuple[float, int]] = {}
+
+    def add(self, name: str, cause: str) -> None:
+        if cause in self._causes:
+            since, count = self._causes[cause]
+            self._causes[cause] = since, count + 1
+        else:
+            self._log(f"{name}: {cause}")
+            self._causes[cause] = self._clock(), 0
+
+    def flush(self) -> None:
+        now = self._clock()
+        for cause, (since, count) in [each for each in self._causes.items() if now - each[1][0] >= MINUTE]:
+            del self._causes[cause]
+            if count:
+                self._log(f"{count} times more in {now - since:.0f} seconds: {cause}")
+                self._causes[cause] = now, 0

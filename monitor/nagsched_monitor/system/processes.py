@@ -18,6 +18,8 @@ PROGRAM_FOLDERS = (FOLDER, FOLDER / "out")
 GRACE = 5.0
 # The least time from one start of a helper to the next, in seconds. It doubles up to the longest. After a process that ran that long, it is the first again.
 PAUSE, LONGEST_PAUSE = 5.0, 60.0
+# The time without a line after which a helper stands still, in seconds, and the most bytes of its lines that are read at once.
+SILENCE, READ_BYTES = 120.0, 65_536
 
 
 def find_program(name: str) -> Optional[str]:
@@ -56,39 +58,72 @@ def end_process(process: "subprocess.Popen[bytes]") -> object:
 
 
 class HelperProcess:
-    """A process next to the monitor, which starts it, restarts it if it ends, and ends with it. It ends when its standard input does."""
+    """A process next to the monitor, which starts it, restarts it if it ends or stands still, and ends with it. It ends when its standard input does.
+
+    The monitor reads its lines and logs them. An empty line is a sign of life."""
 
     def __init__(self, module: str, arguments: List[str], log: Callable[[str], None], clock: Callable[[], float] = time.monotonic) -> None:
         self._command, self._name, self._log, self._clock = module_command(module, arguments), module.rpartition(".")[2], log, clock
         self._process: Optional["subprocess.Popen[bytes]"] = None
-        self._started_at = self._not_before = clock()
+        self._unread = b""
+        self._started_at = self._heard_at = self._not_before = clock()
         self._pause = PAUSE
 
     def work(self) -> None:
-        """Starts the process if it doesn't run."""
+        """Starts the process if it doesn't run, and logs its lines."""
         if self._process is not None:
             status = self._process.poll()
-            if status is None:
+            self._log_lines(self._process)
+            if status is None and self._clock() - self._heard_at < SILENCE:
                 return
             self._pause = PAUSE if self._clock() - self._started_at >= LONGEST_PAUSE else self._pause
             self._not_before = self._started_at + self._pause
             self._pause = min(LONGEST_PAUSE, 2 * self._pause)
-            self._log(f"{self._name} ended with status {status}; it is begun again")
+            self._log(f"{self._name} {'stands still' if status is None else f'ended with status {status}'}; it is begun again")
+            self._process.kill()
             self.close()
         if self._clock() >= self._not_before:
-            self._started_at = self._clock()
-            try:
-                self._process = subprocess.Popen(self._command, stdin=subprocess.PIPE)
-            except OSError as error:  # there is no room for a process now
-                self._not_before = self._started_at + LONGEST_PAUSE
-                self._log(f"{self._name} can't be begun: {error}; it is tried again")
+            self._start()
+
+    def _start(self) -> None:
+        self._started_at = self._heard_at = self._clock()
+        try:
+            self._process = subprocess.Popen(self._command, stdin=subprocess.PIPE, stdout=subprocess.PIPE, stderr=subprocess.STDOUT, bufsize=0)
+            assert self._process.stdout is not None
+            os.set_blocking(self._process.stdout.fileno(), False)
+        except OSError as error:  # there is no room for a process now
+            self._not_before = self._started_at + LONGEST_PAUSE
+            self._log(f"{self._name} can't be begun: {error}; it is tried again")
+
+    def _log_lines(self, process: "subprocess.Popen[bytes]") -> None:
+        assert process.stdout is not None
+        with contextlib.suppress(BlockingIOError):
+            data = os.read(process.stdout.fileno(), READ_BYTES)
+            self._heard_at = self._clock() if data else self._heard_at
+            *lines, rest = (self._unread + data).split(b"\n")
+            self._unread = rest[:READ_BYTES]
+            for line in filter(None, lines):
+                self._log(line.decode(errors="replace"))
 
     def close(self) -> None:
         if self._process is not None:
             end_process(self._process)
             self._process = None
+            self._unread = b""
 
 
-def is_ended(seconds: float) -> bool:
-    """For a helper's process: waits for this time, or until the monitor has ended, and returns whether it has."""
-    return bool(select.select([sys.stdin], [], [], seconds)[0]) and not os.read(sys.stdin.fileno(), 4_096)
+class ParentMonitor:
+    """For a helper's process: the monitor that started it, gets its lines, and ends it by the end of its standard input."""
+
+    def __init__(self) -> None:
+        os.set_blocking(sys.stdout.fileno(), False)
+
+    def log(self, line: str) -> None:
+        """Passes on a line. It is lost if the monitor reads none."""
+        with contextlib.suppress(OSError):
+            os.write(sys.stdout.fileno(), line.replace("\n", " ").encode(errors="replace") + b"\n")
+
+    def is_ended(self, seconds: float) -> bool:
+        """Gives a sign of life, waits for this time, or until the monitor has ended, and returns whether it has."""
+        self.log("")
+        return bool(select.select([sys.stdin], [], [], seconds)[0]) and not os.read(sys.stdin.fileno(), 4_096)
