@@ -13,7 +13,7 @@ from typing import Any, Dict, List, Tuple
 from unittest import mock
 
 from nagsched_monitor.outputs import alertmanager
-from nagsched_monitor.outputs.alertmanager import EVERY, FLAPPING, HEARTBEAT, NOT_CHECKED, PROBLEM, AlertPoster, read_timestamp
+from nagsched_monitor.outputs.alertmanager import FLAPPING, HEARTBEAT, NOT_CHECKED, PROBLEM, AlertPoster
 
 from .shown_site import fill_database, standing
 from .simulated import SiteTest
@@ -34,7 +34,7 @@ class Posting(SiteTest):
         class Taking(http.server.BaseHTTPRequestHandler):
             def do_POST(self) -> None:
                 alerts = json.loads(self.rfile.read(int(self.headers["Content-Length"])))
-                is_bad = any(it["labels"].get("host") == test.refused or it["startsAt"] > it["endsAt"] for it in alerts)
+                is_bad = any(it["labels"].get("host") == test.refused or it.get("startsAt", "") > it["endsAt"] for it in alerts)
                 if not test.is_refusing and not is_bad:
                     test.take(alerts)
                 self.send_response(500 if test.is_refusing or self.path != "/api/v2/alerts" else 400 if is_bad else 200)
@@ -183,18 +183,6 @@ class Posting(SiteTest):
         self.look()
         self.assertEqual(self.posted[-1][0]["generatorURL"], "http://monitor.example.org/object?name=web%3Bload%205")
         self.assertEqual(self.posted[-1][0]["annotations"]["checks"], "off")
-
-    def test_times(self) -> None:
-        for text, wanted in (("2026-11-27T08:00:00Z", 0.0), ("2026-11-27T08:00:00.25Z", 0.25), ("2026-11-27T09:00:00.123456789+01:00", 0.123456789)):
-            self.assertAlmostEqual(read_timestamp(text) - 1_795_766_400, wanted, places=5)
-        with self.assertRaises(ValueError):
-            read_timestamp("now")
-
-    def test_many(self) -> None:
-        """They are posted in several requests."""
-        fill_database(self.folder, [standing(f"h{number:04}", "DOWN") for number in range(alertmanager.AT_ONCE + 5)])
-        self.assertEqual(len(self.look()), alertmanager.AT_ONCE + 5)
-        self.assertEqual([len(alerts) for alerts in self.posted], [1, alertmanager.AT_ONCE, 5])
 
 
 class Examples(unittest.TestCase):

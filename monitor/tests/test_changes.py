@@ -15,8 +15,9 @@ from nagsched_monitor.model.object_state import ObjectState, StateHistory
 from nagsched_monitor.model.protocol import Standing
 from nagsched_monitor.model.run_table import RunTable
 from nagsched_monitor.outputs import changes
-from nagsched_monitor.outputs.changes import AT_ONCE, MOST_AGE, PAUSE, Notifier, change_line, test_command
+from nagsched_monitor.outputs.changes import AT_ONCE, MOST_AGE, PAUSE, Notifier, change_line
 from nagsched_monitor.scheduler.changes import change_document, is_change, is_important, test_document
+from nagsched_monitor.site.command_lines import test_shell_line
 from nagsched_monitor.store.rows import StoredChange
 from nagsched_monitor.store.store import Store, store_change, store_figures
 
@@ -180,8 +181,8 @@ class Command(SiteTest):
         document = json.loads(test_document(5.0, 7))
         self.assertEqual((document["id"], document["test"], document["name"]), ("test-7", True, "nagsched;notify-test"))
         with self.assertRaisesRegex(MonitorFault, "the command for changes: .*"):
-            test_command("if")
-        test_command("cat > /dev/null")
+            test_shell_line("if", "the command for changes")
+        test_shell_line("cat > /dev/null", "the command for changes")
 
     def test_one_that_was_taken_while_nothing_can_be_stored(self) -> None:
         """The command isn't run again for it, and one line says why it waits."""

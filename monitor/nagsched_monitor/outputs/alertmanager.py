@@ -8,13 +8,12 @@ import datetime
 import http.client
 import json
 import pathlib
-import re
 import sys
 import time
 import urllib.error
 import urllib.parse
 import urllib.request
-from typing import Any, Callable, Dict, FrozenSet, Iterable, List, Mapping, Optional, Sequence, Tuple
+from typing import Any, Callable, Dict, FrozenSet, List, Mapping, Optional, Sequence, Tuple
 
 from ..model.text import first_line
 from ..site.groups_file import Groups, GroupsFile, labels_of
@@ -109,18 +108,18 @@ class AlertPoster:
         heartbeat = heartbeat_of(status, self._site)
         if heartbeat is not None:
             self._post([{**heartbeat, "endsAt": timestamp(status.now + HEARTBEAT_ENDS)}])
-        ends = timestamp(status.now)
-        ended = [{**each, "startsAt": min(each["startsAt"], ends), "endsAt": ends} for each in self._firing() if frozenset(each["labels"].items()) not in alerts]
+        # An alert that ends has no beginning here: Alertmanager keeps its own, and one later than its end would be refused.
+        ended = [{"labels": labels, "endsAt": timestamp(status.now)} for labels in self._firing() if frozenset(labels.items()) not in alerts]
         all_of = ended + [{**each, "endsAt": timestamp(status.now + ENDS)} for each in alerts.values()]
         for first in range(0, len(all_of), AT_ONCE):
             self._post(all_of[first : first + AT_ONCE])
         self._posted, self._next_post = list(alerts), time.monotonic() + EVERY
 
-    def _firing(self) -> Iterable[Alert]:
-        """The alerts of the site that Alertmanager has, except the heartbeat, which ends by itself."""
+    def _firing(self) -> List[Dict[str, str]]:
+        """The labels of the site's alerts that Alertmanager has, except the heartbeat, which ends by itself."""
         query = urllib.parse.urlencode([("filter", f"site={json.dumps(self._site)}"), ("filter", f'alertname=~"{PROBLEM}|{FLAPPING}|{NOT_CHECKED}"')])
         with urllib.request.urlopen(f"{self._url}?{query}", timeout=PATIENCE) as answer:
-            return [alert(each["labels"], each["annotations"], read_timestamp(each["startsAt"]), "") for each in json.load(answer)]
+            return [each["labels"] for each in json.load(answer)]
 
     def _post(self, alerts: Sequence[Alert]) -> None:
         """Posts alerts. A request that is refused is halved, so that a refused alert holds back itself alone."""
@@ -135,15 +134,6 @@ class AlertPoster:
                 return
             self._post(alerts[: len(alerts) // 2])
             self._post(alerts[len(alerts) // 2 :])
-
-
-def read_timestamp(text: str) -> float:
-    """A time as Alertmanager writes it: with any number of digits of a second, and Z or a difference."""
-    found = re.fullmatch(r"([0-9T:-]{19})(?:\.([0-9]+))?(Z|[+-][0-9:]{5})", text)
-    if found is None:
-        raise ValueError(f"Alertmanager answered with no time: {text!r}")
-    zone = "+00:00" if found[3] == "Z" else found[3]
-    return datetime.datetime.fromisoformat(f"{found[1]}{zone}").timestamp() + float(f"0.{found[2] or 0}")
 
 
 def main() -> int:

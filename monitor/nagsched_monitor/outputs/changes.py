@@ -6,9 +6,9 @@ import os
 import signal
 import subprocess
 import tempfile
-from typing import Callable, Dict, Iterable, List, NamedTuple, Optional, Set
+from typing import Callable, Dict, Iterable, List, NamedTuple, Optional, Set, Tuple
 
-from ..faults import MonitorFault, NotStored
+from ..faults import NotStored
 from ..model.clock import Clock
 from ..model.object_state import ObjectState
 from ..model.text import first_line, plain_text
@@ -36,16 +36,6 @@ def change_line(change: StoredChange, zone: Optional[datetime.tzinfo]) -> str:
     return f"{when} {change.name} is {change.state} {change.kind} {change.attempt}{flapping}: {first_line(change.words)}"
 
 
-def test_command(command: str) -> None:
-    """Raises `MonitorFault` if a shell can't read a command for changes."""
-    try:
-        read = subprocess.run(["/bin/sh", "-n", "-c", command], stdin=subprocess.DEVNULL, stderr=subprocess.PIPE, check=False, timeout=LIMIT / 1000)
-    except (OSError, subprocess.TimeoutExpired) as error:
-        raise MonitorFault(f"the command for changes can't be tested: {error}") from None
-    if read.returncode:
-        raise MonitorFault(f"the command for changes: {read.stderr.decode(errors='replace').strip()}")
-
-
 class Waiting(NamedTuple):
     """A change that the command has to take: its row, its `id`, its object, its document, and the moment since which it waits."""
 
@@ -70,10 +60,9 @@ class Notifier:
         self._output = tempfile.TemporaryFile()
         self._deadline = 0
         self._size, self._pause, self._not_before = AT_ONCE, PAUSE, 0
-        # The objects whose first change was refused alone; for each such change how often, and how many others were taken until then.
+        # The objects whose first change was refused alone; for each such change how often, and how many others were taken before.
         self._held: List[str] = []
-        self._refusals: Dict[str, int] = {}
-        self._taken_before: Dict[str, int] = {}
+        self._refusals: Dict[str, Tuple[int, int]] = {}
         self._taken_count = 0
         # Why the last try failed: the command couldn't be run, or the database couldn't be read or written.
         self._trouble: Optional[str] = None
@@ -207,10 +196,9 @@ class Notifier:
     def _hold(self, refused: Waiting) -> None:
         """The changes of an object wait, since its first one was refused alone. It is set aside if others were taken meanwhile."""
         self._held = [name for name in self._held if name != refused.object] + [refused.object]
-        if refused.id not in self._refusals:
-            self._taken_before[refused.id] = self._taken_count
-        self._refusals[refused.id] = self._refusals.get(refused.id, 0) + 1
-        if self._refusals[refused.id] >= MOST_REFUSALS and self._taken_count > self._taken_before[refused.id]:
+        count, before = self._refusals.get(refused.id, (0, self._taken_count))
+        self._refusals[refused.id] = count + 1, before
+        if count + 1 >= MOST_REFUSALS and self._taken_count > before:
             self._store.write(insert("not_taken", None, refused.document), delete("outbox", "id = ?", refused.row))
             self._log(f"a change is set aside, since the command refused it {MOST_REFUSALS} times and took others: {refused.document}")
             self._count_aside()

@@ -11,10 +11,11 @@ from ..core.requests import Request
 from ..faults import ConversationEnded, MonitorFault, NotStored
 from ..inputs import control
 from ..model.clock import Clock, SystemClock
-from ..outputs.changes import Notifier, change_line, test_command
+from ..outputs.changes import Notifier, change_line
 from ..outputs.sd_notify import ServiceManager
 from ..run.runners import RunnerPools, raise_file_limit
 from ..scheduler.scheduling import Scheduling
+from ..site.command_lines import test_shell_line
 from ..site.site import LISTS, TEXTS, Options, Site, read_site
 from ..store.store import Store, drop_changes_before
 from ..system import addresses
@@ -51,7 +52,7 @@ class Monitor:
         self.store = Store(self._folder, self.log)
         self.clock: Clock = SystemClock(self.store.last_moment())
         if self._outputs.on_change is not None:
-            test_command(self._outputs.on_change)
+            test_shell_line(self._outputs.on_change, "the command for changes")
         self.scheduling = self._open_scheduling(site)
         self.runners = RunnerPools(len(os.sched_getaffinity(0)), self.log, self._poller)
         self.runners.set_remotes(site.runners)
