@@ -1,7 +1,6 @@
 """The figures for Prometheus: each line by the rules of the text format, the sums of the histogram, and the file for node_exporter."""
 import json
 import re
-import sys
 import time
 from typing import Dict, List, Tuple
 from unittest import mock
@@ -172,7 +171,7 @@ class Textfile(SiteTest):
             (self.folder / "monitor.db").write_text("this is no database")
             return len(seen) == 3
 
-        with mock.patch.object(textfile, "ParentMonitor") as made, mock.patch.object(sys, "argv", ["textfile", str(self.folder), str(file)]):
-            made().is_ended = is_ended
+        with mock.patch.object(textfile, "ParentMonitor") as made:
+            made().is_ended, made().arguments = is_ended, [str(self.folder), str(file)]
             self.assertEqual(textfile.main(), 0)
             self.assertEqual((seen, file.exists(), made().log.call_count), ([[]] * 3, False, 1))

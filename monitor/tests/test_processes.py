@@ -185,7 +185,28 @@ class Pauses(SiteTest):
                     begun.append(second)
         self.assertEqual(begun, [0, 5, 15, 35, 75, 135, 195])
         self.assertEqual(LONGEST_PAUSE, 60)
-        self.assertEqual(set(lines), {"faults ended with status 1; it is begun again"})
+        self.assertEqual({line for line in lines if "it is begun again" in line}, {"faults ended with status 1; it is begun again"})
+        self.assertIn("AttributeError: module 'nagsched_monitor.faults' has no attribute 'main'", lines)
+
+    def test_one_that_stands_still(self) -> None:
+        """It is killed and started again if it gives no sign of life for two minutes."""
+        lines: List[str] = []
+        now = [0.0]
+        beside = HelperProcess("faults", [], lines.append, lambda: now[0])
+        beside._command = ["sh", "-c", "echo begun; exec sleep 600"]
+        self.addCleanup(beside.close)
+        beside.work()
+
+        def is_heard() -> bool:
+            beside.work()
+            return lines == ["begun"]
+
+        self.assertTrue(becomes_true(is_heard))
+        first = beside._process
+        for now[0] in (100.0, 119.0, 121.0, 130.0):
+            beside.work()
+        self.assertEqual(lines[:2], ["begun", "faults stands still; it is begun again"])
+        self.assertIsNot(beside._process, first)
 
 
     def test_no_room_for_a_process(self) -> None:

@@ -113,7 +113,8 @@ class Table(SiteTest):
                                  {"db": "fine", "web": "no answer|rta=0", "web;http": "no answer|rta=0"})
                 again.run(0.1)
                 after = self.assert_same(again)
-                self.assertEqual(after, before)
+                # Time in which no monitor ran makes nothing older.
+                self.assertEqual({name: row._replace(known=0) for name, row in after.items()}, {name: row._replace(known=0) for name, row in before.items()})
                 again.close()
 
     def test_a_row_that_lags_behind(self) -> None:

@@ -8,7 +8,6 @@ import datetime
 import http.client
 import json
 import pathlib
-import sys
 import time
 import urllib.error
 import urllib.parse
@@ -137,8 +136,8 @@ class AlertPoster:
 
 
 def main() -> int:
-    url, folder, page = sys.argv[1:]
     monitor = ParentMonitor()
+    url, folder, page = monitor.arguments
     poster = AlertPoster(url, pathlib.Path(folder), page, lambda line: monitor.log(f"alertmanager: {line}"))
     while not monitor.is_ended(LOOK_EVERY):
         poster.post_due()

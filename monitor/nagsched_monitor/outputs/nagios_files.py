@@ -168,7 +168,8 @@ def replace_file(path: pathlib.Path, data: bytes) -> None:
 
 
 def main() -> int:
-    monitor, (site, folder, *others) = ParentMonitor(), sys.argv[1:]
+    monitor = ParentMonitor()
+    site, folder, *others = monitor.arguments
     try:
         NagiosFiles(pathlib.Path(site), pathlib.Path(folder), "notifies" in others, monitor).run()
     except (MonitorFault, OSError) as fault:

@@ -170,7 +170,8 @@ class Server(socketserver.ThreadingTCPServer):
 
 
 def main() -> int:
-    monitor, (place, folder, *names) = ParentMonitor(), sys.argv[1:]
+    monitor = ParentMonitor()
+    place, folder, *names = monitor.arguments
     try:
         server = Server(parse_address(place), SiteFolder(pathlib.Path(folder)), names, monitor.log)
     except (MonitorFault, OSError) as fault:

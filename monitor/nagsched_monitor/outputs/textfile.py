@@ -3,7 +3,6 @@
 Its arguments are the site's folder and the file.
 """
 import pathlib
-import sys
 
 from ..site.groups_file import GroupsFile
 from ..system.processes import ParentMonitor
@@ -16,7 +15,8 @@ EVERY = 15.0
 
 
 def main() -> int:
-    monitor, (folder, file) = ParentMonitor(), map(pathlib.Path, sys.argv[1:])
+    monitor = ParentMonitor()
+    folder, file = map(pathlib.Path, monitor.arguments)
     groups, site, trouble = GroupsFile(folder), folder.resolve().name, ""
     while True:
         try:

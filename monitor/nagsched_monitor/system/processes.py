@@ -1,5 +1,6 @@
 """The programs of this package: how they are found, and how their processes begin and end."""
 import contextlib
+import json
 import os
 import pathlib
 import select
@@ -20,6 +21,8 @@ GRACE = 5.0
 PAUSE, LONGEST_PAUSE = 5.0, 60.0
 # The time without a line after which a helper stands still, in seconds, and the most bytes of its lines that are read at once.
 SILENCE, READ_BYTES = 120.0, 65_536
+# The variable with a helper's arguments.
+ARGUMENTS = "NAGSCHED_HELPER"
 
 
 def find_program(name: str) -> Optional[str]:
@@ -63,7 +66,9 @@ class HelperProcess:
     The monitor reads its lines and logs them. An empty line is a sign of life."""
 
     def __init__(self, module: str, arguments: List[str], log: Callable[[str], None], clock: Callable[[], float] = time.monotonic) -> None:
-        self._command, self._name, self._log, self._clock = module_command(module, arguments), module.rpartition(".")[2], log, clock
+        self._command, self._name, self._log, self._clock = module_command(module, []), module.rpartition(".")[2], log, clock
+        # Its arguments, which may have a password, aren't in its command line, which every user of the machine can read.
+        self._environment = {**os.environ, ARGUMENTS: json.dumps(arguments)}
         self._process: Optional["subprocess.Popen[bytes]"] = None
         self._unread = b""
         self._started_at = self._heard_at = self._not_before = clock()
@@ -88,7 +93,8 @@ class HelperProcess:
     def _start(self) -> None:
         self._started_at = self._heard_at = self._clock()
         try:
-            self._process = subprocess.Popen(self._command, stdin=subprocess.PIPE, stdout=subprocess.PIPE, stderr=subprocess.STDOUT, bufsize=0)
+            self._process = subprocess.Popen(self._command, stdin=subprocess.PIPE, stdout=subprocess.PIPE, stderr=subprocess.STDOUT, bufsize=0,
+                                             env=self._environment)
             assert self._process.stdout is not None
             os.set_blocking(self._process.stdout.fileno(), False)
         except OSError as error:  # there is no room for a process now
@@ -117,6 +123,7 @@ class ParentMonitor:
 
     def __init__(self) -> None:
         os.set_blocking(sys.stdout.fileno(), False)
+        self.arguments: List[str] = json.loads(os.environ.pop(ARGUMENTS))
 
     def log(self, line: str) -> None:
         """Passes on a line. It is lost if the monitor reads none."""
