@@ -3,6 +3,7 @@ import datetime
 import http.server
 import json
 import pathlib
+import re
 import shutil
 import subprocess
 import tempfile
@@ -13,7 +14,8 @@ from typing import Any, Dict, List, Tuple
 from unittest import mock
 
 from nagsched_monitor.outputs import alertmanager
-from nagsched_monitor.outputs.alertmanager import FLAPPING, HEARTBEAT, NOT_CHECKED, PROBLEM, AlertPoster
+from nagsched_monitor.outputs.alertmanager import FLAPPING, HEARTBEAT, NOT_CHECKED, PROBLEM, SEVERITIES, AlertPoster
+from nagsched_monitor.outputs.nagios_blocks import HOST_STATES, SERVICE_STATES
 
 from .shown_site import fill_database, standing
 from .simulated import SiteTest
@@ -194,6 +196,16 @@ class Examples(unittest.TestCase):
 
     def test_the_configuration_of_alertmanager(self) -> None:
         self.check("amtool", "check-config", "alertmanager.yml")
+
+    def test_both_ways_give_the_same_severity(self) -> None:
+        """The rules for those who let Prometheus make alerts of problems, and the monitor's own alerts."""
+        rules = re.findall(r"- alert: NagschedProblem\n +expr: (.*) unless .*\n +labels: {severity: (\w+)}", (EXAMPLES / "alert_rules.yml").read_text())
+        severities: Dict[str, str] = {}
+        for expression, severity in rules:
+            for sign, number in re.findall(r'service(!?=)""} == (\d)', expression):
+                states = SERVICE_STATES if sign == "!=" else HOST_STATES
+                severities |= {state: severity for state, its in states.items() if its == int(number)}
+        self.assertEqual(severities, SEVERITIES)
 
     def test_the_rules(self) -> None:
         self.check("promtool", "check", "rules", "--lint-fatal", "alert_rules.yml")

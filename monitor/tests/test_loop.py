@@ -45,6 +45,29 @@ class Faults(SiteTest):
         monitor.work(70)
         self.assertEqual(len(monitor.starts()["web"]), 2)
 
+    def test_a_request_that_cant_be_stored_for_a_fault(self) -> None:
+        """It is refused, the turn is a fault, and the next one is as ever."""
+        self.write_site([host("web")], [])
+        monitor = self.monitor(fine)
+        monitor.work(10)
+        answers: List[Any] = []
+        monitor.engine.add_request(Request(b'{"do":"disable","name":"web"}', answers.append))
+        with mock.patch.object(monitor.store, "insert_all", side_effect=UnicodeEncodeError("utf-8", "x", 0, 1, "no")):
+            monitor.loop.run_turn()
+        self.assertIn("the monitor has a fault: UnicodeEncodeError", answers[0]["error"])
+        self.assertNotIn("again", answers[0])
+        monitor.work(60)
+        self.assertEqual((monitor.loop.status, len(monitor.starts()["web"]), monitor.store.figures()["faults"]), (None, 2, 1))
+
+    def test_a_pause(self) -> None:
+        self.write_site([host("web")], [])
+        monitor = self.monitor(fine)
+        monitor.work(10)
+        monitor.pause(600)
+        monitor.work(20)
+        (line,) = [line for line in monitor.lines if "stood still" in line]
+        self.assertRegex(line, "stood still for 60[01] seconds: overdue checks are spread over 15 seconds")
+
     def test_a_fault_after_a_turn_was_stored(self) -> None:
         """Its requests aren't stored again, and the next turn answers them."""
         self.write_site([host("web")], [])

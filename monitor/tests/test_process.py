@@ -1,4 +1,5 @@
 """The monitor as a process: killed at random moments it loses nothing; requests, reloads and signals."""
+import contextlib
 import json
 import os
 import pathlib
@@ -9,8 +10,9 @@ import sqlite3
 import subprocess
 import sys
 import time
-from typing import List
+from typing import Any, Dict, List
 
+from nagsched_monitor.inputs import client
 from nagsched_monitor.program import monitor
 
 from .running import MONITOR, ProcessTest
@@ -222,6 +224,63 @@ class Running(ProcessTest):
             self.await_states(["UP HARD 1 h00: "])
             self.assertEqual(self.run_command("stop").stdout, "stop: done\n")
             running.wait(timeout=LONG)
+
+    def test_options_of_the_site(self) -> None:
+        """Options in monitor.json work as those of the command line; a command is given a test, and what is hard when it is new."""
+        taken = self.folder / "taken"
+        self.write_site(self.objects(2, check_interval=60), [], monitor={"on_change": f"cat >> {taken}", "page": "127.0.0.1:0", "log_passive": False})
+        running = self.start_monitor()
+        self.assertIn("notify-test: done", self.run_command("notify-test").stdout)
+        self.assertTrue(becomes_true(lambda: taken.exists() and "notify-test" in taken.read_text()))
+        self.assertTrue(json.loads(taken.read_text())["test"])
+        for _ in range(2):
+            self.run_command("result", "h01", "DOWN", "it burns")
+        self.assertTrue(becomes_true(lambda: "h01" in taken.read_text()))
+        output = self.stop_monitor(running)
+        self.assertEqual(("the page is at http://127.0.0.1:" in output, "asked: result" in output), (True, False))
+        again = self.folder / "again"
+        self.stop_monitor(self.start_monitor("--on-change", f"cat >> {again}"))
+        self.assertEqual([json.loads(line)["name"] for line in again.read_text().splitlines()], ["h01"])
+        self.write("monitor.json", {"on_change": "if"})
+        self.assertIn("the command for changes: ", subprocess.run([sys.executable, str(MONITOR), "--program", PROGRAM, str(self.folder)], capture_output=True,
+                                                                  text=True, check=False).stderr)
+        self.write("monitor.json", {"page": "nowhere"})
+        self.assertIn("no ADDRESS:PORT", subprocess.run([sys.executable, str(MONITOR), "--program", PROGRAM, str(self.folder)], capture_output=True,
+                                                        text=True, check=False).stderr)
+
+    def test_a_database_that_is_gone(self) -> None:
+        """The monitor is stuck by name, answers that the request may come again, and goes on when the file is back."""
+        self.write_site(self.objects(2), [])
+        running = self.start_monitor()
+        self.assertTrue(becomes_true(lambda: bool(self.signs()["made"] > 2)))
+        (self.folder / "monitor.db").rename(self.folder / "away")
+        self.assertTrue(becomes_true(lambda: bool(self.signs()["is_stuck"])))
+        answer = json.loads(client.send_request(self.folder, b'{"do":"result","name":"h00","code":0}'))
+        self.assertEqual((answer["again"], "moved or deleted" in answer["error"]), (True, True))
+        made = self.signs()["made"]
+        (self.folder / "away").rename(self.folder / "monitor.db")
+        self.assertTrue(becomes_true(lambda: bool(self.signs()["made"] > made + 2)))
+        self.assertIn("moved or deleted", self.stop_monitor(running))
+
+    def test_a_damaged_database(self) -> None:
+        """The start is refused by a message with the command that continues, and continues after it."""
+        self.write_site(self.objects(2), [])
+        running = self.start_monitor()
+        self.assertTrue(becomes_true(lambda: bool(self.signs()["made"] > 2)))
+        self.stop_monitor(running, signal.SIGKILL)
+        with contextlib.closing(sqlite3.connect(self.folder / "monitor.db")) as database:
+            database.execute("UPDATE calls SET line = 'x' WHERE id = (SELECT max(id) FROM calls)")
+            database.commit()
+        refused = subprocess.run([sys.executable, str(MONITOR), "--program", PROGRAM, str(self.folder)], capture_output=True, text=True, check=False)
+        self.assertEqual((refused.returncode, f"nagsched-monitor {self.folder} drop-calls" in refused.stderr), (1, True))
+        dropped = self.run_command("drop-calls")
+        self.assertEqual((dropped.returncode, "calls since the last saved states are dropped" in dropped.stdout), (0, True))
+        self.start_monitor()
+        self.assertTrue(becomes_true(lambda: bool(self.signs()["made"] > 2)))
+
+    def signs(self) -> Dict[str, Any]:
+        signs: Dict[str, Any] = json.loads(client.send_request(self.folder, b'{"do":"signs"}'))
+        return signs
 
     def test_no_site(self) -> None:
         told = subprocess.run([sys.executable, str(MONITOR), str(self.folder), "test"], capture_output=True, text=True, check=False)

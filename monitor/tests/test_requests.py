@@ -172,7 +172,7 @@ class Words(SiteTest):
         before = self.monitored.store.last_call
         for line, word in (
             (b"", "no JSON"), (b"\xff", "no JSON"), (b"[" * 100_000, "no JSON"), (b"[]", "object"), (b"{}", "None"), (b'{"do":7}', "7"),
-            (b'{"do":"fly"}', "'fly'"),
+            (b'{"do":"fly"}', "'fly'"), (b'{"do":"disable","name":"web","number":"\\ud800"}', "half a character"),
             (b'{"do":"signs","pattern":1}', "'pattern'"), (b'{"do":"status"}', "'status'"),
             (b'{"do":"reschedule"}', "name"), (b'{"do":"reschedule","name":"x"}', "no object 'x'"),
             (b'{"do":"reschedule","name":"web","at":"now"}', "at is"), (b'{"do":"reschedule","name":"web","at":-1e30}', "no time"),

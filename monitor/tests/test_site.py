@@ -91,6 +91,7 @@ class SiteFiles(SiteTest):
     def test_options(self) -> None:
         self.write_site([HOST], [])
         for document, word in (
+            ({"on_change": 1}, "on_change"), ({"alertmanager": "x"}, "alertmanager"), ({"page_name": [1]}, "page_name"), ({"log_passive": 1}, "log_passive"),
             ({"slots": 0}, "slots"), ({"slots": True}, "slots"), ({"slotz": 1}, "slotz"), ({"keep_days": -1}, "keep_days"),
             ({"service_check_timeout_state": "x"}, "'x'"), ({"service_check_timeout_state": ["c"]}, "['c']"), ({"zone": "Nowhere/Town"}, "Nowhere/Town"),
             ("[" * 100_000, "recursion"),

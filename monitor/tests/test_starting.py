@@ -93,16 +93,15 @@ class Starting(SiteTest):
             self.assertEqual(self.refused(), f"nagsched-monitor: monitor.db: database or disk is full; it was tried {monitor.START_TRIES} times")
 
     def test_no_room_for_a_file(self) -> None:
-        for what in ("monitor.lock", "monitor.db"):
-            opened = os.open
+        opened = os.open
 
-            def full(path: Any, *others: Any, **more: Any) -> int:
-                if str(path).endswith(what):
-                    raise OSError(28, "No space left on device")
-                return opened(path, *others, **more)
+        def full(path: Any, *others: Any, **more: Any) -> int:
+            if str(path).endswith("monitor.db"):
+                raise OSError(28, "No space left on device")
+            return opened(path, *others, **more)
 
-            with mock.patch.object(os, "open", full):
-                self.assertIn("No space left on device", self.refused())
+        with mock.patch.object(os, "open", full):
+            self.assertIn("No space left on device", self.refused())
 
     def test_no_room_in_a_database(self) -> None:
         with mock.patch.object(Store, "_migrate", side_effect=sqlite3.OperationalError("database or disk is full")):
