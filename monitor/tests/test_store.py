@@ -177,6 +177,15 @@ class Database(SiteTest):
             store.write(store_calls([(0, '["take",9]', None)]), failing)
         self.assertEqual((store.last_call, [call.id for call in store.calls_since(0, 0)]), (2, [2]))
 
+    def test_an_opening_writes_nothing(self) -> None:
+        """So a monitor starts on a full disk."""
+        self.filled().close()
+        before = (self.folder / "monitor.db").read_bytes()
+        store = Store(self.folder)
+        self.addCleanup(store.close)
+        self.assertEqual(sum(path.stat().st_size for path in self.folder.glob("monitor.db-wal")), 0)
+        self.assertEqual((self.folder / "monitor.db").read_bytes(), before)
+
     def test_a_write_that_raises_something_else(self) -> None:
         """It is rolled back too, and the next write is carried out."""
         store = self.filled()

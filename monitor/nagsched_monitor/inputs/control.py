@@ -19,11 +19,12 @@ from .client import NAME, short_path
 
 LONGEST_LINE = 262_144
 READ_BYTES = 65_536
-# Limits: a client's lines in one turn, the bytes of its unread answers, clients at once, and the seconds for which a client may be silent.
+# Limits: a client's lines in one turn, the bytes of its unread answers, clients at once, and the seconds for which a client may be silent. While there are
+# too many clients, one that has been silent for a second makes room.
 LINES_IN_TURN = 64
 UNREAD_BYTES = 1024 * 1024
 MOST_CLIENTS = 200
-IDLE = 300.0
+IDLE, SILENT = 300.0, 1.0
 # How soon the next turn comes while an answer waits for its reader, in milliseconds.
 SENDING_WAIT = 100
 
@@ -35,15 +36,14 @@ class Client:
     connection: socket.socket
     unread: bytes = b""
     unsent: bytearray = field(default_factory=bytearray)
-    # The requests without an answer, the time of its last line, whether it has sent something, and whether it sends no more.
+    # The requests without an answer, the time of its last line, and whether it sends no more.
     unanswered: int = 0
     last_line_at: float = field(default_factory=time.monotonic)
-    has_sent: bool = False
     has_ended: bool = False
 
     def is_idle(self) -> bool:
-        """Whether it has sent something before, and waits for nothing."""
-        return self.has_sent and not self.unanswered and not self.unsent and not self.unread
+        """Whether it has been silent for a second, and waits for nothing."""
+        return time.monotonic() - self.last_line_at > SILENT and not self.unanswered and not self.unsent and not self.unread
 
 
 class ControlSocket:
@@ -65,7 +65,7 @@ class ControlSocket:
         poller.watch(self._socket.fileno(), self._accept)
 
     def _accept(self) -> None:
-        """Accepts all clients that wait, as long as there is room. One that has been idle the longest makes room for another."""
+        """Accepts all clients that wait, as long as there is room. The one that has been idle the longest makes room for another."""
         while True:
             idle = [client for client in self._clients if client.is_idle()]
             if len(self._clients) >= MOST_CLIENTS and not idle:
@@ -90,7 +90,7 @@ class ControlSocket:
             return
         except OSError:
             data = b""  # the client has gone
-        client.last_line_at, client.has_sent = time.monotonic(), True
+        client.last_line_at = time.monotonic()
         client.unread += data
         if not data:
             self._stop_reading(client)

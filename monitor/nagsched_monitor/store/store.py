@@ -84,6 +84,8 @@ class Store:
         (version,) = database.execute("PRAGMA user_version").fetchone()
         if version > VERSION:
             raise MonitorFault(f"{self.path}: it has version {version}, and this monitor reads versions up to {VERSION}")
+        if version == VERSION:
+            return  # nothing is written: the disk may be full
         for table in sorted({table for since, table in GROWN if version < since}):
             new = [None] * sum(version < since and table == each for since, each in GROWN)
             rows = []
