@@ -1,8 +1,8 @@
 """Facts that hold after each turn of a simulated monitor, whatever has happened."""
-from typing import TYPE_CHECKING, List
+from typing import TYPE_CHECKING, Dict, List
 
 from nagsched_monitor.core.engine import Engine
-from nagsched_monitor.model.jobs import JobLost
+from nagsched_monitor.model.jobs import Event, JobLost
 from nagsched_monitor.model.run_table import Owner
 
 if TYPE_CHECKING:
@@ -13,6 +13,15 @@ class Invariants:
     def __init__(self, engine: Engine, runners: "SimulatedRunners") -> None:
         self._engine, self._runners = engine, runners
         self._most_slots = self._started = 0
+        # The last event of each object that the engine has handled.
+        self._ends: Dict[str, Event] = {}
+        count = engine.plugins._count_losses
+
+        def noted(event: Event) -> None:
+            self._ends[event.job.name] = event
+            count(event)
+
+        setattr(engine.plugins, "_count_losses", noted)
         # The facts that didn't hold.
         self.broken: List[str] = []
 
@@ -28,10 +37,8 @@ class Invariants:
         there = self._runners.job_ids() | {id(event.job) for event in plugins._events}
         for run in states.running.owned_by(Owner.PLUGIN):
             self._require(id(run.job) in there, f"the result of {run.key[1]} is nowhere")
-        unread = {event.job.name for event in plugins._events}
         for name in (*plugins._losses, *plugins._delays):
-            last = self._runners.ends.get(name)
-            self._require(last is None or name in unread or isinstance(last, JobLost), f"a loss of {name} is counted after a result")
+            self._require(isinstance(self._ends[name], JobLost), f"a loss of {name} is counted after a result")
         self._look_at_periods()
         self._started = len(self._runners.started)
 

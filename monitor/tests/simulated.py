@@ -52,8 +52,6 @@ class SimulatedRunners(RunnerPools):
     clock: SimulatedClock
     plugin: Plugin
     started: List[Tuple[int, Job]] = field(default_factory=list)
-    # The last event of each object.
-    ends: Dict[str, Event] = field(default_factory=dict)
     _ends: List[Tuple[int, int, Event]] = field(default_factory=list)
 
     def start(self, job: Job) -> None:
@@ -68,7 +66,6 @@ class SimulatedRunners(RunnerPools):
         events: List[Event] = []
         while self._ends and self._ends[0][0] <= self.clock.now:
             events.append(heapq.heappop(self._ends)[2])
-            self.ends[events[-1].job.name] = events[-1]
         return events
 
     def first(self) -> Optional[int]:
