@@ -84,6 +84,7 @@ class Ages(SiteTest):
         self.assertEqual(self.overdue(monitor), (2, 2))
 
     def test_checks_that_a_dependency_holds_back(self) -> None:
+        """They aren't overdue, also after a restart; time in which no monitor ran makes nothing older."""
         self.write("setup.json", {
             "options": {"interval_length": 1, "host_inter_check_delay_method": "n", "service_inter_check_delay_method": "n"}, "hosts": [host("web")],
             "services": [service("web", "gate", max_check_attempts=1), service("web", "behind")],
@@ -93,6 +94,11 @@ class Ages(SiteTest):
         monitor.run(1_800)
         self.assertLess(len(monitor.starts()["web;behind"]), 3)
         self.assertEqual(self.overdue(monitor), (0, 3))
+        clock = monitor.clock
+        monitor.engine.close()
+        monitor.close()
+        clock.now += 3_600_000
+        self.assertEqual(self.overdue(self.monitor(fine, clock)), (0, 3))
 
     def test_a_first_check_that_is_far_off(self) -> None:
         """It is promised at its own time."""

@@ -178,6 +178,8 @@ class Posting(SiteTest):
         fill_database(self.folder, [standing(f"h{number}", "DOWN", hard_since=time.time() + 3600) for number in range(10)])
         self.assertEqual([host for _, host, _, _ in self.look()], [f"h{number}" for number in range(10) if number != 3])
         self.assertEqual([("refused" in line, "h3" in line) for line in self.lines], [(True, True)])
+        begins = [datetime.datetime.fromisoformat(it["startsAt"]).timestamp() for alerts in self.posted for it in alerts]
+        self.assertLessEqual(max(begins), time.time())
 
     def test_links(self) -> None:
         self.alerts = AlertPoster(self.url, self.folder, "http://monitor.example.org/", self.lines.append)

@@ -1,14 +1,18 @@
 """Counts over time, the second halves of pairs, and guards against clocks: what a single example seldom reaches."""
 import json
+import os
+import signal
 import time
 import types
 from typing import Any, List, Mapping
 from unittest import mock
 
 from nagsched_monitor.core.requests import Request
-from nagsched_monitor.faults import ConversationEnded
+from nagsched_monitor.faults import ConversationEnded, SiteFault
 from nagsched_monitor.model.clock import SystemClock
 from nagsched_monitor.model.jobs import Job, JobLost
+from nagsched_monitor.program import main as main_module
+from nagsched_monitor.program import monitor as monitor_module
 from nagsched_monitor.program.monitor import DAY, Monitor
 from nagsched_monitor.run.pool import LONGEST_LINE, RunnerPool
 from nagsched_monitor.scheduler import live_process
@@ -212,6 +216,42 @@ class Pairs(SiteTest):
         monitor.engine.turn()
         self.assertEqual([("done" in answer, answer.get("again", False)) for answer in answers], [(True, False), (False, True)])
         self.assertEqual(monitor.engine.passive.count, 1)
+
+
+class Starts(SiteTest):
+    def test_a_long_replay_is_saved(self) -> None:
+        """After a start that made many calls again, the state is saved at once: the next start makes few."""
+        self.write_site([host("web", check_interval=1)], [])
+        monitor = self.monitor(fine)
+        monitor.run(60)
+        calls = len(monitor.store.calls_since(0, 0))
+        monitor.kill_schedulers()
+        monitor.close()
+        with mock.patch("nagsched_monitor.scheduler.scheduling.LONG_REPLAY", 50):
+            again = self.monitor(fine, monitor.clock)
+            again.run(3)
+            self.assertLess(len(again.store.calls_since(0, 0)), calls / 2)
+            again.run(60)
+            self.assertGreater(len(again.store.calls_since(0, 0)), 50)
+            again.kill_schedulers()
+            again.run(5)
+            self.assertLess(len(again.store.calls_since(0, 0)), 50)
+
+    def test_a_reload_before_the_site_was_read(self) -> None:
+        """A SIGHUP that early is a request for a reload, and ends nothing."""
+        before = signal.getsignal(signal.SIGHUP)
+        self.addCleanup(signal.signal, signal.SIGHUP, before)
+        signal.signal(signal.SIGHUP, signal.SIG_DFL)
+        asked: List[object] = []
+
+        def read(*_: object) -> None:
+            os.kill(os.getpid(), signal.SIGHUP)
+            asked.append(signal.getsignal(signal.SIGHUP))
+            raise SiteFault("enough")
+
+        with mock.patch.object(monitor_module, "read_site", read), self.assertRaisesRegex(SiteFault, "enough"):
+            Monitor(main_module.parse_arguments([str(self.folder)]), lambda line: None)
+        self.assertNotEqual(asked, [signal.SIG_DFL])
 
 
 class Clocks(SiteTest):

@@ -1,10 +1,12 @@
 """Each file of a site, and each way in which it can be wrong."""
 import json
 import subprocess
+from typing import List
 from unittest import mock
 
 from nagsched_monitor.faults import SiteFault
 from nagsched_monitor.model.definitions import Command
+from nagsched_monitor.site import command_lines
 from nagsched_monitor.site.site import read_site
 
 from .simulated import PROGRAM, SiteTest
@@ -129,6 +131,23 @@ class SiteFiles(SiteTest):
                 self.refused("commands.json", "web", f"only a shell gives {sign}")
         self.write("commands.json", {"web": {"line": "echo 'no; exit 2' \"a|b\" # c"}})
         self.assertEqual(read_site(self.folder, PROGRAM).objects["web"].command, Command(["echo", "no; exit 2", "a|b", "#", "c"], 60.0))
+
+    def test_shell_lines_are_tested_once(self) -> None:
+        """A line that was found to be good isn't tested again, also if its file of checksums is damaged or can't be written: then all are."""
+        self.write_site([{**HOST, "name": f"h{number}"} for number in range(6)], [])
+        self.write("commands.json", {f"h{number}": {"line": f"test {number % 3} -lt 9 || exit 2", "shell": True} for number in range(6)})
+        tested: List[str] = []
+        with mock.patch.object(command_lines, "test_shell_line", lambda line, place: tested.append(line)):
+            for count in (3, 0):
+                tested.clear()
+                read_site(self.folder, PROGRAM)
+                self.assertEqual(len(tested), count)
+            (self.folder / command_lines.TESTED).write_bytes(b"\xff")
+            read_site(self.folder, PROGRAM)
+            self.assertEqual(len(tested), 3)
+        self.write("commands.json", {f"h{number}": {"line": "if", "shell": True} for number in range(6)})
+        self.refused("commands.json: h0")
+        self.refused("commands.json: h0")
 
     def test_half_a_character(self) -> None:
         self.write_site([HOST], [])

@@ -90,7 +90,7 @@ class PartScheduler:
         """The scheduler. If it doesn't run, it is started, and makes the answered calls again."""
         if self.conversation is None:
             calls = self._store.calls_since(self.generation.part, self.generation.last_call, self.last_answered)
-            self.replayed = len(calls)
+            self.replayed = max(self.replayed, len(calls))
             self.conversation, self._sent = self._start(self.generation), []
             self.conversation.ask_lines([each.line for each in calls])
         return self.conversation

@@ -1,5 +1,7 @@
 """The command lines of a site: each can be split, and has a program that exists, unless a runner elsewhere runs it."""
+import contextlib
 import functools
+import hashlib
 import os
 import pathlib
 import re
@@ -7,7 +9,7 @@ import shlex
 import shutil
 import subprocess
 from concurrent.futures import ThreadPoolExecutor
-from typing import Container, Dict, List
+from typing import Container, Dict, List, Mapping, Set
 
 from ..faults import SiteFault
 from ..model.definitions import Command
@@ -17,6 +19,8 @@ from .json_files import read_by_name, read_seconds, require
 PLAIN = re.compile(r"[\w ./:,=%@+!#*?$~^{}\[\]-]*", re.ASCII)
 # Half of a character, which JSON allows: no program can get such an argument.
 HALF = re.compile("[\ud800-\udfff]")
+# The file of a site with the checksums of the shell lines that were found to be good.
+TESTED = "shell-lines.tested"
 # The limit for a shell's test of a line, in seconds.
 LIMIT = 30.0
 
@@ -39,8 +43,7 @@ def read_commands(folder: pathlib.Path, objects: Container[str], runner_of: Cont
             places.setdefault(line, place)
         require(name in runner_of or which(arguments[0]), f"{place}: there is no program {arguments[0]}")
         commands[name] = Command(arguments, limit)
-    with ThreadPoolExecutor(os.cpu_count()) as several:  # each line takes a process
-        list(several.map(test_shell_line, places, places.values()))
+    test_shell_lines(folder / TESTED, places)
     return commands
 
 
@@ -61,6 +64,22 @@ def shell_characters(line: str) -> List[str]:
     lexer = shlex.shlex(line, posix=True, punctuation_chars=True)
     lexer.whitespace_split, lexer.commenters = True, ""
     return [word for word in lexer if word and not word.strip(lexer.punctuation_chars)]
+
+
+def test_shell_lines(file: pathlib.Path, places: Mapping[str, str]) -> None:
+    """Tests lines that a shell runs: a process for each, so lines whose checksums are in a file were found to be good before."""
+    checksums = {line: hashlib.blake2b(line.encode(), digest_size=12).hexdigest() for line in places}
+    known: Set[str] = set()
+    with contextlib.suppress(OSError, ValueError):
+        known.update(file.read_text().split())
+    new = [line for line, checksum in checksums.items() if checksum not in known]
+    with ThreadPoolExecutor(os.cpu_count()) as several:
+        list(several.map(test_shell_line, new, map(places.__getitem__, new)))
+    if new:
+        with contextlib.suppress(OSError):  # all lines are tested again the next time
+            temporary = file.with_name(f"{file.name}.{os.getpid()}")
+            temporary.write_text("\n".join(checksums.values()))
+            temporary.replace(file)
 
 
 def test_shell_line(line: str, place: str) -> None:
