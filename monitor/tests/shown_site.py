@@ -39,7 +39,7 @@ class PageTest(SiteTest):
     """A test with a server over the folder of a site."""
 
     def serve(self) -> None:
-        self.server = Server(("127.0.0.1", 0), SiteFolder(self.folder))
+        self.server = Server(("127.0.0.1", 0), SiteFolder(self.folder, "http://alerts.example.org/"))
         self.port = int(self.server.server_address[1])
         thread = threading.Thread(target=self.server.serve_forever, args=(0.05,), daemon=True)
         thread.start()

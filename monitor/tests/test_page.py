@@ -134,6 +134,15 @@ class Page(PageTest):
             found = [text for text in texts if text.endswith(("in time", "1 min.", "missing.", "checked.", "wrong."))]
             self.assertEqual(found, wanted)
 
+    def test_a_silence(self) -> None:
+        """The page of a problem leads to the form for a silence, with the labels that stay while it lasts."""
+        fill_database(self.folder, [standing("web;load 5", "WARNING"), standing("web")])
+        self.serve()
+        matchers = f'{{site="{self.folder.name}",host="web",service="load 5"}}'
+        link = f'<a href="http://alerts.example.org/#/silences/new?filter={urllib.parse.quote(matchers, safe="")}">Silence it</a>'
+        self.assertIn(link, self.request("/object?name=web%3Bload%205")[2])
+        self.assertNotIn("silence", self.request("/object?name=web")[2])
+
     def test_names_and_words_are_escaped(self) -> None:
         """No text of a site becomes a tag or an attribute, on any page; forbidden characters are replaced."""
         name = "h;" + EVIL

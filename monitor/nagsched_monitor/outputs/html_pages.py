@@ -4,6 +4,7 @@ import collections
 import datetime
 import hashlib
 import html
+import json
 import urllib.parse
 from typing import Collection, List, Mapping, Optional, Sequence, Tuple
 
@@ -268,7 +269,15 @@ def day_chart(status: ObjectStatus, times: Times) -> str:
     return "\n".join([*lines, "</svg>", legend])
 
 
-def object_page(status: ObjectStatus, groups: Groups, site: str, zone: Optional[datetime.tzinfo]) -> str:
+def silence_link(name: str, site: str, alertmanager: str) -> str:
+    """A link to Alertmanager's form for a silence of a problem, by the labels that stay while it lasts."""
+    host, _, service = name.partition(";")
+    labels = {"site": site, "host": host, **({"service": service} if service else {})}
+    matchers = ",".join(f"{label}={json.dumps(value, ensure_ascii=False)}" for label, value in labels.items())
+    return f'<p><a href="{html_text(alertmanager)}#/silences/new?filter={urllib.parse.quote(f"{{{matchers}}}", safe="")}">Silence it</a></p>'
+
+
+def object_page(status: ObjectStatus, groups: Groups, site: str, zone: Optional[datetime.tzinfo], alertmanager: str = "") -> str:
     """One object, and its last day."""
     times, it = Times(status.now, zone), status.standing
     pairs = [
@@ -287,6 +296,7 @@ def object_page(status: ObjectStatus, groups: Groups, site: str, zone: Optional[
         f"<h2>{html_text(it.name)} {badge(it.state, it.kind, it.flapping)}</h2>",
         tiles([pair for pair in pairs if pair[1]]),
         f"<pre>{html_text(it.words) or 'no words'}</pre>",
+        silence_link(it.name, site, alertmanager) if alertmanager and it.is_problem() else "",
         "<h2>The last day</h2>",
         day_chart(status, times),
         table(changes, "No change in the last day.", ("Time", "State", "Attempt", "Words"), "c"),

@@ -4,7 +4,7 @@
     /status.json     the same as data
     /metrics         figures in Prometheus's text format
 
-Its arguments are its address, the site's folder, and the names by which it is reached. It asks nobody for a password, so use an address that others reach
+Its arguments are its address, the site's folder, Alertmanager's address or nothing, and the names by which it is reached. It asks nobody for a password, so use an address that others reach
 only in a trusted network. A request whose `Host` is neither an address nor one of the names is refused: another site's page can make a browser send one.
 """
 import contextlib
@@ -97,8 +97,8 @@ class Handler(http.server.BaseHTTPRequestHandler):
 class SiteFolder:
     """The folder of a site that the page shows."""
 
-    def __init__(self, folder: pathlib.Path) -> None:
-        self._folder, self._name, self._groups = folder, folder.resolve().name, GroupsFile(folder)
+    def __init__(self, folder: pathlib.Path, alertmanager: str = "") -> None:
+        self._folder, self._name, self._groups, self._alertmanager = folder, folder.resolve().name, GroupsFile(folder), alertmanager
         self._zone: Optional[datetime.tzinfo] = None
         self._free = threading.BoundedSemaphore(AT_ONCE)
 
@@ -122,7 +122,7 @@ class SiteFolder:
             names = urllib.parse.parse_qs(query, keep_blank_values=True).get("name", [])
             status = read_object(self._folder, names[0]) if len(names) == 1 else None
             if status is not None:
-                return HTML, html_pages.object_page(status, groups.get(status.standing.name, {}), self._name, self._zone)
+                return HTML, html_pages.object_page(status, groups.get(status.standing.name, {}), self._name, self._zone, self._alertmanager)
         return None
 
 
@@ -171,9 +171,9 @@ class Server(socketserver.ThreadingTCPServer):
 
 def main() -> int:
     monitor = ParentMonitor()
-    place, folder, *names = monitor.arguments
+    place, folder, alertmanager, *names = monitor.arguments
     try:
-        server = Server(parse_address(place), SiteFolder(pathlib.Path(folder)), names, monitor.log)
+        server = Server(parse_address(place), SiteFolder(pathlib.Path(folder), alertmanager), names, monitor.log)
     except (MonitorFault, OSError) as fault:
         sys.exit(f"the page on {place}: {fault}")
     monitor.log(f"the page is at {server.url()}")

@@ -74,7 +74,7 @@ class Monitor:
         if outputs.page is not None:
             if not addresses.is_loopback(outputs.page):
                 self.log(f"the page on {outputs.page} is shown to everybody who reaches this address")
-            asked.append(["outputs.page", outputs.page, folder, *outputs.page_name])
+            asked.append(["outputs.page", outputs.page, folder, *[addresses.shown_url(url) for url in outputs.alertmanager[:1] or [""]], *outputs.page_name])
         if outputs.textfile is not None:
             asked.append(["outputs.textfile", folder, outputs.textfile])
         asked += [["outputs.alertmanager", url, folder, link] for url in outputs.alertmanager]

@@ -31,3 +31,9 @@ def test_url(given: str) -> None:
     url = urllib.parse.urlsplit(given)
     if url.scheme not in ("http", "https") or not url.hostname:
         raise MonitorFault(f"--alertmanager: it has to be an address such as http://localhost:9093, not {given!r}")
+
+
+def shown_url(given: str) -> str:
+    """The address of a web server without the password in it, and with a slash at its end; nothing of nothing."""
+    url = urllib.parse.urlsplit(given)
+    return f"{url.scheme}://{url.netloc.rpartition('@')[2]}{url.path.rstrip('/')}/" if given else ""
