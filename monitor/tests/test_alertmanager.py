@@ -27,7 +27,7 @@ class Posting(SiteTest):
     def setUp(self) -> None:
         super().setUp()
         self.posted: List[List[Dict[str, Any]]] = []
-        self.is_refusing = False
+        self.is_refusing = self.is_write_only = False
         # The alerts that fire there, by their labels, and the name of a host whose alerts are refused.
         self.firing: Dict[str, Dict[str, Any]] = {}
         self.refused = ""
@@ -43,6 +43,8 @@ class Posting(SiteTest):
                 self.end_headers()
 
             def do_GET(self) -> None:
+                if test.is_write_only:
+                    return self.send_error(501)
                 self.send_response(200)
                 self.end_headers()
                 self.wfile.write(json.dumps([it for it in test.firing.values() if it["labels"]["alertname"] != HEARTBEAT]).encode())
@@ -127,6 +129,14 @@ class Posting(SiteTest):
         fill_database(self.folder, [standing("web", "DOWN")])
         self.assertEqual([self.look(), self.look()], [[(PROBLEM, "web", "", True)]] * 2)
 
+    def test_one_that_only_takes(self) -> None:
+        """A receiver that can't be asked for its alerts: those that this process posted are ended."""
+        self.is_write_only = True
+        fill_database(self.folder, [standing("web"), standing("web;http", "CRITICAL")])
+        self.assertEqual([self.look(), self.look()], [[(PROBLEM, "web", "http", True)], []])
+        fill_database(self.folder, [standing("web"), standing("web;http", "OK")])
+        self.assertEqual([self.look(), self.look(), self.lines], [[(PROBLEM, "web", "http", False)], [], []])
+
     def test_one_that_takes_nothing(self) -> None:
         """It is posted again with each look, and logged once; an end that wasn't accepted is posted again."""
         fill_database(self.folder, [standing("web", "DOWN")])
@@ -163,7 +173,8 @@ class Posting(SiteTest):
             self.alerts.post_due()
             self.assertEqual([it["labels"]["alertname"] for alerts in self.posted for it in alerts], wanted)
         (alert,) = self.posted[0]
-        self.assertEqual((alert["labels"]["severity"], alert["annotations"]["summary"].split(" have")[0]), ("critical", f"6 of 10 objects of {self.folder.name}"))
+        self.assertEqual(alert["labels"]["severity"], "critical")
+        self.assertTrue(alert["annotations"]["summary"].startswith(f"6 of 10 objects of {self.folder.name} have no result in time"))
 
     def test_what_another_process_posted(self) -> None:
         """An alert that fires at Alertmanager and doesn't stand is ended, also one that seems to begin later than now."""
@@ -219,7 +230,8 @@ class Examples(unittest.TestCase):
         """With promtool: each rule's alert after some minutes of these figures, and no alert while all is well."""
         if shutil.which("promtool") is None:
             self.skipTest("promtool isn't here")
-        well = {"up": "1+0x60", "last_turn_timestamp_seconds": "0+60x60", "stuck": "0+0x60", "overdue": "0+0x60", "passive_waiting": "0+0x60", "oldest_change_seconds": "0+0x60",
+        well = {"up": "1+0x60", "last_turn_timestamp_seconds": "0+60x60", "stuck": "0+0x60", "overdue": "0+0x60",
+                "passive_waiting": "0+0x60", "oldest_change_seconds": "0+0x60",
                 "runners_stuck": "0+0x60", "runners": "4+0x60", "runners_wanted": "4+0x60", "faults_total": "0+0x60", "state": "0+0x60"}
         for figure, values, alert in (
             ("up", "0+0x60", "NagschedNoAnswer"), ("last_turn_timestamp_seconds", "0+0x60", "NagschedStandsStill"), ("stuck", "1+0x60", "NagschedStuck"),

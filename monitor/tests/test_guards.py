@@ -265,7 +265,8 @@ class Clocks(SiteTest):
         wall, writes = [1_000_000.0], []
         its: Any = types.SimpleNamespace(
             clock=types.SimpleNamespace(wall=lambda: wall[0]), _dropped_at=wall[0], log=lambda line: None,
-            store=types.SimpleNamespace(write=lambda *each: writes.append(wall[0])), scheduling=types.SimpleNamespace(site=types.SimpleNamespace(options=Options())))
+            store=types.SimpleNamespace(write=lambda *each: writes.append(wall[0])),
+            scheduling=types.SimpleNamespace(site=types.SimpleNamespace(options=Options())))
         for wall[0] in (1_000_010.0, 1_000_000.0 + 12 * 365 * DAY, 1_000_020.0, 1_000_000.0 + 1.5 * DAY):
             Monitor._drop_old_changes(its)
         self.assertEqual(writes, [])

@@ -115,10 +115,13 @@ class AlertPoster:
         self._posted, self._next_post = list(alerts), time.monotonic() + EVERY
 
     def _firing(self) -> List[Dict[str, str]]:
-        """The labels of the site's alerts that Alertmanager has, except the heartbeat, which ends by itself."""
+        """The labels of the site's alerts that Alertmanager has, except the heartbeat, which ends by itself. If it can't be asked, those that were posted last."""
         query = urllib.parse.urlencode([("filter", f"site={json.dumps(self._site)}"), ("filter", f'alertname=~"{PROBLEM}|{FLAPPING}|{NOT_CHECKED}"')])
-        with urllib.request.urlopen(f"{self._url}?{query}", timeout=PATIENCE) as answer:
-            return [each["labels"] for each in json.load(answer)]
+        try:
+            with urllib.request.urlopen(f"{self._url}?{query}", timeout=PATIENCE) as answer:
+                return [each["labels"] for each in json.load(answer)]
+        except urllib.error.HTTPError:
+            return [dict(labels) for labels in self._posted or ()]
 
     def _post(self, alerts: Sequence[Alert]) -> None:
         """Posts alerts. A request that is refused is halved, so that a refused alert holds back itself alone."""

@@ -65,6 +65,11 @@ def parse_arguments(given: Optional[List[str]]) -> argparse.Namespace:
                         help="a name by which browsers reach the page, besides addresses and localhost")
     parser.add_argument("--textfile", metavar="FILE", type=pathlib.Path, help="keep the figures in this file, for node_exporter's textfile collector")
     parser.add_argument("--nagios-files", metavar="DIRECTORY", type=pathlib.Path, help="keep Nagios's status.dat and its pipe nagios.cmd there")
+    add_commands(parser)
+    return parser.parse_args(given)
+
+
+def add_commands(parser: argparse.ArgumentParser) -> None:
     commands = parser.add_subparsers(dest="command", metavar="COMMAND", prog="nagsched-monitor DIR",
                                   help="without a command it runs the monitor; test, status and drop-calls need no running monitor, the others ask it")
     status = commands.add_parser("status", help="prints the states of objects")
@@ -86,7 +91,6 @@ def parse_arguments(given: Optional[List[str]]) -> argparse.Namespace:
         ("drop-calls", "drops the calls since the last saved state from a damaged database, while no monitor runs"),
     ):
         commands.add_parser(word, help=what)
-    return parser.parse_args(given)
 
 
 def clock_time(seconds: float) -> str:
