@@ -5,7 +5,8 @@
     /metrics         figures in Prometheus's text format
 
 Its arguments are its address, the site's folder, Alertmanager's address or nothing, and the names by which it is reached. It asks nobody for a password, so
-use an address that others reach only in a trusted network. A request whose `Host` is neither an address nor one of the names is refused: another site's page can make a browser send one.
+use an address that others reach only in a trusted network. A request whose `Host` is neither an address nor one of the names is refused: another site's
+page can make a browser send one.
 """
 import contextlib
 import datetime
