@@ -134,7 +134,7 @@ class Command(SiteTest):
 
     def test_a_relay_that_is_away_for_hours(self) -> None:
         """Nothing is lost or set aside, for any number of failures of the command."""
-        self.keep(12)
+        self.keep(3)
         notifier = self.notifier(f"test -e {self.folder}/up && cat >> {self.folder}/taken")
 
         def is_done() -> bool:
@@ -145,7 +145,7 @@ class Command(SiteTest):
             return not self.store.outbox()
 
         self.assertTrue(becomes_true(is_done))
-        self.assertEqual((sorted(self.taken()), self.aside), (sorted(f"h{number}" for number in range(1, 13)), []))
+        self.assertEqual((sorted(self.taken()), self.aside), (sorted(f"h{number}" for number in range(1, 4)), []))
         self.assertEqual(self.lines, ["the command for changes ended with 1; it is tried again"])
 
     def test_one_that_is_too_old_is_given_up_by_name(self) -> None:
