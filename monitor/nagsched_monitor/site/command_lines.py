@@ -76,10 +76,12 @@ def test_shell_lines(file: pathlib.Path, places: Mapping[str, str]) -> None:
     with ThreadPoolExecutor(os.cpu_count()) as several:
         list(several.map(test_shell_line, new, map(places.__getitem__, new)))
     if new:
-        with contextlib.suppress(OSError):  # all lines are tested again the next time
-            temporary = file.with_name(f"{file.name}.{os.getpid()}")
+        temporary = file.with_name(f"{file.name}.{os.getpid()}")
+        with contextlib.suppress(OSError):  # the disk is full, or the folder is another user's: all are tested again the next time
             temporary.write_text("\n".join(checksums.values()))
             temporary.replace(file)
+        with contextlib.suppress(OSError):
+            temporary.unlink(missing_ok=True)
 
 
 def test_shell_line(line: str, place: str) -> None:
