@@ -105,6 +105,8 @@ define timeperiod {
 	monday 1 may	00:00-24:00
 	friday -1	18:00-24:00
 	2026-01-01 / 3	00:00-24:00
+	tuesday -1 - monday 1	00:00-24:00
+	july 3	12:00-13:00,22:00-06:00,00:00-00:00
 	}
 define timeperiod {
 	timeperiod_name	work
@@ -317,13 +319,14 @@ def check_site(work):
     yield "that its scheduler has no limit", files["setup"]["options"]["max_concurrent_checks"] == 0
     yield "its passive objects", files["passive"] == {"h;trap": {"only": True}, "h;backup": {"only": True, "freshness": 90}, "h;nightly": {"freshness": 315}}
     yield "its objects' periods", files["periods"]["objects"] == {"h;piped": "work"} and sorted(files["periods"]["periods"]) == ["free", "work"]
-    dates = files["periods"]["periods"]["free"]["dates"]
-    yield "dates", [(it.get("first"), it.get("month"), it.get("day"), it.get("weekday"), it.get("nth")) for it in dates] == [
-        ("2026-12-24", None, None, None, None), (None, 1, 1, None, None), (None, 12, 31, None, None), (None, 1, 1, None, None), (None, 1, 2, None, None),
-        (None, None, -1, None, None), (None, None, 1, None, None), (None, None, 2, None, None), (None, None, 3, None, None), (None, 5, None, "monday", 1),
-        (None, None, None, "friday", -1)]
+    dates = [{member: value for member, value in it.items() if member != "times"} for it in files["periods"]["periods"]["free"]["dates"]]
+    yield "dates", dates == [
+        {"first": "2026-12-24", "last": "2026-12-26"}, {"month": 1, "day": 1}, {"first": {"month": 12, "day": 31}, "last": {"month": 1, "day": 2}},
+        {"day": -1}, {"first": {"day": 1}, "last": {"day": 3}}, {"month": 5, "weekday": "monday", "nth": 1}, {"weekday": "friday", "nth": -1},
+        {"first": "2026-01-01", "step": 3}, {"first": {"weekday": "tuesday", "nth": -1}, "last": {"weekday": "monday", "nth": 1}}, {"month": 7, "day": 3}]
+    yield "times that never come", files["periods"]["periods"]["free"]["dates"][-1]["times"] == ["12:00-13:00"]
     yield "what is left out, by name", all(f"left out: {line}" in told for line in (
-        "parents of services (1)", "is_volatile (1)", "dates of the period free: 2026-01-01 / 3 00:00-24:00 (1)")) and told.count("h;piped") == 2
+        "parents of services (1)", "is_volatile (1)", "times july 3 22:00-06:00 (1)")) and told.count("h;piped") == 2
     off = {it["description"] for it in files["setup"]["services"] if it.get("enabled") is False}
     yield "what has no command", off == {"trap", "backup", "lost"} and "h;lost: no command nothing" in told and "h;trap" not in told
     (work / "latin.precache").write_bytes(b"define host {\n\thost_name\th\n\talias\tB\xfcro\n\tmax_check_attempts\t3\n\t}\n")

@@ -211,7 +211,7 @@ def write_site_files(arguments: argparse.Namespace, options: Members, objects: S
     disable(setup, {name: why for name, why in without.items() if not passive.get(name, {}).get("only") or "freshness" in passive[name]})
     for name in without:
         passive.get(name, {}).pop("freshness", None)
-    periods, unsaid = nagios_site.periods_of(objects)
+    periods = nagios_site.periods_of(objects, left_out)
     setup["options"]["max_concurrent_checks"] = 0
     setups, mirrors = ([setup], {}) if fits_one_setup(setup) else parts_of(setup, True)
     files = {"commands": commands, "periods": periods, "passive": passive, "groups": nagios_groups.Groups(objects).document(objects)}
@@ -220,9 +220,6 @@ def write_site_files(arguments: argparse.Namespace, options: Members, objects: S
         nagios_site.write_site(arguments.site, setups, {**files, **({"mirrors": mirrors} if mirrors else {})})
     except (nagios_site.CannotWrite, OSError) as error:
         raise CannotConvert(str(error)) from None
-    for dates, names in sorted(unsaid.items()):
-        for name in names:
-            left_out.add(f"dates of the period {dates}", "a site's periods can't say them", name)
     if options.get("passive_host_checks_are_soft", "0") == "0":
         for host in setup["hosts"]:
             if passive.get(host["name"], {}).get("only") and host["max_check_attempts"] > 1:

@@ -10,7 +10,8 @@ from typing import Any, Dict, Iterator, List, Mapping, Sequence, Set, Tuple
 
 import nagios_commands
 import nagios_periods
-from nagios_groups import Definition, Members
+from nagios_groups import split_list
+from nagios_values import Definition, LeftOut, Members
 
 # Nagios's defaults for options that nagios.cfg doesn't set.
 DEFAULTS = {
@@ -48,23 +49,34 @@ def checked_objects(objects: Sequence[Definition]) -> List[Tuple[str, str, Membe
     return [(full_name(kind, members), kind, members) for kind, _, members in objects if kind in ("host", "service")]
 
 
-def periods_of(objects: Sequence[Definition]) -> Tuple[Dict[str, Any], Dict[str, List[str]]]:
-    """The periods, the period of each object, and the parts that can't be expressed, with the objects that these affect."""
+def periods_of(objects: Sequence[Definition], left_out: LeftOut) -> Dict[str, Any]:
+    """The periods that objects need, and the period of each object. Times that never come are left out."""
     periods: Dict[str, nagios_periods.Period] = {}
-    unsaid: Dict[str, List[str]] = {}
+    never: Dict[str, List[str]] = {}
     for kind, _, members in objects:
         if kind == "timeperiod":
-            name = str(members["timeperiod_name"])
-            periods[name], unsaid[name] = nagios_periods.period_of(members)
+            periods[str(members["timeperiod_name"])], never[str(members["timeperiod_name"])] = nagios_periods.period_of(members)
+    for kind, _, members in objects:
+        if kind == "timeperiod":
+            require_periods(members, "exclude", periods)
     period_of = {}
     for name, _, members in checked_objects(objects):
+        require_periods(members, "check_period", periods)
         period = str(members.get("check_period", ""))
-        if period in periods and not nagios_periods.is_always(periods[period]):
+        if period and not nagios_periods.is_always(periods[period]):
             period_of[name] = period
     used = with_excluded(periods, set(period_of.values()))
-    matters = {f"{period}: {dates}": [name for name, of in period_of.items() if period in with_excluded(periods, {of})]
-               for period in used for dates in unsaid[period]}
-    return {"periods": {name: periods[name] for name in sorted(used)}, "objects": period_of}, matters
+    for name, period in period_of.items():
+        for times in (times for each in sorted(with_excluded(periods, {period})) for times in never[each]):
+            left_out.add(f"times {times}", "they end before they begin, so Nagios never uses them either", name)
+    return {"periods": {name: periods[name] for name in sorted(used)}, "objects": period_of}
+
+
+def require_periods(members: Members, member: str, periods: Mapping[str, nagios_periods.Period]) -> None:
+    """Refuses a member that names a period without a definition."""
+    for name in split_list(members.get(member, "")):
+        if name not in periods:
+            members[member].refuse(f"{member}: there is no time period {name}")
 
 
 def with_excluded(periods: Mapping[str, nagios_periods.Period], names: Set[str]) -> Set[str]:

@@ -7,40 +7,75 @@ import calendar
 import datetime
 import graphlib
 import re
-from typing import Dict, List, Mapping, NamedTuple, Optional, Sequence, Tuple
+from typing import Dict, List, Mapping, NamedTuple, Optional, Sequence, Tuple, Union
 
 from ..faults import SiteFault
-from .json_files import members_of, require
+from .json_files import members_of, read_whole, require
 
 WEEKDAYS = ("monday", "tuesday", "wednesday", "thursday", "friday", "saturday", "sunday")
 CLOCK_TIMES = re.compile(r"(\d\d):(\d\d)-(\d\d):(\d\d)")
+DATE = re.compile(r"\d{4}-\d\d-\d\d")
 
-# The members by which dates name their days, in the order in which dates count if several fit, and the limits of those that are numbers.
-KINDS = ({"first", "last"}, {"month", "day"}, {"day"}, {"month", "weekday", "nth"}, {"weekday", "nth"})
+# The members of a day without a year, in the order in which dates count if several fit, and the limits of those that are numbers.
+KINDS = ({"month", "day"}, {"day"}, {"month", "weekday", "nth"}, {"weekday", "nth"})
 LIMITS = {"month": (1, 12), "day": (-31, 31), "nth": (-5, 5)}
+MOST_STEP = 36_525
 
 # From a minute of the day up to another, which is excluded.
 Minutes = Tuple[int, int]
 
 
+class DayOfMonth(NamedTuple):
+    """A day of each month, or of one month of each year: its number, or which of its weekdays it is. A negative number counts from the end."""
+
+    number: int
+    weekday: Optional[int]
+    month: Optional[int]
+
+
+Day = Union[datetime.date, DayOfMonth]
+
+
+def date_of(day: Day, months: int, is_last: bool = False) -> Optional[datetime.date]:
+    """The date of a day in this month, which is counted from the year 0, or in its year. The last day of a range ends at the latest with its month."""
+    if isinstance(day, datetime.date):
+        return day
+    year, month = months // 12, day.month or months % 12 + 1
+    weekday_of_first, length = calendar.monthrange(year, month)
+    if day.weekday is None:
+        first, count, days = 1, length, 1
+    else:
+        first, days = 1 + (day.weekday - weekday_of_first) % 7, 7
+        count = (length - first) // 7 + 1
+    number = first + days * (day.number - 1 if day.number > 0 else count + day.number)
+    number = min(number, length) if is_last else number
+    return datetime.date(year, month, number) if 1 <= number <= length else None
+
+
 class Dates(NamedTuple):
-    """Days from the first to the last that have all these values, and their times. A plain weekday has the last rank."""
+    """Days from the first to the last, or each n-th of them, and their times. Dates with a lower rank count first."""
 
     rank: int
+    first: Day
+    last: Day
+    step: int
     times: Sequence[Minutes]
-    values: Mapping[str, int]
-    first: datetime.date = datetime.date.min
-    last: datetime.date = datetime.date.max
 
     def include(self, day: datetime.date) -> bool:
-        left = calendar.monthrange(day.year, day.month)[1] - day.day
-        fitting = {"month": (day.month,), "weekday": (day.weekday(),), "day": (day.day, -left - 1), "nth": ((day.day - 1) // 7 + 1, -(left // 7) - 1)}
-        return self.first <= day <= self.last and all(value in fitting[member] for member, value in self.values.items())
+        """A range whose last day comes before its first goes on into the next month, or year."""
+        months = 12 * day.year + day.month - 1
+        first, last = date_of(self.first, months), date_of(self.last, months, is_last=True)
+        if first is None or last is None or (not first <= day <= last if first <= last else last < day < first):
+            return False
+        if day < first and isinstance(self.first, DayOfMonth):
+            first = date_of(self.first, months - (12 if self.first.month else 1))
+        return self.step == 1 or first is not None and (day - first).days % self.step == 0
 
 
 class Period(NamedTuple):
-    """The days with times, in the order in which they count, and the periods whose times are excluded."""
+    """The times of weekdays, by their numbers, and of dates, in the order in which they count; and the periods whose times are excluded."""
 
+    weekdays: Mapping[int, Sequence[Minutes]]
     dates: Sequence[Dates]
     excluded: Sequence[str]
 
@@ -55,7 +90,7 @@ class Periods:
 
     def _includes(self, name: str, day: datetime.date, minute: int) -> bool:
         period = self._periods[name]
-        times = next((dates.times for dates in period.dates if dates.include(day)), ())
+        times = next((dates.times for dates in period.dates if dates.include(day)), period.weekdays.get(day.weekday(), ()))
         return any(first <= minute < last for first, last in times) and not any(self._includes(other, day, minute) for other in period.excluded)
 
     def active_by_name(self, wall: float) -> Dict[str, bool]:
@@ -83,11 +118,11 @@ def read_period(members: object, place: str) -> Period:
     document = members_of(members, place, ("weekdays", "dates", "exclude"))
     weekdays, dates, excluded = document.get("weekdays", {}), document.get("dates", []), document.get("exclude", [])
     require(isinstance(weekdays, dict) and set(weekdays) <= set(WEEKDAYS), f"{place}: weekdays has the members monday to sunday and no other")
-    read = [Dates(len(KINDS), read_times(texts, f"{place}: {day}"), {"weekday": WEEKDAYS.index(day)}) for day, texts in weekdays.items()]
     are_lists = isinstance(dates, list) and isinstance(excluded, list) and all(isinstance(other, str) for other in excluded)
     require(are_lists, f"{place}: dates and exclude are lists")
-    read += [read_dates(each, f"{place}: date {index}") for index, each in enumerate(dates)]
-    return Period(sorted(read, key=lambda dates: dates.rank), excluded)
+    times_of = {WEEKDAYS.index(day): read_times(texts, f"{place}: {day}") for day, texts in weekdays.items()}
+    read = [read_dates(each, f"{place}: date {index}") for index, each in enumerate(dates)]
+    return Period(times_of, sorted(read, key=lambda dates: dates.rank), excluded)
 
 
 def read_times(texts: object, place: str) -> List[Minutes]:
@@ -99,34 +134,41 @@ def read_times(texts: object, place: str) -> List[Minutes]:
         match = CLOCK_TIMES.fullmatch(str(text))
         hour, minute, last_hour, last_minute = map(int, match.groups()) if match else (0, 0, 0, 0)
         first, last = hour * 60 + minute, last_hour * 60 + last_minute
-        require(minute <= 59 and last_minute <= 59 and first < last <= 24 * 60, f"{place}: no times: {text!r}")
+        is_good = minute <= 59 and last_minute <= 59 and first < last <= 24 * 60
+        require(is_good, f"{place}: times have to be like 09:00-17:00 and end on the same day, not {text!r}")
         times.append((first, last))
     return times
 
 
 def read_dates(members: object, place: str) -> Dates:
+    """Days with their times: one day, or those from a first to a last one. A range of dates with a step may have no end."""
     if not isinstance(members, dict) or "times" not in members:
         raise SiteFault(f"{place}: a date is an object with times")
-    times = read_times(members["times"], place)
-    given = {member: value for member, value in members.items() if member != "times" and value is not None}
-    if set(given) not in KINDS or given.get("weekday", WEEKDAYS[0]) not in WEEKDAYS:
-        raise SiteFault(f"{place}: a date has first and last, or day and perhaps month, or weekday, nth and perhaps month")
-    rank = KINDS.index(set(given))
-    if rank == 0:
-        return Dates(rank, times, {}, read_day(given["first"], place), read_day(given["last"], place))
-    values = {member: WEEKDAYS.index(value) if member == "weekday" else read_number(value, *LIMITS[member], place) for member, value in given.items()}
-    return Dates(rank, times, values)
+    times, days = read_times(members["times"], place), {member: value for member, value in members.items() if member != "times"}
+    if "first" not in days:
+        rank, day = read_day(days, place)
+        return Dates(rank, day, day, 1, times)
+    members_of(days, place, ("first", "last", "step"))
+    rank, first = read_day(days["first"], f"{place}: first")
+    has_end = "last" in days or rank > 0 or "step" not in days
+    last_rank, last = read_day(days.get("last"), f"{place}: last") if has_end else (0, datetime.date.max)
+    require(rank == last_rank, f"{place}: first and last have to be days of the same form")
+    is_in_order = not isinstance(first, datetime.date) or not isinstance(last, datetime.date) or first <= last
+    require(is_in_order, f"{place}: its last day comes before its first")
+    return Dates(rank, first, last, read_whole(days.get("step", 1), f"{place}: step", 1, MOST_STEP), times)
 
 
-def read_day(text: object, place: str) -> datetime.date:
-    try:
-        return datetime.date.fromisoformat(str(text))
-    except ValueError:
-        raise SiteFault(f"{place}: no date: {text!r}") from None
-
-
-def read_number(value: object, least: int, most: int, place: str) -> int:
-    """A number within its limits that isn't 0."""
-    if isinstance(value, bool) or not isinstance(value, int) or not least <= value <= most or value == 0:
-        raise SiteFault(f"{place}: no number from {least} to {most}: {value!r}")
-    return value
+def read_day(value: object, place: str) -> Tuple[int, Day]:
+    """A date, or a day of a month, and its rank."""
+    if isinstance(value, str) and DATE.fullmatch(value):
+        try:
+            return 0, datetime.date.fromisoformat(value)
+        except ValueError:
+            raise SiteFault(f"{place}: there is no day {value}") from None
+    if not isinstance(value, dict) or set(value) not in KINDS or value.get("weekday", WEEKDAYS[0]) not in WEEKDAYS:
+        raise SiteFault(f"{place}: a day is a date such as 2026-12-24, or has day and perhaps month, or weekday, nth and perhaps month")
+    for member in value.keys() & LIMITS.keys():
+        read_whole(value[member], f"{place}: {member}", *LIMITS[member])
+        require(value[member] != 0, f"{place}: {member} counts from 1, or from -1 backwards")
+    weekday = WEEKDAYS.index(value["weekday"]) if "weekday" in value else None
+    return KINDS.index(set(value)) + 1, DayOfMonth(value["nth"] if "nth" in value else value["day"], weekday, value.get("month"))
