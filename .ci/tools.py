@@ -311,7 +311,7 @@ def check_site(work):
     (work / "resource.cfg").write_text("$USER1$=/plugins\n")
     status, _, told = run_from_nagios("--site", work / "site", "--resource", work / "resource.cfg", work / "site.cfg", work / "site.precache")
     files = {path.stem: json.loads(path.read_text()) for path in (work / "site").iterdir()} if status == 0 else {}
-    yield "the files of a site", sorted(files) == ["commands", "groups", "monitor", "passive", "periods", "setup"]
+    yield "the files of a site", sorted(files) == ["commands", "groups", "inventory", "monitor", "passive", "periods", "setup"]
     commands = files["commands"]
     yield "its limits", (commands["h"]["limit"], commands["h;plain"]["limit"]) == (7, 20)
     yield "its shells", (commands["h;piped"].get("shell"), commands["h;plain"].get("shell")) == (True, None)

@@ -32,13 +32,14 @@ from typing import Callable, Dict, List, Mapping, Sequence, Tuple
 
 import nagios_commands
 import nagios_groups
+import nagios_notifications
 import nagios_parts
 import nagios_periods
 import nagios_site
 from nagios_objects import dependency_of, host_of, service_of
 from nagios_values import (
     FEW, MINUTES, MOST_UNITS, CannotConvert, Definition, LeftOut, Members, Setup, Value, delay, factor, lines_of, number, number_between, percent,
-    read_objects, read_options, switch, whole_number,
+    read_objects, read_options, reason, switch, whole_number,
 )
 
 # Each option with a counterpart: how it is read, and Nagios's default.
@@ -72,9 +73,17 @@ TELLING = {
     "accept_passive_service_checks": ("1", "passive results of services are taken"),
     "accept_passive_host_checks": ("1", "passive results of hosts are taken"),
     "log_passive_checks": ("1", "changes are logged however their results came"),
+    "enable_notifications": ("1", "people are notified all the same, unless you set no receivers"),
+    "process_performance_data": ("0", "performance data isn't passed on"),
 }
 # Options that a site has, but a setup alone doesn't.
-OF_A_SITE = {"use_timezone": "times are those of the machine's zone"}
+OF_A_SITE = {
+    "use_timezone": "times are those of the machine's zone",
+    **dict.fromkeys(("service_check_timeout", "host_check_timeout", "service_check_timeout_state"), "whoever takes a check decides when it has timed out"),
+    "cached_host_check_horizon": "a host is checked when its time comes",
+    **dict.fromkeys(("check_service_freshness", "check_host_freshness", "additional_freshness_latency"), "nothing is checked for being stale"),
+    "resource_file": "it is read for command lines only",
+}
 
 
 def options_of(read: Members, left_out: LeftOut) -> Dict[str, object]:
@@ -91,10 +100,8 @@ def options_of(read: Members, left_out: LeftOut) -> Dict[str, object]:
 NOTHING_HERE = {
     "timeperiod": "a check is due at any time of the day",
     "command": "whoever takes a check runs its plugin",
-    "contact": "no notifications are sent",
-    "contactgroup": "no notifications are sent",
-    "hostescalation": "no notifications are sent",
-    "serviceescalation": "no notifications are sent",
+    **dict.fromkeys(("contact", "contactgroup"), "receivers and routes of Alertmanager take its place, and you write them"),
+    **dict.fromkeys(("hostescalation", "serviceescalation"), "a nested route of Alertmanager takes its place, and you write it"),
     "hostgroup": "Nagios has written out what they stand for",
     "servicegroup": "Nagios has written out what they stand for",
     "hostextinfo": "nothing is shown",
@@ -117,7 +124,7 @@ def documents_of(options: Members, objects: Sequence[Definition], left_out: Left
             if dependency is not None:
                 setup["service_dependencies" if service else "host_dependencies"].append(dependency)
         elif kind in NOTHING_HERE:
-            of = ";".join(members[name] for name in ("host_name", "service_description") if name in members)
+            of = ";".join(members[name] for name in ("host_name", "service_description", f"{kind}_name") if name in members)
             left_out.add(f"{kind} definitions", NOTHING_HERE[kind], of or None)
         else:
             raise CannotConvert(f"{place}: a definition of a kind that isn't known: {kind}")
@@ -203,7 +210,8 @@ def write_site_files(arguments: argparse.Namespace, options: Members, objects: S
     unit = setup["options"]["interval_length"]
     interval_of = {it["name"]: it["check_interval"] * unit for it in setup["hosts"]}
     interval_of |= {f"{it['host']};{it['description']}": it["check_interval"] * unit for it in setup["services"]}
-    lines, without = nagios_commands.commands_of(objects, macros_of_file(arguments, options))
+    resource = macros_of_file(arguments, options)
+    lines, without = nagios_commands.commands_of(objects, resource)
     commands = nagios_site.commands_of(options, objects, lines)
     for name in (name for name, line in lines.items() if line.by_a_value):
         left_out.add("quotes around values", "an alias or custom variable has a sign that the shell of its command line obeys", name)
@@ -214,11 +222,17 @@ def write_site_files(arguments: argparse.Namespace, options: Members, objects: S
     periods = nagios_site.periods_of(objects, left_out)
     setup["options"]["max_concurrent_checks"] = 0
     setups, mirrors = ([setup], {}) if fits_one_setup(setup) else parts_of(setup, True)
-    files = {"commands": commands, "periods": periods, "passive": passive, "groups": nagios_groups.Groups(objects).document(objects)}
+    groups = nagios_groups.Groups(objects).document(objects)
+    # The unit that Nagios counts in: that of the setup can be smaller.
+    length = number_between(1, 86_400)(options.get("interval_length", Value("60", "the default of interval_length")))
+    notifications, shown = nagios_notifications.of_objects(objects, length, resource, left_out)
+    for name, record in notifications.items():
+        groups.setdefault(name, {})["notifications"] = record
+    files = {"commands": commands, "periods": periods, "passive": passive, "groups": groups, "inventory": shown}
     try:
         files["monitor"] = nagios_site.monitor_of(options, nagios_site.options_before(arguments.site))
         nagios_site.write_site(arguments.site, setups, {**files, **({"mirrors": mirrors} if mirrors else {})})
-    except (nagios_site.CannotWrite, OSError) as error:
+    except nagios_site.CannotWrite as error:
         raise CannotConvert(str(error)) from None
     if options.get("passive_host_checks_are_soft", "0") == "0":
         for host in setup["hosts"]:
@@ -244,32 +258,40 @@ def main() -> int:
     parser.add_argument("--resource", metavar="FILE", type=pathlib.Path, help="the resource file, if not the one that nagios.cfg names")
     parser.add_argument("options", metavar="nagios.cfg", type=pathlib.Path)
     parser.add_argument("objects", metavar="objects.precache", type=pathlib.Path)
-    arguments = parser.parse_args()
-    left_out = LeftOut()
     try:
-        options, objects = read_options(arguments.options), read_objects(arguments.objects)
-        setup = documents_of(options, objects, left_out)
-        if arguments.site is not None:
-            write_site_files(arguments, options, objects, setup, left_out)
-            return 0
-        if arguments.commands is not None:
-            add_commands(arguments, options, objects, setup)
-        if arguments.parts is None and not fits_one_setup(setup):
-            sizes = nagios_parts.sizes_of(setup)
-            raise CannotConvert("more than one setup can have ({} objects, {} dependencies, {} parents): --parts makes several".format(*sizes))
-        parts = [] if arguments.parts is None else parts_of(setup, False)[0]
+        convert(parser.parse_args())
     except CannotConvert as error:
         print(f"from_nagios: {error}", file=sys.stderr)
         return 1
+    except OSError as error:
+        print(f"from_nagios: {error.filename or 'standard output'}: {reason(error)}", file=sys.stderr)
+        return 1
+    return 0
+
+
+def convert(arguments: argparse.Namespace) -> None:
+    """Writes the site or the setups, and the report."""
+    left_out = LeftOut()
+    options, objects = read_options(arguments.options), read_objects(arguments.objects)
+    setup = documents_of(options, objects, left_out)
+    if arguments.site is not None:
+        write_site_files(arguments, options, objects, setup, left_out)
+        return
+    if arguments.commands is not None:
+        add_commands(arguments, options, objects, setup)
+    if arguments.parts is None and not fits_one_setup(setup):
+        sizes = nagios_parts.sizes_of(setup)
+        raise CannotConvert("more than one setup can have ({} objects, {} dependencies, {} parents): --parts makes several".format(*sizes))
+    parts = [] if arguments.parts is None else parts_of(setup, False)[0]
     left_out.report()
     if arguments.parts is None:
         sys.stdout.write(json_text(setup))
-        return 0
+        sys.stdout.flush()
+        return
     arguments.parts.mkdir(parents=True, exist_ok=True)
     for number_of_part, part in enumerate(parts, 1):
         (arguments.parts / f"part-{number_of_part}.json").write_text(json_text(part), encoding="utf-8")
     print(f"{len(parts)} parts: the limit of concurrent checks and the spread of first checks hold for each apart", file=sys.stderr)
-    return 0
 
 
 if __name__ == "__main__":

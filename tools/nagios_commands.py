@@ -41,7 +41,7 @@ def read_resource(lines: Iterable[Tuple[str, str]]) -> Dict[str, str]:
     for place, line in lines:
         name, equals, value = line.partition("=")
         if not equals or not re.fullmatch(r"\$USER\d+\$", name.strip()):
-            raise NoCommand(f"{place}: no macro of a resource file: {line}")
+            raise NoCommand(f"{place}: a line has to be like $USER1$=/usr/lib/nagios/plugins, not {line!r}")
         macros[name.strip().strip("$")] = value.strip()
     return macros
 

@@ -1,6 +1,6 @@
 """The groups of a configuration of Nagios Core 4: the host, service and contact groups of each object. For from_nagios.py."""
 import collections
-from typing import Dict, List, Mapping, Sequence, Tuple
+from typing import Any, Dict, List, Mapping, Sequence, Tuple
 
 Members = Mapping[str, str]
 # An object of a file: its kind, its place and its members.
@@ -39,7 +39,7 @@ class Groups:
         for name in names:
             of[name].insert(0, str(group))
 
-    def document(self, objects: Sequence[Definition]) -> Dict[str, Dict[str, List[str]]]:
+    def document(self, objects: Sequence[Definition]) -> Dict[str, Dict[str, Any]]:
         """The groups and contacts of each object that has some, by its full name. A service is in the host groups of its host."""
         document = {}
         for kind, _, members in objects:

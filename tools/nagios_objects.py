@@ -20,8 +20,21 @@ MEMBERS: Dict[str, Tuple[Tuple[str, ...], str, str]] = {
     "obsess": (("0", "1"), "", ""),
     "parallelize_check": (("1",), "parallelize_check 0", "its check runs beside others"),
     "event_handler": ((), "event_handler", "no event handler is run"),
+    "event_handler_enabled": (("0", "1"), "", ""),
+    "importance": (("0",), "importance", "it decides nothing"),
+    "hourly_value": (("0",), "importance", "it decides nothing"),
+    "stalking_options": (("n",), "stalking_options", "a new text without a new state isn't logged"),
+    "process_perf_data": (("0", "1"), "", ""),
+    "retain_status_information": (("1",), "retain_status_information 0", "its state is kept over a restart"),
+    "retain_nonstatus_information": (("1",), "retain_nonstatus_information 0", "a switch that an operator set is kept over a restart"),
 }
-OTHER = ("other members of hosts and services", "names, addresses, contacts, notifications, events and what is shown")
+# Members that a site has, but a setup alone doesn't; custom variables too.
+OF_A_SITE = {
+    "contacts", "contact_groups", "notifications_enabled", "notification_options", "notification_period", "notification_interval",
+    "first_notification_delay", "display_name", "alias", "address", "notes", "notes_url", "action_url", "icon_image", "icon_image_alt", "vrml_image",
+    "statusmap_image", "2d_coords", "3d_coords",
+}
+SHOWN = ("members that only a site has", "who is notified, and what is shown")
 
 
 def report_members(members: Members, left_out: LeftOut, of: str) -> None:
@@ -32,8 +45,10 @@ def report_members(members: Members, left_out: LeftOut, of: str) -> None:
             neutral, kind, meaning = MEMBERS[name]
             if value not in neutral and not (name == "check_period" and value in left_out.always):
                 left_out.add(kind, meaning, of)
+        elif name in OF_A_SITE or name.startswith("_"):
+            left_out.add(*SHOWN, name)
         elif name not in TAKEN:
-            left_out.add(*OTHER, name)
+            left_out.add(f"member {name}", "it isn't known here", of)
 
 
 def name_of(value: Value) -> str:
@@ -52,7 +67,11 @@ def timing_members(members: Members, place: str, left_out: LeftOut, of: str) -> 
         "retry_interval": members.get("retry_interval", Value("1", place)),
         "max_check_attempts": whole_number(attempts, number(attempts), 1, 255),
     }
-    if not switch(members.get("active_checks_enabled", Value("1", place))):
+    is_active = switch(members.get("active_checks_enabled", Value("1", place)))
+    if is_active and number(taken["retry_interval"]) == 0 and taken["max_check_attempts"] > 1:
+        taken["retry_interval"] = Value("1", taken["retry_interval"].place)
+        left_out.add("retry_interval 0", "a soft problem is checked again after 1 unit of interval_length, and not at once", of)
+    if not is_active:
         taken["enabled"] = False
         left_out.add("objects without active checks", "switched off here; a passive result has no way in", of)
     return taken
@@ -90,7 +109,7 @@ def dependency_of(members: Members, place: str, service: bool, left_out: LeftOut
     if "dependency_period" in members and members["dependency_period"] not in left_out.always:
         left_out.add("dependency_period", "a dependency holds at any time", object_name(members, place, "dependent_", service))
     if any(name.startswith("notification_failure") for name in members):
-        left_out.add("dependencies of notifications", "no notifications are sent", object_name(members, place, "dependent_", service))
+        left_out.add("dependencies of notifications", "no notification is held back by them", object_name(members, place, "dependent_", service))
     if criteria is None:
         return None
     named = [letter.strip() for letter in criteria.split(",")]
@@ -98,7 +117,7 @@ def dependency_of(members: Members, place: str, service: bool, left_out: LeftOut
         named = list(letters.replace("n", ""))
     for letter in named:
         if len(letter) != 1 or letter not in letters:
-            criteria.refuse(f"no criteria: {criteria}")
+            criteria.refuse(f"the letters of a dependency are {', '.join(letters)}, or a for all, not {criteria!r}")
     dependency: Setup = {"dependent": object_name(members, place, "dependent_", service), "master": object_name(members, place, "", service)}
     dependency["criteria"] = ",".join(named)
     if switch(members.get("inherits_parent", Value("0", place))):

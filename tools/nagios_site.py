@@ -4,6 +4,7 @@ import fcntl
 import json
 import os
 import pathlib
+import pwd
 import time
 import zoneinfo
 from typing import Any, Dict, Iterator, List, Mapping, Sequence, Set, Tuple
@@ -20,12 +21,16 @@ DEFAULTS = {
     "cached_host_check_horizon": "15",
     "service_check_timeout_state": "c",
     "additional_freshness_latency": "15",
+    "check_service_freshness": "1",
+    "check_host_freshness": "0",
 }
 # The number of plugins that may run at once if the site has no limit.
 SLOTS = 200
 # Features that the monitor has, which therefore aren't left out: kinds of from_nagios.py.
 DONE = {"check_period", "check_command", "check_freshness", "objects without active checks", "timeperiod definitions", "command definitions",
-        "hostgroup definitions", "servicegroup definitions"}
+        "hostgroup definitions", "servicegroup definitions", "members that only a site has"}
+# The files that may contain passwords.
+SECRET = {"commands", "inventory"}
 # The longest wait for a reload that reads the site, in seconds.
 PATIENCE = 30.0
 
@@ -94,11 +99,11 @@ def with_excluded(periods: Mapping[str, nagios_periods.Period], names: Set[str])
 def passive_of(options: Options, objects: Sequence[Definition], interval_of: Mapping[str, int]) -> Dict[str, Dict[str, Any]]:
     """The passive objects, and the freshness that their results need."""
     passive = {}
-    for name, _, members in checked_objects(objects):
+    for name, kind, members in checked_objects(objects):
         entry: Dict[str, Any] = {}
         if members.get("active_checks_enabled", "1") == "0":
             entry["only"] = True
-        if members.get("check_freshness", "0") == "1":
+        if members.get("check_freshness", "0") == "1" and option(options, f"check_{kind}_freshness") == "1":
             seconds = float(members.get("freshness_threshold", "0"))
             entry["freshness"] = seconds or interval_of[name] + float(option(options, "additional_freshness_latency"))
         if entry:
@@ -139,7 +144,7 @@ def zone_of(name: str) -> str:
     try:
         zoneinfo.ZoneInfo(zone)
     except (ValueError, OSError, zoneinfo.ZoneInfoNotFoundError):
-        raise CannotWrite(f"use_timezone={name}: no zone of that name is known here") from None
+        raise CannotWrite(f"use_timezone={name}: this machine knows no zone of that name: correct nagios.cfg, or install the package tzdata") from None
     return zone
 
 
@@ -152,23 +157,34 @@ def options_before(folder: pathlib.Path) -> Dict[str, Any]:
     try:
         members = json.loads(path.read_text(encoding="utf-8")) if path.exists() else {}
     except (OSError, ValueError) as error:
-        raise CannotWrite(f"{path}: {error}: its members would be lost") from None
+        raise CannotWrite(f"{path}: {getattr(error, 'strerror', error)}: its members would be lost, so make it readable, or move it away") from None
     if not isinstance(members, dict):
-        raise CannotWrite(f"{path}: it is no object")
+        raise CannotWrite(f"{path}: it has to be a JSON object, such as {{}}: correct it, or move it away")
     return members
 
 
 def write_new(path: pathlib.Path, document: Any, mode: int) -> pathlib.Path:
-    """Writes a file next to the one that it will replace."""
-    new = path.with_name(path.name + ".new")
+    """Writes a file next to the one that it will replace, with its owner and group, or with those of the folder."""
+    new, like = path.with_name(path.name + ".new"), (path if path.exists() else path.parent).stat()
+    if os.geteuid() not in (0, like.st_uid):
+        raise CannotWrite(f"{path.parent} belongs to the user {user_name(like.st_uid)}, who couldn't read a file of yours: run this as that user or root")
     file = os.open(new, os.O_WRONLY | os.O_CREAT | os.O_TRUNC, mode)
     with open(file, "w", encoding="utf-8") as written:
         os.fchmod(file, mode)
+        with contextlib.suppress(PermissionError):  # a group that the user isn't in; the owner is right
+            os.fchown(file, like.st_uid, like.st_gid)
         json.dump(document, written, ensure_ascii=False, indent=1)
         written.write("\n")
         written.flush()
         os.fsync(file)
     return new
+
+
+def user_name(number: int) -> str:
+    try:
+        return pwd.getpwuid(number).pw_name
+    except KeyError:
+        return str(number)
 
 
 @contextlib.contextmanager
@@ -183,7 +199,7 @@ def lock_site(folder: pathlib.Path) -> Iterator[int]:
                 break
             except BlockingIOError:
                 if time.monotonic() >= end:
-                    raise CannotWrite(f"{folder}: somebody has been reading it for {PATIENCE:g} seconds") from None
+                    raise CannotWrite(f"{folder}: another process has been reading it for {PATIENCE:g} seconds: try again") from None
                 time.sleep(0.05)
         yield lock
     finally:
@@ -194,12 +210,12 @@ def write_site(folder: pathlib.Path, setups: Sequence[Any], files: Mapping[str, 
     """Writes the files of a site, first all of them next to the old ones. Then they replace these together, so that no reload sees half of them. Old files
     without a counterpart now are deleted; others stay.
 
-    Command lines may contain passwords: only the owner can read their file."""
+    Command lines and custom variables may contain passwords: only the owner can read their files."""
     folder.mkdir(parents=True, exist_ok=True)
     names = ["setup"] if len(setups) == 1 else [f"part-{number}" for number in range(1, len(setups) + 1)]
     documents = {**dict(zip(names, setups)), **files}
     paths = {name: folder / f"{name}.json" for name in documents}
-    new = {name: write_new(paths[name], document, 0o600 if name == "commands" else 0o644) for name, document in documents.items()}
+    new = {name: write_new(paths[name], document, 0o600 if name in SECRET else 0o644) for name, document in documents.items()}
     with lock_site(folder) as file:
         for name, path in paths.items():
             os.replace(new[name], path)

@@ -1,5 +1,6 @@
 """The values of Nagios's files, read and tested; an error names its file and line. For from_nagios.py."""
 import collections
+import errno
 import fractions
 import functools
 import math
@@ -40,36 +41,41 @@ Setup = Dict[str, Any]
 
 
 class LeftOut:
-    """Settings without a counterpart here, by kind: how often each occurred, its effect, and for which objects."""
+    """The report: settings without a counterpart here, or that need a route of Alertmanager, by kind. How often each occurred, its effect, and for which
+    objects."""
 
-    # The kinds by harm: first those that change which checks are made and what counts as a problem, then those that change who is notified.
+    # How the kinds begin, by harm: first those that change which checks are made and what counts as a problem, then those that change who is notified.
     # The others follow by name.
     WORST = (
-        "quotes around values", "parents of services", "passive_checks_enabled 0", "is_volatile", "passive results of hosts", "dependency_period",
-        "flap thresholds of an object", "flap_detection_enabled 0",
-        "flap_detection_options", "initial_state", "event_handler", "dependencies of notifications", "hostescalation definitions",
-        "serviceescalation definitions", "contact definitions", "contactgroup definitions",
+        "quotes around values", "times ", "retry_interval 0", "parents of services", "passive_checks_enabled 0", "is_volatile", "passive results of hosts",
+        "dependency_period", "flap thresholds of an object", "flap_detection_enabled 0", "flap_detection_options", "initial_state", "enable_notifications",
+        "notifications_enabled 0", "notification_options", "notification_period", "first_notification_delay", "dependencies of notifications",
+        "hostescalation definitions", "serviceescalation definitions", "contact definitions", "contactgroup definitions", "notification_interval",
+        "event_handler",
     )
 
     def __init__(self) -> None:
         self.kinds: Counter[str] = collections.Counter()
         self.meanings: Dict[str, str] = {}
+        self.verdicts: Dict[str, str] = {}
         self.names: Dict[str, List[str]] = collections.defaultdict(list)
         # The time periods that include each time: an object with one of these loses nothing.
         self.always: Set[str] = set()
 
-    def add(self, kind: str, meaning: str, name: Optional[str] = None) -> None:
+    def add(self, kind: str, meaning: str, name: Optional[str] = None, verdict: str = "left out") -> None:
         self.kinds[kind] += 1
-        self.meanings[kind] = meaning
+        self.meanings[kind], self.verdicts[kind] = meaning, verdict
         if name is not None:
             self.names[kind].append(name)
 
+    def rank(self, kind: str) -> Tuple[int, str]:
+        return next((rank for rank, worst in enumerate(self.WORST) if kind.startswith(worst)), len(self.WORST)), kind
+
     def report(self, without: Collection[str] = (), named: int = 0) -> None:
         """Names each kind that isn't one of these, the worst first, with some of its objects."""
-        for kind in sorted(self.kinds, key=lambda kind: (self.WORST.index(kind) if kind in self.WORST else len(self.WORST), kind)):
-            if kind not in without:
-                count = len(set(self.names[kind])) or self.kinds[kind]
-                print(f"left out: {kind} ({count}): {self.meanings[kind]}{self.example_names(kind, named)}", file=sys.stderr)
+        for kind in sorted(self.kinds.keys() - set(without), key=self.rank):
+            count = len(set(self.names[kind])) or self.kinds[kind]
+            print(f"{self.verdicts[kind]}: {kind} ({count}): {self.meanings[kind]}{self.example_names(kind, named)}", file=sys.stderr)
 
     def example_names(self, kind: str, named: int) -> str:
         names = list(dict.fromkeys(self.names[kind]))
@@ -80,17 +86,25 @@ class LeftOut:
 # ---- reading
 
 
-def lines_of(path: pathlib.Path) -> Iterator[Tuple[str, str]]:
-    """The lines of a file except comments and empty ones, each with its place."""
+def reason(error: OSError) -> str:
+    """Why a file can't be read or written, without its path, and what to do about it."""
+    advice = {errno.EACCES: ": run this as a user that may, such as `sudo -u nagios`"}
+    return f"{error.strerror}{advice.get(error.errno or 0, '')}"
+
+
+def lines_of(path: pathlib.Path, missing: str = "") -> Iterator[Tuple[str, str]]:
+    """The lines of a file except comments and empty ones, each with its place. The advice is for a file that doesn't exist."""
     try:
         lines = path.read_bytes().split(b"\n")
+    except FileNotFoundError:
+        raise CannotConvert(f"{path}: there is no such file{missing}") from None
     except OSError as error:
-        raise CannotConvert(f"{path}: {error}") from None
+        raise CannotConvert(f"{path}: {reason(error)}") from None
     for number, line in enumerate(lines, 1):
         try:
             text = line.decode("utf-8").strip()
-        except UnicodeDecodeError as error:
-            raise CannotConvert(f"{path}:{number}: {error}") from None
+        except UnicodeDecodeError:
+            raise CannotConvert(f"{path}:{number}: this line isn't UTF-8: convert the file, for example with `iconv -f latin1 -t utf-8`") from None
         if text and text[0] not in "#;":
             yield f"{path}:{number}", text
 
@@ -98,10 +112,12 @@ def lines_of(path: pathlib.Path) -> Iterator[Tuple[str, str]]:
 def read_options(path: pathlib.Path) -> Members:
     """The options of nagios.cfg; if one occurs twice, the last counts."""
     options = {}
-    for place, line in lines_of(path):
+    for place, line in lines_of(path, ": the first file has to be nagios.cfg, on Debian /etc/nagios4/nagios.cfg"):
         name, equals, value = line.partition("=")
+        if line.startswith("define "):
+            raise CannotConvert(f"{place}: this file has objects: name nagios.cfg first, and then objects.precache")
         if not equals:
-            raise CannotConvert(f"{place}: no option: {line}")
+            raise CannotConvert(f"{place}: an option has to be like name=value, not {line!r}")
         options[name.strip()] = Value(value.strip(), place)
     return options
 
@@ -110,11 +126,13 @@ def read_objects(path: pathlib.Path) -> List[Definition]:
     """The definitions of an object file: the kind of each, its place and its members."""
     objects: List[Definition] = []
     members: Optional[Members] = None
-    for place, line in lines_of(path):
+    for place, line in lines_of(path, ": Nagios writes it as its precached_object_file, with `nagios4 -vp nagios.cfg`"):
         if members is None:
             words = line.replace("{", " { ").split()
             if len(words) != 3 or words[0] != "define" or words[2] != "{":
-                raise CannotConvert(f"{place}: no definition: {line}")
+                is_option = not objects and "=" in line
+                raise CannotConvert(f"{place}: " + ("this file has options: name nagios.cfg first, and then objects.precache" if is_option
+                                                    else f"a definition has to begin like `define host {{`, not {line!r}"))
             members = {}
             objects.append((words[1], place, members))
         elif line == "}":
@@ -123,13 +141,13 @@ def read_objects(path: pathlib.Path) -> List[Definition]:
             name, _, value = line.partition("\t") if "\t" in line else line.partition(" ")
             members[name] = Value(value.strip(), place)
     if members is not None:
-        raise CannotConvert(f"{path}: its last definition has no end")
+        raise CannotConvert(f"{path}: its last definition has no `}}`: let Nagios write the file again")
     return objects
 
 
 def required(members: Members, name: str, place: str) -> Value:
     if name not in members:
-        raise CannotConvert(f"{place}: no {name}")
+        raise CannotConvert(f"{place}: the definition has no {name}")
     return members[name]
 
 
@@ -141,7 +159,7 @@ def number(value: Value) -> fractions.Fraction:
     try:
         return exactly(str(value))
     except (ValueError, ZeroDivisionError):
-        value.refuse(f"no number: {value}")
+        value.refuse(f"this has to be a number, not {value!r}")
 
 
 def whole_number(value: Value, of: fractions.Fraction, least: int, most: int) -> int:
@@ -153,7 +171,7 @@ def whole_number(value: Value, of: fractions.Fraction, least: int, most: int) ->
 
 def switch(value: Value) -> bool:
     if value not in ("0", "1"):
-        value.refuse(f"no switch: {value}")
+        value.refuse(f"this has to be 0 or 1, not {value!r}")
     return value == "1"
 
 

@@ -115,6 +115,28 @@ class Posting(SiteTest):
         latest = max(datetime.datetime.fromisoformat(it["startsAt"]).timestamp() for it in found.values())
         self.assertLessEqual(latest, time.time())
 
+    def test_what_objects_want(self) -> None:
+        """Labels for routes from groups.json, and annotations from inventory.json; both files are read again when they change."""
+        mock.patch.object(alertmanager, "EVERY", 0).start()
+        fill_database(self.folder, [standing("web", "DOWN"), standing("web;http", "CRITICAL"), standing("db", "DOWN")])
+        self.write("groups.json", {"web": {"notifications": {"enabled": False, "options": ["critical"]}}, "web;http": {"contacts": ["ada"], "notifications": {
+            "options": ["critical", "recovery"], "period": "workhours", "delay": 600, "interval": 0}}, "db": {"notifications": {"options": []}}})
+        self.write("inventory.json", {"web": {"alias": "Web server", "address": "192.0.2.7", "notes": "room 3", "custom": {"PASSWORD": "secret"}},
+                                      "web;http": {"notes_url": "http://wiki/http", "icon_image": "a.png"}})
+        self.look()
+        found = {(it["labels"].get("host"), it["labels"].get("service")): it for it in self.posted[-1]}
+        wanted = {("web", None): {"notification_options": ",none,"}, ("db", None): {"notification_options": ",none,"}, ("web", "http"): {
+            "notification_options": ",critical,recovery,", "notification_period": "workhours", "notification_delay": "600s", "notification_interval": "0s"}}
+        self.assertEqual({name: {label: value for label, value in found[name]["labels"].items() if label.startswith("notification")} for name in wanted}, wanted)
+        usual = ("state", "host_state", "summary", "output")
+        shown = {name: {note: text for note, text in found[name]["annotations"].items() if note not in usual} for name in wanted}
+        self.assertEqual(shown, {
+            ("web", None): {"alias": "Web server", "address": "192.0.2.7", "notes": "room 3"}, ("db", None): {},
+            ("web", "http"): {"alias": "Web server", "address": "192.0.2.7", "notes_url": "http://wiki/http"}})
+        self.write("inventory.json", {"db": {"address": "192.0.2.9"}})
+        self.look()
+        self.assertEqual([it["annotations"].get("address") for it in self.posted[-1] if it["labels"].get("host") == "db"], ["192.0.2.9"])
+
     def test_when_it_is_posted(self) -> None:
         """At once when something changes, otherwise at a fixed interval; an end is posted once."""
         fill_database(self.folder, [standing("web"), standing("web;http", "CRITICAL")])
@@ -269,6 +291,14 @@ class Examples(unittest.TestCase):
             (f"alertname={PROBLEM} host=web service=http severity=critical contact_groups=,ops,web-team,", "pager,web-team"),
             (f"alertname={PROBLEM} host=web service=http severity=unknown contact_groups=,web-team,", "web-team"),
             (f"alertname={PROBLEM} host=web service=http severity=critical contact_groups=,web-team-2,", "operators"),
+            *((f"alertname={PROBLEM} host=web service=http severity={severity} contact_groups=,web-team, notification_options=,none,", "nobody")
+              for severity in ("warning", "critical", "unknown")),
+            (f"alertname={FLAPPING} host=web severity=warning notification_options=,critical,recovery,", "nobody"),
+            (f"alertname={FLAPPING} host=web severity=warning notification_options=,flapping,recovery,", "operators"),
+            (f"alertname={PROBLEM} host=web service=http severity=warning notification_options=,critical,recovery,", "nobody"),
+            (f"alertname={PROBLEM} host=web service=http severity=critical notification_options=,critical,recovery,", "operators"),
+            (f"alertname={PROBLEM} host=web service=http severity=critical notification_options=,critical,", "operators-without-recoveries"),
+            (f"alertname={PROBLEM} host=web service=http severity=critical contact_groups=,web-team, notification_options=,critical,", "pager,web-team"),
         ):
             words = ["amtool", "config", "routes", "test", f"--config.file={EXAMPLES / 'alertmanager.yml'}", *labels.split()]
             ran = subprocess.run(words, stdout=subprocess.PIPE, stderr=subprocess.DEVNULL, text=True, check=False)

@@ -8,7 +8,7 @@ import sys
 import tempfile
 import threading
 import unittest
-from typing import Any, Dict, List, Optional
+from typing import Any, Dict, List, Optional, Sequence, Tuple
 from unittest import mock
 
 from nagsched_monitor.faults import SiteFault
@@ -77,11 +77,11 @@ class TakingOver(unittest.TestCase):
         self.folder = pathlib.Path(holder.name)
         self.site = self.folder / "site"
 
-    def taken(self, objects: str, options: str = "") -> "subprocess.CompletedProcess[str]":
+    def taken(self, objects: str, options: str = "", words: Sequence[str] = ()) -> "subprocess.CompletedProcess[str]":
         (self.folder / "nagios.cfg").write_text(f"interval_length=60\n{options}")
         (self.folder / "objects").write_text(objects)
-        words = [sys.executable, str(SCRIPT), "--site", str(self.site), str(self.folder / "nagios.cfg"), str(self.folder / "objects")]
-        return subprocess.run(words, capture_output=True, text=True, timeout=LONG, check=False)
+        command = [sys.executable, str(SCRIPT), *words, "--site", str(self.site), str(self.folder / "nagios.cfg"), str(self.folder / "objects")]
+        return subprocess.run(command, capture_output=True, text=True, timeout=LONG, check=False)
 
     def take(self, objects: str, options: str = "") -> str:
         ran = self.taken(objects, options)
@@ -121,6 +121,104 @@ class TakingOver(unittest.TestCase):
                 told = self.take(self.network({**{each: "/bin/true" for each in {**HOSTS, **SERVICES}}, name: f"/bin/echo '${macro}$'"}))
                 self.assertNotIn(name, self.read("commands"))
                 self.assertIn(f"{name}: ${macro}$ has no value before Nagios runs", told)
+
+    def test_what_objects_want_of_notifications(self) -> None:
+        """What isn't Nagios's default is in groups.json, in seconds, and each object is named. A downtime (s) is nothing that is notified."""
+        full, host = {"host_name": "h", "check_command": "dummy", "max_check_attempts": "3"}, {"first_notification_delay": "0.000000"}
+        wishes: List[Tuple[str, Dict[str, str], Any, str]] = [
+            ("host usual", {**host, "notification_options": "r,d,u,f,s", "notifications_enabled": "1", "notification_interval": "30.000000",
+                            "notification_period": "always"}, None, ""),
+            ("host all", {"notification_options": "a"}, None, ""),
+            ("host most", {"notification_options": "r,d,u,f"}, None, ""),
+            ("host off", {"notifications_enabled": "0"}, {"enabled": False}, 'notifications_enabled 0 (1): label notification_options=",none,"'),
+            ("host nothing", {"notification_options": "n"}, {"options": []}, 'notification_options n of a host (1): label notification_options=",none,"'),
+            ("host down", {"notification_options": "d,r"}, {"options": ["critical", "recovery"]},
+             'notification_options d,r of a host (1): label notification_options=",critical,recovery,"'),
+            ("service some", {"notification_options": "w,u,f,s"}, {"options": ["warning", "unknown", "flapping"]}, "notification_options w,u,f,s of a service"),
+            ("service work", {"notification_period": "work"}, {"period": "work"}, 'notification_period work (1): label notification_period="work"'),
+            ("service late", {"first_notification_delay": "10.000000"}, {"delay": 300}, 'first_notification_delay of 300 s (1): label notification_delay="300s"'),
+            ("service again", {"notification_interval": "0.5"}, {"interval": 15}, 'notification_interval of 15 s (1): label notification_interval="15s"'),
+            ("service once", {"notification_interval": "0"}, {"interval": 0}, "notification_interval of 0 s"),
+        ]
+        text, days = self.small(), {day: "00:00-24:00" for day in ("monday", "tuesday", "wednesday", "thursday", "friday", "saturday", "sunday")}
+        text += defined("timeperiod", {"timeperiod_name": "always", **days}) + defined("timeperiod", {"timeperiod_name": "work", "monday": "09:00-17:00"})
+        text += defined("host", full)
+        for kind, name in (it[0].split() for it in wishes):
+            members = {**full, **({"host_name": name} if kind == "host" else {"service_description": name})}
+            text += defined(kind, {**members, **next(it[1] for it in wishes if it[0] == f"{kind} {name}")})
+        told = self.take(text, "interval_length=30\n").splitlines()
+        groups = self.read("groups")
+        for (kind, name), wanted, line in ((it[0].split(), it[2], it[3]) for it in wishes):
+            full_name = name if kind == "host" else f"h;{name}"
+            self.assertEqual(groups.get(full_name, {}).get("notifications"), wanted, name)
+            found = [each for each in told if each.startswith("needs a route: ") and each.endswith(f": {full_name}")]
+            self.assertEqual(len(found), 0 if wanted is None else 1, (name, told))
+            self.assertIn(line, "".join(found))
+        ran = self.taken(self.small() + defined("host", {**full, "notification_options": "d,w"}))
+        self.assertEqual((ran.returncode, "objects:14: notification_options: 'w'" in ran.stderr), (1, True), ran.stderr)
+
+    def test_what_people_see(self) -> None:
+        """It is in inventory.json, with macros that have a value before Nagios runs; the others stay, and are named."""
+        late = {"host_name": "late", "alias": "late", "address": "192.0.2.9", "notes": "up since $HOSTDURATION$", "icon_image": "a.png", "2d_coords": "1,2",
+                "check_command": "dummy", "max_check_attempts": "3"}
+        told = self.take(self.network({name: "/bin/true" for name in {**HOSTS, **SERVICES}}) + self.small() + defined("host", late))
+        inventory = self.read("inventory")
+        self.assertEqual(inventory["web"], {
+            "alias": ALIAS, "display_name": "Web shown", "address": "192.0.2.7", "notes": MACROS["web"]["HOSTNOTES"], "notes_url": MACROS["web"]["HOSTNOTESURL"],
+            "action_url": "http://act/web", "custom": {"RACK": "r 7", "GROUPX": "gx"}})
+        self.assertEqual(inventory["web;http"], {"display_name": "Http shown", "notes": "svc http of web", "notes_url": MACROS["web;http"]["SERVICENOTESURL"],
+                                                 "action_url": "http://sa/", "custom": {"OID": "1.3"}})
+        self.assertEqual(inventory["late"], {"address": "192.0.2.9", "notes": "up since $HOSTDURATION$", "icon_image": "a.png", "2d_coords": "1,2"})
+        self.assertEqual((inventory.get("web;more"), inventory.get("db;plain")), (None, None))
+        self.assertIn("left out: a macro in notes (1): $HOSTDURATION$ has no value before Nagios runs, so it stays as it is: late", told.splitlines())
+
+    def test_no_object_is_left_out_without_its_name(self) -> None:
+        """Whatever is left out of an object, also a member that nobody knows, is a line with its name; with --all every name is there."""
+        full = {"check_command": "dummy", "max_check_attempts": "3"}
+        members = {"stalking_options": "d", "importance": "5", "retain_status_information": "0", "retain_nonstatus_information": "0", "event_handler": "x",
+                   "colour": "red", "retry_interval": "0", "flap_detection_options": "d", "initial_state": "d", "is_volatile": "1"}
+        hosts = "".join(defined("host", {"host_name": f"{member}-{number}", **full, member: value}) for member, value in members.items() for number in range(7))
+        contact = defined("contact", {"contact_name": "ann", "email": "ann@example.org"}) + defined("contactgroup", {"contactgroup_name": "all", "members": "ann"})
+        told = self.take(self.small() + hosts + contact).splitlines()
+        for member in members:
+            self.assertEqual([line.endswith(f"{member}-4 and 2 more") for line in told if f" {member}-0" in line], [True], member)
+        whole = self.taken(self.small() + hosts + contact, words=["--all"]).stderr.splitlines()
+        for member in members:
+            names = [f"{member}-{number}" for number in range(7)]
+            self.assertEqual([line.endswith(": " + ", ".join(names)) for line in whole if f" {member}-0" in line], [True], member)
+        self.assertEqual([line.rpartition(": ")[2] for line in told if "contact" in line], ["ann", "all"])
+        self.assertEqual({it["name"]: it["retry_interval"] for it in self.read("setup")["hosts"] if it["name"].startswith("retry")},
+                         {f"retry_interval-{number}": 1 for number in range(7)})
+
+    def test_files_that_are_wrong(self) -> None:
+        """What, where and what to do; no number of an error, and no path twice."""
+        self.take(self.small())
+        options, objects, nowhere = (str(self.folder / name) for name in ("nagios.cfg", "objects", "nowhere"))
+        (self.folder / "latin").write_bytes(b"define host {\n\talias\t\xfc\n\t}\n")
+        (self.folder / "open").write_text("define host {\n")
+        (self.folder / "words").write_text("interval_length\n")
+        for words, wanted in (
+            ([objects, options], f"{objects}:1: this file has objects: name nagios.cfg first, and then objects.precache"),
+            ([options, options], f"{options}:1: this file has options: name nagios.cfg first, and then objects.precache"),
+            ([nowhere, objects], f"{nowhere}: there is no such file: the first file has to be nagios.cfg, on Debian /etc/nagios4/nagios.cfg"),
+            ([options, nowhere], f"{nowhere}: there is no such file: Nagios writes it as its precached_object_file, with `nagios4 -vp nagios.cfg`"),
+            ([options, str(self.folder)], f"{self.folder}: Is a directory"),
+            ([options, str(self.folder / "latin")], f"{self.folder}/latin:2: this line isn't UTF-8: convert the file, for example with `iconv -f latin1 -t utf-8`"),
+            ([options, str(self.folder / "open")], f"{self.folder}/open: its last definition has no `}}`: let Nagios write the file again"),
+            ([str(self.folder / "words"), objects], f"{self.folder}/words:1: an option has to be like name=value, not 'interval_length'"),
+            (["--site", objects, options, objects], f"{objects}: File exists"),
+            (["--commands", f"{nowhere}/x", options, objects], f"{nowhere}/x: No such file or directory"),
+            (["--parts", f"{objects}/x", options, objects], f"{objects}/x: Not a directory"),
+        ):
+            ran = subprocess.run([sys.executable, str(SCRIPT), *words], capture_output=True, text=True, timeout=LONG, check=False)
+            self.assertEqual((ran.returncode, ran.stderr.splitlines()[-1]), (1, f"from_nagios: {wanted}"))
+
+    def test_freshness_that_is_off(self) -> None:
+        """As in Nagios, the results of hosts have to be fresh only if nagios.cfg says so."""
+        text = self.small() + defined("host", {"host_name": "h", "check_command": "dummy", "max_check_attempts": "3", "check_freshness": "1", "freshness_threshold": "90"})
+        for option, wanted in (("", {}), ("check_host_freshness=1\n", {"h": {"freshness": 90.0}}), ("check_host_freshness=0\n", {})):
+            self.take(text, option)
+            self.assertEqual(self.read("passive"), wanted)
 
     def test_groups(self) -> None:
         self.take(self.network({name: "/bin/true" for name in {**HOSTS, **SERVICES}}))
@@ -197,8 +295,25 @@ class TakingOver(unittest.TestCase):
         (self.site / "part-1.json").write_text("{}")
         self.take(self.small(2))
         self.assertEqual(sorted(path.name for path in self.site.iterdir()),
-                         ["commands.json", "groups.json", "monitor.json", "passive.json", "periods.json", "runners.json", "setup.json"])
-        self.assertEqual((self.site / "commands.json").stat().st_mode & 0o777, 0o600)
+                         ["commands.json", "groups.json", "inventory.json", "monitor.json", "passive.json", "periods.json", "runners.json", "setup.json"])
+        self.assertEqual([(self.site / f"{name}.json").stat().st_mode & 0o777 for name in ("commands", "inventory", "groups")], [0o600, 0o600, 0o644])
+
+    @unittest.skipIf(os.geteuid() != 0, "only root can give files to others")
+    def test_owners(self) -> None:
+        """A file keeps its owner and group; a new one has those of the folder. Another user than the folder's can't write there."""
+        self.take(self.small())
+        os.chown(self.site, 1234, 1235)
+        os.chown(self.site / "setup.json", 1236, 1237)
+        (self.site / "groups.json").unlink()
+        self.take(self.small(2))
+        owners = {name: ((self.site / name).stat().st_uid, (self.site / name).stat().st_gid) for name in ("setup.json", "groups.json", "commands.json")}
+        self.assertEqual(owners, {"setup.json": (1236, 1237), "groups.json": (1234, 1235), "commands.json": (0, 0)})
+        as_another = "import os, runpy, sys; os.geteuid = lambda: 1238; sys.argv.pop(0); sys.path[0] = os.path.dirname(sys.argv[0]); runpy.run_path(*sys.argv[:1], {}, '__main__')"
+        words = [str(SCRIPT), "--site", str(self.site), str(self.folder / "nagios.cfg"), str(self.folder / "objects")]
+        ran = subprocess.run([sys.executable, "-c", as_another, *words], capture_output=True, text=True, timeout=LONG, check=False)
+        self.assertEqual(ran.returncode, 1)
+        self.assertRegex(ran.stderr, f"^from_nagios: {self.site} belongs to the user 1236, who .*: run this as that user or root$")
+        self.assertEqual(list(self.site.glob("*.new")), [])
 
     def test_a_reader_sees_all_files_of_one_time(self) -> None:
         """The holder of the folder's lock finds commands of exactly the existing hosts."""

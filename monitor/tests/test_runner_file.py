@@ -8,6 +8,7 @@ from typing import Any, Dict, List, Tuple
 from nagsched_monitor.faults import SiteFault
 from nagsched_monitor.model.jobs import Job, JobFinished, JobLost
 from nagsched_monitor.run.runners import RunnerPools
+from nagsched_monitor.site.groups_file import Groups
 from nagsched_monitor.site.runner_file import Remote, read_runners
 from nagsched_monitor.site.site import read_site
 from nagsched_monitor.system.poller import FilePoller
@@ -21,7 +22,7 @@ STAND_IN = (sys.executable, str(pathlib.Path(__file__).with_name("runner_stand_i
 class Reading(SiteTest):
     def read(self, **members: Any) -> Tuple[Dict[str, Remote], Dict[str, str]]:
         self.write("runners.json", {"runners": {name: ["true", name] for name in ("here", "dmz", "branches")}, **members})
-        return read_runners(self.folder, NAMES, {"paris": {"host_groups": ["eu", "far"]}, "dmz-2;http": {"service_groups": ["shop"]}})
+        return read_runners(self.folder, NAMES, {"paris": Groups({"host_groups": ["eu", "far"]}), "dmz-2;http": Groups({"service_groups": ["shop"]})})
 
     def test_none(self) -> None:
         self.assertEqual(read_runners(self.folder, NAMES, {}), ({}, {}))
@@ -73,9 +74,18 @@ class Reading(SiteTest):
         self.write("groups.json", {"paris": {"host_groups": ["eu"]}})
         with self.assertRaisesRegex(SiteFault, "groups.json: paris: there is no such object"):
             read_site(self.folder, PROGRAM)
-        for wrong in ({"web": []}, {"web": {"host_groups": "eu"}}, {"web": {"host_groups": ["a,b"]}}, {"web": {"groups": []}}):
+        notifications = [{"on": True}, {"enabled": 1}, {"options": "n"}, {"options": ["down"]}, {"options": [["down"]]}, {"period": 8}, {"delay": -1},
+                         {"interval": 1.5}, {"delay": True}, []]
+        for wrong in ({"web": []}, {"web": {"host_groups": "eu"}}, {"web": {"host_groups": ["a,b"]}}, {"web": {"groups": []}},
+                      *({"web": {"notifications": each}} for each in notifications)):
             self.write("groups.json", wrong)
-            self.assertRaises(SiteFault, read_site, self.folder, PROGRAM)
+            with self.assertRaisesRegex(SiteFault, "groups.json: web"):
+                read_site(self.folder, PROGRAM)
+        self.write("groups.json", {})
+        for wrong in ({"web": []}, {"web": {"alias": 1}}, {"web": {"adress": "a"}}, {"web": {"custom": {"A": 1}}}, {"web": {"custom": "A"}}, {"x": {}}):
+            self.write("inventory.json", wrong)
+            with self.assertRaisesRegex(SiteFault, "inventory.json: (web|x)"):
+                read_site(self.folder, PROGRAM)
 
 
 class Handing(unittest.TestCase):

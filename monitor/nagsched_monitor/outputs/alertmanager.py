@@ -16,6 +16,7 @@ from typing import Any, Callable, Dict, FrozenSet, List, Mapping, Optional, Sequ
 
 from ..model.text import first_line
 from ..site.groups_file import Groups, GroupsFile, labels_of
+from ..site.inventory_file import Facts, InventoryFile, facts_of
 from ..store.rows import StoredStanding
 from ..system.processes import ParentMonitor
 from .status_query import PROBLEMS, SiteStatus, StatusUnavailable, read_site_status
@@ -33,7 +34,7 @@ Labels = FrozenSet[Tuple[str, str]]
 Alert = Dict[str, Any]
 
 
-def alerts_of(status: SiteStatus, site: str, groups: Mapping[str, Groups], page: str = "") -> Dict[Labels, Alert]:
+def alerts_of(status: SiteStatus, site: str, groups: Mapping[str, Groups], inventory: Mapping[str, Facts], page: str = "") -> Dict[Labels, Alert]:
     """All current alerts except the heartbeat: one for each hard problem and each flapping object, and one if results are missing.
 
     If the beginning isn't known, it is now; Alertmanager keeps the earliest that it was told.
@@ -42,6 +43,7 @@ def alerts_of(status: SiteStatus, site: str, groups: Mapping[str, Groups], page:
     alerts: List[Alert] = []
     for it in status.objects:
         labels, notes = {"site": site, **labels_of(it.name, groups)}, annotations_of(it, hosts.get(it.host(), "UP"))
+        notes.update(facts_of(it.name, inventory))
         link = f"{page}object?name={urllib.parse.quote(it.name, safe='')}" if page else ""
         found = [(FLAPPING, "warning", "is flapping", status.now)] if it.flapping else []
         if it.is_hard_problem():
@@ -82,7 +84,7 @@ class AlertPoster:
 
     def __init__(self, url: str, folder: pathlib.Path, page: str = "", log: Callable[[str], None] = print) -> None:
         self._url, self._folder, self._page, self._log = f"{url.rstrip('/')}/api/v2/alerts", folder, page, log
-        self._site, self._groups = folder.resolve().name, GroupsFile(folder)
+        self._site, self._groups, self._inventory = folder.resolve().name, GroupsFile(folder), InventoryFile(folder)
         # The alerts that were posted last, and when all are posted again.
         self._posted: Optional[Sequence[Labels]] = None
         self._next_post = 0.0
@@ -92,7 +94,7 @@ class AlertPoster:
         """Posts the alerts that are due."""
         try:
             status = read_site_status(self._folder, PROBLEMS)
-            alerts = alerts_of(status, self._site, self._groups.read(), self._page)
+            alerts = alerts_of(status, self._site, self._groups.read(), self._inventory.read(), self._page)
             if time.monotonic() >= self._next_post or list(alerts) != self._posted:
                 self._post_all(status, alerts)
             trouble = None

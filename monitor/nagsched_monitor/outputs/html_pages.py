@@ -209,7 +209,7 @@ def groups_of(objects: Sequence[StoredStanding], group_names: Mapping[str, Colle
 def site_page(status: SiteStatus, groups: Mapping[str, Groups], group: str, site: str, zone: Optional[datetime.tzinfo]) -> str:
     """Problems, running checks, and all hosts and services; those of a group, if one is named."""
     times = Times(status.now, zone)
-    group_names = {name: {*its.get("host_groups", ()), *its.get("service_groups", ())} for name, its in groups.items()}
+    group_names = {name: {*its.names.get("host_groups", ()), *its.names.get("service_groups", ())} for name, its in groups.items()}
     if group:
         status = status._replace(objects=[it for it in status.objects if group in group_names.get(it.name, ())])
     wrong, out = status.problems(), status.running_checks()
@@ -288,7 +288,8 @@ def object_page(status: ObjectStatus, groups: Groups, site: str, zone: Optional[
         ("next check", next_check_text(it, times)),
         ("took", "" if it.took is None else f"{it.took:.3f} s"),
         ("began late by", "" if it.late is None else f"{it.late:.3f} s"),
-        *((kind.replace("_", " "), html_text(", ".join(names))) for kind, names in groups.items()),
+        *((kind.replace("_", " "), html_text(", ".join(names))) for kind, names in groups.names.items()),
+        *((wish.replace("_", " "), html_text(value.strip(","))) for wish, value in groups.notifications.items()),
     ]
     changes = [(times.short(each.time), badge(each.state, each.kind, each.flapping), str(each.attempt), html_text(first_line(each.words)))
                for each in reversed(status.changes) if each.time >= status.now - DAY]

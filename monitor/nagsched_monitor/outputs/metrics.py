@@ -7,7 +7,7 @@ from typing import Any, Dict, List, Mapping, Sequence, Tuple, Union
 
 from ..faults import MonitorFault
 from ..inputs.client import send_request
-from ..site.groups_file import Groups, labels_of
+from ..site.groups_file import NO_GROUPS, Groups, labels_of
 from ..store.counters import BOUNDS, BUCKETS, RESULTS
 from .nagios_blocks import HOST_STATES, SERVICE_STATES
 from .status_query import SiteStatus
@@ -121,5 +121,5 @@ def status_document(status: SiteStatus, groups: Mapping[str, Groups], site: str)
         "overdue": status.overdue()[0],
         "out": len(status.running_checks()),
         "wrong": [it.name for it in status.problems()],
-        "objects": [{**it._asdict(), **groups.get(it.name, {})} for it in status.objects],
+        "objects": [{**it._asdict(), **groups.get(it.name, NO_GROUPS).names} for it in status.objects],
     }

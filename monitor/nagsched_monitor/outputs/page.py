@@ -24,7 +24,7 @@ from http import HTTPStatus
 from typing import Any, Callable, Dict, Optional, Sequence, Tuple
 
 from ..faults import MonitorFault, SiteFault
-from ..site.groups_file import GroupsFile
+from ..site.groups_file import NO_GROUPS, GroupsFile
 from ..site.site import read_options
 from ..system.addresses import parse_address
 from ..system.processes import ParentMonitor
@@ -123,7 +123,8 @@ class SiteFolder:
             names = urllib.parse.parse_qs(query, keep_blank_values=True).get("name", [])
             status = read_object(self._folder, names[0]) if len(names) == 1 else None
             if status is not None:
-                return HTML, html_pages.object_page(status, groups.get(status.standing.name, {}), self._name, self._zone, self._alertmanager)
+                groups_of_it = groups.get(status.standing.name, NO_GROUPS)
+                return HTML, html_pages.object_page(status, groups_of_it, self._name, self._zone, self._alertmanager)
         return None
 
 

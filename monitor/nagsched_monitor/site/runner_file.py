@@ -69,7 +69,7 @@ def matching_objects(pattern: str, by_host: Mapping[str, List[str]], groups: Map
     is_wild = any(sign in pattern for sign in "*?[")
     kind, _, rest = pattern.partition(":")
     if kind in GROUP_KINDS and rest:
-        found = [name for name, of in groups.items() if fnmatch.filter(of.get(GROUP_KINDS[kind], ()), rest)]
+        found = [name for name, of in groups.items() if fnmatch.filter(of.names.get(GROUP_KINDS[kind], ()), rest)]
         return [each for name in found for each in by_host.get(name, [name])]
     if ";" in pattern and is_wild:
         return [name for names in by_host.values() for name in fnmatch.filter(names, pattern)]

@@ -6,7 +6,8 @@
     periods.json      time periods, and which objects use which (may be left out)
     passive.json      which objects are passive, and how fresh their results have to be (may be left out)
     runners.json      which checks are made by runners elsewhere (may be left out)
-    groups.json       the groups and contacts of objects (may be left out)
+    groups.json       the groups and contacts of objects, and the notifications that they want (may be left out)
+    inventory.json    what people see of objects (may be left out)
     monitor.json      options of the monitor (may be left out)
 """
 import json
@@ -20,6 +21,7 @@ from ..faults import SiteFault
 from ..model.definitions import ObjectDefinition
 from .command_lines import read_commands
 from .groups_file import read_groups
+from .inventory_file import read_inventory
 from .json_files import (
     MOST_FRESH, MOST_SECONDS, lock_for_reading, members_by_name, members_of, read_by_name, read_object, read_seconds, read_whole, require,
 )
@@ -30,6 +32,8 @@ from .runner_file import Remote, read_runners
 # The limit for the test of a setup, in seconds.
 LIMIT = 300.0
 CODES_BY_LETTER = {"w": 1, "c": 2, "u": 3}
+# The number of objects that a warning names.
+NAMED = 5
 # The options that are whole numbers, with their limits.
 # The options that are texts, and lists of texts: those of the command line.
 TEXTS, LISTS = ("on_change", "page", "page_url", "textfile", "nagios_files"), ("alertmanager", "page_name")
@@ -72,6 +76,8 @@ class Site:
     # The names of the mirrors of each part that has some.
     mirrors: Mapping[int, AbstractSet[str]]
     runners: Mapping[str, Remote]
+    # What may not be as it was meant.
+    warnings: Sequence[str]
 
 
 def read_site(folder: pathlib.Path, program: str) -> Site:
@@ -87,13 +93,15 @@ def read_site(folder: pathlib.Path, program: str) -> Site:
         commands = read_commands(folder, objects, runner_of)
         periods, period_of = read_period_file(folder, objects)
         passive = read_passive(folder, objects)
+        read_inventory(folder, objects)
     for name, definition in objects.items():
         only, freshness = passive.get(name, (False, None))
         command, period, runner = commands.get(name), period_of.get(name), runner_of.get(name)
         objects[name] = replace(definition, command=command, period=period, runner=runner, passive_only=only, freshness=freshness)
         test_command(objects[name])
     with_freshness = [name for name, definition in objects.items() if definition.freshness is not None]
-    return Site(setups, objects, Periods(periods, options.zone), options, children_of(objects), with_freshness, mirrors, runners)
+    return Site(setups, objects, Periods(periods, options.zone), options, children_of(objects), with_freshness, mirrors, runners,
+                retry_warnings(documents, objects))
 
 
 # ---- setups
@@ -141,6 +149,15 @@ def originals_of(documents: Mapping[str, Mapping[str, Any]], mirrors: Mapping[in
             parents = tuple(it.get("parents", ()))
             objects[name] = ObjectDefinition(name, part, it.get("host"), parents, interval, it.get("enabled", True), retry)
     return objects
+
+
+def retry_warnings(documents: Mapping[str, Mapping[str, Any]], objects: Container[str]) -> List[str]:
+    """A line about the objects that no check follows after a soft problem."""
+    all_of = (each for setup in documents.values() for each in members_by_name(setup).items())
+    names = [name for name, it in all_of if name in objects and it.get("retry_interval") == 0 and it["max_check_attempts"] > 1 and it.get("enabled", True)]
+    more = f" and {len(names) - NAMED} more" if len(names) > NAMED else ""
+    advice = 'aren\'t checked again after a soft problem, since their "retry_interval" is 0: write 1 or more'
+    return [f"warning: {len(names)} objects {advice}: {', '.join(names[:NAMED])}{more}"] if names else []
 
 
 def children_of(objects: Mapping[str, ObjectDefinition]) -> Dict[str, List[str]]:
