@@ -1,10 +1,13 @@
 """Each file of a site, and each way in which it can be wrong."""
+import contextlib
+import io
 import json
 import subprocess
 from typing import List
 from unittest import mock
 
 from nagsched_monitor.faults import SiteFault
+from nagsched_monitor.program.main import main
 from nagsched_monitor.model.definitions import Command
 from nagsched_monitor.site import command_lines
 from nagsched_monitor.site.site import read_site
@@ -31,6 +34,19 @@ class SiteFiles(SiteTest):
         self.assertEqual(site.children, {"web": ["db"]})
         self.assertEqual((site.objects["web;trap"].host, site.objects["web;trap"].freshness), ("web", 90_000))
         self.assertEqual((site.objects["db"].check_interval, site.options.slots), (5_000, 64))
+
+    def test_no_retry(self) -> None:
+        """Objects that aren't checked again after a soft problem are named when the site is tested."""
+        hosts = [{"name": f"h{number}", "max_check_attempts": 3, "retry_interval": 0} for number in range(6)]
+        others = [{"name": "once", "max_check_attempts": 1, "retry_interval": 0}, {"name": "off", "max_check_attempts": 2, "retry_interval": 0, "enabled": False}]
+        self.write_site([HOST, *hosts, *others], [])
+        wanted = 'warning: 6 objects aren\'t checked again after a soft problem, since their "retry_interval" is 0: write 1 or more: h0, h1, h2, h3, h4 and 1 more'
+        self.assertEqual(read_site(self.folder, PROGRAM).warnings, [wanted])
+        with contextlib.redirect_stdout(io.StringIO()), contextlib.redirect_stderr(io.StringIO()) as told:
+            self.assertEqual(main(["--program", PROGRAM, str(self.folder), "test"]), 0)
+        self.assertEqual(told.getvalue(), f"nagsched-monitor: {wanted}\n")
+        self.write_site([HOST], [])
+        self.assertEqual(read_site(self.folder, PROGRAM).warnings, [])
 
     def test_no_setup(self) -> None:
         self.refused("setup.json")

@@ -138,6 +138,8 @@ def ask_monitor(arguments: argparse.Namespace) -> int:
 def test_site(arguments: argparse.Namespace) -> int:
     site = read_site(arguments.folder, arguments.program)
     print(f"{len(site.objects)} objects, {len(site.setups)} parts")
+    for warning in site.warnings:
+        print(f"nagsched-monitor: {warning}", file=sys.stderr)
     return 0
 
 

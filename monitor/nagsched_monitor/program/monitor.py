@@ -110,6 +110,8 @@ class Monitor:
         site = self.scheduling.site
         self.log(f"begins: {len(site.objects)} objects, {len(site.setups)} parts")
         self.log(build_line(self._program))
+        for warning in site.warnings:
+            self.log(warning)
         for obj in self.engine.objects.values():
             if obj.standing is not None and obj.standing.is_problem():
                 self.log(f"at the start {obj.name} is {obj.standing.state} {obj.standing.kind} {obj.standing.attempt}")
@@ -173,7 +175,7 @@ class Monitor:
             changed = self.engine.reload(site)
             self.runners.set_remotes(site.runners)
             new, dropped = sorted(set(site.objects) - before), sorted(before - set(site.objects))
-            for line in (*(f"new: {name}" for name in new), *(f"dropped: {name}" for name in dropped), *changed):
+            for line in (*(f"new: {name}" for name in new), *(f"dropped: {name}" for name in dropped), *changed, *site.warnings):
                 self.log(line)
             answer = {"done": "reload", "new": new, "dropped": dropped, "changed": changed}
         except (MonitorFault, NotStored) as fault:
