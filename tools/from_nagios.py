@@ -17,10 +17,13 @@ expanded, and a line that needs a shell is given to one. Only its owner can read
 An object without such a line is named on standard error. It is disabled in the setup, so that no unchecked object seems to be checked.
 
 With --site the files of a site are written to DIRECTORY, as nagsched-monitor reads them. They are one or more setups, the command
-lines, time periods, passive objects, the groups of each object and the monitor's options. All are replaced together. In monitor.json
-the members that nagios.cfg doesn't set stay. The limit of concurrent checks is then the monitor's, over all parts. Parts have mirrors:
-a host, a parent or a master of another part is also in the part that needs it. It is never checked there, and the monitor reports the
-results of its original to it. Settings that are left out are named with the objects that they affect: a few of these, or with --all each.
+lines, time periods, passive objects, the groups of each object and the notifications that it wants, what people see of it, and the
+monitor's options. All are replaced together, and keep their owners. In monitor.json the members that nagios.cfg doesn't set stay.
+The limit of concurrent checks is then the monitor's, over all parts. Parts have mirrors: a host, a parent or a master of another part
+is also in the part that needs it. It is never checked there, and the monitor reports the results of its original to it.
+
+Settings that are left out, and notifications that need a route of Alertmanager, are named with the objects that they affect: a few of
+these, or with --all each.
 """
 import argparse
 import json

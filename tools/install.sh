@@ -36,7 +36,7 @@ done
 place 755 "$top/monitor/nagsched-gearman-runner" lib/nagsched/nagsched-gearman-runner
 place 755 "$runner" lib/nagsched/nagsched-runner
 ln -sf ../lib/nagsched/nagsched-runner "$root/bin/nagsched-runner"
-for script in from_nagios nagios_commands nagios_groups nagios_objects nagios_parts nagios_periods nagios_site nagios_values; do
+for script in from_nagios nagios_commands nagios_groups nagios_notifications nagios_objects nagios_parts nagios_periods nagios_site nagios_values; do
     place 644 "$top/tools/$script.py" "lib/nagsched/$script.py"
 done
 chmod 755 "$root/lib/nagsched/from_nagios.py"
