@@ -8,13 +8,14 @@ import collections
 import http.server
 import json
 import pathlib
+import re
 import shutil
 import subprocess
 import sys
 import tempfile
 import threading
 import time
-from typing import Any, Counter, Dict, List, Tuple
+from typing import Any, Callable, Counter, Dict, List, Mapping, Tuple
 
 HERE = pathlib.Path(__file__).resolve().parent.parent
 sys.path.insert(0, str(HERE))
@@ -34,7 +35,24 @@ inhibit_rules:
     equal: [site, host]
 """
 SERVICES = ("db;disk", "db;load", "db;old", "web;http", "quiet;disk")
+EXAMPLE = HERE.parent / "examples/alertmanager.yml"
+# What services want of notifications, by the example.
+WISHES: Dict[str, Dict[str, Any]] = {"a;all": {}, "b;off": {"enabled": False}, "c;none": {"options": []}, "d;critical": {"options": ["critical", "recovery"]},
+                                     "e;ends": {"options": ["warning", "critical", "unknown"]}, "f;warning": {"options": ["warning", "recovery"]}}
 Heard = Counter[Tuple[str, str]]
+
+
+def example_config(port: int) -> str:
+    """The example's configuration with short waits, at any time of the day, whose receivers are all one."""
+    text, receivers = EXAMPLE.read_text().split("receivers:\n")
+    for wait, short in (("group_wait: 1m", "group_wait: 1s"), ("group_interval: 2m", "group_interval: 2s"), ("mute_time_intervals: [nights-and-weekends]", "")):
+        text = text.replace(wait, short)
+    lines = []
+    for name, settings in re.findall(r"^  - name: (\S+)\n((?:    .*\n)*)", receivers, re.MULTILINE):
+        resolved = "false" if "send_resolved: false" in settings else "true"
+        hook = f", webhook_configs: [{{url: 'http://127.0.0.1:{port}/', send_resolved: {resolved}}}]" if settings else ""
+        lines.append(f"  - {{name: {name}{hook}}}\n")
+    return f"{text}receivers:\n{''.join(lines)}"
 
 
 class Receiver:
@@ -64,18 +82,19 @@ class Receiver:
 class Trial:
     """A monitor, Alertmanager and a receiver."""
 
-    def __init__(self, folder: pathlib.Path, program: str) -> None:
+    def __init__(self, folder: pathlib.Path, program: str, config: Callable[[int], str], wishes: Mapping[str, Dict[str, Any]]) -> None:
         self.folder, self.program, self.site = folder, program, folder / "site"
         self.receiver = Receiver()
         self.port = free_port()
         self.wrong: List[str] = []
-        (folder / "alertmanager.yml").write_text(CONFIG.format(port=self.receiver.server.server_port))
+        (folder / "alertmanager.yml").write_text(config(self.receiver.server.server_port))
         self.site.mkdir()
-        hosts = sorted({name.partition(";")[0] for name in SERVICES})
+        hosts = sorted({name.partition(";")[0] for name in wishes})
         members: Dict[str, Any] = {"check_interval": 0, "max_check_attempts": 1, "enabled": False}
-        services = [dict(zip(("host", "description"), name.split(";")), **members) for name in SERVICES]
+        services = [dict(zip(("host", "description"), name.split(";")), **members) for name in wishes]
         setup = {"options": {"interval_length": 1}, "hosts": [{"name": host, **members} for host in hosts], "services": services}
-        for name, document in (("setup", setup), ("commands", {}), ("passive", {name: {"only": True} for name in (*hosts, *SERVICES)})):
+        for name, document in (("setup", setup), ("commands", {}), ("passive", {name: {"only": True} for name in (*hosts, *wishes)}),
+                               ("groups", {name: {"notifications": wish} for name, wish in wishes.items()})):
             (self.site / f"{name}.json").write_text(json.dumps(document))
         self.begin_alertmanager()
         self.begin_monitor()
@@ -146,17 +165,34 @@ def tried(trial: Trial, away: float) -> List[str]:
     return trial.wrong
 
 
+def tried_wishes(trial: Trial) -> List[str]:
+    """With the example's routes, people hear of what objects want, and of nothing else."""
+    once, over = {"firing": 1}, {"firing": 1, "resolved": 1}
+    trial.give(*((name, 1) for name in WISHES))
+    trial.hears("warnings of those who want them", QUIET, a_all=once, e_ends=once, f_warning=once)
+    trial.give(*((name, 2) for name in WISHES))
+    trial.hears("they become critical", QUIET, a_all={"firing": 2, "resolved": 1}, d_critical=once, e_ends={"firing": 2}, f_warning=over)
+    trial.give(*((name, 0) for name in WISHES))
+    trial.hears("they end", QUIET, a_all={"firing": 2, "resolved": 2}, d_critical=over, e_ends={"firing": 2}, f_warning=over)
+    return trial.wrong
+
+
+def run_trial(program: str, config: Callable[[int], str], wishes: Mapping[str, Dict[str, Any]], trying: Callable[[Trial], List[str]]) -> List[str]:
+    with tempfile.TemporaryDirectory() as holder:
+        trial = Trial(pathlib.Path(holder), program, config, wishes)
+        try:
+            return trying(trial)
+        finally:
+            trial.close()
+
+
 def main(program: str, away: str = "60") -> int:
     for needed in ("prometheus-alertmanager", "amtool"):
         if shutil.which(needed) is None:
             print(f"packages: passed over the alerts: {needed} isn't here")
             return 0
-    with tempfile.TemporaryDirectory() as holder:
-        trial = Trial(pathlib.Path(holder), program)
-        try:
-            wrong = tried(trial, float(away))
-        finally:
-            trial.close()
+    wrong = run_trial(program, example_config, WISHES, tried_wishes)
+    wrong += run_trial(program, lambda port: CONFIG.format(port=port), {name: {} for name in SERVICES}, lambda trial: tried(trial, float(away)))
     print(f"packages of Alertmanager: {'failed' if wrong else 'passed'}")
     return 1 if wrong else 0
 
