@@ -136,7 +136,8 @@ class TakingOver(unittest.TestCase):
              'notification_options d,r of a host (1): label notification_options=",critical,recovery,"'),
             ("service some", {"notification_options": "w,u,f,s"}, {"options": ["warning", "unknown", "flapping"]}, "notification_options w,u,f,s of a service"),
             ("service work", {"notification_period": "work"}, {"period": "work"}, 'notification_period work (1): label notification_period="work"'),
-            ("service late", {"first_notification_delay": "10.000000"}, {"delay": 300}, 'first_notification_delay of 300 s (1): label notification_delay="300s"'),
+            ("service late", {"first_notification_delay": "10.000000"}, {"delay": 300},
+             'first_notification_delay of 300 s (1): label notification_delay="300s"'),
             ("service again", {"notification_interval": "0.5"}, {"interval": 15}, 'notification_interval of 15 s (1): label notification_interval="15s"'),
             ("service once", {"notification_interval": "0"}, {"interval": 0}, "notification_interval of 0 s"),
         ]
@@ -164,8 +165,8 @@ class TakingOver(unittest.TestCase):
         told = self.take(self.network({name: "/bin/true" for name in {**HOSTS, **SERVICES}}) + self.small() + defined("host", late))
         inventory = self.read("inventory")
         self.assertEqual(inventory["web"], {
-            "alias": ALIAS, "display_name": "Web shown", "address": "192.0.2.7", "notes": MACROS["web"]["HOSTNOTES"], "notes_url": MACROS["web"]["HOSTNOTESURL"],
-            "action_url": "http://act/web", "custom": {"RACK": "r 7", "GROUPX": "gx"}})
+            "alias": ALIAS, "display_name": "Web shown", "address": "192.0.2.7", "notes": MACROS["web"]["HOSTNOTES"],
+            "notes_url": MACROS["web"]["HOSTNOTESURL"], "action_url": "http://act/web", "custom": {"RACK": "r 7", "GROUPX": "gx"}})
         self.assertEqual(inventory["web;http"], {"display_name": "Http shown", "notes": "svc http of web", "notes_url": MACROS["web;http"]["SERVICENOTESURL"],
                                                  "action_url": "http://sa/", "custom": {"OID": "1.3"}})
         self.assertEqual(inventory["late"], {"address": "192.0.2.9", "notes": "up since $HOSTDURATION$", "icon_image": "a.png", "2d_coords": "1,2"})
@@ -178,7 +179,7 @@ class TakingOver(unittest.TestCase):
         members = {"stalking_options": "d", "importance": "5", "retain_status_information": "0", "retain_nonstatus_information": "0", "event_handler": "x",
                    "colour": "red", "retry_interval": "0", "flap_detection_options": "d", "initial_state": "d", "is_volatile": "1"}
         hosts = "".join(defined("host", {"host_name": f"{member}-{number}", **full, member: value}) for member, value in members.items() for number in range(7))
-        contact = defined("contact", {"contact_name": "ann", "email": "ann@example.org"}) + defined("contactgroup", {"contactgroup_name": "all", "members": "ann"})
+        contact = defined("contact", {"contact_name": "ann"}) + defined("contactgroup", {"contactgroup_name": "all", "members": "ann"})
         told = self.take(self.small() + hosts + contact).splitlines()
         for member in members:
             self.assertEqual([line.endswith(f"{member}-4 and 2 more") for line in told if f" {member}-0" in line], [True], member)
@@ -203,7 +204,8 @@ class TakingOver(unittest.TestCase):
             ([nowhere, objects], f"{nowhere}: there is no such file: the first file has to be nagios.cfg, on Debian /etc/nagios4/nagios.cfg"),
             ([options, nowhere], f"{nowhere}: there is no such file: Nagios writes it as its precached_object_file, with `nagios4 -vp nagios.cfg`"),
             ([options, str(self.folder)], f"{self.folder}: Is a directory"),
-            ([options, str(self.folder / "latin")], f"{self.folder}/latin:2: this line isn't UTF-8: convert the file, for example with `iconv -f latin1 -t utf-8`"),
+            ([options, str(self.folder / "latin")],
+             f"{self.folder}/latin:2: this line isn't UTF-8: convert the file, for example with `iconv -f latin1 -t utf-8`"),
             ([options, str(self.folder / "open")], f"{self.folder}/open: its last definition has no `}}`: let Nagios write the file again"),
             ([str(self.folder / "words"), objects], f"{self.folder}/words:1: an option has to be like name=value, not 'interval_length'"),
             (["--site", objects, options, objects], f"{objects}: File exists"),
@@ -215,7 +217,8 @@ class TakingOver(unittest.TestCase):
 
     def test_freshness_that_is_off(self) -> None:
         """As in Nagios, the results of hosts have to be fresh only if nagios.cfg says so."""
-        text = self.small() + defined("host", {"host_name": "h", "check_command": "dummy", "max_check_attempts": "3", "check_freshness": "1", "freshness_threshold": "90"})
+        host = {"host_name": "h", "check_command": "dummy", "max_check_attempts": "3", "check_freshness": "1", "freshness_threshold": "90"}
+        text = self.small() + defined("host", host)
         for option, wanted in (("", {}), ("check_host_freshness=1\n", {"h": {"freshness": 90.0}}), ("check_host_freshness=0\n", {})):
             self.take(text, option)
             self.assertEqual(self.read("passive"), wanted)
@@ -257,8 +260,9 @@ class TakingOver(unittest.TestCase):
 
     def test_what_is_named(self) -> None:
         options = {"enable_environment_macros": "NAGIOS_", "accept_passive_service_checks": "services", "accept_passive_host_checks": "hosts",
-                   "log_passive_checks": "logged"}
-        neutral = {"enable_environment_macros": "0", "accept_passive_service_checks": "1", "accept_passive_host_checks": "1", "log_passive_checks": "1"}
+                   "log_passive_checks": "logged", "enable_notifications": "notified", "process_performance_data": "passed on"}
+        neutral = {"enable_environment_macros": "0", "accept_passive_service_checks": "1", "accept_passive_host_checks": "1", "log_passive_checks": "1",
+                   "enable_notifications": "1", "process_performance_data": "0"}
         for option, word in options.items():
             told = [line for line in self.take(self.small(), f"{option}={1 - int(neutral[option])}\n").splitlines() if option in line]
             self.assertEqual(len(told), 1)
@@ -308,7 +312,8 @@ class TakingOver(unittest.TestCase):
         self.take(self.small(2))
         owners = {name: ((self.site / name).stat().st_uid, (self.site / name).stat().st_gid) for name in ("setup.json", "groups.json", "commands.json")}
         self.assertEqual(owners, {"setup.json": (1236, 1237), "groups.json": (1234, 1235), "commands.json": (0, 0)})
-        as_another = "import os, runpy, sys; os.geteuid = lambda: 1238; sys.argv.pop(0); sys.path[0] = os.path.dirname(sys.argv[0]); runpy.run_path(*sys.argv[:1], {}, '__main__')"
+        as_another = ("import os, runpy, sys; os.geteuid = lambda: 1238; del sys.argv[0]; sys.path[0] = os.path.dirname(sys.argv[0]); "
+                      "runpy.run_path(sys.argv[0], {}, '__main__')")
         words = [str(SCRIPT), "--site", str(self.site), str(self.folder / "nagios.cfg"), str(self.folder / "objects")]
         ran = subprocess.run([sys.executable, "-c", as_another, *words], capture_output=True, text=True, timeout=LONG, check=False)
         self.assertEqual(ran.returncode, 1)

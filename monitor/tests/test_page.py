@@ -214,7 +214,8 @@ class Page(PageTest):
 
     def test_groups(self) -> None:
         """Each group with its number of problems; a page shows one group alone; an object's page names its own."""
-        self.write("groups.json", {"a": {"host_groups": ["x & y"]}, "a;web": {"host_groups": ["x & y"], "service_groups": ["shop"], "contacts": ["ada"]}})
+        web = {"host_groups": ["x & y"], "service_groups": ["shop"], "contacts": ["ada"], "notifications": {"enabled": False, "period": "workhours"}}
+        self.write("groups.json", {"a": {"host_groups": ["x & y"]}, "a;web": web})
         fill_database(self.folder, [standing("a"), standing("a;web", "CRITICAL"), standing("b")])
         self.serve()
         reader = self.read()
@@ -223,7 +224,8 @@ class Page(PageTest):
         wrong, hosts, services, groups = self.read(link).tables
         self.assertEqual([[row[1] for row in rows] for rows in (wrong, hosts, services)], [["a;web"], ["a"], ["a;web"]])
         self.assertEqual(len(self.read("/?group=none").tables), 0)
-        self.assertIn("ada", self.read("/object?name=a%3Bweb").texts)
+        texts = self.read("/object?name=a%3Bweb").texts
+        self.assertEqual([word for word in ("ada", "none", "workhours") if word in texts], ["ada", "none", "workhours"])
         self.write("groups.json", "{")
         self.assertEqual(self.read().tables[-1], groups)
 
