@@ -74,11 +74,10 @@ WITH_HELP = {"monitor/nagsched-monitor", "monitor/nagsched-gearman-worker", "too
 # Why the gate doesn't run a command.
 NAGIOS = "needs Nagios"
 MANUAL = {
-    "(cd crates/nagsched && rt try < ../../examples/office.txt)": "compiles again what the gate has built",
-    "(cd crates/nagsched && rt run < ../../examples/office.txt)": "proves again what the gate has proved",
+    "tools/try.sh": "compiles again what the gate has built",
     "tools/test.sh": "is the gate",
     "tools/test.sh --quick": "is a part of the gate",
-    "tools/try.sh": "compiles again what the gate has built",
+    "bash .ci/run": "is the gate",
     "tools/package.sh": "needs dpkg-deb and the C library",
     "nagios4 -vp /etc/nagios4/nagios.cfg": NAGIOS,
     "nagios4 -s /etc/nagios4/nagios.cfg": NAGIOS,

@@ -3,14 +3,16 @@
 
     .ci/generated.py
 
-Tables of members come from docs/setup.schema.json, which `nagsched schema` writes. Counts of cases come from conformance/STATUS.tsv. The gate
-compares the pages with the output of this script.
+Tables of members come from docs/setup.schema.json, which `nagsched schema` writes. Counts of cases come from conformance/STATUS.tsv, measured figures from
+bench/results/ (.ci/figures.py), and promises with their clauses from .ci/promises.py. The gate compares the pages with the output of this script.
 """
 import collections
 import json
 import re
 import sys
 
+import figures
+import promises
 from anchors import GENERATED, PAGES, TOP, text_of
 
 sys.path.append(str(TOP / "conformance"))
@@ -67,6 +69,10 @@ def generated_text(name: str) -> str:
         return member_table(of)
     if kind == "cases":
         return f"{case_counts()[of] if of else sum(case_counts().values()):,}"
+    if kind == "promises":
+        return promises.listed(of)
+    if kind in figures.KINDS:
+        return figures.generated(kind, of)
     raise KeyError(name)
 
 

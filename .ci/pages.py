@@ -16,13 +16,17 @@ import textwrap
 
 import anchors
 import commands
+import figures
 import generated
 import needs
+import promises
 import style
 
 TOP = pathlib.Path(__file__).resolve().parent.parent
 PROGRAM = sys.argv[1] if len(sys.argv) > 1 else str(TOP / "crates/nagsched/out/nagsched")
 HOST = '{"hosts":[{"name":"h","max_check_attempts":3}]}'
+# The two commands that a newcomer looks for: one runs the main job, the other the tests.
+FIRST_COMMANDS = ("tools/try.sh", "tools/test.sh")
 checked = 0
 wrong = []
 
@@ -159,6 +163,10 @@ def main():
     else:
         compare("the kit's version on README", kit, needs.wanted_kit())
     compare("the form of the pages", [], list(style.all_faults()))
+    compare("figures that no file has", [], list(figures.typed_figures()))
+    compare("cited clauses that no contract has", [], list(promises.missing()))
+    beginning = anchors.text_of(TOP / "README.md").splitlines()[:40]
+    compare("the commands in README's first 40 lines", [], [command for command in FIRST_COMMANDS if command not in beginning])
     commands.check(PROGRAM, anchors.PAGES, compare)
     for argument in ("--crates", "check_queue"):
         listed = subprocess.run([sys.executable, TOP / ".ci/map.py", argument], stdout=subprocess.PIPE, text=True)

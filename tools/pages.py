@@ -11,7 +11,7 @@ TOP = pathlib.Path(__file__).resolve().parent.parent
 # Pages for people who work on nagsched or audit it, who read them in the repository.
 NOT_INSTALLED = {"DECISIONS", "embedding-rattle", "lock", "proofs"}
 FILES = ("README.md", "CHANGELOG.md", *(f"docs/{page.name}" for page in sorted((TOP / "docs").glob("*.md")) if page.stem not in NOT_INSTALLED))
-PICTURES = ("docs/office.svg", "docs/sequence.svg", "docs/setup.schema.json")
+PICTURES = ("docs/office.svg", "docs/page.png", "docs/parts.svg", "docs/sequence.svg", "docs/setup.schema.json")
 NAMES = (
     (r"crates/nagsched/out/nagsched\b", "nagsched"),
     (r"(?<![\w/])monitor/nagsched-(monitor|gearman-worker)\b(?!@)", r"nagsched-\1"),
@@ -26,7 +26,9 @@ NOTE = """> These pages are installed with the programs `nagsched`, `nagsched-mo
 # Texts about the repository, between these comments, and their replacements in an installation.
 OF_THE_REPOSITORY = re.compile(r"<!-- repository: (\w+) -->\n(.*?)<!-- end -->\n*", re.DOTALL)
 INSTEAD = {
-    "build": """nagsched is installed with this page. This runs an example that is installed, too:
+    "build": """## First
+
+nagsched is installed with this page. This runs an example that is installed, too:
 
 ```
 nagsched < examples/office.txt
