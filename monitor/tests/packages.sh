@@ -1,21 +1,26 @@
 #!/bin/bash
 # The monitor with Debian's packages: Nagios's pages (nagios4-cgi) and NSCA over its files (tests/packages.py), a browser and promtool
-# (tests/page_pictures.py), gearmand with workers, NRPE and SSH (tests/packages_gearman.py). Then a runner over SSH (tests/packages_ssh.py), and Alertmanager
-# (tests/packages_alerts.py). A package that isn't installed is fetched and unpacked into a temporary folder. chromium-headless-shell and prometheus are
-# installed if PICTURES is named, they are missing and root runs this. A package that can't be fetched is named, and its trial is skipped.
+# (tests/page_pictures.py), gearmand with workers, NRPE and SSH (tests/packages_gearman.py). Then a runner over SSH (tests/packages_ssh.py), Alertmanager
+# (tests/packages_alerts.py), and the trial on Nagios as README and the tutorial have it (tests/packages_trial.py). A package that isn't installed is fetched
+# and unpacked into a temporary folder. chromium-headless-shell and prometheus are installed if PICTURES is named, they are missing and root runs this. A
+# package that can't be fetched is named, and its trial is skipped.
 #
-#     monitor/tests/packages.sh PROGRAM [pages [PICTURES] | gearman [WHAT..] | ssh [CUTS] | alerts [SECONDS]]
+#     monitor/tests/packages.sh PROGRAM [pages [PICTURES] | gearman [WHAT..] | ssh [CUTS] | alerts [SECONDS] | trial]
 #
 # PROGRAM is nagsched, PICTURES a folder for pictures of the pages, and packages_gearman.py describes WHAT. CUTS is how often the connection is cut. SECONDS is
-# how long Alertmanager is away. Without a second argument all parts are tried.
+# how long Alertmanager is away. Without a second argument all parts are tried, except `trial`: it installs packages, and needs root and a machine that can be
+# thrown away.
 set -eu
 program=$(realpath "$1")
-part=${2:-all}
+parts=("${2:-all}")
 pictures=
 what=()
-case $part in
+case ${parts[0]} in
+    all) parts=(pages gearman ssh alerts) ;;
     pages) pictures=${3:+$(realpath -m "$3")} ;;
     gearman | ssh | alerts) what=("${@:3}") ;;
+    trial) ;;
+    *) echo "packages: there is no part ${parts[0]}: name pages, gearman, ssh, alerts or trial" >&2; exit 2 ;;
 esac
 here=$(cd "$(dirname "$0")" && pwd)
 work=$(mktemp -d)
@@ -86,8 +91,14 @@ ssh() {
     python3 "$here/packages_ssh.py" "$program" ${what[@]+"${what[@]}"}
 }
 
+trial() {
+    apt-get update > apt.out 2>&1
+    DEBIAN_FRONTEND=noninteractive apt-get install -y --no-install-recommends nagios4 monitoring-plugins-basic monitoring-plugins-standard sudo > apt.out 2>&1 || { tail -n 2 apt.out; return 1; }
+    (cd "$here/.." && python3 -m tests.packages_trial "$program")
+}
+
 status=0
-for each in pages gearman ssh alerts; do
-    [ "$part" != all ] && [ "$part" != "$each" ] || ($each) || status=1
+for each in "${parts[@]}"; do
+    ($each) || status=1
 done
 exit $status

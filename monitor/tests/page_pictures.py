@@ -2,7 +2,8 @@
 
     cd monitor; python3 -m tests.page_pictures FOLDER
 
-Quiet, an outage, a site of 500 services, and the page of one object, each 1280 and 400 pixels wide. Missing programs are named.
+Quiet, an outage, a site of 500 services, and the page of one object, each 1280 and 400 pixels wide. page.png is the picture of README:
+`pngquant --output docs/page.png 32 FOLDER/page.png` makes it small. Missing programs are named.
 """
 import pathlib
 import random
@@ -80,10 +81,10 @@ def figures(count: int) -> Dict[str, float]:
     }
 
 
-def drawn(browser: str, url: str, width: int, picture: pathlib.Path) -> None:
+def drawn(browser: str, url: str, width: int, picture: pathlib.Path, height: int = 1400) -> None:
     """A picture of a page. Each browser has a home of its own."""
     with tempfile.TemporaryDirectory() as home:
-        words = [browser, "--headless", "--no-sandbox", "--disable-gpu", "--hide-scrollbars", f"--user-data-dir={home}", f"--window-size={width},1400"]
+        words = [browser, "--headless", "--no-sandbox", "--disable-gpu", "--hide-scrollbars", f"--user-data-dir={home}", f"--window-size={width},{height}"]
         subprocess.run([*words, f"--screenshot={picture}", url], stdout=subprocess.DEVNULL, stderr=subprocess.DEVNULL, timeout=120, check=True)
 
 
@@ -109,6 +110,8 @@ def main() -> int:
             for page, path in pages.items():
                 if found:
                     drawn(found[0], server.url() + path, width, folder / f"{page}-{width}.png")
+        if kept and found:
+            drawn(found[0], server.url(), 1280, folder / "page.png", 800)
         if kept and shutil.which("promtool"):
             complaints(server.url())
         server.shutdown()
