@@ -93,6 +93,14 @@ def generated(kind: str, of: str) -> str:
     return markdown(table.columns, table.rows) if kind == "figures" else source_of(table)
 
 
+def files_without_source() -> Iterator[str]:
+    """Each file of results that doesn't say by which command, at which commit, on which machine and when it was measured."""
+    for file in sorted(RESULTS.glob("*.tsv")):
+        missing = {"command", "commit", "machine", "date"} - read_table(file.stem).head.keys()
+        if missing:
+            yield f"{file.name}: {', '.join(sorted(missing))}"
+
+
 def typed_figures() -> Iterator[str]:
     """Each figure on those pages that comes from no file."""
     for page, heading in PAGES.items():

@@ -164,6 +164,7 @@ def main():
         compare("the kit's version on README", kit, needs.wanted_kit())
     compare("the form of the pages", [], list(style.all_faults()))
     compare("figures that no file has", [], list(figures.typed_figures()))
+    compare("files of results that don't say how they were measured", [], list(figures.files_without_source()))
     compare("cited clauses that no contract has", [], list(promises.missing()))
     beginning = anchors.text_of(TOP / "README.md").splitlines()[:40]
     compare("the commands in README's first 40 lines", [], [command for command in FIRST_COMMANDS if command not in beginning])

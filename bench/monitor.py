@@ -1,8 +1,11 @@
 #!/usr/bin/env python3
 """The monitor compared with Nagios 4: checks per second, their lateness, processor time, memory.
 
-    bench/monitor.py PROGRAM [RATE..]      manually; needs cc, the runner that monitor/build_runner.sh makes, and Debian's package nagios4-core, which it
-                                           fetches and unpacks into a temporary folder
+    bench/monitor.py PROGRAM [--write] [RATE..]     manually; needs cc, the runner that monitor/build_runner.sh makes, and Debian's package nagios4-core,
+                                                    which it fetches and unpacks into a temporary folder
+
+With --write the figures replace those of bench/results/monitor.tsv, and `.ci/generated.py` then writes them to the pages. That needs a machine with no other
+work, all rates, and ten minutes.
 
 For each rate (18, 200, 500, 800 and 2,000 checks due per second) both run the same services for SECONDS, one after the other. Each service is checked every
 ten seconds, with a plugin in C that ends at once. At 500 the monitor also runs with a disk whose sync takes ten milliseconds more. Latency is the lateness
@@ -23,12 +26,16 @@ import sys
 import tempfile
 import time
 
+import results
+
 TOP = pathlib.Path(__file__).resolve().parent.parent
 SECONDS, INTERVAL = 40, 10
 RATES = (18, 200, 500, 800, 2000)
 SLOW = 500
 MOST_IN_A_PART = 4000
 MONITOR = TOP / "monitor/nagsched-monitor"
+COLUMNS = ("Due per second", "System", "Made per second", "Processor ms per check", "Memory, MB", "Latency, ms", "Restart, s", "Reload, s")
+NAMES = {"Nagios": "Nagios 4.4.6", "monitor": "the monitor", "slow disk": "the monitor, each sync 10 ms slower"}
 PLUGIN = r"""
 #include <fcntl.h>
 #include <stdio.h>
@@ -122,7 +129,7 @@ def measure_nagios(work, binary, plugin, rate):
     (folder / "count").touch()
     figures, text = measure([binary, folder / "nagios.cfg"], folder / "count", folder / "status")
     late = [float(line.partition("=")[2]) * 1000 for line in text.splitlines() if line.strip().startswith("check_latency=")]
-    return figures, percentiles(late), ""
+    return figures, percentiles(late), None
 
 
 # ---- the monitor
@@ -161,7 +168,7 @@ def measure_restart(folder, program):
     reload = time.monotonic() - begin
     running.send_signal(signal.SIGTERM)
     running.wait(timeout=60)
-    return f"{restart:8.2f} {reload:7.2f}"
+    return restart, reload
 
 
 def is_answering(folder):
@@ -186,26 +193,39 @@ def late_of(folder):
         return [late * 1000 for (late,) in database.execute("SELECT late FROM standings WHERE late IS NOT NULL")]
 
 
-def main(program, *rates):
+def prepare(work):
+    """Nagios, the plugin, and the library that slows each sync, in this folder."""
+    (work / "plugin.c").write_text(PLUGIN)
+    subprocess.run(["cc", "-O2", "-static", "-o", work / "plugin", work / "plugin.c"], check=True)
+    subprocess.run(["apt-get", "download", "nagios4-core"], cwd=work, check=True, stdout=subprocess.DEVNULL, stderr=subprocess.DEVNULL)
+    subprocess.run(["dpkg", "-x", next(work.glob("nagios4-core*.deb")), work / "nagios"], check=True)
+    subprocess.run(["cc", "-shared", "-fPIC", "-o", work / "slow_sync.so", TOP / "monitor/tests/slow_sync.c", "-ldl"], check=True)
+
+
+def row_of(rate, who, measured):
+    """The cells of a measurement."""
+    (a_second, cost, megabytes), late, ends = measured
+    latency = ", ".join(f"{each:.0f}" for each in late)
+    return [f"{rate:,}", NAMES[who], f"{a_second:,.0f}", f"{cost:.2f}", f"{megabytes:.0f}", latency, *(["-", "-"] if ends is None else (f"{each:.1f}" for each in ends))]
+
+
+def main(program, *words):
+    rates = [int(word) for word in words if word != "--write"] or RATES
+    rows = []
     with tempfile.TemporaryDirectory() as holder:
         work = pathlib.Path(holder)
-        (work / "plugin.c").write_text(PLUGIN)
-        plugin = work / "plugin"
-        subprocess.run(["cc", "-O2", "-static", "-o", plugin, work / "plugin.c"], check=True)
-        subprocess.run(["apt-get", "download", "nagios4-core"], cwd=work, check=True, stdout=subprocess.DEVNULL, stderr=subprocess.DEVNULL)
-        subprocess.run(["dpkg", "-x", next(work.glob("nagios4-core*.deb")), work / "nagios"], check=True)
-        shim = work / "slow_sync.so"
-        subprocess.run(["cc", "-shared", "-fPIC", "-o", shim, TOP / "monitor/tests/slow_sync.c", "-ldl"], check=True)
-        slow = {**os.environ, "LD_PRELOAD": str(shim)}
-        heads = f"{'due a second':>14} {'':10} {'checks a second':>16} {'median ms':>10} {'95th ms':>8} {'CPU ms a check':>15} {'MB':>6}"
-        print(heads, f"{'restart s':>8} {'reload s':>8}")
-        for rate in [int(rate) for rate in rates] or RATES:
+        prepare(work)
+        slow = {**os.environ, "LD_PRELOAD": str(work / "slow_sync.so")}
+        print("\t".join(COLUMNS))
+        for rate in rates:
             sides = {"Nagios": (measure_nagios, work / "nagios/usr/sbin/nagios4"), "monitor": (measure_monitor, program)}
             if rate == SLOW:
                 sides["slow disk"] = (functools.partial(measure_monitor, environment=slow), program)
             for who, (ran, binary) in sides.items():
-                (a_second, cost, megabytes), (median, late), rest = ran(work, binary, plugin, rate)
-                print(f"{rate:>14} {who:10} {a_second:>16.1f} {median:>10.1f} {late:>8.1f} {cost:>15.2f} {megabytes:>6.0f} {rest}", flush=True)
+                rows.append(row_of(rate, who, ran(work, binary, work / "plugin", rate)))
+                print("\t".join(rows[-1]), flush=True)
+    if "--write" in words:
+        results.write_table("monitor", "bench/monitor.py PROGRAM --write", COLUMNS, rows)
 
 
 if __name__ == "__main__":

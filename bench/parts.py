@@ -1,7 +1,7 @@
 #!/usr/bin/env python3
 """Sites of 1,000 hosts and 20,000 services in parts with mirrors: the cost of taking them over, and of running them.
 
-    bench/parts.py PROGRAM [SECONDS]      manually
+    bench/parts.py PROGRAM [SECONDS [--write]]      manually; with --write the figures replace those of bench/results/parts.tsv
 
 Two networks of Nagios's own files, one behind a single gateway and one in a tree of ten children each, every object checked every five minutes. For each:
 parts and mirrors; seconds, processor seconds and megabytes of `tools/from_nagios.py --site`. Then the monitor runs it for SECONDS (300) with plugins that
@@ -19,6 +19,7 @@ import tempfile
 import time
 
 import monitor
+import results
 
 TOP = pathlib.Path(__file__).resolve().parent.parent
 sys.path.insert(0, str(TOP / "monitor"))
@@ -26,6 +27,7 @@ from tests.networks import write_network
 
 HOSTS, SERVICES = 1_000, 20
 NETWORKS = {"one gateway": 0, "a tree": 10}
+COLUMNS = ("Network", "Parts, mirrors", "Converter, MB", "Monitor, MB", "Checks per second", "Processor ms per check", "Restart, s", "Reload, s")
 
 
 def prepare_site(folder, children):
@@ -62,7 +64,8 @@ def run(folder, program, seconds):
     return checks / max(end - begin, 1), monitor.percentiles(monitor.late_of(folder)), (after[0] - before[0]) * 1000 / max(checks, 1), after[1]
 
 
-def main(program, seconds="300"):
+def main(program, seconds="300", *words):
+    rows = []
     print(f"{'':12} {'parts':>5} {'mirrors':>7} {'take-over s':>11} {'CPU s':>6} {'MB':>5} "
           f"{'checks a second':>16} {'median ms':>10} {'95th ms':>8} {'CPU ms a check':>15} {'MB':>6} {'restart s':>9} {'reload s':>8}")
     for name, children in NETWORKS.items():
@@ -71,8 +74,11 @@ def main(program, seconds="300"):
             parts, mirrors, took, processor, megabytes = prepare_site(folder, children)
             print(f"{name:12} {parts:>5} {mirrors:>7} {took:>11.1f} {processor:>6.1f} {megabytes:>5.0f}", end=" ", flush=True)
             a_second, (median, late), cost, resident = run(folder / "site", program, float(seconds))
-            rest = monitor.measure_restart(folder / "site", program)
-            print(f"{a_second:>16.1f} {median:>10.1f} {late:>8.1f} {cost:>15.2f} {resident:>6.0f} {rest}", flush=True)
+            restart, reload = monitor.measure_restart(folder / "site", program)
+            print(f"{a_second:>16.1f} {median:>10.1f} {late:>8.1f} {cost:>15.2f} {resident:>6.0f} {restart:>9.2f} {reload:>8.2f}", flush=True)
+            rows.append([name, f"{parts}, {mirrors}", f"{megabytes:.0f}", f"{resident:.0f}", f"{a_second:.1f}", f"{cost:.2f}", f"{restart:.1f}", f"{reload:.1f}"])
+    if "--write" in words:
+        results.write_table("parts", f"bench/parts.py PROGRAM {seconds} --write", COLUMNS, rows)
 
 
 if __name__ == "__main__":
