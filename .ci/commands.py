@@ -11,8 +11,11 @@ import sys
 import tempfile
 
 TOP = pathlib.Path(__file__).resolve().parent.parent
+sys.path.append(str(TOP / "monitor"))
+from tests.packages_trial import all_lines  # noqa: E402
+
 SCRIPT = r"(?:(?:tools|bench|tests|\.ci|examples)/\w+\.(?:py|sh)|conformance/check|conformance/nagios/(?:build|judge|teeth)\.(?:py|sh)|monitor/nagsched-(?:monitor|gearman-worker)|monitor/build_runner\.sh)"
-BEGINS = rf"(?:nagsched|crates/nagsched/out/nagsched|nagios4|bash|cc|\(cd|{SCRIPT})"
+BEGINS = rf"(?:sudo|nagsched|crates/nagsched/out/nagsched|nagios4|bash|cc|\(cd|{SCRIPT})"
 LINE = re.compile(rf"^(?: {{4}}|\$ )?({BEGINS}(?: .*)?)$", re.M)
 SPAN = re.compile(rf"`({BEGINS} [^`\n]*|{SCRIPT})`")
 SYNOPSIS = re.compile(r"nagsched(?: [\w.]+)?|.* \[.*|.* DIRECTORY|.* SETUP .*|nagsched-\S+.*")
@@ -70,15 +73,20 @@ SCRIPTS = {
     "examples/first.py": ".ci/c_library.py",
     "examples/loop.py": ".ci/c_library.py",
 }
+# The names of scripts when they are installed.
+INSTALLED = {"nagsched-monitor": "monitor/nagsched-monitor", "nagsched-from-nagios": "tools/from_nagios.py"}
 WITH_HELP = {"monitor/nagsched-monitor", "monitor/nagsched-gearman-worker", "tools/from_nagios.py", "tools/timeline.py"}
+# The commands of the trial, which monitor/tests/packages.sh runs on a machine with Nagios, one after another.
+TRIAL = frozenset(all_lines())
 # Why the gate doesn't run a command.
 NAGIOS = "needs Nagios"
 MANUAL = {
     "tools/try.sh": "compiles again what the gate has built",
     "tools/test.sh": "is the gate",
     "tools/test.sh --quick": "is a part of the gate",
-    "bash .ci/run": "is the gate",
     "tools/package.sh": "needs dpkg-deb and the C library",
+    "sudo -u nagios nagsched-monitor /var/tmp/office reload": "the trial reloads the service",
+    "sudo install -d -m 2750 -o nagsched -g www-data /var/lib/nagsched/office/nagios": "needs the service's user",
     "nagios4 -vp /etc/nagios4/nagios.cfg": NAGIOS,
     "nagios4 -s /etc/nagios4/nagios.cfg": NAGIOS,
     "conformance/nagios/judge.py DIRECTORY 2000 --seed 1": NAGIOS,
@@ -88,7 +96,7 @@ MANUAL = {
 
 def is_manual(command):
     """Whether the gate leaves the command out: those of bench/ and tests/ take minutes, on a machine with no other work."""
-    return command in MANUAL or re.fullmatch(r"(?:bench|tests)/\w+\.(?:sh|py)(?: .*)?", command) is not None
+    return command in MANUAL or command in TRIAL or re.fullmatch(r"(?:bench|tests)/\w+\.(?:sh|py)(?: .*)?", command) is not None
 
 
 def is_in_the_gate(command):
@@ -100,11 +108,12 @@ def is_in_the_gate(command):
 
 def unknown_options(command):
     """The options of a command that the script's help doesn't have."""
-    script, *arguments = command.split()
+    script, *arguments = re.sub(r"^sudo (?:-u \w+ )?", "", command).split()
+    script = INSTALLED.get(script, script)
     if script not in WITH_HELP:
         return []
     told = subprocess.run([sys.executable, TOP / script, "--help"], stdout=subprocess.PIPE, text=True, check=False).stdout
-    other = re.search(r" (?:status|reschedule) ", command)
+    other = re.search(r" (?:status|reschedule)\b", command)
     return [option for option in arguments if re.fullmatch(r"--[a-z-]+", option) and not other and not re.search(rf"{option}\b", told)]
 
 

@@ -16,17 +16,22 @@ import time
 
 WORKERS, LIMIT = 8, 60
 UNKNOWN = 3
+# The wall clock at the start. From then on time passes by a clock that never goes back.
+BEGIN = time.time_ns() - time.monotonic_ns()
 
 
 def now():
-    return time.time_ns() // 1_000_000
+    return (BEGIN + time.monotonic_ns()) // 1_000_000
 
 
 class Scheduler:
     """A conversation with `nagsched live`: one line there, one line back."""
 
     def __init__(self, program, setup):
-        self.process = subprocess.Popen([program, "live", "--start", str(now())], stdin=subprocess.PIPE, stdout=subprocess.PIPE, text=True)
+        try:
+            self.process = subprocess.Popen([program, "live", "--start", str(now())], stdin=subprocess.PIPE, stdout=subprocess.PIPE, text=True)
+        except OSError as error:
+            raise SystemExit(f"monitor: {program} can't be run ({error.strerror}): name the program as the fourth argument") from None
         self.process.stdin.write(setup + "\n")
 
     def ask(self, *call):
@@ -77,4 +82,6 @@ def main(setup, commands, seconds="inf", program="nagsched"):
 
 
 if __name__ == "__main__":
+    if not 3 <= len(sys.argv) <= 5:
+        sys.exit("usage: examples/monitor.py SETUP COMMANDS [SECONDS [PROGRAM]]")
     main(*sys.argv[1:])

@@ -41,6 +41,9 @@ def lines_of(page: str) -> Iterator[str]:
 
 def all_lines() -> List[str]:
     readme = (TOP / "README.md").read_text(encoding="utf-8")
+    for heading in SECTIONS:
+        if f"{heading}\n" not in readme:
+            sys.exit(f"packages_trial: README has no section {heading!r}: name the sections of the trial here")
     parts = [f"{heading}{readme.partition(heading)[2]}".split("\n## ")[0] for heading in SECTIONS]
     return [line for page in (*parts, (TOP / "docs/tutorial.md").read_text(encoding="utf-8")) for line in lines_of(page)]
 
