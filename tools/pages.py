@@ -26,7 +26,7 @@ NOTE = """> These pages are installed with the programs `nagsched`, `nagsched-mo
 # Texts about the repository, between these comments, and their replacements in an installation.
 OF_THE_REPOSITORY = re.compile(r"<!-- repository: (\w+) -->\n(.*?)<!-- end -->\n*", re.DOTALL)
 INSTEAD = {
-    "build": """## First
+    "build": """## An example
 
 nagsched is installed with this page. This runs an example that is installed, too:
 
