@@ -8,16 +8,18 @@ BOTH = {
     "check_period": "24x7", "check_command": "c", "contact_groups": "admins", "notification_period": "24x7", "initial_state": "o", "importance": "0",
     "check_interval": "5.000000", "retry_interval": "1.000000", "max_check_attempts": "3", "active_checks_enabled": "1", "passive_checks_enabled": "1",
     "obsess": "1", "event_handler_enabled": "1", "low_flap_threshold": "0.000000", "high_flap_threshold": "0.000000", "flap_detection_enabled": "1",
-    "flap_detection_options": "a", "freshness_threshold": "0", "check_freshness": "0", "notification_options": "r,d,u,f,s", "notifications_enabled": "1",
+    "flap_detection_options": "a", "freshness_threshold": "0", "check_freshness": "0", "notifications_enabled": "1",
     "notification_interval": "300.000000", "first_notification_delay": "0.000000", "stalking_options": "n", "process_perf_data": "1",
     "retain_status_information": "1", "retain_nonstatus_information": "1",
 }
+NOTIFIED = {"host": "r,d,u,f,s", "service": "r,w,u,c,f,s"}
 ALWAYS = "define timeperiod {\n\ttimeperiod_name\t24x7\n\talias\tAlways\n%s\t}\n\n" % "".join(
     f"\t{day}\t00:00-24:00\n" for day in ("sunday", "monday", "tuesday", "wednesday", "thursday", "friday", "saturday"))
 
 
 def definition(kind: str, **members: str) -> str:
-    return f"define {kind} {{\n" + "".join(f"\t{name}\t{value}\n" for name, value in (members | BOTH).items()) + "\t}\n\n"
+    its = {"notification_options": NOTIFIED[kind]}
+    return f"define {kind} {{\n" + "".join(f"\t{name}\t{value}\n" for name, value in (members | BOTH | its).items()) + "\t}\n\n"
 
 
 def parent_of(number: int, children: int) -> str:
