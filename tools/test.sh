@@ -149,7 +149,7 @@ run_quick() {
 say_what_is_next() {
     echo "Built: $(python3 tools/build_file.py show "$program"), and monitor/out/nagsched-runner"
     [[ $kind = quick ]] || echo "Built: the C library, in out/c"
-    echo "Next: tools/install.sh [PREFIX] installs what is built; README.md shows a trial beside Nagios, and nagsched live."
+    echo "Next: tools/install.sh [PREFIX] installs what is built; README.md shows a site to look at, and a trial beside Nagios."
 }
 
 main() {
