@@ -85,6 +85,10 @@ class Database(SiteTest):
         Store(self.folder, lines.append).close()
         self.assertRegex(lines[0], rf"row \d+ of {table} was changed since it was written.*{LOSSES[table]}")
 
+    def test_which_tables_stop_a_start(self) -> None:
+        """Those that schedulers continue from."""
+        self.assertEqual(set(TABLES) - set(LOSSES), {"generations", "mirrors", "calls", "damaged"})
+
     def test_a_changed_byte_in_the_history(self) -> None:
         """It is found when it is read: it counts for nothing, and stays for inspection."""
         self.filled().close()
