@@ -5,6 +5,7 @@ import json
 import pathlib
 import re
 import shutil
+import socket
 import subprocess
 import tempfile
 import threading
@@ -104,7 +105,8 @@ class Posting(SiteTest):
                          ["DOWN", "UP", "UNREACHABLE"])
         self.assertEqual([found[(PROBLEM, *name)]["labels"]["severity"] for name in (("far", None), ("soft", "http"))], ["unreachable", "unknown"])
         self.assertEqual(found[PROBLEM, "db", None]["annotations"],
-                         {"state": "DOWN", "host_state": "DOWN", "summary": "db is DOWN: no answer", "output": "no answer\nat all"})
+                         {"state": "DOWN", "host_state": "DOWN", "summary": "db is DOWN: no answer", "output": "no answer\nat all",
+                          "monitor": f"{socket.gethostname()}:{self.folder.resolve()}"})
         self.assertEqual(found[FLAPPING, "web", "load"]["annotations"]["summary"], "web load is flapping: fine")
         started = datetime.datetime.fromisoformat(found[PROBLEM, "db", None]["startsAt"]).timestamp()
         ends = datetime.datetime.fromisoformat(found[PROBLEM, "db", None]["endsAt"]).timestamp()
@@ -128,7 +130,7 @@ class Posting(SiteTest):
         wanted = {("web", None): {"notification_options": ",none,"}, ("db", None): {"notification_options": ",none,"}, ("web", "http"): {
             "notification_options": ",critical,recovery,", "notification_period": "workhours", "notification_delay": "600s", "notification_interval": "0s"}}
         self.assertEqual({name: {label: value for label, value in found[name]["labels"].items() if label.startswith("notification")} for name in wanted}, wanted)
-        usual = ("state", "host_state", "summary", "output")
+        usual = ("state", "host_state", "summary", "output", "monitor")
         shown = {name: {note: text for note, text in found[name]["annotations"].items() if note not in usual} for name in wanted}
         self.assertEqual(shown, {
             ("web", None): {"alias": "Web server", "address": "192.0.2.7", "notes": "room 3"}, ("db", None): {},
@@ -199,9 +201,11 @@ class Posting(SiteTest):
         self.assertTrue(alert["annotations"]["summary"].startswith(f"6 of 10 objects of {self.folder.name} have no result in time"))
 
     def test_what_another_process_posted(self) -> None:
-        """An alert that fires at Alertmanager and doesn't stand is ended, also one that seems to begin later than now."""
+        """An alert of an earlier process that doesn't stand is ended, also one that seems to begin later than now. Alerts of others stay."""
         labels = {"alertname": PROBLEM, "site": self.folder.name, "host": "web", "severity": "critical"}
-        self.firing["x"] = {"labels": labels, "annotations": {}, "startsAt": "2999-01-01T00:00:00.5Z", "endsAt": "2999-01-02T00:00:00Z"}
+        mine = f"{socket.gethostname()}:{self.folder.resolve()}"
+        for host, monitor in (("web", {"monitor": mine}), ("other", {"monitor": "elsewhere:/site"}), ("rule", {})):
+            self.firing[host] = {"labels": {**labels, "host": host}, "annotations": monitor, "startsAt": "2999-01-01T00:00:00.5Z", "endsAt": "2999-01-02T00:00:00Z"}
         fill_database(self.folder, [standing("web")])
         self.assertEqual(self.look(), [(PROBLEM, "web", "", False)])
 
@@ -210,6 +214,8 @@ class Posting(SiteTest):
         self.refused = "h3"
         fill_database(self.folder, [standing(f"h{number}", "DOWN", hard_since=time.time() + 3600) for number in range(10)])
         self.assertEqual([host for _, host, _, _ in self.look()], [f"h{number}" for number in range(10) if number != 3])
+        self.alerts._next_post = 0.0
+        self.look()
         self.assertEqual([("refused" in line, "h3" in line) for line in self.lines], [(True, True)])
         begins = [datetime.datetime.fromisoformat(it["startsAt"]).timestamp() for alerts in self.posted for it in alerts]
         self.assertLessEqual(max(begins), time.time())

@@ -8,6 +8,7 @@ import datetime
 import http.client
 import json
 import pathlib
+import socket
 import time
 import urllib.error
 import urllib.parse
@@ -26,6 +27,8 @@ from .status_query import PROBLEMS, SiteStatus, StatusUnavailable, read_site_sta
 EVERY, ENDS, HEARTBEAT_ENDS, LOOK_EVERY, PATIENCE = 30.0, 21_600.0, 300.0, 1.0, 10.0
 # The greatest number of alerts in one request.
 AT_ONCE = 1_000
+# The number of refused alerts that are remembered.
+MOST_REFUSED = 100
 PROBLEM, FLAPPING, NOT_CHECKED, HEARTBEAT = "NagschedProblem", "NagschedFlapping", "NagschedNotChecked", "NagschedHeartbeat"
 SEVERITIES = {"WARNING": "warning", "CRITICAL": "critical", "DOWN": "critical", "UNREACHABLE": "unreachable", "UNKNOWN": "unknown"}
 
@@ -85,10 +88,14 @@ class AlertPoster:
     def __init__(self, url: str, folder: pathlib.Path, page: str = "", log: Callable[[str], None] = print) -> None:
         self._url, self._folder, self._page, self._log = f"{url.rstrip('/')}/api/v2/alerts", folder, page, log
         self._site, self._groups, self._inventory = folder.resolve().name, GroupsFile(folder), InventoryFile(folder)
+        # An annotation of this monitor's alerts: only these are ended.
+        self._monitor = f"{socket.gethostname()}:{folder.resolve()}"
         # The alerts that were posted last, and when all are posted again.
         self._posted: Optional[Sequence[Labels]] = None
         self._next_post = 0.0
         self._trouble: Optional[str] = None
+        # The labels of refused alerts, which are logged once.
+        self._refused: List[Dict[str, str]] = []
 
     def post_due(self) -> None:
         """Posts the alerts that are due."""
@@ -111,17 +118,19 @@ class AlertPoster:
             self._post([{**heartbeat, "endsAt": timestamp(status.now + HEARTBEAT_ENDS)}])
         # An alert that ends has no beginning here: Alertmanager keeps its own, and one later than its end would be refused.
         ended = [{"labels": labels, "endsAt": timestamp(status.now)} for labels in self._firing() if frozenset(labels.items()) not in alerts]
-        all_of = ended + [{**each, "endsAt": timestamp(status.now + ENDS)} for each in alerts.values()]
+        all_of = ended + [{**each, "annotations": {**each["annotations"], "monitor": self._monitor}, "endsAt": timestamp(status.now + ENDS)}
+                          for each in alerts.values()]
         for first in range(0, len(all_of), AT_ONCE):
             self._post(all_of[first : first + AT_ONCE])
         self._posted, self._next_post = list(alerts), time.monotonic() + EVERY
 
     def _firing(self) -> List[Dict[str, str]]:
-        """The labels of the site's alerts that Alertmanager has, except the heartbeat, which ends by itself. If it can't be asked, those that were posted last."""
+        """The labels of the alerts that Alertmanager has from this monitor, except the heartbeat, which ends by itself. If it can't be asked, those that were
+        posted last. Prometheus, and a site of this name on another machine, may have alerts with the same names."""
         query = urllib.parse.urlencode([("filter", f"site={json.dumps(self._site)}"), ("filter", f'alertname=~"{PROBLEM}|{FLAPPING}|{NOT_CHECKED}"')])
         try:
             with urllib.request.urlopen(f"{self._url}?{query}", timeout=PATIENCE) as answer:
-                return [each["labels"] for each in json.load(answer)]
+                return [each["labels"] for each in json.load(answer) if each["annotations"].get("monitor") == self._monitor]
         except urllib.error.HTTPError:
             return [dict(labels) for labels in self._posted or ()]
 
@@ -134,7 +143,9 @@ class AlertPoster:
             if error.code != http.HTTPStatus.BAD_REQUEST:
                 raise
             if len(alerts) == 1:
-                self._log(f"an alert is refused: {alerts[0]['labels']}: {first_line(error.read(500).decode(errors='replace'))}")
+                if alerts[0]["labels"] not in self._refused:
+                    self._log(f"an alert is refused: {alerts[0]['labels']}: {first_line(error.read(500).decode(errors='replace'))}")
+                    self._refused = [*self._refused[-MOST_REFUSED:], alerts[0]["labels"]]
                 return
             self._post(alerts[: len(alerts) // 2])
             self._post(alerts[len(alerts) // 2 :])
