@@ -129,7 +129,8 @@ class Posting(SiteTest):
         found = {(it["labels"].get("host"), it["labels"].get("service")): it for it in self.posted[-1]}
         wanted = {("web", None): {"notification_options": ",none,"}, ("db", None): {"notification_options": ",none,"}, ("web", "http"): {
             "notification_options": ",critical,recovery,", "notification_period": "workhours", "notification_delay": "600s", "notification_interval": "0s"}}
-        self.assertEqual({name: {label: value for label, value in found[name]["labels"].items() if label.startswith("notification")} for name in wanted}, wanted)
+        named = {name: {label: value for label, value in found[name]["labels"].items() if label.startswith("notification")} for name in wanted}
+        self.assertEqual(named, wanted)
         usual = ("state", "host_state", "summary", "output", "monitor")
         shown = {name: {note: text for note, text in found[name]["annotations"].items() if note not in usual} for name in wanted}
         self.assertEqual(shown, {
@@ -205,7 +206,8 @@ class Posting(SiteTest):
         labels = {"alertname": PROBLEM, "site": self.folder.name, "host": "web", "severity": "critical"}
         mine = f"{socket.gethostname()}:{self.folder.resolve()}"
         for host, monitor in (("web", {"monitor": mine}), ("other", {"monitor": "elsewhere:/site"}), ("rule", {})):
-            self.firing[host] = {"labels": {**labels, "host": host}, "annotations": monitor, "startsAt": "2999-01-01T00:00:00.5Z", "endsAt": "2999-01-02T00:00:00Z"}
+            self.firing[host] = {"labels": {**labels, "host": host}, "annotations": monitor, "startsAt": "2999-01-01T00:00:00.5Z",
+                                 "endsAt": "2999-01-02T00:00:00Z"}
         fill_database(self.folder, [standing("web")])
         self.assertEqual(self.look(), [(PROBLEM, "web", "", False)])
 
