@@ -1,5 +1,7 @@
 """The page of a site: every object is on it, no text of a site becomes a tag, and what isn't a page is refused."""
+import contextlib
 import html.parser
+import io
 import json
 import pathlib
 import time
@@ -9,6 +11,7 @@ from unittest import mock
 
 from nagsched_monitor.outputs import html_pages, page
 from nagsched_monitor.outputs.status_query import LONGEST_WORDS, SiteStatus, read_site_status
+from nagsched_monitor.program import main
 from nagsched_monitor.store.rows import StoredChange
 
 from .shown_site import PageTest, fill_database, standing
@@ -133,6 +136,13 @@ class Page(PageTest):
             texts = self.read().texts
             found = [text for text in texts if text.endswith(("in time", "1 min.", "missing.", "checked.", "wrong."))]
             self.assertEqual(found, wanted)
+
+    def test_what_status_says(self) -> None:
+        """The command `status` says too that results are missing."""
+        fill_database(self.folder, [standing("a")], {"overdue": 3, "promised": 4})
+        with contextlib.redirect_stdout(io.StringIO()), contextlib.redirect_stderr(io.StringIO()) as said:
+            self.assertEqual(main.main([str(self.folder), "status"]), 0)
+        self.assertEqual(said.getvalue(), "nagsched-monitor: 3 of 4 objects have no result in time: their states are old\n")
 
     def test_a_silence(self) -> None:
         """The page of a problem leads to the form for a silence, with the labels that stay while it lasts."""

@@ -117,6 +117,9 @@ def print_status(arguments: argparse.Namespace) -> int:
     exact = read_site_status(arguments.folder, "WHERE name = ?", arguments.pattern)
     status = exact if exact.objects else read_site_status(arguments.folder, "WHERE name GLOB ?", arguments.pattern)
     print("\n".join(standing_line(it, arguments.long) for it in status.objects) or "no object has such a name")
+    overdue, promised = status.overdue()
+    if overdue:
+        print(f"nagsched-monitor: {overdue} of {promised} objects have no result in time: their states are old", file=sys.stderr)
     silent = status.silent_seconds()
     if silent is not None:
         print(f"nagsched-monitor: the monitor has written nothing for {silent:.0f} seconds: this is how objects were then", file=sys.stderr)
