@@ -228,13 +228,13 @@ class Running(ProcessTest):
     def test_options_of_the_site(self) -> None:
         """Options in monitor.json work as those of the command line; a command is given a test, and what is hard when it is new."""
         taken = self.folder / "taken"
-        self.write_site(self.objects(2, check_interval=60), [], monitor={"on_change": f"cat >> {taken}", "page": "127.0.0.1:0", "log_passive": False})
+        options = {"on_change": f"cat >> {taken}", "page": "127.0.0.1:0", "log_passive": False}
+        self.write_site(self.objects(2, check_interval=3600, max_check_attempts=1), [], monitor=options)
         running = self.start_monitor()
         self.assertIn("notify-test: done", self.run_command("notify-test").stdout)
         self.assertTrue(becomes_true(lambda: taken.exists() and "notify-test" in taken.read_text()))
         self.assertTrue(json.loads(taken.read_text())["test"])
-        for _ in range(2):
-            self.run_command("result", "h01", "DOWN", "it burns")
+        self.run_command("result", "h01", "DOWN", "it burns")
         self.assertTrue(becomes_true(lambda: "h01" in taken.read_text()))
         output = self.stop_monitor(running)
         self.assertEqual(("the page is at http://127.0.0.1:" in output, "asked: result" in output), (True, False))
