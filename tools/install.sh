@@ -26,7 +26,7 @@ place() { install -D -m "$1" "$2" "$root/$3"; }
 place 755 "$program" bin/nagsched
 mkdir -p "$root/share/nagsched"
 python3 "$top/tools/build_file.py" copy "$program" "$root/bin/nagsched" "$root/share/nagsched/nagsched.build"
-for module in "$top"/monitor/nagsched_monitor/*.py "$top"/monitor/nagsched_monitor/*/*.py; do
+for module in "$top"/monitor/nagsched_monitor/*.py "$top"/monitor/nagsched_monitor/*/*.py "$top"/monitor/nagsched_monitor/*/*.css; do
     place 644 "$module" "lib/nagsched/${module#"$top"/monitor/}"
 done
 for script in nagsched-monitor nagsched-gearman-worker; do
