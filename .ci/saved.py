@@ -22,6 +22,7 @@ from typing import Any, Callable, Iterator, NamedTuple
 MOST_BYTES = 16_777_216
 MOST_OBJECTS = 4_096
 LAST_MOMENT, LAST_TIME = 2**60, 2**61
+LONGEST_INTERVAL = 525_600 * 86_400 * 1_000
 SECONDS = 60
 SETUP = {"hosts": [{"name": "h", "max_check_attempts": 3}],
          "services": [{"host": "h", "description": "s", "max_check_attempts": 4}, {"host": "h", "description": "t", "max_check_attempts": 1}]}
@@ -99,6 +100,8 @@ def limit_faults() -> Iterator[Fault]:
         yield Fault(with_object_members(2, **{member: 0}), "refused K8 Range 2")
         yield Fault(with_object_members(2, **{member: 256}), "refused K8 Range 2")
     yield Fault(with_object_members(2, max_check_attempts=255), "")
+    yield Fault(with_object_members(0, check_interval=LONGEST_INTERVAL), "")
+    yield Fault(with_object_members(0, check_interval=LONGEST_INTERVAL + 1), "refused K8 Range 0")
     yield Fault(with_object_members(0, results="d" * 21), "")
     yield Fault(with_object_members(0, results="d" * 22), "refused K9 Unlawful 0")
     for name, line in (("n" * 255, ""), ("n" * 256, "refused K6 BadName 0"), ("n" * 255 + ";" + "d" * 255, "refused K9 Unlawful 0"),
@@ -158,6 +161,7 @@ def order_faults() -> Iterator[Fault]:
         for later, _ in faults[place + 1 :]:
             yield Fault(with_all(later, first) if line != "refused K7 Duplicate 1" else with_all(first, later), line)
     yield Fault(with_all(with_object_members(0, name=""), with_object_members(1, name="")), "refused K6 BadName 0")
+    yield Fault(with_members(format=0), "refused K3 Version")
     yield Fault(with_members(format=1.0), "refused K4 Shape")
     yield Fault(with_members(format="1"), "refused K4 Shape")
 

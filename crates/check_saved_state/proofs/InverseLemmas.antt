@@ -1,22 +1,22 @@
 -- The text of what is saved is read as what is saved.
-use Rattle.std.proofs.Common.{◌≡◌, ℕ, suc, ◌^◌, ◌<◌, ◌≤◌, Bool, true, false, List, [], ◌∷◌, length, Option, Some, None, option_map, IsUtf8, Ok, refl, arith}
+use Rattle.std.proofs.Common.{◌≡◌, ℕ, suc, ◌^◌, ◌<◌, ◌≤◌, Bool, true, false, List, [], ◌∷◌, length, Option, Some, None, option_map, IsUtf8, Ok, inl, inr, refl, subst, sym, arith}
 use Rattle.std.specs.Prelude.{codes, slice_get}
-use Rattle.std.specs.List.{list_all}
+use Rattle.std.specs.Str.{is_utf8}
 use Rattle.std.proofs.lemmas.Bool.{and_parts, leb-true}
-use Rattle.std.proofs.lemmas.Bool.Decides.{nat_tests}
+use Rattle.std.proofs.lemmas.Str.{IsUtf8-append, IsUtf8-from_is_utf8}
 use Rattle.json.proofs.Printed.Utf8.{IsUtf8-are_ascii, are_ascii}
+use Rattle.setup_model.specs.Name.{has_name_bytes}
 use Rattle.check_states.specs.declared.standing.Kind.{Kind}
 use Rattle.check_states.specs.declared.standing.Kind.TheVariants as kind
 use Rattle.check_states.specs.declared.state.State as rules
 use Rattle.check_states.specs.declared.state.State.TheVariants as state
-use Rattle.check_saved_state.specs.Members.{has_u64_interval}
-use Rattle.check_saved_state.specs.Saved.{IsSaved, IsSavedObject, Saved, SavedObject}
+use Rattle.check_saved_state.specs.Saved.{IsFullName, IsSaved, IsSavedObject, Saved, SavedObject}
 use Rattle.check_saved_state.specs.Scheduling.{OpenRun, is_moment, is_time}
 use Rattle.check_saved_state.specs.Text.{saved_of_text, saved_text}
+use Rattle.check_saved_state.specs.Table.{newest_format}
 use Rattle.check_saved_state.specs.Tree.{object_tree, objects_tree, run_tree, saved_tree, time_tree}
 use Rattle.check_states.specs.Words.{kind_word, state_word}
 use Rattle.check_saved_state.specs.Words.{flapping_word, letters_of}
-use Rattle.check_saved_state.specs.Written.{IsWritable, IsWritableObject}
 use Rattle.check_saved_state.proofs.PlainLemmas.{ArePlain, IsPlain, read_compact, text_is_utf8}
 use Rattle.check_saved_state.proofs.RangeLemmas.{attempt_by}
 use Rattle.check_saved_state.proofs.SizeLemmas.{text_fits}
@@ -44,6 +44,15 @@ letters_ascii : (results : List rules.State) → are_ascii (letters_of results) 
 letters_ascii [] = refl
 letters_ascii (s ∷ ss) = rw ((letter_fits s).1) (letters_ascii ss)
 
+-- a full name is a text
+name_is : (name : List ℕ) → IsFullName name → IsUtf8 name
+name_is name (inl e) = IsUtf8-from_is_utf8 name (and_parts (is_utf8 name) (has_name_bytes name) e).0
+name_is name (inr (host, description, same, e, f)) =
+    subst IsUtf8 (sym same)
+    (IsUtf8-append host (59 ∷ description) (IsUtf8-from_is_utf8 host (and_parts (is_utf8 host) (has_name_bytes host) e).0)
+    (IsUtf8-append (59 ∷ []) description (IsUtf8-are_ascii (59 ∷ []) refl)
+    (IsUtf8-from_is_utf8 description (and_parts (is_utf8 description) (has_name_bytes description) f).0)))
+
 time_plain : (time : Option ℕ) → is_time time ≡ true → IsPlain (time_tree time)
 time_plain None e = tt
 time_plain (Some time) e = let most : time ≤ 2 ^ 61 = leb-true time (2 ^ 61) e in omega arith
@@ -58,11 +67,13 @@ run_plain runs (Some r) bounded e numbered =
     let s : r.start < 2 ^ 64 = omega arith in
     ((IsUtf8-are_ascii (codes "number") refl, n, (IsUtf8-are_ascii (codes "start") refl, s, tt)), refl)
 
-object_plain : (runs : ℕ) (o : SavedObject) → runs ≤ 2 ^ 60 → IsSavedObject runs o → IsWritableObject o → IsPlain (object_tree o)
-object_plain runs o bounded saved writable =
+object_plain : (runs : ℕ) (o : SavedObject) → runs ≤ 2 ^ 60 → IsSavedObject runs o → IsPlain (object_tree o)
+object_plain runs o bounded saved =
     let times = and_parts (is_time o.scheduling.next) (is_moment o.scheduling.run) saved.in_time in
     let attempt = attempt_by o.standing o.max_attempts saved.standing.lawful saved.nonzero_attempts saved.bounded_attempts in
     let most = saved.bounded_attempts in
+    let short = saved.interval in
+    let i : o.interval < 2 ^ 64 = omega arith in
     let a : o.standing.attempt < 2 ^ 64 = omega arith in
     let m : o.max_attempts < 2 ^ 64 = omega arith in (
       (
@@ -70,7 +81,7 @@ object_plain runs o bounded saved writable =
         a,
         (
           IsUtf8-are_ascii (codes "check_interval") refl,
-          writable.interval,
+          i,
           (
             IsUtf8-are_ascii (codes "checked") refl,
             tt,
@@ -97,7 +108,7 @@ object_plain runs o bounded saved writable =
                           m,
                           (
                             IsUtf8-are_ascii (codes "name") refl,
-                            writable.name,
+                            name_is o.name saved.name,
                             (
                               IsUtf8-are_ascii (codes "next_check") refl,
                               time_plain o.scheduling.next times.0,
@@ -126,27 +137,24 @@ object_plain runs o bounded saved writable =
     )
 
 objects_plain : (runs : ℕ) (objects : List SavedObject) → runs ≤ 2 ^ 60
-    → ((place : ℕ) (o : SavedObject) → slice_get objects place ≡ Some o → IsSavedObject runs o)
-    → ((place : ℕ) (o : SavedObject) → slice_get objects place ≡ Some o → IsWritableObject o) → ArePlain (objects_tree objects)
-objects_plain runs [] bounded each writable = tt
-objects_plain runs (o ∷ os) bounded each writable = (
-  object_plain runs o bounded (each 0 o refl) (writable 0 o refl),
-  objects_plain runs os bounded (λ place x is. each (suc place) x is) (λ place x is. writable (suc place) x is),
-)
+    → ((place : ℕ) (o : SavedObject) → slice_get objects place ≡ Some o → IsSavedObject runs o) → ArePlain (objects_tree objects)
+objects_plain runs [] bounded each = tt
+objects_plain runs (o ∷ os) bounded each =
+    (object_plain runs o bounded (each 0 o refl), objects_plain runs os bounded (λ place x is. each (suc place) x is))
 
-saved_plain : (saved : Saved) → IsSaved saved → IsWritable saved → IsPlain (saved_tree saved)
-saved_plain saved is writable =
+saved_plain : (saved : Saved) → IsSaved saved → IsPlain (saved_tree saved)
+saved_plain saved is =
     let start = is.start in
     let runs = is.runs in
     let s : saved.start < 2 ^ 64 = omega arith in
     let r : saved.runs < 2 ^ 64 = omega arith in
-    let one : 1 < 2 ^ 64 = omega arith in (
+    let format : newest_format < 2 ^ 64 = omega arith in (
       (
         IsUtf8-are_ascii (codes "format") refl,
-        one,
+        format,
         (
           IsUtf8-are_ascii (codes "objects") refl,
-          objects_plain saved.runs saved.objects is.runs is.each writable.each,
+          objects_plain saved.runs saved.objects is.runs is.each,
           (
             IsUtf8-are_ascii (codes "runs") refl,
             r,
@@ -157,19 +165,7 @@ saved_plain saved is writable =
       refl,
     )
 
-narrow_intervals : (objects : List SavedObject) → ((place : ℕ) (o : SavedObject) → slice_get objects place ≡ Some o → IsWritableObject o)
-    → list_all has_u64_interval objects ≡ true
-narrow_intervals [] writable = refl
-narrow_intervals (o ∷ os) writable =
-    let small = (writable 0 o refl).interval in
-    let one : has_u64_interval o ≡ true = grind (arith, nat_tests, small) in
-    rw one (narrow_intervals os (λ place x is. writable (suc place) x is))
-
-pub fits : (saved : Saved) → IsSaved saved → IsWritable saved → length (saved_text saved) ≤ 16777216
-fits saved is writable = text_fits saved is (narrow_intervals saved.objects writable.each)
-
-pub inverse : (saved : Saved) → IsSaved saved → IsWritable saved → saved_of_text (saved_text saved) ≡ Ok saved
-inverse saved is writable =
-    let plain = saved_plain saved is writable in
-    text_back saved (saved_text saved) is (fits saved is writable) (text_is_utf8 (saved_tree saved) plain)
-    (read_compact (saved_tree saved) plain (saved_depth saved))
+pub inverse : (saved : Saved) → IsSaved saved → saved_of_text (saved_text saved) ≡ Ok saved
+inverse saved is =
+    let plain = saved_plain saved is in
+    text_back saved (saved_text saved) is (text_fits saved is) (text_is_utf8 (saved_tree saved) plain) (read_compact (saved_tree saved) plain (saved_depth saved))

@@ -1,3 +1,4 @@
+pub mod GrowthLemmas
 pub mod InverseLemmas
 pub mod NameLemmas
 pub mod PlainLemmas
@@ -7,6 +8,4 @@ pub mod SavedLemmas
 pub mod SizeLemmas
 pub mod TextLemmas
 pub mod TreeLemmas
-pub mod Utf8Lemmas
 pub mod VerifiedLemmas
-pub mod WritableLemmas

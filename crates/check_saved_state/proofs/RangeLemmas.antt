@@ -2,9 +2,10 @@
 use Rattle.std.proofs.Common.{◌≡◌, ℕ, ◌≤◌, ◌&&◌, ◌==◌, Bool, true, not, List, length, arith}
 use Rattle.std.specs.Prelude.{nat_le, nat_lt}
 use Rattle.std.specs.List.{list_all}
+use Rattle.std.specs.Str.{is_utf8}
 use Rattle.std.proofs.lemmas.Bool.{and_parts, eqb-true, leb-true}
 use borrow.Author.Tests.{ltb-true}
-use Rattle.setup_model.specs.Name.{is_name, is_name_byte}
+use Rattle.setup_model.specs.Name.{has_name_bytes, is_name, is_name_byte}
 use Rattle.check_states.specs.declared.standing.Kind.{Kind}
 use Rattle.check_states.specs.declared.standing.Kind.TheVariants as kind
 use Rattle.check_states.specs.declared.standing.Standing.{Standing}
@@ -54,6 +55,7 @@ attempt_by s max e some bounded =
 
 pub short_name : (name : List ℕ) → is_name name ≡ true → length name ≤ 255
 short_name name e =
-    let a = and_parts (nat_le 1 (length name) && nat_le (length name) 255) (list_all is_name_byte name) e in
+    let bytes = and_parts (is_utf8 name) (has_name_bytes name) e in
+    let a = and_parts (nat_le 1 (length name) && nat_le (length name) 255) (list_all is_name_byte name) bytes.1 in
     let b = and_parts (nat_le 1 (length name)) (nat_le (length name) 255) a.0 in
     leb-true (length name) 255 b.1

@@ -227,7 +227,8 @@ numbered_by runs (Some r) e run is =
 pub object_by : (runs : ℕ) (o : SavedObject) → is_full_name o.name ≡ true → is_in_range o ≡ true → is_possible runs o ≡ true → IsSavedObject runs o
 object_by runs o named ranged lawful =
     let host = is_host_name o.name in
-    let a = and_parts (is_attempt o.standing.attempt && is_attempt o.max_attempts) (is_in_time o.scheduling) ranged in
+    let few = and_parts (is_attempt o.standing.attempt && is_attempt o.max_attempts && is_in_time o.scheduling) (nat_le o.interval 45411840000000) ranged in
+    let a = and_parts (is_attempt o.standing.attempt && is_attempt o.max_attempts) (is_in_time o.scheduling) few.0 in
     let b = and_parts (is_attempt o.standing.attempt) (is_attempt o.max_attempts) a.0 in
     let m = and_parts (nat_le 1 o.max_attempts) (nat_le o.max_attempts 255) b.1 in
     let c = and_parts (is_possible_standing host o.max_attempts o.standing && are_possible_results host o.results && has_valid_run runs o.scheduling.run)
@@ -243,6 +244,7 @@ object_by runs o named ranged lawful =
       numbered = numbered_by runs o.scheduling.run d.1;
       nonzero_attempts = leb-true 1 o.max_attempts m.0;
       bounded_attempts = leb-true o.max_attempts 255 m.1;
+      interval = leb-true o.interval 45411840000000 few.1;
     }
 
 -- ---- all of it

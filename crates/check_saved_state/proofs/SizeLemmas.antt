@@ -3,11 +3,9 @@ use Rattle.std.proofs.Common.{inl, inr, ◌≡◌, ℕ, zero, suc, ◌+◌, ◌*
 use Rattle.std.proofs.Common.{length-append}
 use Rattle.std.proofs.Common.{Option, Some, None, option_map}
 use Rattle.std.specs.Prelude.{decimal, nat_le, slice_get}
-use Rattle.std.specs.List.{list_all}
 use Rattle.std.proofs.lemmas.Bool.{and_parts, cases_eq, cases_lt, leb-true}
 use Rattle.std.proofs.lemmas.Fmt.{length-decimal-le}
 use Rattle.std.proofs.lemmas.List.{length-map}
-use borrow.Author.Tests.{ltb-true}
 use Rattle.json.specs.Print.{escape, escape_byte, quoted, token_text}
 use Rattle.json.specs.Token.{Token}
 use Rattle.json.proofs.Printed.Strings.{escape_byte_plain}
@@ -17,7 +15,6 @@ use Rattle.check_states.specs.declared.standing.Kind.{Kind}
 use Rattle.check_states.specs.declared.standing.Kind.TheVariants as kind
 use Rattle.check_states.specs.declared.state.State as rules
 use Rattle.check_states.specs.declared.state.State.TheVariants as state
-use Rattle.check_saved_state.specs.Members.{has_u64_interval}
 use Rattle.check_saved_state.specs.Saved.{IsFullName, IsSaved, IsSavedObject, Saved, SavedObject}
 use Rattle.check_saved_state.specs.Scheduling.{OpenRun, is_moment, is_time}
 use Rattle.check_saved_state.specs.Text.{saved_text}
@@ -161,15 +158,15 @@ name_length name (inr (host, description, same, e, f)) =
     let c = ap length same ∙ length-append host (59 ∷ description) in
     omega arith
 
-object_weight : (runs : ℕ) (o : SavedObject) → runs ≤ 2 ^ 60 → IsSavedObject runs o → has_u64_interval o ≡ true → weight (object_tree o) ≤ 4000
+object_weight : (runs : ℕ) (o : SavedObject) → runs ≤ 2 ^ 60 → IsSavedObject runs o → weight (object_tree o) ≤ 4000
 unfolding escape_byte
-object_weight runs o bounded saved fits =
+object_weight runs o bounded saved =
     let times = and_parts (is_time o.scheduling.next) (is_moment o.scheduling.run) saved.in_time in
     let attempt = attempt_by o.standing o.max_attempts saved.standing.lawful saved.nonzero_attempts saved.bounded_attempts in
-    let below : o.interval < 2 ^ 64 = ltb-true o.interval (2 ^ 64) fits in
+    let short = saved.interval in
     let most = saved.bounded_attempts in
     let a = number_length o.standing.attempt (omega arith) in
-    let b = number_length o.interval below in
+    let b = number_length o.interval (omega arith) in
     let c = number_length o.max_attempts (omega arith) in
     let d = time_weight o.scheduling.next times.0 in
     let e = run_weight runs o.scheduling.run bounded times.1 saved.numbered in
@@ -187,24 +184,23 @@ object_weight runs o bounded saved fits =
 -- ---- all objects
 
 objects_weight : (runs : ℕ) (objects : List SavedObject) → runs ≤ 2 ^ 60
-    → ((place : ℕ) (o : SavedObject) → slice_get objects place ≡ Some o → IsSavedObject runs o) → list_all has_u64_interval objects ≡ true
+    → ((place : ℕ) (o : SavedObject) → slice_get objects place ≡ Some o → IsSavedObject runs o)
     → items_weight (objects_tree objects) ≤ 1 + 4001 * length objects
-objects_weight runs [] bounded each fits = omega arith
-objects_weight runs (o ∷ os) bounded each fits =
-    let p = and_parts (has_u64_interval o) (list_all has_u64_interval os) fits in
-    let one = object_weight runs o bounded (each 0 o refl) p.0 in
-    let more = objects_weight runs os bounded (λ place x is. each (suc place) x is) p.1 in
+objects_weight runs [] bounded each = omega arith
+objects_weight runs (o ∷ os) bounded each =
+    let one = object_weight runs o bounded (each 0 o refl) in
+    let more = objects_weight runs os bounded (λ place x is. each (suc place) x is) in
     omega arith
 
 -- what is written has at most 16,777,216 bytes
-pub text_fits : (saved : Saved) → IsSaved saved → list_all has_u64_interval saved.objects ≡ true → length (saved_text saved) ≤ 16777216
+pub text_fits : (saved : Saved) → IsSaved saved → length (saved_text saved) ≤ 16777216
 unfolding escape_byte
-text_fits saved is fits =
+text_fits saved is =
     let start = is.start in
     let runs = is.runs in
     let a = number_length saved.start (omega arith) in
     let b = number_length saved.runs (omega arith) in
-    let c = objects_weight saved.runs saved.objects is.runs is.each fits in
+    let c = objects_weight saved.runs saved.objects is.runs is.each in
     let d = is.bounded in
     let e = text_length (saved_tree saved) in
     let f = number_length 1 (omega arith) in

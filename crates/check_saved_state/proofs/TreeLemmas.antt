@@ -14,10 +14,11 @@ use Rattle.check_states.specs.declared.state.State as rules
 use Rattle.check_states.specs.declared.state.State.TheVariants as state
 use Rattle.check_states.proofs.Cases.{each_state}
 use Rattle.check_states.specs.State.{is_of_sort}
-use Rattle.check_saved_state.specs.Reading.{draft_in, format_test, object_with_letters, letters_member, object_in, objects_from, optional_run, scheduling_in}
+use Rattle.check_saved_state.specs.Reading.{draft_in, draft_of, format_test, object_with_letters, letters_member, object_in, objects_from, optional_run, scheduling_in}
 use Rattle.check_saved_state.specs.Reading.{standing_in, standing_with, optional_time}
 use Rattle.check_saved_state.specs.Saved.{Saved, SavedObject}
 use Rattle.check_saved_state.specs.Scheduling.{OpenRun, Scheduling}
+use Rattle.check_saved_state.specs.Table.{newest_format}
 use Rattle.check_saved_state.specs.Tree.{object_tree, objects_tree, run_tree, saved_tree, time_tree}
 use Rattle.check_states.specs.Words.{is_letter, kind_word, state_of_letter, state_letter, state_word, kind_of_word, state_of_word}
 use Rattle.check_saved_state.specs.Words.{are_letters, flapping_of_word, flapping_word, letters_of, results_of_letters}
@@ -96,7 +97,7 @@ time_back : (time : Option ℕ) → optional_time (time_tree time) ≡ Some time
 time_back None = refl
 time_back (Some time) = refl
 
-run_back : (run : Option OpenRun) → optional_run (run_tree run) ≡ Some run
+run_back : (run : Option OpenRun) → optional_run newest_format (run_tree run) ≡ Some run
 run_back None = refl
 run_back (Some run) = refl
 
@@ -141,7 +142,7 @@ standing_there : (s : Standing) (state last_hard : Option rules.State) (k : Opti
     → last_hard ≡ Some s.last_hard → f ≡ Some s.flapping → standing_from (Some s.checked) state k (Some s.attempt) last_hard f ≡ Some s
 standing_there s state last_hard k f a b c d = rw (a, b, c, d) refl
 
-standing_back : (o : SavedObject) → standing_in (object_tree o) ≡ Some o.standing
+standing_back : (o : SavedObject) → standing_in newest_format (object_tree o) ≡ Some o.standing
 unfolding standing_in
 standing_back o =
     let s = o.standing in
@@ -156,16 +157,16 @@ scheduling_there : (s : Scheduling) (next : Option (Option ℕ)) (run : Option (
     → scheduling_from next run s.enabled s.forced ≡ Some s
 scheduling_there s next run a b = rw (a, b) refl
 
-scheduling_back : (o : SavedObject) → scheduling_in (object_tree o) ≡ Some o.scheduling
+scheduling_back : (o : SavedObject) → scheduling_in newest_format (object_tree o) ≡ Some o.scheduling
 unfolding scheduling_in
 scheduling_back o =
     let s = o.scheduling in
-    scheduling_there s (optional_time (time_tree s.next)) (optional_run (run_tree s.run)) (time_back s.next) (run_back s.run)
+    scheduling_there s (optional_time (time_tree s.next)) (optional_run newest_format (run_tree s.run)) (time_back s.next) (run_back s.run)
 
 abbrev letters_or_none : List ℕ → Bool → Option (List ℕ)
 letters_or_none letters b = cond b (Some letters) None
 
-letters_there : (o : SavedObject) → letters_member (object_tree o) ≡ Some (letters_of o.results)
+letters_there : (o : SavedObject) → letters_member newest_format (object_tree o) ≡ Some (letters_of o.results)
 letters_there o = ap (letters_or_none (letters_of o.results)) (letters_are o.results)
 
 abbrev object_from : List ℕ → Option Standing → Option (List ℕ) → Option Scheduling → ℕ → ℕ → Bool → Option SavedObject
@@ -178,10 +179,10 @@ object_there : (o : SavedObject) (s : Option Standing) (l : Option (List ℕ)) (
     → object_from o.name s l t o.interval o.max_attempts o.setup_enabled ≡ Some o
 object_there o s l t a b c d = rw (a, b, c) (ap (λ r. Some (record o { results = r })) d)
 
-object_back : (o : SavedObject) → list_all (is_of_sort (is_host_name o.name)) o.results ≡ true → object_in (object_tree o) ≡ Some o
+object_back : (o : SavedObject) → list_all (is_of_sort (is_host_name o.name)) o.results ≡ true → object_in newest_format (object_tree o) ≡ Some o
 unfolding object_in
 object_back o sorted =
-    object_there o (standing_in (object_tree o)) (letters_member (object_tree o)) (scheduling_in (object_tree o)) (standing_back o) (letters_there o)
+    object_there o (standing_in newest_format (object_tree o)) (letters_member newest_format (object_tree o)) (scheduling_in newest_format (object_tree o)) (standing_back o) (letters_there o)
     (scheduling_back o) (letters_back (is_host_name o.name) o.results sorted)
 
 -- the results of each object are of its sort
@@ -189,12 +190,12 @@ abbrev pub AreSorted : List SavedObject → Type 0
 AreSorted [] = Unit {0}
 AreSorted (o ∷ os) = (list_all (is_of_sort (is_host_name o.name)) o.results ≡ true) × AreSorted os
 
-objects_back : (objects : List SavedObject) (i : ℕ) → AreSorted objects → objects_from i (objects_tree objects) ≡ Ok objects
+objects_back : (objects : List SavedObject) (i : ℕ) → AreSorted objects → objects_from newest_format i (objects_tree objects) ≡ Ok objects
 objects_back [] i h = refl
 objects_back (o ∷ os) i h = rw (object_back o h.0, objects_back os (i + 1) h.1) refl
 
 pub draft_back : (saved : Saved) → AreSorted saved.objects → draft_in (saved_tree saved) ≡ Ok saved
-unfolding draft_in
+unfolding draft_of
 draft_back saved h = rw (objects_back saved.objects 0 h) refl
 
 pub format_back : (saved : Saved) → format_test (saved_tree saved) ≡ Ok tt

@@ -4,12 +4,13 @@ use Rattle.std.proofs.Common.{length, take, drop}
 use Rattle.std.proofs.Common.{Option, Some, None, option_map, Ok, refl, sym, ap, ◌∙◌, arith}
 use Rattle.std.specs.Prelude.{nat_lt, nat_le, slice_get}
 use Rattle.std.specs.List.{after_first, before_first, list_all, list_any, position, position_or_len, prefix_len}
+use Rattle.std.specs.Str.{is_utf8}
 use Rattle.std.proofs.lemmas.Bool.{and_parts, eqb-true}
 use Rattle.std.proofs.lemmas.Bool.Decides.{nat_tests}
 use Rattle.std.proofs.lemmas.List.Folds.{list_any-append}
 use Rattle.std.proofs.lemmas.Slice.Eq.{bytes_eq-Decides}
 use Rattle.setup_model.specs.Keys.{first_repeat}
-use Rattle.setup_model.specs.Name.{is_host_name, is_name, is_name_byte}
+use Rattle.setup_model.specs.Name.{has_name_bytes, is_host_name, is_name, is_name_byte}
 use Rattle.setup_model.proofs.RepeatLemmas.{first_repeat_is, repeat_after}
 use Rattle.check_states.specs.declared.standing.Standing.{Standing}
 use Rattle.check_states.specs.declared.state.State as rules
@@ -85,7 +86,9 @@ host_bytes (b ∷ bs) e =
     rw (not_semicolon b a.0) (host_bytes bs a.1)
 
 pub name_is_host : (name : List ℕ) → is_name name ≡ true → is_host_name name ≡ true
-name_is_host name e = host_bytes name (and_parts (nat_le 1 (length name) && nat_le (length name) 255) (list_all is_name_byte name) e).1
+name_is_host name e =
+    let bytes = and_parts (is_utf8 name) (has_name_bytes name) e in
+    host_bytes name (and_parts (nat_le 1 (length name) && nat_le (length name) 255) (list_all is_name_byte name) bytes.1).1
 
 one_more : (n : ℕ) → 1 + n ≡ suc n
 one_more n = omega arith
@@ -177,7 +180,9 @@ attempt n low high =
 ranged : (runs : ℕ) (o : SavedObject) → IsSavedObject runs o → is_in_range o ≡ true
 ranged runs o h =
     let a = attempt_by o.standing o.max_attempts h.standing.lawful h.nonzero_attempts h.bounded_attempts in
-    rw (attempt o.standing.attempt a.0 a.1, attempt o.max_attempts h.nonzero_attempts h.bounded_attempts, h.in_time) refl
+    let interval = h.interval in
+    let short : nat_le o.interval 45411840000000 ≡ true = grind (arith, nat_tests, interval) in
+    rw (attempt o.standing.attempt a.0 a.1, attempt o.max_attempts h.nonzero_attempts h.bounded_attempts, h.in_time, short) refl
 
 -- ---- all of it
 

@@ -2,6 +2,7 @@ pub mod Scheduling
 pub mod Saved
 pub mod SavedViews
 pub mod Words
+pub mod Table
 pub mod Tree
 pub mod Members
 pub mod SavedFault
@@ -9,4 +10,3 @@ pub mod Reading
 pub mod DraftViews
 pub mod Verification
 pub mod Text
-pub mod Written

@@ -1,5 +1,5 @@
 -- The members of an object's tree, in the order in which they are written.
-use Rattle.std.specs.Prelude.{◌^◌, ⊤, Bool, codes, nat_lt}
+use Rattle.std.specs.Prelude.{⊤, codes}
 use Rattle.serde_json.specs.Data.{boolean, string, Members, put}
 use Rattle.check_states.specs.declared.standing.Standing.{Standing}
 use Rattle.check_saved_state.specs.Saved.{SavedObject}
@@ -38,7 +38,3 @@ setup_members o ms =
 unfoldable pub members_put : ⊤
 unfolding state_members standing_members scheduling_members setup_members
 members_put = tt
-
--- whether an object's check interval is a number of 64 bits
-abbrev pub has_u64_interval : SavedObject → Bool
-has_u64_interval o = nat_lt o.interval (2 ^ 64)

@@ -1,9 +1,9 @@
 -- The draft in the tree of a saved state, before its names and numbers are verified. A tree that isn't of this shape is refused.
-use Rattle.std.specs.Prelude.{ℕ, ◌+◌, ◌==◌, Bool, false, not, List, [], ◌∷◌, Option}
-use Rattle.std.specs.Prelude.{Some, None, is_some, option_and_then, Result, Ok, Err, ok_or, codes, if◌then◌else◌}
+use Rattle.std.specs.Prelude.{ℕ, ◌+◌, Bool, false, not, List, [], ◌∷◌, Option}
+use Rattle.std.specs.Prelude.{Some, None, is_some, option_and_then, Result, Ok, Err, ok_or, if◌then◌else◌}
 use Rattle.serde_json.specs.Data.{Data, Items, no_items, item}
 use Rattle.serde_json.specs.Find.{get, as_bool, as_null, as_str, as_array}
-use Rattle.setup_reader.specs.JsonTree.{has_only_members, whole_number, ◌>=>◌}
+use Rattle.setup_reader.specs.JsonTree.{whole_number, ◌>=>◌}
 use Rattle.setup_model.specs.Agreement.{◌>>=◌}
 use Rattle.setup_model.specs.Name.{is_host_name}
 use Rattle.check_states.specs.declared.standing.Kind.{Kind}
@@ -13,40 +13,39 @@ use Rattle.check_saved_state.specs.declared.fault.SavedFault.{SavedFault}
 use Rattle.check_saved_state.specs.declared.fault.SavedFault.TheVariants as faults
 use Rattle.check_saved_state.specs.Saved.{Saved, SavedObject}
 use Rattle.check_saved_state.specs.Scheduling.{OpenRun, Scheduling}
+use Rattle.check_saved_state.specs.Table as members
+use Rattle.check_saved_state.specs.Table.{Row, has_only_members, is_format, value_at}
 use Rattle.check_states.specs.Words.{kind_of_word, state_of_word}
 use Rattle.check_saved_state.specs.Words.{are_letters, flapping_of_word, results_of_letters}
 
--- ---- members by their names
+-- ---- members, by the table
 
-abbrev pub text_member : List ℕ → Data → Option (List ℕ)
-text_member name d = option_and_then as_str (get name d)
+abbrev pub text_member : ℕ → Data → Row → Option (List ℕ)
+text_member format d m = option_and_then as_str (value_at format d m)
 
-abbrev pub number_member : List ℕ → Data → Option ℕ
-number_member name d = option_and_then whole_number (get name d)
+abbrev pub number_member : ℕ → Data → Row → Option ℕ
+number_member format d m = option_and_then whole_number (value_at format d m)
 
-abbrev pub bool_member : List ℕ → Data → Option Bool
-bool_member name d = option_and_then as_bool (get name d)
+abbrev pub bool_member : ℕ → Data → Row → Option Bool
+bool_member format d m = option_and_then as_bool (value_at format d m)
 
-abbrev pub state_member : List ℕ → Data → Option rules.State
-state_member name d = text_member name d >=> state_of_word
+abbrev pub state_member : ℕ → Data → Row → Option rules.State
+state_member format d m = text_member format d m >=> state_of_word
 
 -- null means no time
 abbrev pub optional_time : Data → Option (Option ℕ)
 optional_time d = if is_some (as_null d) then Some None else (whole_number d >=> λ time. Some (Some time))
 
-abbrev pub run_members : List (List ℕ)
-run_members = codes "number" ∷ codes "start" ∷ []
-
-abbrev pub run_in_tree : Data → Option OpenRun
-run_in_tree d = if has_only_members run_members d then
-    (number_member (codes "number") d >=> λ number.
-    (number_member (codes "start") d >=> λ start.
+abbrev pub run_in_tree : ℕ → Data → Option OpenRun
+run_in_tree format d = if has_only_members format members.run_members d then
+    (number_member format d members.run_number >=> λ number.
+    (number_member format d members.run_start >=> λ start.
     Some (record { number = number; start = start })))
     else None
 
 -- null means no run
-abbrev pub optional_run : Data → Option (Option OpenRun)
-optional_run d = if is_some (as_null d) then Some None else (run_in_tree d >=> λ run. Some (Some run))
+abbrev pub optional_run : ℕ → Data → Option (Option OpenRun)
+optional_run format d = if is_some (as_null d) then Some None else (run_in_tree format d >=> λ run. Some (Some run))
 
 -- ---- an object
 
@@ -55,33 +54,27 @@ abbrev pub standing_with : Bool → rules.State → Kind → ℕ → rules.State
 standing_with checked state kind attempt last_hard flapping =
     record { checked = checked; state = state; kind = kind; attempt = attempt; last_hard = last_hard; flapping = flapping }
 
-unfoldable pub standing_in : Data → Option Standing
-standing_in d =
-    (bool_member (codes "checked") d >=> λ checked.
-    (state_member (codes "state") d >=> λ state.
-    (text_member (codes "kind") d >=> kind_of_word >=> λ kind.
-    (number_member (codes "attempt") d >=> λ attempt.
-    (state_member (codes "last_hard_state") d >=> λ last_hard.
-    (text_member (codes "flapping") d >=> flapping_of_word >=> λ flapping.
+unfoldable pub standing_in : ℕ → Data → Option Standing
+standing_in format d =
+    (bool_member format d members.checked >=> λ checked.
+    (state_member format d members.state >=> λ state.
+    (text_member format d members.kind >=> kind_of_word >=> λ kind.
+    (number_member format d members.attempt >=> λ attempt.
+    (state_member format d members.last_hard_state >=> λ last_hard.
+    (text_member format d members.flapping >=> flapping_of_word >=> λ flapping.
     Some (standing_with checked state kind attempt last_hard flapping)))))))
 
-unfoldable pub scheduling_in : Data → Option Scheduling
-scheduling_in d =
-    (get (codes "next_check") d >=> optional_time >=> λ next.
-    (get (codes "run") d >=> optional_run >=> λ run.
-    (bool_member (codes "enabled") d >=> λ enabled.
-    (bool_member (codes "forced") d >=> λ forced.
+unfoldable pub scheduling_in : ℕ → Data → Option Scheduling
+scheduling_in format d =
+    (get members.next_check.name d >=> optional_time >=> λ next.
+    (get members.run.name d >=> optional_run format >=> λ run.
+    (bool_member format d members.enabled >=> λ enabled.
+    (bool_member format d members.forced >=> λ forced.
     Some (record { next = next; run = run; enabled = enabled; forced = forced })))))
 
-abbrev pub object_members : List (List ℕ)
-object_members =
-    codes "name" ∷ codes "state" ∷ codes "kind" ∷ codes "attempt" ∷ codes "last_hard_state" ∷ codes "checked" ∷ codes "flapping" ∷ codes "results"
-    ∷ codes "next_check" ∷ codes "run" ∷ codes "enabled" ∷ codes "forced" ∷ codes "check_interval" ∷ codes "max_check_attempts"
-    ∷ codes "enabled_in_setup" ∷ []
-
 -- the letters of results, if the text has no other bytes
-abbrev pub letters_member : Data → Option (List ℕ)
-letters_member d = text_member (codes "results") d >=> λ letters. (if are_letters letters then Some letters else None)
+abbrev pub letters_member : ℕ → Data → Option (List ℕ)
+letters_member format d = text_member format d members.results >=> λ letters. (if are_letters letters then Some letters else None)
 
 -- the object with these values, and with the letters of its results
 abbrev pub object_with_letters : List ℕ → Standing → List ℕ → Scheduling → ℕ → ℕ → Bool → SavedObject
@@ -95,46 +88,51 @@ object_with_letters name standing letters scheduling interval max_attempts setup
   setup_enabled = setup_enabled;
 }
 
-unfoldable pub object_in : Data → Option SavedObject
-object_in d = if has_only_members object_members d then
-    (text_member (codes "name") d >=> λ name.
-    (standing_in d >=> λ standing.
-    (letters_member d >=> λ letters.
-    (scheduling_in d >=> λ scheduling.
-    (number_member (codes "check_interval") d >=> λ interval.
-    (number_member (codes "max_check_attempts") d >=> λ max_attempts.
-    (bool_member (codes "enabled_in_setup") d >=> λ setup_enabled.
+unfoldable pub object_in : ℕ → Data → Option SavedObject
+object_in format d = if has_only_members format members.object_members d then
+    (text_member format d members.name >=> λ name.
+    (standing_in format d >=> λ standing.
+    (letters_member format d >=> λ letters.
+    (scheduling_in format d >=> λ scheduling.
+    (number_member format d members.check_interval >=> λ interval.
+    (number_member format d members.max_check_attempts >=> λ max_attempts.
+    (bool_member format d members.enabled_in_setup >=> λ setup_enabled.
     Some (object_with_letters name standing letters scheduling interval max_attempts setup_enabled))))))))
     else None
 
 -- the objects of a list from the one at index i on, each in its shape; otherwise the first that isn't
-abbrev pub objects_from : ℕ → Items → Result (List SavedObject) SavedFault
-objects_from i no_items = Ok []
-objects_from i (item d ds) = do
-  first ← ok_or (object_in d) (faults.Shape (Some i))
-  more ← objects_from (i + 1) ds
+abbrev pub objects_from : ℕ → ℕ → Items → Result (List SavedObject) SavedFault
+objects_from format i no_items = Ok []
+objects_from format i (item d ds) = do
+  first ← ok_or (object_in format d) (faults.Shape (Some i))
+  more ← objects_from format (i + 1) ds
   Ok (first ∷ more)
 
 -- ---- the document
 
+-- the format that a tree names, if it is a whole number
+abbrev pub format_in : Data → Option ℕ
+format_in d = option_and_then whole_number (get members.format.name d)
+
 abbrev pub is_other_format : Option ℕ → Bool
 is_other_format None = false
-is_other_format (Some format) = not (format == 1)
+is_other_format (Some format) = not (is_format format)
 
--- A number other than 1 is another format. A `format` that is missing or isn't a whole number is a fault of shape.
+-- Another whole number than a format that is read is refused. A `format` that is missing or isn't a whole number is a fault of shape.
 abbrev pub format_test : Data → Result (Unit {0}) SavedFault
-format_test d = if is_other_format (number_member (codes "format") d) then Err faults.Version else Ok tt
-
-abbrev pub document_members : List (List ℕ)
-document_members = codes "format" ∷ codes "start" ∷ codes "runs" ∷ codes "objects" ∷ []
+format_test d = if is_other_format (format_in d) then Err faults.Version else Ok tt
 
 -- The document itself is tested first, then its objects.
-unfoldable pub draft_in : Data → Result Saved SavedFault
-draft_in d = if has_only_members document_members d then (do
-  format ← ok_or (number_member (codes "format") d) (faults.Shape None)
-  start ← ok_or (number_member (codes "start") d) (faults.Shape None)
-  runs ← ok_or (number_member (codes "runs") d) (faults.Shape None)
-  items ← ok_or (option_and_then as_array (get (codes "objects") d)) (faults.Shape None)
-  objects ← objects_from 0 items
+unfoldable pub draft_of : ℕ → Data → Result Saved SavedFault
+draft_of format d = if has_only_members format members.document_members d then (do
+  start ← ok_or (number_member format d members.start) (faults.Shape None)
+  runs ← ok_or (number_member format d members.runs) (faults.Shape None)
+  items ← ok_or (option_and_then as_array (get members.objects.name d)) (faults.Shape None)
+  objects ← objects_from format 0 items
   Ok (record { start = start; runs = runs; objects = objects }))
     else Err (faults.Shape None)
+
+abbrev pub draft_in : Data → Result Saved SavedFault
+draft_in d = do
+  format ← ok_or (format_in d) (faults.Shape None)
+  draft_of format d

@@ -43,7 +43,7 @@ IsFullName name =
     (is_name name ≡ true) ⊎ ((host description : List ℕ) × (name ≡ full_name (host, description)) × (is_name host ≡ true) × (is_name description ≡ true))
 
 -- A saved object of a scheduler that handed out this number of runs. It has a full name. Its standing and its results are possible for its sort and
--- its maximum of attempts. Its times are within their limits. If its check is running, its run is one of those that were handed out. It has a next
+-- its maximum of attempts. Its times are within their limits. Its check interval is at most the longest that a setup can have. If its check is running, its run is one of those that were handed out. It has a next
 -- time if it is forced.
 pub record IsSavedObject (runs : ℕ) (o : SavedObject) : Type 0 where
   pub name : IsFullName o.name
@@ -54,6 +54,7 @@ pub record IsSavedObject (runs : ℕ) (o : SavedObject) : Type 0 where
   pub numbered : (run : ℕ) → option_map (λ r. r.number) o.scheduling.run ≡ Some run → (1 ≤ run) × (run ≤ runs)
   pub nonzero_attempts : 1 ≤ o.max_attempts
   pub bounded_attempts : o.max_attempts ≤ 255
+  pub interval : o.interval ≤ 45411840000000
 
 -- The facts of every saved state. It has at most 4,096 objects, and no two of them have the same name or the same run.
 pub record IsSaved (saved : Saved) : Type 0 where

@@ -4,6 +4,7 @@ use Rattle.serde_json.specs.Data.{unsigned, Data, null, boolean, number, string,
 use Rattle.serde_json.specs.View.{items_of}
 use Rattle.check_saved_state.specs.Saved.{Saved, SavedObject}
 use Rattle.check_saved_state.specs.Scheduling.{OpenRun}
+use Rattle.check_saved_state.specs.Table.{newest_format}
 use Rattle.check_states.specs.Words.{kind_word, state_word}
 use Rattle.check_saved_state.specs.Words.{flapping_word, letters_of}
 
@@ -44,7 +45,7 @@ objects_tree objects = items_of (map object_tree objects)
 
 abbrev pub saved_tree : Saved → Data
 saved_tree saved = object (
-    member (codes "format") (number_tree 1) (
+    member (codes "format") (number_tree newest_format) (
     member (codes "objects") (array (objects_tree saved.objects)) (
     member (codes "runs") (number_tree saved.runs) (
     member (codes "start") (number_tree saved.start) no_members))))

@@ -48,9 +48,10 @@ distinct_names_test objects = error_at faults.Duplicate (first_repeat bytes_eq (
 abbrev pub is_attempt : ℕ → Bool
 is_attempt n = nat_le 1 n && nat_le n 255
 
--- an object's attempts and times are within their limits
+-- An object's attempts and times are within their limits, and its check interval is at most the longest that a setup can have: 525,600 units of a day.
 abbrev pub is_in_range : SavedObject → Bool
-is_in_range o = is_attempt o.standing.attempt && is_attempt o.max_attempts && is_in_time o.scheduling
+is_in_range o =
+    is_attempt o.standing.attempt && is_attempt o.max_attempts && is_in_time o.scheduling && nat_le o.interval 45411840000000
 
 -- the attempts fit a byte
 pub record HasBoundedAttempts (o : SavedObject) : Type 0 where

@@ -15,7 +15,8 @@ pub enum SavedFault {
     TooLong,
     /// `serde_json` can't read the text, for another reason than memory.
     NotJson,
-    /// The text is an object of JSON, but its `format` is another number than 1.
+    /// The text is an object of JSON, but its `format` is another whole number than
+    /// those of the formats that are read.
     Version,
     /// A member is unknown, missing or of the wrong kind. Or a word isn't allowed there, or a byte isn't the
     /// letter of a result. There is no index if the fault isn't one of an object in the list.
@@ -28,8 +29,8 @@ pub enum SavedFault {
     /// An object has the name of an earlier one. The later one is reported.
     Duplicate(usize),
     /// A number is out of its limits. A start is above 2^60, there are more than 2^60 runs, or a next time is
-    /// above 2^61. Or an attempt or a maximum of attempts isn't from 1 to 255. There is no index for the
-    /// start and the total number of runs.
+    /// above 2^61. Or an attempt or a maximum of attempts isn't from 1 to 255, or a check interval is longer
+    /// than a setup can have. There is no index for the start and the total number of runs.
     Range(Option<usize>),
     /// No scheduler can have this object. Its standing is impossible for its sort and its maximum of
     /// attempts, or its last hard state or a result is of the other sort. Or it has more than 21 results, or

@@ -1,15 +1,15 @@
 //! The tree of a saved state, as `serde_json` writes it.
 
-ghost use Rattle.std.specs.Prelude.{◌≡◌, IfOk, OnOk, map, true};
-ghost use Rattle.std.specs.List.{list_all};
+ghost use Rattle.std.specs.Prelude.{◌≡◌, IfOk, OnOk, map};
 ghost use Rattle.serde_json.specs.Data.{put, string};
 ghost use Rattle.serde_json.specs.View.{members_view, view};
-ghost use Rattle.check_saved_state.specs.Members.{has_u64_interval, scheduling_members, setup_members, standing_members, state_members};
+ghost use Rattle.check_saved_state.specs.Members.{scheduling_members, setup_members, standing_members, state_members};
 ghost use Rattle.check_saved_state.specs.Saved.{IsSaved};
 ghost use Rattle.check_saved_state.specs.Tree.{object_tree, run_tree, saved_tree};
 
 use crate::result_letters::letters_of;
 use crate::saved::{Saved, SavedObject, SavedRun};
+use crate::table::FORMAT;
 use crate::words::flapping_word;
 use check_states::Standing;
 use serde_json::{Map, Value, json, put};
@@ -19,15 +19,13 @@ use std::alloc::{AllocError, Global};
 pub(crate) fn saved_value(alloc: Global, saved: &Saved) -> Result<Value, AllocError>
     ensures tree { IfOk result (λ tree. view tree ≡ saved_tree saved.now) }
     ensures saved { OnOk result (IsSaved saved.now) }
-    ensures fits { OnOk result (list_all has_u64_interval saved.now.objects ≡ true) }
 {
     let objects = object_values(alloc, saved.objects())?;
-    json!(in alloc; {"format": 1u64, "start": saved.start(), "runs": saved.runs(), "objects": objects})
+    json!(in alloc; {"format": FORMAT, "start": saved.start(), "runs": saved.runs(), "objects": objects})
 }
 
 fn object_values(alloc: Global, objects: &[SavedObject]) -> Result<Vec<Value>, AllocError>
-    ensures trees { IfOk result (λ trees. map view trees.items ≡ map object_tree objects.now) }
-    ensures fits { OnOk result (list_all has_u64_interval objects.now ≡ true) }
+    ensures { IfOk result (λ trees. map view trees.items ≡ map object_tree objects.now) }
 {
     let mut trees = Vec::with_capacity(alloc, objects.len())?;
     for object in objects {
@@ -38,8 +36,7 @@ fn object_values(alloc: Global, objects: &[SavedObject]) -> Result<Vec<Value>, A
 
 #[tactic(auto, unfolding(crate::specs::Members::members_put))]
 fn object_value(alloc: Global, object: &SavedObject) -> Result<Value, AllocError>
-    ensures tree { IfOk result (λ tree. view tree ≡ object_tree object.now) }
-    ensures fits { OnOk result (has_u64_interval object.now ≡ true) }
+    ensures { IfOk result (λ tree. view tree ≡ object_tree object.now) }
 {
     let mut members = Map::new(alloc);
     put_standing(&mut members, alloc, object.standing)?;
@@ -109,9 +106,8 @@ fn put_setup(
     alloc: Global,
     object: &SavedObject,
 ) -> Result<(), AllocError>
-    ensures members { OnOk result (members_view members.new.entries
+    ensures { OnOk result (members_view members.new.entries
         ≡ setup_members object.now (members_view members.old.entries)) }
-    ensures fits { OnOk result (has_u64_interval object.now ≡ true) }
 {
     put(
         members,

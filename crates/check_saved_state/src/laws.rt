@@ -1,11 +1,14 @@
 //! Laws of the definitions. Each is the contract of a function without parameters and code.
 
-ghost use Rattle.std.specs.Prelude.{◌≡◌, ◌≤◌, ℕ, List, Ok, length};
+ghost use Rattle.std.specs.Prelude.{◌≡◌, ◌≤◌, ℕ, List, ◌++◌, Ok, length, not, option_map, true};
+ghost use Rattle.std.specs.List.{list_all};
+ghost use Rattle.serde_json.specs.Data.{Data};
 ghost use Rattle.check_saved_state.specs.declared.saved.TheConstants.{MAX_SAVED_BYTES};
+ghost use Rattle.check_saved_state.specs.Reading.{object_in, optional_run};
 ghost use Rattle.check_saved_state.specs.Saved.{IsSaved, Saved};
+ghost use Rattle.check_saved_state.specs.Table.{Row, defaults, is_in, object_members, values_in};
 ghost use Rattle.check_saved_state.specs.Text.{saved_of_text, saved_text};
 ghost use Rattle.check_saved_state.specs.Verification.{verified_saved};
-ghost use Rattle.check_saved_state.specs.Written.{IsWritable};
 
 /// The greatest length of the text of a saved state in bytes, as a number. (Our own profile.)
 pub fn limit_of_a_text()
@@ -20,16 +23,27 @@ pub fn what_is_read_is_what_can_be_saved()
 {}
 
 /// The text of a saved state is within the limit of a text (`fits`), and is read as the same saved state
-/// (`inverse`). The premise is that each name is UTF-8 and each interval is a number of 64 bits, as in every
-/// [`Saved`](crate::Saved). A saved state that is read from a text meets the premise (`writable`). So its
-/// text is read as the same saved state (`again`).
+/// (`inverse`). The same holds of the text of a saved state that was read from any text (`again`).
 pub fn what_is_written_is_read()
-    ensures fits { (saved : Saved) → IsSaved saved → IsWritable saved
-        → length (saved_text saved) ≤ 16777216 }
-    ensures inverse { (saved : Saved) → IsSaved saved → IsWritable saved
-        → saved_of_text (saved_text saved) ≡ Ok saved }
-    ensures writable { (text : List ℕ) → (saved : Saved) → saved_of_text text ≡ Ok saved
-        → IsWritable saved }
+    ensures fits { (saved : Saved) → IsSaved saved → length (saved_text saved) ≤ 16777216 }
+    ensures inverse { (saved : Saved) → IsSaved saved → saved_of_text (saved_text saved) ≡ Ok saved }
     ensures again { (text : List ℕ) → (saved : Saved) → saved_of_text text ≡ Ok saved
         → saved_of_text (saved_text saved) ≡ Ok saved }
+{}
+
+/// A table can grow. Take an object of a text of some format, and two tables of members, of which the second has
+/// those of the first and then others, each added in a later format. By the second, the object has the values
+/// that it has by the first, and then the defaults of the others; and it is an object of the second if it is
+/// one of the first (`grown`). An object of a saved state is read by these values alone, in whichever format, if
+/// runs are read alike in both (`by_values`). So an object of an earlier format is read as the one that has the
+/// defaults.
+pub fn earlier_formats_are_read()
+    ensures grown { (format : ℕ) → (ms others : List Row) → (d : Data)
+        → list_all (λ m. not (is_in format m)) others ≡ true
+        → values_in format (ms ++ others) d
+        ≡ option_map (λ values. values ++ defaults others) (values_in format ms d) }
+    ensures by_values { (format other : ℕ) → (d e : Data)
+        → values_in format object_members d ≡ values_in other object_members e
+        → ((run : Data) → optional_run format run ≡ optional_run other run)
+        → object_in format d ≡ object_in other e }
 {}

@@ -11,7 +11,8 @@
 //!
 //! - `saved`: the saved state of a scheduler and of each object, and the limits.
 //! - `words`, `result_letters` and `json_writer`: the JSON tree of a saved state.
-//! - `members` and `reading`: reading a `draft` from a tree, by its shape.
+//! - `table`: the members of each format.
+//! - `members` and `reading`: reading a `draft` from a tree, by the table.
 //! - `name`, `verification` and `invariants`: the tests of a draft.
 //! - `text`: reading and writing as a whole.
 //! - `fault`: the refusals.
@@ -27,9 +28,11 @@ mod name;
 mod reading;
 mod result_letters;
 mod saved;
+mod table;
 mod text;
 mod verification;
 mod words;
 
 pub use fault::SavedFault;
-pub use saved::{MAX_RUNS, MAX_SAVED_BYTES, Saved, SavedObject, SavedRun};
+pub use saved::{LONGEST_INTERVAL, MAX_RUNS, MAX_SAVED_BYTES, Saved, SavedObject, SavedRun};
+pub use table::FORMAT;

@@ -3,72 +3,83 @@
 
 ghost use Rattle.std.specs.Prelude.{◌≡◌, option_map};
 ghost use Rattle.serde_json.specs.View.{items_view, view};
-ghost use Rattle.check_saved_state.specs.Reading.{draft_in, format_test, letters_member, object_in, objects_from};
+ghost use Rattle.check_saved_state.specs.Reading.{draft_in, draft_of, format_in, format_test, letters_member, object_in, objects_from};
 ghost use Rattle.check_saved_state.specs.Reading.{run_in_tree, optional_run, scheduling_in, standing_in, optional_time};
 ghost use Rattle.check_saved_state.specs.SavedFault.{IsExpectedResult};
+ghost use Rattle.check_saved_state.specs.Table.{is_format};
 
 use crate::draft::{ObjectDraft, SavedDraft, SchedulingDraft, StandingDraft};
 use crate::fault::SavedFault;
 use crate::members::{bool_member, has_only_members, number_member, state_member, text_member};
 use crate::result_letters::are_letters;
 use crate::saved::SavedRun;
+use crate::table::{
+    ATTEMPT, CHECK_INTERVAL, CHECKED, DOCUMENT_FORMAT, DOCUMENT_MEMBERS, ENABLED, ENABLED_IN_SETUP,
+    FLAPPING, FORCED, FORMAT, KIND, LAST_HARD_STATE, MAX_CHECK_ATTEMPTS, NAME, NEXT_CHECK,
+    OBJECT_MEMBERS, OBJECTS, RESULTS, RUN, RUN_MEMBERS, RUN_NUMBER, RUN_START, RUNS, START, STATE,
+};
 use crate::words::flapping_of_word;
 use check_states::Kind;
 use serde_json::Value;
 use std::alloc::Global;
 
-/// The members of a saved state.
-const DOCUMENT_MEMBERS: [&str; 4] = ["format", "start", "runs", "objects"];
-
-/// The members of an object in it.
-const OBJECT_MEMBERS: [&str; 15] = [
-    "name",
-    "state",
-    "kind",
-    "attempt",
-    "last_hard_state",
-    "checked",
-    "flapping",
-    "results",
-    "next_check",
-    "run",
-    "enabled",
-    "forced",
-    "check_interval",
-    "max_check_attempts",
-    "enabled_in_setup",
-];
-
-/// The members of a run.
-const RUN_MEMBERS: [&str; 2] = ["number", "start"];
-
-/// Tests that the format is this one, if there is a number for it.
+/// Tests that the format is one that is read, if there is a number for it.
 pub(crate) fn verify_format(tree: &Value) -> Result<(), SavedFault>
     ensures { result ≡ format_test (view tree.now) }
 {
-    match number_member(tree, "format") {
-        Some(1) | None => Ok(()),
-        Some(_) => Err(SavedFault::Version),
+    match format_of(tree) {
+        Some(format) => {
+            if is_format(format) {
+                Ok(())
+            } else {
+                Err(SavedFault::Version)
+            }
+        }
+        None => Ok(()),
     }
+}
+
+fn format_of(tree: &Value) -> Option<u64>
+    ensures { result ≡ format_in (view tree.now) }
+{
+    tree.get(DOCUMENT_FORMAT.name).and_then(Value::as_u64)
+}
+
+/// Whether texts of this format are read.
+fn is_format(format: u64) -> bool
+    ensures { result ≡ is_format format }
+{
+    1 <= format && format <= FORMAT && FORMAT <= format + 1
 }
 
 /// The draft in a tree, or its first fault of shape. Faults of the document itself come before those of its
 /// objects.
-#[tactic(auto, unfolding(crate::specs::Reading::draft_in))]
 pub(crate) fn read_draft<'v>(alloc: Global, tree: &'v Value) -> Result<SavedDraft<'v>, SavedFault>
     ensures { IsExpectedResult (λ draft. draft) result (draft_in (view tree.now)) }
 {
-    if !has_only_members(tree, &DOCUMENT_MEMBERS) {
+    let format = format_of(tree).ok_or(SavedFault::Shape(None))?;
+    read_draft_of(alloc, format, tree)
+}
+
+/// The same in a text of this format.
+#[tactic(auto, unfolding(crate::specs::Reading::draft_of))]
+fn read_draft_of<'v>(
+    alloc: Global,
+    format: u64,
+    tree: &'v Value,
+) -> Result<SavedDraft<'v>, SavedFault>
+    ensures { IsExpectedResult (λ draft. draft) result (draft_of format (view tree.now)) }
+{
+    if !has_only_members(format, &DOCUMENT_MEMBERS, tree) {
         return Err(SavedFault::Shape(None));
     }
-    number_member(tree, "format").ok_or(SavedFault::Shape(None))?;
-    let start = number_member(tree, "start").ok_or(SavedFault::Shape(None))?;
-    let runs = number_member(tree, "runs").ok_or(SavedFault::Shape(None))?;
+    let start = number_member(format, tree, START).ok_or(SavedFault::Shape(None))?;
+    let runs = number_member(format, tree, RUNS).ok_or(SavedFault::Shape(None))?;
     let values = tree
-        .get("objects")
+        .get(OBJECTS.name)
         .and_then(Value::as_array)
         .ok_or(SavedFault::Shape(None))?;
-    let objects = read_objects(alloc, values)?;
+    let objects = read_objects(alloc, format, values)?;
     Ok(SavedDraft {
         start,
         runs,
@@ -76,58 +87,63 @@ pub(crate) fn read_draft<'v>(alloc: Global, tree: &'v Value) -> Result<SavedDraf
     })
 }
 
-fn read_objects<'v>(alloc: Global, values: &'v [Value]) -> Result<Vec<ObjectDraft<'v>>, SavedFault>
-    ensures { IsExpectedResult (λ drafts. drafts.items) result (objects_from 0 (items_view values.now)) }
+fn read_objects<'v>(
+    alloc: Global,
+    format: u64,
+    values: &'v [Value],
+) -> Result<Vec<ObjectDraft<'v>>, SavedFault>
+    ensures { IsExpectedResult (λ drafts. drafts.items) result
+        (objects_from format 0 (items_view values.now)) }
 {
     let mut objects = Vec::new(alloc);
     for (index, value) in values.iter().enumerate() {
-        let object = read_object(value).ok_or(SavedFault::Shape(Some(index)))?;
+        let object = read_object(format, value).ok_or(SavedFault::Shape(Some(index)))?;
         objects.push(object)?;
     }
     Ok(objects)
 }
 
 #[tactic(auto, unfolding(crate::specs::Reading::object_in))]
-fn read_object<'v>(value: &'v Value) -> Option<ObjectDraft<'v>>
-    ensures { result ≡ object_in (view value.now) }
+fn read_object<'v>(format: u64, value: &'v Value) -> Option<ObjectDraft<'v>>
+    ensures { result ≡ object_in format (view value.now) }
 {
-    if !has_only_members(value, &OBJECT_MEMBERS) {
+    if !has_only_members(format, &OBJECT_MEMBERS, value) {
         return None;
     }
-    let name = text_member(value, "name")?;
-    let standing = read_standing(value)?;
-    let letters = read_letters(value)?;
-    let scheduling = read_scheduling(value)?;
+    let name = text_member(format, value, NAME)?;
+    let standing = read_standing(format, value)?;
+    let letters = read_letters(format, value)?;
+    let scheduling = read_scheduling(format, value)?;
     Some(ObjectDraft {
         name,
         standing,
         letters,
         scheduling,
-        interval: number_member(value, "check_interval")?,
-        max_attempts: number_member(value, "max_check_attempts")?,
-        setup_enabled: bool_member(value, "enabled_in_setup")?,
+        interval: number_member(format, value, CHECK_INTERVAL)?,
+        max_attempts: number_member(format, value, MAX_CHECK_ATTEMPTS)?,
+        setup_enabled: bool_member(format, value, ENABLED_IN_SETUP)?,
     })
 }
 
 #[tactic(auto, unfolding(crate::specs::Reading::standing_in))]
-fn read_standing(value: &Value) -> Option<StandingDraft>
-    ensures { result ≡ standing_in (view value.now) }
+fn read_standing(format: u64, value: &Value) -> Option<StandingDraft>
+    ensures { result ≡ standing_in format (view value.now) }
 {
     Some(StandingDraft {
-        checked: bool_member(value, "checked")?,
-        state: state_member(value, "state")?,
-        kind: Kind::from_word(text_member(value, "kind")?)?,
-        attempt: number_member(value, "attempt")?,
-        last_hard: state_member(value, "last_hard_state")?,
-        flapping: flapping_of_word(text_member(value, "flapping")?)?,
+        checked: bool_member(format, value, CHECKED)?,
+        state: state_member(format, value, STATE)?,
+        kind: Kind::from_word(text_member(format, value, KIND)?)?,
+        attempt: number_member(format, value, ATTEMPT)?,
+        last_hard: state_member(format, value, LAST_HARD_STATE)?,
+        flapping: flapping_of_word(text_member(format, value, FLAPPING)?)?,
     })
 }
 
 /// The letters of results, if the text has no other bytes.
-fn read_letters<'v>(value: &'v Value) -> Option<&'v str>
-    ensures { option_map (λ letters. letters.now) result ≡ letters_member (view value.now) }
+fn read_letters<'v>(format: u64, value: &'v Value) -> Option<&'v str>
+    ensures { option_map (λ letters. letters.now) result ≡ letters_member format (view value.now) }
 {
-    let letters = text_member(value, "results")?;
+    let letters = text_member(format, value, RESULTS)?;
     if are_letters(letters) {
         Some(letters)
     } else {
@@ -136,14 +152,14 @@ fn read_letters<'v>(value: &'v Value) -> Option<&'v str>
 }
 
 #[tactic(auto, unfolding(crate::specs::Reading::scheduling_in))]
-fn read_scheduling(value: &Value) -> Option<SchedulingDraft>
-    ensures { result ≡ scheduling_in (view value.now) }
+fn read_scheduling(format: u64, value: &Value) -> Option<SchedulingDraft>
+    ensures { result ≡ scheduling_in format (view value.now) }
 {
     Some(SchedulingDraft {
-        next: read_time(value.get("next_check")?)?,
-        run: read_run(value.get("run")?)?,
-        enabled: bool_member(value, "enabled")?,
-        forced: bool_member(value, "forced")?,
+        next: read_time(value.get(NEXT_CHECK.name)?)?,
+        run: read_run(format, value.get(RUN.name)?)?,
+        enabled: bool_member(format, value, ENABLED)?,
+        forced: bool_member(format, value, FORCED)?,
     })
 }
 
@@ -158,23 +174,23 @@ fn read_time(value: &Value) -> Option<Option<u64>>
 }
 
 /// A run. None for null.
-fn read_run(value: &Value) -> Option<Option<SavedRun>>
-    ensures { result ≡ optional_run (view value.now) }
+fn read_run(format: u64, value: &Value) -> Option<Option<SavedRun>>
+    ensures { result ≡ optional_run format (view value.now) }
 {
     if value.is_null() {
         return Some(None);
     }
-    Some(Some(read_open_run(value)?))
+    Some(Some(read_open_run(format, value)?))
 }
 
-fn read_open_run(value: &Value) -> Option<SavedRun>
-    ensures { result ≡ run_in_tree (view value.now) }
+fn read_open_run(format: u64, value: &Value) -> Option<SavedRun>
+    ensures { result ≡ run_in_tree format (view value.now) }
 {
-    if !has_only_members(value, &RUN_MEMBERS) {
+    if !has_only_members(format, &RUN_MEMBERS, value) {
         return None;
     }
     Some(SavedRun {
-        number: number_member(value, "number")?,
-        start: number_member(value, "start")?,
+        number: number_member(format, value, RUN_NUMBER)?,
+        start: number_member(format, value, RUN_START)?,
     })
 }

@@ -129,5 +129,8 @@ impl Saved {
 /// The greatest length of the text of a saved state, in bytes.
 pub const MAX_SAVED_BYTES: usize = 16_777_216;
 
+/// The longest check interval that a setup can have, in milliseconds: 525,600 units of a day.
+pub const LONGEST_INTERVAL: u64 = 45_411_840_000_000;
+
 /// The greatest number of runs that a scheduler hands out.
 pub const MAX_RUNS: u64 = 1 << 60;

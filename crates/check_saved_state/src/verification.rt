@@ -10,7 +10,7 @@ ghost use Rattle.check_saved_state.specs.Verification.{is_attempt, is_full_name,
 use crate::draft::{ObjectDraft, SavedDraft, SchedulingDraft};
 use crate::fault::SavedFault;
 use crate::name::is_full_name;
-use crate::saved::{MAX_RUNS, SavedRun};
+use crate::saved::{LONGEST_INTERVAL, MAX_RUNS, SavedRun};
 use check_states::{LAST_MOMENT, LAST_TIME};
 use indexmap::IndexSet;
 use setup_model::{MAX_ATTEMPTS, MAX_OBJECTS};
@@ -95,6 +95,7 @@ fn is_in_range(object: &ObjectDraft<'_>) -> bool
     is_attempt(object.standing.attempt)
         && is_attempt(object.max_attempts)
         && is_in_time(object.scheduling)
+        && object.interval <= LONGEST_INTERVAL
 }
 
 fn is_attempt(number: u64) -> bool

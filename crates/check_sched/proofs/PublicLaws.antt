@@ -8,5 +8,5 @@ pub use Rattle.check_sched.proofs.StandingLaws.{opened_standing}
 pub use Rattle.check_sched.proofs.RunLaws.{taken_after, taken_number}
 -- opening_states
 pub use Rattle.check_sched.proofs.NewObjectLaws.{opening_can_be}
--- resumed_states: saved, writable
-pub use Rattle.check_sched.proofs.SaveLaws.{saved_is_writable, saved_of_state}
+-- resumed_states: saved
+pub use Rattle.check_sched.proofs.SaveLaws.{saved_of_state}

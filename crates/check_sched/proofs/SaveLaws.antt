@@ -1,6 +1,6 @@
 -- What is kept of a scheduler, in whatever state it can be, is what one can go on from.
 use Rattle.std.proofs.Common.{◌≡◌, ℕ, zero, suc, ◌+◌, ◌<◌, ◌++◌, true, false, List, [], ◌∷◌, length, map, Option, Some, None, option_map}
-use Rattle.std.proofs.Common.{IsUtf8, refl, sym, ap, subst, ◌∙◌, arith, inl, inr}
+use Rattle.std.proofs.Common.{refl, sym, ap, subst, ◌∙◌, arith, inl, inr}
 use Rattle.std.specs.Prelude.{slice_get, nat_lt, unwrap_or, option_and_then}
 use Rattle.std.specs.List.{list_all}
 use Rattle.std.proofs.lemmas.Bool.Decides.{nat_tests}
@@ -13,13 +13,11 @@ use Rattle.setup_objects.proofs.NameLemmas.{name_of_host}
 use Rattle.check_sched.specs.Saved.{saved_object, saved_of}
 use Rattle.check_saved_state.specs.Saved.{IsFullName, IsSaved, IsSavedObject, SavedObject}
 use Rattle.check_sched.specs.Scheduling.{opening_object}
-use Rattle.check_saved_state.specs.Written.{IsWritable, IsWritableObject}
 use Rattle.check_saved_state.specs.Scheduling.{OpenRun, Scheduling, is_in_time, is_timed_if_forced}
 use Rattle.check_sched.specs.State.{IsState, State, is_host, results_at}
 use Rattle.check_states.specs.Flapping.{AreResultsFor}
 use Rattle.check_states.specs.Standing.{IsStandingFor}
 use Rattle.check_sched.specs.State.{standing_at}
-use Rattle.check_sched.proofs.EachObjectLaws.{name_is}
 use Rattle.check_sched.proofs.IntervalLaws.{few_milliseconds}
 use Rattle.check_sched.proofs.OpeningLaws.{count_is}
 use Rattle.check_sched.proofs.ReportLaws.{check_in_range, object_in_range, standing_of_state}
@@ -105,6 +103,7 @@ kept_object s n o is e =
       numbered = λ run f. is.numbered n run (run_there (slice_get s.objects n) run f);
       nonzero_attempts = grind (arith, nat_tests, range);
       bounded_attempts = grind (arith, nat_tests, range);
+      interval = few_milliseconds s.setup o.object.check_interval is.valid_setup (check_in_range o.object range);
     }
 
 -- ---- all of it
@@ -134,14 +133,4 @@ saved_of_state s is = record {
       is.once one other run
       (run_there (slice_get s.objects one) run (ap (λ (o : SavedObject). option_map (λ (r : OpenRun). r.number) o.scheduling.run) a.2 ∙ g))
       (run_there (slice_get s.objects other) run (ap (λ (o : SavedObject). option_map (λ (r : OpenRun). r.number) o.scheduling.run) b.2 ∙ h));
-}
-
--- where the names of the objects are UTF-8, it can be written
-pub saved_is_writable : (s : State) → IsSetup s.setup → ((number : ℕ) → IsUtf8 (name_of s.setup number)) → IsWritable (saved_of s)
-saved_is_writable s valid texts = record {
-  each = λ place x e.
-      let at = kept_at s place x e in
-      let most = few_milliseconds s.setup at.0.object.check_interval valid (check_in_range at.0.object (object_in_range s.setup place at.0 valid at.1)) in
-      subst IsWritableObject at.2
-      (record { name = subst IsUtf8 (name_is s.setup place at.0 at.1) (texts place); interval = omega (arith, most) });
 }

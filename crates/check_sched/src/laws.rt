@@ -1,6 +1,6 @@
 //! Laws of the definitions. Each is the contract of a function without parameters and code.
 
-ghost use Rattle.std.specs.Prelude.{ℕ, ◌≡◌, ◌≢◌, ◌+◌, ◌^◌, ◌<◌, ◌≤◌, true, false, IsUtf8, List, [], ◌∷◌, ◌++◌, None, Some, slice_get};
+ghost use Rattle.std.specs.Prelude.{ℕ, ◌≡◌, ◌≢◌, ◌+◌, ◌^◌, ◌<◌, ◌≤◌, true, false, List, [], ◌∷◌, ◌++◌, None, Some, slice_get};
 ghost use Rattle.std.specs.List.{list_any};
 ghost use Rattle.std.specs.List.Sorted.{IsPermutation};
 ghost use Rattle.ticket_steps.specs.declared.books.Entry.{Entry};
@@ -13,7 +13,6 @@ ghost use Rattle.check_states.specs.Standing.{is_soft_problem, pending_standing}
 ghost use Rattle.check_saved_state.specs.declared.saved.TheConstants.{MAX_RUNS};
 ghost use Rattle.check_sched.specs.declared.call.Call.{Call};
 ghost use Rattle.check_saved_state.specs.Saved.{IsSaved, Saved, SavedObject, saved_by_name};
-ghost use Rattle.check_saved_state.specs.Written.{IsWritable};
 ghost use Rattle.check_sched.specs.Saved.{state_after_resume, saved_run_number_of, saved_of, continues_running};
 ghost use Rattle.check_sched.specs.State.{IsStandingOf, IsState, IsWithinLimit, State, flap_thresholds_of, is_host, max_attempts_of, opening, results_at};
 ghost use Rattle.check_sched.specs.State.{run_number_of, scheduling_at, standing_at};
@@ -96,14 +95,11 @@ pub fn resumed_over_the_same()
 
 /// A scheduler that is resumed from any saved state, over any setup and from any moment, is in a state that a
 /// scheduler can be in (`state_after_resume`). The saved state of a scheduler, in any state that it can be in, is well
-/// formed (`saved`). It can be written if the names of its objects are UTF-8, as in every setup that was read
-/// (`writable`).
+/// formed (`saved`).
 pub fn resumed_states()
     ensures state_after_resume { (setup : Configuration) → (saved : Saved) → (start : ℕ) → IsSetup setup
         → IsSaved saved → start ≤ LAST_MOMENT → IsState (state_after_resume setup saved start) }
     ensures saved { (s : State) → IsState s → IsSaved (saved_of s) }
-    ensures writable { (s : State) → IsState s → ((number : ℕ) → IsUtf8 (name_of s.setup number))
-        → IsWritable (saved_of s) }
 {}
 
 /// The state with which a scheduler opens is one that a scheduler can be in.

@@ -19,7 +19,7 @@ use Rattle.check_saved_state.proofs.InverseLemmas.{inverse}
 use Rattle.check_saved_state.proofs.PlainLemmas.{read_compact}
 use Rattle.check_sched.specs.Saved.{state_after_resume, saved_of}
 use Rattle.check_sched.specs.State.{IsState, State, opening}
-use Rattle.check_sched.proofs.PublicLaws.{opening_can_be, saved_is_writable, saved_of_state}
+use Rattle.check_sched.proofs.PublicLaws.{opening_can_be, saved_of_state}
 use Rattle.check_sched.proofs.SavedLaws.{resumed_same}
 use Rattle.check_sched.proofs.StateLaws.{step_is_state}
 use Rattle.nagsched_protocol.specs.declared.command.RunCommand.{RunCommand}
@@ -46,7 +46,7 @@ use Rattle.nagsched_run.specs.Cut.{first_part, second_part, whole_input}
 use Rattle.nagsched_protocol.specs.Output.{AreWholeLines}
 use Rattle.nagsched_run.proofs.FeedLemmas.{saved_free}
 use Rattle.nagsched_run.proofs.LiveLemmas.{setup_is}
-use Rattle.nagsched_run.proofs.NameTextLemmas.{AreTexts, setup_by}
+use Rattle.nagsched_run.proofs.ReadSetupLemmas.{setup_by}
 
 -- ---- commands, whatever the numbers of their lines
 
@@ -254,14 +254,13 @@ cut_and_gone_on start document front rest script moment free whole e =
     let q = split (command_by c) (lines_of front) (lines_of rest) 2 p.1 (ap (commands_from (command_by c) 2) (sym (lines_by front rest whole)) ∙ p.3) in
     let a = q.0 in
     let b = q.1 in
-    let read = setup_by document c (setup_is (setup_of document) c p.2) in
+    let valid = setup_by document c (setup_is (setup_of document) c p.2) in
     let opened = opening c start in
     let s = through opened a in
-    let is = through_is opened a (opening_can_be c start read.setup moment) in
+    let is = through_is opened a (opening_can_be c start valid moment) in
     let keeps = through_keeps opened a in
-    let texts : AreTexts s.setup = subst AreTexts (sym keeps) read.texts in
     let saved = saved_text (saved_of s) in
-    let text_is = inverse (saved_of s) (saved_of_state s is) (saved_is_writable s is.valid_setup texts) in
+    let text_is = inverse (saved_of s) (saved_of_state s is) in
     let with_save = ap (commands_from (command_by c) 2) (lines_by front save_text whole)
     ∙ join (command_by c) (lines_of front) (save_text ∷ []) a (command.Save ∷ []) q.2 (save_line c) 2 in
     let again = resumed_back c saved rest (saved_of s) b (saved_free (saved_of s)) text_is (q.3 3) in (

@@ -1,6 +1,6 @@
 pub mod DriveLemmas
 pub mod FeedLemmas
-pub mod NameTextLemmas
+pub mod ReadSetupLemmas
 pub mod LiveLemmas
 pub mod NextLineLemmas
 pub mod ContinuationLemmas

@@ -107,7 +107,7 @@ semicolon_free (b ∷ bytes) h =
 
 -- a name has no semicolon
 pub parted_name : (name : List ℕ) → is_name name ≡ true → is_host_name name ≡ true
-parted_name name h = semicolon_free name (and_second _ _ h)
+parted_name name h = semicolon_free name (and_second _ _ (and_second _ _ h))
 
 not_semicolon_by : (y : ℕ) (b : Bool) → (y == 59) ≡ b → not b ≡ true → (59 == y) ≡ false
 not_semicolon_by y true e h = cc

@@ -1,5 +1,5 @@
 use Rattle.check_spread.proofs.BoundLemmas.{first_times_below}
-use Rattle.check_sched.proofs.SaveLaws.{saved_is_writable, saved_of_state}
+use Rattle.check_sched.proofs.SaveLaws.{saved_of_state}
 use Rattle.check_sched.proofs.ResumedLaws.{resumed_is_state}
 use Rattle.check_sched.proofs.laws.resumed_states.Goals as goal
 
@@ -8,6 +8,3 @@ returns-clause-state_after_resume c = λ setup saved start valid is m. resumed_i
 
 pub returns-clause-saved : goal.returns-clause-saved
 returns-clause-saved c = λ s is. saved_of_state s is
-
-pub returns-clause-writable : goal.returns-clause-writable
-returns-clause-writable c = λ s is texts. saved_is_writable s is.valid_setup texts

@@ -18,13 +18,13 @@ pub returns-clause-fits : goal.returns-clause-fits
 returns-clause-fits c =
     let saved = c.args.self.now in
     let text = c.in_ok-text.ensures.text (ap has_float c.in_ok-tree.ensures.tree ∙ saved_has_none saved) ∙ ap compact_text c.in_ok-tree.ensures.tree in
-    subst (λ (l : List ℕ). length l ≤ 16777216) (sym text) (text_fits saved c.in_ok-tree.ensures.saved c.in_ok-tree.ensures.fits)
+    subst (λ (l : List ℕ). length l ≤ 16777216) (sym text) (text_fits saved c.in_ok-tree.ensures.saved)
 
 pub returns-clause-reads_back : goal.returns-clause-reads_back
 returns-clause-reads_back c =
     let saved = c.args.self.now in
     let text = c.in_ok-text.ensures.text (ap has_float c.in_ok-tree.ensures.tree ∙ saved_has_none saved) ∙ ap compact_text c.in_ok-tree.ensures.tree in
-    let fits = subst (λ (l : List ℕ). length l ≤ 16777216) (sym text) (text_fits saved c.in_ok-tree.ensures.saved c.in_ok-tree.ensures.fits) in
+    let fits = subst (λ (l : List ℕ). length l ≤ 16777216) (sym text) (text_fits saved c.in_ok-tree.ensures.saved) in
     let shallow = subst (λ (n : ℕ). n ≤ 127) (sym (ap depth c.in_ok-tree.ensures.tree)) (saved_depth saved) in
     text_back saved c.in_ok-text.text.items c.in_ok-tree.ensures.saved fits c.in_ok-text.ensures.utf8
     (c.in_ok-text.ensures.reads_back shallow ∙ ap Some c.in_ok-tree.ensures.tree)

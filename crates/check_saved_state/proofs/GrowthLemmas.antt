@@ -1,0 +1,145 @@
+-- A table that grows reads the texts of earlier formats as before; and an object is read by its values alone.
+use Rattle.std.proofs.Common.{◌≡◌, ℕ, ◌&&◌, ◌||◌, not, Bool, true, false, cond, List, [], ◌∷◌, ◌++◌, map, Option, Some, None, String, Global, string_bytes}
+use Rattle.std.proofs.Common.{bytes_eq, option_and_then, option_map, refl, sym, ap, ◌∙◌}
+use Rattle.std.specs.Prelude.{is_none, nat_le, slice_get, unwrap_or}
+use Rattle.std.specs.List.{list_all, list_any}
+use Rattle.std.specs.Map.{keys_of}
+use Rattle.std.proofs.lemmas.Bool.{and_parts}
+use Rattle.serde_json.specs.Data.{Data, null, boolean, number, string, array, object, Members, no_members, member}
+use Rattle.serde_json.specs.Find.{as_bool, as_str, get}
+use Rattle.serde_json.specs.View.{members_view}
+use Rattle.serde_json.specs.declared.value.Value.{Value}
+use Rattle.setup_reader.specs.JsonTree.{whole_number, ◌>=>◌}
+use Rattle.setup_reader.specs.Shapes.{first_of}
+use Rattle.setup_model.proofs.ListLemmas.{list_any-map}
+use Rattle.check_states.specs.Words.{kind_of_word, state_of_word}
+use Rattle.check_saved_state.specs.declared.table.Member.{Member}
+use Rattle.check_saved_state.specs.Reading.{object_in, object_with_letters, optional_run, optional_time, scheduling_in, standing_in, standing_with}
+use Rattle.check_saved_state.specs.Saved.{SavedObject}
+use Rattle.check_saved_state.specs.Scheduling.{OpenRun}
+use Rattle.check_saved_state.specs.Table.{Added, Row, are_known, as_row, default_by, defaults, has_only_members, is_in, is_known, object_members, value_at, values_in}
+use Rattle.check_saved_state.specs.Words.{are_letters, flapping_of_word}
+
+-- ---- the members of the code's map
+
+pub only_seen : (format : ℕ) (ms : List Member) (es : List (String Global × Value))
+    → list_all (λ key. list_any (λ m. is_in format (as_row m) && bytes_eq m.name.now (string_bytes key)) ms) (keys_of es)
+    ≡ are_known format (map as_row ms) (members_view es)
+only_seen format ms [] = refl
+only_seen format ms (e ∷ es) =
+    ap (λ b. b && list_all (λ key. list_any (λ m. is_in format (as_row m) && bytes_eq m.name.now (string_bytes key)) ms) (keys_of es))
+    (sym (list_any-map (λ m. is_in format m && bytes_eq m.name (string_bytes e.0)) as_row ms))
+    ∙ ap (λ b. is_known format (map as_row ms) (string_bytes e.0) && b) (only_seen format ms es)
+
+-- ---- a table and one with members that were added later
+
+abbrev AreLater : ℕ → List Row → Type 0
+AreLater format others = list_all (λ m. not (is_in format m)) others ≡ true
+
+none_by : (b c rest : Bool) → not b ≡ true → rest ≡ false → ((b && c) || rest) ≡ false
+none_by true c rest h e = cc
+none_by false c rest h e = e
+
+none_later : (format : ℕ) (others : List Row) (key : List ℕ) → AreLater format others → is_known format others key ≡ false
+none_later format [] key h = refl
+none_later format (m ∷ others) key h =
+    let p = and_parts (not (is_in format m)) (list_all (λ x. not (is_in format x)) others) h in
+    none_by (is_in format m) (bytes_eq m.name key) (is_known format others key) p.0 (none_later format others key p.1)
+
+known_more : (format : ℕ) (ms others : List Row) (key : List ℕ) → AreLater format others
+    → is_known format (ms ++ others) key ≡ is_known format ms key
+known_more format [] others key h = none_later format others key h
+known_more format (m ∷ ms) others key h = ap (λ b. (is_in format m && bytes_eq m.name key) || b) (known_more format ms others key h)
+
+all_known_more : (format : ℕ) (ms others : List Row) (inside : Members) → AreLater format others
+    → are_known format (ms ++ others) inside ≡ are_known format ms inside
+all_known_more format ms others no_members h = refl
+all_known_more format ms others (member k d inside) h = rw (known_more format ms others k h, all_known_more format ms others inside h) refl
+
+only_more : (format : ℕ) (ms others : List Row) (d : Data) → AreLater format others
+    → has_only_members format (ms ++ others) d ≡ has_only_members format ms d
+only_more format ms others null h = refl
+only_more format ms others (boolean b) h = refl
+only_more format ms others (number n) h = refl
+only_more format ms others (string s) h = refl
+only_more format ms others (array ds) h = refl
+only_more format ms others (object inside) h = all_known_more format ms others inside h
+
+value_by : (has : Bool) (v : Data) (found : Option Data) → not (is_none (cond has None (Some v))) ≡ true → first_of (cond has None (Some v)) found ≡ Some v
+value_by true v found h = cc
+value_by false v found h = refl
+
+default_value : (format : ℕ) (added : Option Added) (found : Option Data) → not (is_none (default_by format added)) ≡ true
+    → first_of (default_by format added) found ≡ option_map (λ a. a.value) added
+default_value format None found h = cc
+default_value format (Some a) found h = value_by (nat_le a.since format) a.value found h
+
+later_values : (format : ℕ) (others : List Row) (d : Data) → AreLater format others → map (value_at format d) others ≡ defaults others
+later_values format [] d h = refl
+later_values format (m ∷ others) d h =
+    let p = and_parts (not (is_in format m)) (list_all (λ x. not (is_in format x)) others) h in
+    rw (default_value format m.added (get m.name d) p.0, later_values format others d p.1) refl
+
+values_more : (format : ℕ) (ms others : List Row) (d : Data) → AreLater format others
+    → map (value_at format d) (ms ++ others) ≡ map (value_at format d) ms ++ defaults others
+values_more format [] others d h = later_values format others d h
+values_more format (m ∷ ms) others d h = ap (λ values. value_at format d m ∷ values) (values_more format ms others d h)
+
+moved : {A : Type 0} (b : Bool) (xs ys : List A) → cond b (Some (xs ++ ys)) None ≡ option_map (λ values. values ++ ys) (cond b (Some xs) None)
+moved true xs ys = refl
+moved false xs ys = refl
+
+pub grown : (format : ℕ) (ms others : List Row) (d : Data) → list_all (λ m. not (is_in format m)) others ≡ true
+    → values_in format (ms ++ others) d ≡ option_map (λ values. values ++ defaults others) (values_in format ms d)
+grown format ms others d h =
+    ap (λ b. cond b (Some (map (value_at format d) (ms ++ others))) None) (only_more format ms others d h)
+    ∙ ap (λ values. cond (has_only_members format ms d) (Some values) None) (values_more format ms others d h)
+    ∙ moved (has_only_members format ms d) (map (value_at format d) ms) (defaults others)
+
+-- ---- an object by its values
+
+abbrev object_by : (Data → Option (Option OpenRun)) → List (Option Data) → Option SavedObject
+object_by run_of values =
+    let value : ℕ → Option Data = λ i. unwrap_or (slice_get values i) None in
+    let text : ℕ → Option (List ℕ) = λ i. option_and_then as_str (value i) in
+    let whole : ℕ → Option ℕ = λ i. option_and_then whole_number (value i) in
+    let switch : ℕ → Option Bool = λ i. option_and_then as_bool (value i) in
+    text 0 >=> λ name.
+    ((switch 5 >=> λ checked.
+    (text 1 >=> state_of_word >=> λ state.
+    (text 2 >=> kind_of_word >=> λ kind.
+    (whole 3 >=> λ attempt.
+    (text 4 >=> state_of_word >=> λ last_hard.
+    (text 6 >=> flapping_of_word >=> λ flapping.
+    Some (standing_with checked state kind attempt last_hard flapping))))))) >=> λ standing.
+    ((text 7 >=> λ letters. (cond (are_letters letters) (Some letters) None)) >=> λ letters.
+    ((value 8 >=> optional_time >=> λ next.
+    (value 9 >=> run_of >=> λ run.
+    (switch 10 >=> λ enabled.
+    (switch 11 >=> λ forced.
+    Some (record { next = next; run = run; enabled = enabled; forced = forced }))))) >=> λ scheduling.
+    (whole 12 >=> λ interval.
+    (whole 13 >=> λ max_attempts.
+    (switch 14 >=> λ setup_enabled.
+    Some (object_with_letters name standing letters scheduling interval max_attempts setup_enabled)))))))
+
+object_seen : (format : ℕ) (d : Data)
+    → object_in format d ≡ cond (has_only_members format object_members d) (object_by (optional_run format) (map (value_at format d) object_members)) None
+unfolding object_in standing_in scheduling_in
+object_seen format d = refl
+
+by_same : {A B : Type 0} (b c : Bool) (x y : A) (f : A → Option B) → cond b (Some x) None ≡ cond c (Some y) None → cond b (f x) None ≡ cond c (f y) None
+by_same true true x y f e = let same : x ≡ y = cc in ap f same
+by_same true false x y f e = cc
+by_same false true x y f e = cc
+by_same false false x y f e = refl
+
+pub by_values : (format other : ℕ) (d e : Data) → values_in format object_members d ≡ values_in other object_members e
+    → ((run : Data) → optional_run format run ≡ optional_run other run) → object_in format d ≡ object_in other e
+by_values format other d e same runs =
+    let run_of : optional_run format ≡ optional_run other = λ i run. runs run i in
+    object_seen format d
+    ∙ by_same (has_only_members format object_members d) (has_only_members other object_members e) (map (value_at format d) object_members)
+    (map (value_at other e) object_members) (object_by (optional_run format)) same
+    ∙ ap (λ f. cond (has_only_members other object_members e) (object_by f (map (value_at other e) object_members)) None) run_of
+    ∙ sym (object_seen other e)
