@@ -18,6 +18,7 @@ use Rattle.check_states.specs.declared.state.State.TheVariants as state
 use Rattle.check_saved_state.specs.Saved.{IsFullName, IsSaved, IsSavedObject, Saved, SavedObject}
 use Rattle.check_saved_state.specs.Scheduling.{OpenRun, is_moment, is_time}
 use Rattle.check_saved_state.specs.Text.{saved_text}
+use Rattle.check_saved_state.specs.Table.{newest_format}
 use Rattle.check_saved_state.specs.Tree.{object_tree, objects_tree, run_tree, saved_tree, time_tree}
 use Rattle.check_states.specs.Words.{kind_word, state_letter, state_word}
 use Rattle.check_saved_state.specs.Words.{flapping_word, letters_of}
@@ -203,5 +204,5 @@ text_fits saved is =
     let c = objects_weight saved.runs saved.objects is.runs is.each in
     let d = is.bounded in
     let e = text_length (saved_tree saved) in
-    let f = number_length 1 (omega arith) in
+    let f = number_length newest_format (omega arith) in
     omega arith
