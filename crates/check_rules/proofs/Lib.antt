@@ -1,2 +1,4 @@
 pub mod BlockedLaws
+pub mod InheritLemmas
 pub mod MarkLemmas
+pub mod SearchLemmas

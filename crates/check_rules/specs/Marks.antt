@@ -1,19 +1,29 @@
--- The masters that were asked before, on the way through dependencies that inherit.
-use Rattle.std.specs.Prelude.{ℕ, ◌≡◌, ◌&&◌, Bool, true, false, List}
-use Rattle.std.specs.List.{slice_index_or}
+-- The search through dependencies that inherit: the masters that are marked, and those that wait.
+use Rattle.std.specs.Prelude.{ℕ, ◌≡◌, ◌==◌, ◌&&◌, ◌||◌, Bool, true, false, not, List, length}
+use Rattle.std.specs.List.{list_all, list_any, slice_index_or}
 use Rattle.setup_model.specs.declared.dependency.Dependency.{Dependency}
-use Rattle.check_objects.specs.Configuration.{Configuration}
-use Rattle.check_states.specs.declared.standing.Standing.{Standing}
-use Rattle.check_rules.specs.Dependencies.{is_blocked}
+use Rattle.setup_order.specs.Orders.{is_among}
 
 -- whether the object with this number is marked
 abbrev pub is_marked : List Bool → ℕ → Bool
 is_marked marks object = slice_index_or marks object false
 
--- no marked object is blocked
-abbrev pub AreUnblocked : Configuration → List Standing → List Bool → Type 0
-AreUnblocked setup standings marks = (object : ℕ) → is_marked marks object ≡ true → is_blocked setup standings object ≡ false
+-- whether each master from which these dependencies inherit is marked
+abbrev pub are_marked : List Dependency → List Bool → Bool
+are_marked dependencies marks = list_all (λ d. not d.inherits || is_marked marks d.master) dependencies
 
--- whether a dependency fails because it inherits: its master is blocked
-abbrev pub is_inheriting : Configuration → List Standing → Dependency → Bool
-is_inheriting setup standings d = d.inherits && is_blocked setup standings d.master
+-- whether one of these dependencies inherits from the object
+abbrev pub inherits_from : List Dependency → ℕ → Bool
+inherits_from dependencies object = list_any (λ d. d.inherits && (d.master == object)) dependencies
+
+-- Some objects were marked. These dependencies inherit from each of them.
+pub record HasMarked (dependencies : List Dependency) (marks marks' : List Bool) : Type 0 where
+  pub size : length marks' ≡ length marks
+  pub kept : (object : ℕ) → is_marked marks object ≡ true → is_marked marks' object ≡ true
+  pub inherited : (object : ℕ) → is_marked marks object ≡ false → is_marked marks' object ≡ true → inherits_from dependencies object ≡ true
+
+-- Those that were marked wait too, and everything that waits is still marked.
+pub record HasQueued (marks marks' : List Bool) (waiting waiting' : List ℕ) : Type 0 where
+  pub kept : (object : ℕ) → is_among waiting object ≡ true → is_among waiting' object ≡ true
+  pub added : (object : ℕ) → is_marked marks object ≡ false → is_marked marks' object ≡ true → is_among waiting' object ≡ true
+  pub marked : list_all (is_marked marks) waiting ≡ true → list_all (is_marked marks') waiting' ≡ true

@@ -11,10 +11,14 @@
 //!
 //! - `reachability`: the state of a host by its parents.
 //! - `dependencies`: whether a dependency blocks a check.
+//! - `criteria`: whether the state of a master makes a dependency fail.
+//! - `masters`: the masters that are reached through dependencies that inherit.
 //! - `laws`: facts about these rules.
 
+mod criteria;
 mod dependencies;
 pub mod laws;
+mod masters;
 mod reachability;
 
 pub use check_states::{

@@ -23,10 +23,11 @@ pub fn code(standing: Standing) -> u64
         + 65536 * flag(standing.flapping)
 }
 
-/// The standing with this word. None if no standing has it: one of the two states has the number 7, or
+/// The standing with this word. No other word has it. None if no standing has the word: one of the two states has the number 7, or
 /// a bit above bit 16 is set. (Our own profile.)
 pub fn decode(word: u64) -> Option<Standing>
-    ensures { result ≡ standing_of_word word }
+    ensures value { result ≡ standing_of_word word }
+    ensures only { IfSome result (λ standing. word ≡ word_of_standing standing) }
 {
     if word >= 131_072 {
         return None;

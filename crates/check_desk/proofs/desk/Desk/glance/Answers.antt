@@ -18,7 +18,7 @@ read c =
     let desk = c.args.self.now in
     let book = (start_of desk.lock).book in
     let opened = opening_of book in
-    c.decode.ensures ∙ (ap standing_of_word c.glance-seat.ensures.word
+    c.decode.ensures.value ∙ (ap standing_of_word c.glance-seat.ensures.word
     ∙ state_read opened (seat_of c.glance-seat.result.0).seen c.args.object book.opened
     (there (goal.at.returns-clause-missing c).Else-self-object))
 
