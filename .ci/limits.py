@@ -8,6 +8,7 @@ The wanted results follow from docs/program.md and docs/rules.md and are written
 import json
 import os
 import random
+import resource
 import subprocess
 import tempfile
 
@@ -17,6 +18,8 @@ OPTIONS = {"host_inter_check_delay_method": "n", "service_inter_check_delay_meth
 SERVICES, HOSTS = 4_000, 90
 PARENTS = 16_384
 WHOLE_INPUT, DOCUMENT = 67_108_864, 16_777_216
+# Bytes of stack: for every command, and for a document as deep as it may be nested.
+LITTLE_STACK, DEEP_STACK = 131_072, 262_144
 
 
 def host(name, **members):
@@ -136,18 +139,74 @@ def most_dependencies(harness):
     harness.compare("16,384 dependencies", (input_lines("taken 1 a"), 0), harness.run([], input_lines(setup(**members), '["take",0]')))
 
 
-def long_chain(harness):
-    """A problem at one end of a chain of 4,000 dependencies that inherit puts off the check at the other end."""
-    chain = ["a-master", *(f"c{n:04}" for n in range(3_999)), "b-dependent"]
+def chain_of_services(count):
+    """The members of a host without regular checks and of services. Each service depends on the one before it, and inherits; the last has the least number but one."""
+    chain = ["a-master", *(f"c{n:04}" for n in range(count - 2)), "b-dependent"]
     pairs = zip(chain[1:], chain)
-    members = {
+    return {
         "hosts": [host("h", check_interval=0)],
         "services": [service("h", name) for name in chain],
         "service_dependencies": [dependency(f"h;{one}", f"h;{other}", inherits_parent=True) for one, other in pairs],
     }
-    commands = ['["take",0]', '["report","h;a-master",1,2]', '["take",0]']
-    wanted = ["taken 1 h;a-master", "standing CRITICAL HARD 1 yes STEADY 300000 h;a-master", "putoff 300000 h;b-dependent"]
-    harness.compare("a chain of 4,000 dependencies", (input_lines(*wanted), 0), harness.run([], input_lines(setup(**members), *commands)))
+
+
+CHAIN_CALLS = {
+    '["take",0]': "taken 1 h;a-master",
+    '["report","h;a-master",1,2]': "standing CRITICAL HARD 1 yes STEADY 300000 h;a-master",
+    '["take", 0]': "putoff 300000 h;b-dependent",
+}
+
+
+def long_chain(harness):
+    """A problem at one end of a chain of dependencies that inherit puts off the check at the other end."""
+    wanted = input_lines(*CHAIN_CALLS.values()), 0
+    harness.compare("a chain of 4,000 dependencies", wanted, harness.run([], input_lines(setup(**chain_of_services(4_001)), *CHAIN_CALLS)))
+
+
+def wide_layers(harness):
+    """Forty layers of forty hosts. Each host depends on four hosts of the next layer and inherits, so many masters wait at once to be examined."""
+    names = [[f"{layer:02}-{place:02}" for place in range(40)] for layer in range(40)]
+    links = [dependency(upper[place], lower[(place + step) % 40], criteria="d", inherits_parent=True)
+             for upper, lower in zip(names, names[1:]) for place in range(40) for step in range(4)]
+    document = input_lines(setup(hosts=[host(name) for layer in names for name in layer], host_dependencies=links))
+    first, last = names[0][0], names[-1][39]
+    harness.compare("wide layers that are up", (input_lines(f"taken 1 {first}"), 0), harness.run(["run", "--start", "10"], document + input_lines('["take",10]')))
+    down = input_lines(f'["reschedule","{last}",0,false]', '["take",0]', f'["report","{last}",1,2]', '["take",10]')
+    wanted = [f"done {last}", f"taken 1 {last}", f"standing DOWN HARD 1 yes STEADY 300000 {last}", f"putoff 300010 {first}"]
+    harness.compare("wide layers above a host that is down", (input_lines(*wanted), 0), harness.run(["run", "--start", "10"], document + down))
+
+
+def with_stack(size):
+    """How to start a program with this stack, and the same for each of its threads."""
+    return {"preexec_fn": lambda: resource.setrlimit(resource.RLIMIT_STACK, (size, size)), "env": {}}
+
+
+def little_stack(harness):
+    """Each command on 4,096 objects, with little stack: it doesn't grow with a setup, but by a fixed limit with the depth of a document."""
+    how = with_stack(LITTLE_STACK)
+    parents = [host(f"p{n:04}", parents=[f"p{n + 1:04}"] * (n < 4_095)) for n in range(4_096)]
+    harness.compare("little stack, a chain of parents", (input_lines("taken 1 p0000"), 0),
+                    harness.run([], input_lines(setup(hosts=parents), '["take",0]'), **how))
+    document = input_lines(setup(**chain_of_services(4_095)))
+    calls, replies = input_lines(*CHAIN_CALLS), input_lines(*CHAIN_CALLS.values())
+    for command in ("run", "live"):
+        harness.compare(f"little stack, {command}", (replies, 0), harness.run([command], document + calls, **how))
+    text, status = harness.run(["check"], document, **how)
+    harness.compare("little stack, check", (["setup ok", "dependency_chain 4094"], 0),
+                    ([line for line in text.decode().splitlines() if line.startswith(("setup", "dependency_chain"))], status))
+    text, status = harness.run([], document + calls + input_lines('["save"]'), **how)
+    shown, _, state = text.partition(b"saved ")
+    harness.compare("little stack, save", (replies, 0), (shown, status))
+    for command in ("run", "live"):
+        came = harness.run([command, "--resume"], document + state + input_lines('["reschedule","h;a-master",0,false]'), **how)
+        harness.compare(f"little stack, {command} --resume", (input_lines("done h;a-master"), 0), came)
+    text, status = harness.run(["check", "--resume"], document + state, **how)
+    harness.compare("little stack, check --resume", (["kept 4096", "new 0", "dropped 0", "given_up 0"], 0), (text.decode().splitlines()[-4:], status))
+    text, status = harness.run(["drill", "--workers", "2"], document + input_lines('["moment",0]'), **how)
+    harness.compare("little stack, drill", (["total 4 0"], 0), (text.decode().splitlines()[-1:], status))
+    for depth, line in {127: "L2 Shape hosts 0", 5_000: "L1 NotJson"}.items():
+        nested = input_lines('{"hosts":' + "[" * (depth - 1) + "]" * (depth - 1) + "}")
+        harness.compare(f"a document of depth {depth}", (input_lines(f"refused {line}"), 1), harness.run([], nested, **with_stack(DEEP_STACK)))
 
 
 def many_ways(harness):
@@ -269,7 +328,7 @@ def saved_states(harness):
 
 
 harness = Harness("limits")
-LISTS = (many_objects, long_names, many_parents, too_many, explained_at_limits, most_dependencies, long_chain, many_ways, long_cycles, last_of_many)
-for part in (*LISTS, many_calls, places, long_inputs, saved_states):
+LISTS = (many_objects, long_names, many_parents, too_many, explained_at_limits, most_dependencies, long_chain, many_ways, wide_layers, long_cycles, last_of_many)
+for part in (*LISTS, little_stack, many_calls, places, long_inputs, saved_states):
     part(harness)
 harness.end()
