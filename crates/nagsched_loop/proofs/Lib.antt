@@ -1,3 +1,4 @@
+mod EarliestLemmas
 mod FaultLemmas
 mod MonthLemmas
 mod RoundLemmas

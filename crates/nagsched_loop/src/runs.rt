@@ -113,10 +113,11 @@ fn earliest(until: u64, runs: &[Run]) -> u64
     ensures limits { All (λ run. result ≤ run.limit) runs.now }
     ensures earliest { (result ≡ until) ⊎ Any (λ run. result ≡ run.limit) runs.now }
 {
-    match runs {
-        [] => until,
-        [run, others @ ..] => earliest(until.min(run.limit), others),
+    let mut least = until;
+    for run in runs {
+        least = least.min(run.limit);
     }
+    least
 }
 
 /// The time until which to sleep by the reply alone.
