@@ -20,13 +20,6 @@ module _ {L : Type 0} (items : L → List ℕ) (c : Configuration) (lists : List
       let b = count_parts c in
       omega (arith, ap length e, a, b, is.one_list_each, is.bounded, size)
 
-  pub masters_within : map items lists ≡ masters_of c → are_within (length lists) (map items lists) ≡ true
-  masters_within e =
-      let size = length-map lists items in
-      let a = length-map c.dependencies masters_in in
-      let same : length lists ≡ object_count c = omega (arith, ap length e, a, is.one_list_each, size) in
-      within_by (masters_of c) (object_count c) e same is.masters_in_range
-
   pub few_hosts : map items lists ≡ parents_by_host c → length lists ≤ 4096
   few_hosts e =
       let size = length-map lists items in

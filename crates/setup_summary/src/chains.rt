@@ -3,7 +3,7 @@
 ghost use Rattle.std.specs.Prelude.{◌≡◌, IfOk};
 ghost use Rattle.setup_summary.specs.Summary.{chains_in};
 
-use crate::depths::longest_chain;
+use crate::depths::{longest_chain, longest_chain_in_order};
 use check_objects::Setup;
 use std::alloc::{AllocError, Global};
 
@@ -31,7 +31,7 @@ fn dependency_chain(alloc: Global, setup: &Setup) -> Result<usize, AllocError>
     ensures { IfOk result (λ count. count ≡ (chains_in setup.now).dependencies) }
 {
     let links = setup.master_links(alloc)?;
-    longest_chain(alloc, &links)
+    longest_chain_in_order(alloc, &links, setup.order())
 }
 
 /// How many parents the longest chain of them has.

@@ -20,12 +20,24 @@ pub(crate) fn longest_chain(alloc: Global, links: &[SmallVec<u32, 4>]) -> Result
         count ≡ longest_chain (map (λ list. list.items) links.now)) }
 {
     match topological_order(alloc, links)? {
-        OrderOrCycle::Order(order) => {
-            let depths = find_depths(alloc, links, &order)?;
-            Ok(greatest_of(&depths))
-        }
+        OrderOrCycle::Order(order) => longest_chain_in_order(alloc, links, &order),
         OrderOrCycle::Cycle(_) => Ok(links.len()),
     }
+}
+
+/// The same, given an order in which each object comes after all that it links to.
+pub(crate) fn longest_chain_in_order(
+    alloc: Global,
+    links: &[SmallVec<u32, 4>],
+    order: &[u32],
+) -> Result<usize, AllocError>
+    requires bounded { length links.now ≤ 4096 }
+    requires order { IsOrder (map (λ list. list.items) links.now) order.now }
+    ensures { IfOk result (λ count.
+        count ≡ longest_chain (map (λ list. list.items) links.now)) }
+{
+    let depths = find_depths(alloc, links, order)?;
+    Ok(greatest_of(&depths))
 }
 
 /// The depth of each object, by number. In the order each object comes after all that it links to.

@@ -1,12 +1,7 @@
 use Rattle.std.proofs.Common.{map, ◌∙◌, sym}
 use Rattle.std.proofs.lemmas.List.{length-map}
-use Rattle.setup_summary.proofs.DepthLemmas.{longest_by_depths, longest_in_cycle}
+use Rattle.setup_summary.proofs.DepthLemmas.{longest_in_cycle}
 use Rattle.setup_summary.proofs.depths.longest_chain.Goals as goal
-
-pub returns-in-Order : goal.returns-in-Order
-returns-in-Order c =
-    rw (c.greatest_of.ensures, c.deref-in-Order.ensures.value)
-    (longest_by_depths (map (λ list. list.items) c.args.links.now) c.in_ok-depths-in-Order.depths.items c.in_ok-depths-in-Order.ensures)
 
 pub returns : goal.returns
 returns c =
