@@ -9,7 +9,7 @@ use Rattle.check_states.specs.declared.standing.Kind.TheVariants as kind
 use Rattle.check_states.specs.declared.standing.Standing.{Standing}
 use Rattle.check_states.specs.Numbers.{all_states, kind_number, state_of_number, state_number}
 use Rattle.check_states.proofs.Cases.{each_state}
-use Rattle.check_states.specs.Board.{word_of_standing, flag, has_bit, standing_of_word, standing_with_states}
+use Rattle.check_states.specs.Board.{word_of_standing, flag, standing_of_word, standing_with_states}
 
 module _ (c s k a l f : ℕ) (small_c : c < 2) (small_s : s < 8) (small_k : k < 2) (small_a : a < 256) (small_l : l < 8) (small_f : f < 2) where
   abbrev whole : ℕ
