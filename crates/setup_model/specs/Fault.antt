@@ -1,5 +1,5 @@
 -- Faults of a setup document: the refusal, and the details that the failed test has found.
-use Rattle.std.specs.Prelude.{ℕ, List, Option, Some, None, Result}
+use Rattle.std.specs.Prelude.{ℕ, List, Option, Some, None, Result, map, string_bytes}
 use Rattle.setup_model.specs.declared.error.LoadError.{LoadError}
 use Rattle.setup_model.specs.declared.error.LoadError.TheVariants as errors
 use Rattle.setup_model.specs.declared.fault.Count.{Count}
@@ -46,9 +46,9 @@ pub data Fault : Type 0 where
   unknown_host : ℕ → Fault
   unknown_end : Place → EndFault → Fault
   range : Place → RangeFault → Fault
-  -- the indices of the objects of the cycle
-  dependency_cycle : Part → List ℕ → Fault
-  parent_cycle : List ℕ → Fault
+  -- the full names of the objects of the cycle
+  dependency_cycle : Part → List (List ℕ) → Fault
+  parent_cycle : List (List ℕ) → Fault
   memory : Fault
 
 -- the refusal without the details
@@ -92,8 +92,8 @@ view_of (faults.UnknownParent h i) = unknown_parent h i
 view_of (faults.UnknownHost s) = unknown_host s
 view_of (faults.UnknownEnd p w) = unknown_end p w
 view_of (faults.Range p w) = range p (range_view w)
-view_of (faults.DependencyCycle p cycle) = dependency_cycle p cycle.items
-view_of (faults.ParentCycle cycle) = parent_cycle cycle.items
+view_of (faults.DependencyCycle p cycle) = dependency_cycle p (map string_bytes cycle.items)
+view_of (faults.ParentCycle cycle) = parent_cycle (map string_bytes cycle.items)
 view_of faults.Memory = memory
 
 -- the fault that an error of the code is; None if the code is out of memory

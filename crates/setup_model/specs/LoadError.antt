@@ -7,19 +7,37 @@ use Rattle.setup_model.specs.Agreement as agreement
 
 -- ---- numbers, reasons and places
 
+pub record ErrorRow : Type 0 where
+  pub number : ℕ
+  pub reason : List ℕ
+  pub place : Option Place
+
+abbrev pub row : ℕ → List ℕ → Option Place → ErrorRow
+row number reason place = record { number = number; reason = reason; place = place }
+
+-- the table of refusals: the number in C, the reason in the line, and the place of the fault if there is one
+abbrev pub error_row : LoadError → ErrorRow
+error_row errors.TooLong = row 212 (codes "L12 TooLong") None
+error_row errors.NotJson = row 201 (codes "L1 NotJson") None
+error_row (errors.Shape p) = row 202 (codes "L2 Shape") (Some p)
+error_row errors.TooMany = row 203 (codes "L3 TooMany") None
+error_row (errors.BadName p) = row 204 (codes "L4 BadName") (Some p)
+error_row (errors.Duplicate p) = row 205 (codes "L5 Duplicate") (Some p)
+error_row (errors.UnknownHost p) = row 206 (codes "L6 UnknownHost") (Some p)
+error_row (errors.UnknownMaster p) = row 207 (codes "L7 UnknownMaster") (Some p)
+error_row (errors.Range p) = row 208 (codes "L8 Range") (Some p)
+error_row errors.DependencyCycle = row 209 (codes "L9 DependencyCycle") None
+error_row errors.ParentCycle = row 210 (codes "L10 ParentCycle") None
+error_row errors.Memory = row 900 (codes "L11 Memory") None
+
 abbrev pub error_number : LoadError → ℕ
-error_number errors.TooLong = 0
-error_number errors.NotJson = 1
-error_number (errors.Shape p) = 2
-error_number errors.TooMany = 3
-error_number (errors.BadName p) = 4
-error_number (errors.Duplicate p) = 5
-error_number (errors.UnknownHost p) = 6
-error_number (errors.UnknownMaster p) = 7
-error_number (errors.Range p) = 8
-error_number errors.DependencyCycle = 9
-error_number errors.ParentCycle = 10
-error_number errors.Memory = 21
+error_number e = (error_row e).number
+
+abbrev pub error_reason : LoadError → List ℕ
+error_reason e = (error_row e).reason
+
+abbrev pub place_of : LoadError → Option Place
+place_of e = (error_row e).place
 
 -- each refusal but out of memory, at this place if it has one
 abbrev pub errors_at : Place → List LoadError
@@ -30,31 +48,6 @@ errors_at p =
 -- the refusal of this number, at this place if it has one
 abbrev pub numbered_error : ℕ → Place → Option LoadError
 numbered_error number p = find (λ e. error_number e == number) (errors_at p)
-
--- the reason in the line of a refusal
-abbrev pub error_reason : LoadError → List ℕ
-error_reason errors.NotJson = codes "L1 NotJson"
-error_reason (errors.Shape p) = codes "L2 Shape"
-error_reason errors.TooMany = codes "L3 TooMany"
-error_reason (errors.BadName p) = codes "L4 BadName"
-error_reason (errors.Duplicate p) = codes "L5 Duplicate"
-error_reason (errors.UnknownHost p) = codes "L6 UnknownHost"
-error_reason (errors.UnknownMaster p) = codes "L7 UnknownMaster"
-error_reason (errors.Range p) = codes "L8 Range"
-error_reason errors.DependencyCycle = codes "L9 DependencyCycle"
-error_reason errors.ParentCycle = codes "L10 ParentCycle"
-error_reason errors.Memory = codes "L11 Memory"
-error_reason errors.TooLong = codes "L12 TooLong"
-
--- the place of the fault, if the refusal has one
-abbrev pub place_of : LoadError → Option Place
-place_of (errors.Shape p) = Some p
-place_of (errors.BadName p) = Some p
-place_of (errors.Duplicate p) = Some p
-place_of (errors.UnknownHost p) = Some p
-place_of (errors.UnknownMaster p) = Some p
-place_of (errors.Range p) = Some p
-place_of other = None
 
 -- ---- agreement
 

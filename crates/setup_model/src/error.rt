@@ -51,27 +51,76 @@ impl<T: Drop> From<AllocFailed<T>> for LoadError {
     }
 }
 
+/// What each refusal has: a row of the table of refusals.
+#[derive(Drop)]
+struct ErrorRow {
+    number: u32,
+    reason: &'static str,
+    place: Option<Place>,
+}
+
+fn row(number: u32, reason: &'static str, place: Option<Place>) -> ErrorRow
+    ensures number { result.number ≡ number }
+    ensures reason { result.reason.now ≡ reason.now }
+    ensures place { result.place ≡ place }
+{
+    ErrorRow {
+        number,
+        reason,
+        place,
+    }
+}
+
 impl LoadError {
-    ghost use Rattle.setup_model.specs.LoadError.{error_number, error_reason, numbered_error, place_of};
+    ghost use Rattle.setup_model.specs.LoadError.{error_number, error_reason, errors_at, numbered_error, place_of};
+
+    /// The table of refusals: the number in C, the reason in the line, and the place if there is one. Numbers of
+    /// documents begin at 200. The header doesn't have the number of `Memory`.
+    fn row(self) -> ErrorRow
+        ensures number { result.number ≡ error_number self }
+        ensures reason { result.reason.now ≡ error_reason self }
+        ensures place { result.place ≡ place_of self }
+    {
+        match self {
+            LoadError::TooLong => row(212, "L12 TooLong", None),
+            LoadError::NotJson => row(201, "L1 NotJson", None),
+            LoadError::Shape(place) => row(202, "L2 Shape", Some(place)),
+            LoadError::TooMany => row(203, "L3 TooMany", None),
+            LoadError::BadName(place) => row(204, "L4 BadName", Some(place)),
+            LoadError::Duplicate(place) => row(205, "L5 Duplicate", Some(place)),
+            LoadError::UnknownHost(place) => row(206, "L6 UnknownHost", Some(place)),
+            LoadError::UnknownMaster(place) => row(207, "L7 UnknownMaster", Some(place)),
+            LoadError::Range(place) => row(208, "L8 Range", Some(place)),
+            LoadError::DependencyCycle => row(209, "L9 DependencyCycle", None),
+            LoadError::ParentCycle => row(210, "L10 ParentCycle", None),
+            LoadError::Memory => row(900, "L11 Memory", None),
+        }
+    }
+
+    /// Each refusal except `Memory`, with this place if it has one.
+    fn all_at(place: Place) -> [LoadError; 11]
+        ensures { result ≡ errors_at place }
+    {
+        [
+            LoadError::TooLong,
+            LoadError::NotJson,
+            LoadError::Shape(place),
+            LoadError::TooMany,
+            LoadError::BadName(place),
+            LoadError::Duplicate(place),
+            LoadError::UnknownHost(place),
+            LoadError::UnknownMaster(place),
+            LoadError::Range(place),
+            LoadError::DependencyCycle,
+            LoadError::ParentCycle,
+        ]
+    }
 
     /// The number of the refusal, as the C library has it. Its header doesn't have the number of `Memory`.
     pub fn number(self) -> u32
         ensures { result ≡ error_number self }
     {
-        match self {
-            LoadError::TooLong => 0,
-            LoadError::NotJson => 1,
-            LoadError::Shape(_) => 2,
-            LoadError::TooMany => 3,
-            LoadError::BadName(_) => 4,
-            LoadError::Duplicate(_) => 5,
-            LoadError::UnknownHost(_) => 6,
-            LoadError::UnknownMaster(_) => 7,
-            LoadError::Range(_) => 8,
-            LoadError::DependencyCycle => 9,
-            LoadError::ParentCycle => 10,
-            LoadError::Memory => 21,
-        }
+        self.row().number
     }
 
     /// The refusal of this number, with this place if such a refusal has one. None for the number of `Memory`
@@ -79,54 +128,23 @@ impl LoadError {
     pub fn from_number(number: u32, place: Place) -> Option<LoadError>
         ensures { result ≡ numbered_error number place }
     {
-        match number {
-            0 => Some(LoadError::TooLong),
-            1 => Some(LoadError::NotJson),
-            2 => Some(LoadError::Shape(place)),
-            3 => Some(LoadError::TooMany),
-            4 => Some(LoadError::BadName(place)),
-            5 => Some(LoadError::Duplicate(place)),
-            6 => Some(LoadError::UnknownHost(place)),
-            7 => Some(LoadError::UnknownMaster(place)),
-            8 => Some(LoadError::Range(place)),
-            9 => Some(LoadError::DependencyCycle),
-            10 => Some(LoadError::ParentCycle),
-            _ => None,
-        }
+        LoadError::all_at(place)
+            .iter()
+            .copied()
+            .find(|error| error.number() == number)
     }
 
     /// The reason in the line of the refusal: its code and its name.
     pub fn reason(self) -> &'static str
         ensures { result.now ≡ error_reason self }
     {
-        match self {
-            LoadError::NotJson => "L1 NotJson",
-            LoadError::Shape(_) => "L2 Shape",
-            LoadError::TooMany => "L3 TooMany",
-            LoadError::BadName(_) => "L4 BadName",
-            LoadError::Duplicate(_) => "L5 Duplicate",
-            LoadError::UnknownHost(_) => "L6 UnknownHost",
-            LoadError::UnknownMaster(_) => "L7 UnknownMaster",
-            LoadError::Range(_) => "L8 Range",
-            LoadError::DependencyCycle => "L9 DependencyCycle",
-            LoadError::ParentCycle => "L10 ParentCycle",
-            LoadError::Memory => "L11 Memory",
-            LoadError::TooLong => "L12 TooLong",
-        }
+        self.row().reason
     }
 
     /// The place of the fault, if the refusal has one.
     pub fn place(self) -> Option<Place>
         ensures { result ≡ place_of self }
     {
-        match self {
-            LoadError::Shape(place)
-            | LoadError::BadName(place)
-            | LoadError::Duplicate(place)
-            | LoadError::UnknownHost(place)
-            | LoadError::UnknownMaster(place)
-            | LoadError::Range(place) => Some(place),
-            _ => None,
-        }
+        self.row().place
     }
 }

@@ -118,12 +118,12 @@ pub enum Fault {
     UnknownEnd(Place, EndFault),
     /// A number is out of its limits. The fault says which number.
     Range(Place, RangeFault),
-    /// A cycle of services or hosts: each depends on the next one, and the last on the first. The indices
-    /// begin with the object that comes first in the document.
-    DependencyCycle(Part, Vec<usize>),
-    /// A cycle of hosts: each has the next one for a parent, and the last has the first. The indices begin
-    /// with the host that comes first in the document.
-    ParentCycle(Vec<usize>),
+    /// A cycle of services or hosts, by their full names: each depends on the next one, and the last on the
+    /// first. The first one has the least number.
+    DependencyCycle(Part, Vec<String>),
+    /// A cycle of hosts, by their names: each has the next one for a parent, and the last has the first. The
+    /// first one has the least number.
+    ParentCycle(Vec<String>),
     /// Out of memory. It can come in place of any result except `TooLong`.
     Memory,
 }
