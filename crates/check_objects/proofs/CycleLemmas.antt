@@ -25,7 +25,7 @@ cyclic_parents : (c : Configuration) → has_cycle (masters_of c) ≡ false → 
 cyclic_parents c free cyclic = after_dependencies c free ∙ ap (λ b. cond b (Err errors.ParentCycle) (Ok c)) cyclic
 
 -- a cycle of parents refuses a parsed setup whose dependencies have none
-pub parents_refuse : (ds : ParsedSetup) (cycle : List ℕ) → has_cycle (masters_of (configuration ds)) ≡ false → IsParentVerdict ds (Some cycle)
+pub parents_refuse : (ds : ParsedSetup) (cycle : List (List ℕ)) → has_cycle (masters_of (configuration ds)) ≡ false → IsParentVerdict ds (Some cycle)
     → AreRefusedFor ds (Some (fault.parent_cycle cycle))
 parents_refuse ds cycle free is = ((free, is.1), cyclic_parents (configuration ds) free is.0)
 

@@ -4,6 +4,4 @@ pub mod GetterLemmas
 pub mod CycleLemmas
 pub mod EndLemmas
 pub mod LinkLemmas
-pub mod RoundLemmas
 pub mod NamedCycleLemmas
-pub mod IndexLemmas

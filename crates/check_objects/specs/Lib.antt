@@ -11,6 +11,5 @@ pub use Rattle.setup_objects.specs.Numbering
 pub use Rattle.setup_objects.specs.Entries
 pub mod Links
 pub mod Cycles
-pub mod Indices
 pub mod Setup
 pub mod WellFormed

@@ -51,7 +51,7 @@ setup_of bytes = with_error load_error (document_tree bytes) >>= setup_of_tree
 -- the fault of a tree: the first one of its parsed setup; if that has no fault except for cycles, one of the cycles
 abbrev pub IsFaultBy : Result ParsedSetup Fault → Fault → Type 0
 IsFaultBy (Err e) f = f ≡ e
-IsFaultBy (Ok parsed) f = IsCycleFault parsed f
+IsFaultBy (Ok parsed) f = IsCycleFault (configuration parsed) f
 
 abbrev pub IsFaultOfTree : Data → Fault → Type 0
 IsFaultOfTree d f = IsFaultBy (verified_setup d) f
@@ -67,12 +67,12 @@ IsFaultOf bytes f = IsFaultIn (document_tree bytes) f
 -- The parsed setup is refused for this fault. None means that the code is out of memory, and says nothing.
 abbrev pub AreRefusedFor : ParsedSetup → Option Fault → Type 0
 AreRefusedFor ds None = Unit {0}
-AreRefusedFor ds (Some f) = IsCycleFault ds f × (without_cycles (configuration ds) ≡ Err (load_error f))
+AreRefusedFor ds (Some f) = IsCycleFault (configuration ds) f × (without_cycles (configuration ds) ≡ Err (load_error f))
 
 -- no host is its own parent, through one parent or more; or these hosts form a cycle
-abbrev pub IsParentVerdict : ParsedSetup → Option (List ℕ) → Type 0
+abbrev pub IsParentVerdict : ParsedSetup → Option (List (List ℕ)) → Type 0
 IsParentVerdict ds None = has_cycle (parents_by_host (configuration ds)) ≡ false
-IsParentVerdict ds (Some cycle) = (has_cycle (parents_by_host (configuration ds)) ≡ true) × IsParentCycle ds cycle
+IsParentVerdict ds (Some cycle) = (has_cycle (parents_by_host (configuration ds)) ≡ true) × IsParentCycle (configuration ds) cycle
 
 -- the tree is refused for this fault
 abbrev pub IsRefusedTree : Data → Option Fault → Type 0

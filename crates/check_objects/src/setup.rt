@@ -1,6 +1,6 @@
 //! The setup: the objects that are checked, with their names and numbers, and their links.
 
-ghost use Rattle.std.specs.Prelude.{◌≡◌, ◌<◌, ◌≤◌, length, map, Ok, option_map, slice_get, Some, IfSome, IfOk, IfErr, OnOk, Err, ◌==◌, All, false};
+ghost use Rattle.std.specs.Prelude.{◌≡◌, ◌<◌, ◌≤◌, length, map, Ok, option_map, slice_get, Some, IfSome, IfOk, IfErr, OnOk, Err, ◌==◌, All, false, string_bytes};
 ghost use Rattle.setup_objects.specs.Configuration.{Configuration, object_count, host_count, objects_of, number_by_name, name_of, host_of, parents_of};
 ghost use Rattle.setup_objects.specs.Configuration.{dependencies_of, masters_in, masters_of, parents_by_host, IsSetup};
 ghost use Rattle.setup_order.specs.Cycles.{has_cycle};
@@ -10,7 +10,7 @@ ghost use Rattle.check_objects.specs.WellFormed.{configuration_of, IsWellFormed}
 ghost use Rattle.check_objects.specs.Setup.{setup_of, setup_of_tree, without_cycles, AreRefusedFor, IsParentVerdict, IsRefusedFor, IsRefusedTree};
 ghost use Rattle.setup_verification.specs.Verification.{verification};
 ghost use Rattle.setup_model.specs.ParsedViews.{parsed_view};
-ghost use Rattle.setup_objects.specs.Entries.{host_entry, named_object, service_entry};
+ghost use Rattle.setup_objects.specs.Entries.{host_entry, named_object, objects_in, service_entry};
 ghost use Rattle.setup_model.specs.LoadError.{IsExpectedResult};
 ghost use Rattle.setup_model.specs.Fault.{non_memory_fault, view_of};
 ghost use Rattle.serde_json.specs.View.{view};
@@ -188,21 +188,13 @@ impl Setup {
     }
 
     /// The full name of the object with this number, and how it is checked.
-    // Each caller uses only one half, and the compiler removes the other: a call reads no name.
     #[inline(always)]
     fn entry(&self, number: u32) -> (&str, &Object)
         requires { number < object_count self.now }
         ensures { slice_get (objects_of self.now) number
             ≡ Some (named_object result.0.now result.1.now) }
     {
-        let index = number as usize;
-        if index < self.hosts.len() {
-            let (name, host) = self.hosts.get_index(index).unwrap();
-            (name.as_str(), &host.object)
-        } else {
-            let (name, service) = self.services.get_index(index - self.hosts.len()).unwrap();
-            (name.as_str(), &service.object)
-        }
+        object_entry(&self.hosts, &self.services, number)
     }
 
     /// The number of the object with this full name, or None if there is no such object.
@@ -274,6 +266,28 @@ impl Setup {
     }
 }
 
+/// The full name of the object with this number, and how it is checked.
+// Each caller uses only one half, and the compiler removes the other: a call reads no name.
+#[inline(always)]
+pub(crate) fn object_entry<'s>(
+    hosts: &'s IndexMap<String, Host>,
+    services: &'s IndexMap<String, Service>,
+    number: u32,
+) -> (&'s str, &'s Object)
+    requires { number < length (objects_in hosts.now.entries services.now.entries) }
+    ensures { slice_get (objects_in hosts.now.entries services.now.entries) number
+        ≡ Some (named_object result.0.now result.1.now) }
+{
+    let index = number as usize;
+    if index < hosts.len() {
+        let (name, host) = hosts.get_index(index).unwrap();
+        (name.as_str(), &host.object)
+    } else {
+        let (name, service) = services.get_index(index - hosts.len()).unwrap();
+        (name.as_str(), &service.object)
+    }
+}
+
 /// The numbers of the objects in an order in which each comes after all that it depends on. A setup with a cycle
 /// is refused.
 fn order_without_cycles(
@@ -303,29 +317,34 @@ fn order_without_cycles(
             return Err(dependency_cycle(alloc, parsed, hosts, services, &cycle)?);
         }
     };
-    match find_parent_cycle(alloc, parsed, hosts)? {
+    match find_parent_cycle(alloc, parsed, hosts, services)? {
         Some(cycle) => Err(Fault::ParentCycle(cycle)),
         None => Ok(order),
     }
 }
 
-/// The indices of hosts that form a cycle of parents, or None if no host is its own parent, through one parent or
+/// The names of hosts that form a cycle of parents, or None if no host is its own parent, through one parent or
 /// more. An Err means out of memory.
 fn find_parent_cycle(
     alloc: Global,
     parsed: &ParsedSetup<'_>,
     hosts: &IndexMap<String, Host>,
-) -> Result<Option<Vec<usize>>, AllocError>
+    services: &IndexMap<String, Service>,
+) -> Result<Option<Vec<String>>, AllocError>
     requires faultless { verification (parsed_view parsed.now) ≡ Ok tt }
     requires hosts { map host_entry hosts.now.entries
         ≡ (configuration (parsed_view parsed.now)).hosts }
+    requires services { map service_entry services.now.entries
+        ≡ (configuration (parsed_view parsed.now)).services }
     ensures { IfOk result (λ found.
-        IsParentVerdict (parsed_view parsed.now) (option_map (λ cycle. cycle.items) found)) }
+        IsParentVerdict (parsed_view parsed.now) (option_map (λ cycle. map string_bytes cycle.items) found)) }
 {
     let links = parent_links(alloc, hosts)?;
     match topological_order(alloc, &links)? {
         OrderOrCycle::Order(_) => Ok(None),
-        OrderOrCycle::Cycle(cycle) => Ok(Some(parent_cycle(alloc, parsed, hosts, &cycle)?)),
+        OrderOrCycle::Cycle(cycle) => Ok(Some(parent_cycle(
+            alloc, parsed, hosts, services, &cycle,
+        )?)),
     }
 }
 

@@ -1,3 +1,4 @@
+use Rattle.std.proofs.Common.{map, string_bytes}
 use Rattle.setup_model.specs.ParsedViews.{parsed_view}
 use Rattle.setup_objects.specs.Numbering.{configuration}
 use Rattle.check_objects.proofs.CycleLemmas.{acyclic_masters, parents_refuse}
@@ -18,4 +19,4 @@ pub returns-in-Some-clause-refused : goal.returns-in-Some-clause-refused
 returns-in-Some-clause-refused c =
     let ds = parsed_view c.args.parsed.now in
     let free = acyclic_masters ds _ _ c.requires.dependencies (rw c.in-Order.is at c.in_ok-order.ensures) in
-    parents_refuse ds c.in-Some.cycle.items free (rw c.in-Some.is at c.in_ok-cycle.ensures)
+    parents_refuse ds (map string_bytes c.in-Some.cycle.items) free (rw c.in-Some.is at c.in_ok-cycle.ensures)

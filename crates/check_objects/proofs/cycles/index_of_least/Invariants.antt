@@ -1,8 +1,0 @@
-use Rattle.std.proofs.Common.{◌<◌, ◌≤◌, ℕ, get_or, length}
-use Rattle.check_objects.proofs.cycles.index_of_least.Given as goal
-
-abbrev pub invariant-loop-place : goal.invariant-loop-place
-invariant-loop-place l = record {
-  within : l.least < length l.indices;
-  least : (place : ℕ) → place < l.place → get_or l.indices l.least 0 ≤ get_or l.indices place 0;
-}
